@@ -1,0 +1,83 @@
+-- The digits of letters.
+use Rattle.std.proofs.Common.{◌≡◌, ℕ, ◌<◌, ◌≤◌, Bool, true, eqb, ltb, List, length, get_or, map, Option, Some, None, is_some, unwrap_or, refl, sym, ap, ◌∙◌, arith, eq-eqb}
+use Rattle.std.specs.List.{position_or_len, range_with_len}
+use Rattle.std.proofs.lemmas.Bool.{ne_eqb, eqb-true, lt-ltb, ltb-true}
+use Rattle.std.proofs.lemmas.List.{get_or-map}
+use Rattle.std.proofs.lemmas.List.FromFn.{get_or-map-range_with_len}
+use Rattle.std.proofs.lemmas.List.Quantifiers.{position-Some}
+use Rattle.std.proofs.lemmas.List.Sums.{position_or_len_is, AllPass-from_list_all}
+use Rattle.std.proofs.lemmas.List.Elements.{All-weaker}
+use Rattle.base62.specs.Alphabet.{IsAlphabet, standard, alternative, digit_of, is_letter}
+use Rattle.base62.specs.Value.{digit_or_zero}
+
+-- the letter at place d has digit d
+pub digit_of-letter : (B : List ℕ) → IsAlphabet B → (d : ℕ) → d < 62 → digit_of B (get_or B d 0) ≡ Some d
+unfolding digit_of
+digit_of-letter B ok d h =
+    let test : ℕ → Bool = λ l. eqb l (get_or B d 0) in
+    let inside : d ≤ length B = omega (arith, ok.size) in
+    let before = λ (k : ℕ) (below : k < d). ne_eqb (get_or B k 0) (get_or B d 0) (λ e. let same : k ≡ d = ok.distinct k d (omega arith) h e in omega arith) in
+    let place : position_or_len test B ≡ d = position_or_len_is test B d 0 inside before (λ _. eq-eqb _ _ refl) in
+    let found : ltb d (length B) ≡ true = lt-ltb d (length B) (omega (arith, ok.size)) in
+    rw (place, found)
+
+-- a byte that has digit d is the letter at place d
+pub letter-digit_of : (B : List ℕ) (b d : ℕ) → digit_of B b ≡ Some d → (d < length B) × (get_or B d 0 ≡ b)
+unfolding digit_of
+letter-digit_of B b d e =
+    let at = position-Some (λ l. eqb l b) B d 0 e in (at.0, eqb-true _ _ at.1)
+
+some_from_test : (o : Option ℕ) → is_some o ≡ true → o ≡ Some (unwrap_or o 0)
+some_from_test None h = cc
+some_from_test (Some d) h = refl
+
+-- a letter has its digit
+pub digit_of-is : (B : List ℕ) (b : ℕ) → is_letter B b ≡ true → digit_of B b ≡ Some (digit_or_zero B b)
+digit_of-is B b h = some_from_test (digit_of B b) h
+
+bounded : (o : Option ℕ) → ((d : ℕ) → o ≡ Some d → d < 62) → unwrap_or o 0 < 62
+bounded None h = omega arith
+bounded (Some d) h = h d refl
+
+pub digit_or_zero-lt : (B : List ℕ) → IsAlphabet B → (b : ℕ) → digit_or_zero B b < 62
+digit_or_zero-lt B ok b = bounded (digit_of B b) (λ d e. let at = letter-digit_of B b d e in omega (arith, at.0, ok.size))
+
+-- the letter at a place of the alphabet is a letter, and its digit is the place
+pub is_letter-letter : (B : List ℕ) → IsAlphabet B → (d : ℕ) → d < 62 → is_letter B (get_or B d 0) ≡ true
+is_letter-letter B ok d h = ap is_some (digit_of-letter B ok d h)
+
+pub digit_or_zero-letter : (B : List ℕ) → IsAlphabet B → (d : ℕ) → d < 62 → digit_or_zero B (get_or B d 0) ≡ d
+digit_or_zero-letter B ok d h = ap (λ o. unwrap_or o 0) (digit_of-letter B ok d h)
+
+-- two letters of one digit are one
+pub same_letter : (B : List ℕ) (a b : ℕ) → is_letter B a ≡ true → is_letter B b ≡ true → digit_or_zero B a ≡ digit_or_zero B b → a ≡ b
+same_letter B a b p q e =
+    let at = letter-digit_of B a _ (digit_of-is B a p) in
+    let bt = letter-digit_of B b _ (digit_of-is B b q) in
+    sym at.1 ∙ ap (λ d. get_or B d 0) e ∙ bt.1
+
+some_injective : (i j : ℕ) → Some i ≡ Some j → i ≡ j
+some_injective i j e = cc
+
+-- a list in which each place is the first place of its byte has no byte twice
+pub distinct_from_places : (B : List ℕ) (n : ℕ) → map (digit_of B) B ≡ map (λ i. Some i) (range_with_len 0 n) → length B ≡ n → (i j : ℕ) → i < n → j < n → get_or B i 0 ≡ get_or B j 0 → i ≡ j
+distinct_from_places B n e len i j p q same =
+    let first = λ (k : ℕ) (h : k < n). sym (get_or-map (digit_of B) B k 0 None (omega (arith, len))) ∙ ap (λ xs. get_or xs k None) e ∙ get_or-map-range_with_len (λ m. Some m) 0 n k k None h (omega arith) in
+    some_injective i j (sym (first i p) ∙ ap (digit_of B) same ∙ first j q)
+
+-- the two built-in alphabets are alphabets
+pub standard_is_alphabet : IsAlphabet standard
+unfolding standard digit_of
+standard_is_alphabet = record {
+  size = refl;
+  bytes = All-weaker (λ b. ltb b 256 ≡ true) (λ b. b < 256) (λ b h. ltb-true b 256 h) standard (AllPass-from_list_all (λ b. ltb b 256) standard refl);
+  distinct = distinct_from_places standard 62 refl refl;
+}
+
+pub alternative_is_alphabet : IsAlphabet alternative
+unfolding alternative digit_of
+alternative_is_alphabet = record {
+  size = refl;
+  bytes = All-weaker (λ b. ltb b 256 ≡ true) (λ b. b < 256) (λ b h. ltb-true b 256 h) alternative (AllPass-from_list_all (λ b. ltb b 256) alternative refl);
+  distinct = distinct_from_places alternative 62 refl refl;
+}

@@ -1,0 +1,6 @@
+pub mod PlacesLemmas
+pub mod AlphabetLemmas
+pub mod ValueLemmas
+pub mod CanonicalLemmas
+pub mod DecodingLemmas
+pub mod FaultLemmas

@@ -1,0 +1,34 @@
+-- What decoding answers for every text, by seven cases of which the first that fits decides.
+use Rattle.std.specs.Prelude.{ℕ, ◌*◌, ◌^◌, ◌==◌, ◌&&◌, nat_lt, nat_le, not, if◌then◌else◌, List, length, take, drop, slice_index, Result, Ok, Err}
+use Rattle.std.specs.List.{prefix_len, list_all}
+use Rattle.base62.specs.declared.fault.DecodeError.{DecodeError}
+use Rattle.base62.specs.declared.fault.DecodeError.TheVariants.{ArithmeticOverflow, EmptyInput, InvalidBase62Byte}
+use Rattle.base62.specs.Alphabet.{is_letter, zero_letter}
+use Rattle.base62.specs.Value.{value}
+
+-- how many zero letters a text begins with
+abbrev pub leading_zeros : List ℕ → List ℕ → ℕ
+leading_zeros B text = prefix_len (λ b. b == zero_letter B) text
+
+-- the text without them
+abbrev pub rest : List ℕ → List ℕ → List ℕ
+rest B text = drop (leading_zeros B text) text
+
+-- the fault that names the first byte of the text that is no letter, and its index in the text
+abbrev pub first_invalid : List ℕ → List ℕ → DecodeError
+first_invalid B text =
+    let index = prefix_len (is_letter B) text in InvalidBase62Byte (slice_index text index) index
+
+-- The answer of decoding. An empty text and more than 22 bytes after the leading zeros are refused
+-- unread; a bad byte among the first ten of those comes before an overflow that the first ten alone
+-- show, and that comes before a later bad byte.
+unfoldable pub decoding : List ℕ → List ℕ → Result ℕ DecodeError
+decoding B text =
+    if length text == 0 then Err EmptyInput
+    else if nat_lt 22 (length (rest B text)) then Err ArithmeticOverflow
+    else if not (list_all (is_letter B) (take 10 (rest B text))) then Err (first_invalid B text)
+    else if length (rest B text) == 22 && nat_le (2 ^ 128) (value B (take 10 (rest B text)) * 62 ^ 12)
+    then Err ArithmeticOverflow
+    else if not (list_all (is_letter B) (rest B text)) then Err (first_invalid B text)
+    else if nat_le (2 ^ 128) (value B (rest B text)) then Err ArithmeticOverflow
+    else Ok (value B text)

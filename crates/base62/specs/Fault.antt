@@ -1,0 +1,32 @@
+-- The texts of the faults.
+use Rattle.std.specs.Prelude.{ℕ, ◌==◌, ◌&&◌, nat_le, if◌then◌else◌, List, [], ◌∷◌, ◌++◌, codes, decimal}
+use Rattle.std.specs.Char.Escape.{hex_digit_at}
+use Rattle.base62.specs.declared.fault.DecodeError.{DecodeError}
+use Rattle.base62.specs.declared.fault.DecodeError.TheVariants.{ArithmeticOverflow, EmptyInput, InvalidBase62Byte}
+use Rattle.base62.specs.declared.fault.EncodeError.{EncodeError}
+use Rattle.base62.specs.declared.fault.EncodeError.TheVariants.{BufferTooSmall}
+
+-- A byte as ASCII's default escape writes it: a tab, a line feed, a carriage return, both quotes and
+-- the backslash by a backslash and one character, any other byte from 32 to 126 as itself, and all
+-- others by their two hexadecimal digits, in lower case.
+unfoldable pub escaped : ℕ → List ℕ
+escaped b =
+    if b == 9 then codes "\\t"
+    else if b == 10 then codes "\\n"
+    else if b == 13 then codes "\\r"
+    else if b == 34 then codes "\\\""
+    else if b == 39 then codes "\\'"
+    else if b == 92 then codes "\\\\"
+    else if nat_le 32 b && nat_le b 126 then b ∷ []
+    else codes "\\x" ++ hex_digit_at 16 b ∷ hex_digit_at 1 b ∷ []
+
+-- what a fault of decoding says
+unfoldable pub decode_error_text : DecodeError → List ℕ
+decode_error_text ArithmeticOverflow = codes "Decoded number cannot fit into a `u128`"
+decode_error_text EmptyInput = codes "Encoded input is an empty string"
+decode_error_text (InvalidBase62Byte byte index) =
+    codes "Encoded input contains the invalid byte b'" ++ escaped byte ++ codes "' at index " ++ decimal index
+
+-- what a fault of encoding says
+unfoldable pub encode_error_text : EncodeError → List ℕ
+encode_error_text BufferTooSmall = codes "Buffer too small to encode the number"

@@ -1,0 +1,6 @@
+pub mod Alphabet
+pub mod Places
+pub mod Value
+pub mod Canonical
+pub mod Decoding
+pub mod Fault

@@ -1,0 +1,144 @@
+//! Encoding into a buffer, and decoding.
+
+ghost use Rattle.std.specs.Prelude.{◌≡◌, ◌+◌, ◌<◌, ◌≤◌, ◌↔◌, ◌^◌, length, take, drop, IsOk, IfOk, IfErr, OnErr, slice_index};
+ghost use Rattle.std.specs.List.{prefix_len};
+ghost use Rattle.base62.specs.Alphabet.{IsAlphabet, AreLetters, is_letter, standard};
+ghost use Rattle.base62.specs.Value.{value};
+ghost use Rattle.base62.specs.Canonical.{IsCanonical, CanonicalFits};
+ghost use Rattle.base62.specs.Decoding.{decoding, leading_zeros};
+ghost use Rattle.base62.specs.declared.fault.DecodeError.TheVariants.{InvalidBase62Byte};
+
+use crate::alphabet::{Letters, STANDARD, digit};
+use crate::fault::{DecodeError, EncodeError};
+use crate::number::Number;
+
+// No number below 2^128 has a longer text.
+const MAX_DIGITS: usize = 22;
+
+// Where an overflow is looked for before later bytes are read.
+const FIRST_CHUNK: usize = 10;
+
+/// Writes the standard text of `num` to the front of `buf`, and answers its length, which is 1 to 22.
+///
+/// The text is the shortest nonempty one that denotes the number. `Err(BufferTooSmall)` comes exactly
+/// where `buf` is shorter than that text, so never at 22 bytes or more, and leaves `buf` as it was.
+/// On `Ok` every byte after the text is as before. It takes no memory.
+///
+/// ```rust
+/// let mut buf = [0u8; 22];
+/// assert_eq!(rt; base62::encode_bytes(1337_u64, &mut buf), Ok(2));
+/// assert_eq!(rt; &buf[..2], b"LZ".as_slice());
+/// ```
+pub fn encode_bytes<T: Number>(num: T, buf: &mut [u8]) -> Result<usize, EncodeError>
+    ensures fits { IsOk result ↔ CanonicalFits standard (T.meaning num) (length buf.old) }
+    ensures text { IfOk result (λ n. (n ≤ length buf.new)
+        × IsCanonical standard (take n buf.new) (T.meaning num)) }
+    ensures others { IfOk result (λ n. drop n buf.new ≡ drop n buf.old) }
+    ensures refused { OnErr result (buf.new ≡ buf.old) }
+    ensures roomy { 22 ≤ length buf.old → IsOk result }
+{
+    encode_over(&STANDARD, num.number(), buf)
+}
+
+/// The number that the standard text `input` denotes.
+///
+/// ```rust
+/// assert_eq!(rt; base62::decode(b"rustlang"), Ok(189876682536016));
+/// ```
+pub fn decode(input: &[u8]) -> Result<u128, DecodeError>
+    ensures { result ≡ decoding standard input.now }
+{
+    decode_over(&STANDARD, input)
+}
+
+// The encoder over any alphabet.
+fn encode_over(letters: &Letters, n: u128, buf: &mut [u8]) -> Result<usize, EncodeError>
+    requires { IsAlphabet letters.now }
+    ensures fits { IsOk result ↔ CanonicalFits letters.now n (length buf.old) }
+    ensures text { IfOk result (λ len. (len ≤ length buf.new)
+        × IsCanonical letters.now (take len buf.new) n) }
+    ensures others { IfOk result (λ len. drop len buf.new ≡ drop len buf.old) }
+    ensures refused { OnErr result (buf.new ≡ buf.old) }
+    ensures roomy { 22 ≤ length buf.old → IsOk result }
+{
+    let mut digits = [0u8; MAX_DIGITS];
+    let start = write_digits(letters, n, &mut digits);
+    let text = &digits[start..];
+    if buf.len() < text.len() {
+        return Err(EncodeError::BufferTooSmall);
+    }
+    buf[..text.len()].copy_from_slice(text);
+    Ok(text.len())
+}
+
+// Writes the text of n to the end of `digits`, and answers where it starts.
+fn write_digits(letters: &Letters, n: u128, digits: &mut [u8; MAX_DIGITS]) -> usize
+    requires { IsAlphabet letters.now }
+    ensures start { result < 22 }
+    ensures text { IsCanonical letters.now (drop result digits.new) n }
+{
+    let mut at = MAX_DIGITS - 1;
+    digits[at] = letters[(n % 62) as usize];
+    let mut left = n / 62;
+    while left > 0 {
+        at -= 1;
+        digits[at] = letters[(left % 62) as usize];
+        left /= 62;
+    }
+    at
+}
+
+// The decoder over any alphabet.
+fn decode_over(letters: &Letters, input: &[u8]) -> Result<u128, DecodeError>
+    requires { IsAlphabet letters.now }
+    ensures { result ≡ decoding letters.now input.now }
+{
+    if input.is_empty() {
+        return Err(DecodeError::EmptyInput);
+    }
+    let zeros = count_zeros(letters, input);
+    let (_, rest) = input.split_at(zeros);
+    if rest.len() > MAX_DIGITS {
+        return Err(DecodeError::ArithmeticOverflow);
+    }
+    let (first, later) = rest.split_at(FIRST_CHUNK.min(rest.len()));
+    let high = value_of(letters, first, zeros)?;
+    let Some(high) = high.checked_mul(62u128.pow(later.len() as u32)) else {
+        return Err(DecodeError::ArithmeticOverflow);
+    };
+    let low = value_of(letters, later, zeros + first.len())?;
+    high.checked_add(low).ok_or(DecodeError::ArithmeticOverflow)
+}
+
+// How many zero letters the text begins with.
+fn count_zeros(letters: &Letters, input: &[u8]) -> usize
+    ensures within { result ≤ length input.now }
+    ensures zeros { result ≡ leading_zeros letters.now input.now }
+{
+    let zero = letters[0];
+    for (i, byte) in input.iter().enumerate() {
+        if *byte != zero {
+            return i;
+        }
+    }
+    input.len()
+}
+
+// The value of a part of a text that begins at index `start` of it, or the first byte that is no letter.
+fn value_of(letters: &Letters, part: &[u8], start: usize) -> Result<u128, DecodeError>
+    requires alphabet { IsAlphabet letters.now }
+    requires short { length part.now ≤ 12 }
+    requires within { start + length part.now < 2 ^ 64 }
+    ensures ok { IfOk result (λ v. AreLetters letters.now part.now × (v ≡ value letters.now part.now)) }
+    ensures err { IfErr result (λ e. let i = prefix_len (is_letter letters.now) part.now in
+        (i < length part.now) × (e ≡ InvalidBase62Byte (slice_index part.now i) (start + i))) }
+{
+    let mut total = 0;
+    for (i, byte) in part.iter().enumerate() {
+        let Some(digit) = digit(letters, *byte) else {
+            return Err(DecodeError::InvalidBase62Byte(*byte, start + i));
+        };
+        total = total * 62 + digit as u128;
+    }
+    Ok(total)
+}

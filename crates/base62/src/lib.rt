@@ -1,0 +1,22 @@
+//! A Base62 codec for numbers below 2^128, after the Rust crate `base62` 2.2.6.
+//!
+//! A number is written as the one shortest nonempty text over 62 letters that denotes it, and a text
+//! is read back exactly or refused with the fault that a written table names.
+//!
+//! ```rust
+//! let mut buf = [0u8; 22];
+//! assert_eq!(rt; base62::encode_bytes(1337_u64, &mut buf), Ok(2));
+//! assert_eq!(rt; &buf[..2], b"LZ".as_slice());
+//! assert_eq!(rt; base62::decode(b"LZ"), Ok(1337));
+//! ```
+#![tactic(auto)]
+
+mod alphabet;
+pub mod codec;
+pub mod fault;
+pub mod laws;
+pub mod number;
+
+pub use codec::{decode, encode_bytes};
+pub use fault::{DecodeError, EncodeError};
+pub use number::Number;

@@ -1,0 +1,4 @@
+pub mod NumberLemmas
+pub mod ReplyLemmas
+pub mod LineLemmas
+pub mod StreamLemmas

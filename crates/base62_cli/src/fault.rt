@@ -1,0 +1,32 @@
+//! Why a run ended early.
+
+ghost use Rattle.std.specs.Prelude.{Some};
+ghost use Rattle.base62_cli.specs.Fault.{fault_text};
+
+use std::{error, fmt};
+
+/// Why a run ended before all was answered.
+#[derive(Clone, Copy, Debug, PartialEq, Eq)]
+pub enum ToolFault {
+    /// A read failed, or 2^64 - 1 reads met no end.
+    Read,
+    /// The writer or its flush failed, or the writer took nothing.
+    Write,
+    /// There was no memory for a line or its reply.
+    Memory,
+}
+
+impl fmt::Display for ToolFault {
+    ghost output = { λ fault. Some (fault_text fault) };
+
+    #[tactic(auto, unfolding(crate::specs::Fault::fault_text))]
+    fn fmt<W: fmt::Write>(&self, f: &mut fmt::Formatter<W>) -> fmt::Result {
+        match *self {
+            ToolFault::Read => f.write_str("base62_cli: read failed"),
+            ToolFault::Write => f.write_str("base62_cli: write failed"),
+            ToolFault::Memory => f.write_str("base62_cli: out of memory"),
+        }
+    }
+}
+
+impl error::Error for ToolFault {}

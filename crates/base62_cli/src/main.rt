@@ -1,0 +1,25 @@
+//! A line program over `base62`: it reads lines such as `enc 1337` and `dec LZ` and writes for each
+//! the text, the number or what is wrong.
+#![tactic(auto)]
+
+mod fault;
+mod laws;
+mod reply;
+mod tool;
+
+use fault::ToolFault;
+use std::process::ExitCode;
+use tool::run;
+
+fn main(rt: HostRuntime) -> ExitCode {
+    match run(rt.alloc(), &mut rt.stdin(), &mut rt.stdout()) {
+        Ok(()) => ExitCode::SUCCESS,
+        Err(fault) => fail(&rt, fault),
+    }
+}
+
+// A standard error that takes nothing can't be told of, so the status alone says it then.
+fn fail(rt: &impl Eprint, fault: ToolFault) -> ExitCode {
+    let _ = eprintln!(rt; "{fault}");
+    ExitCode::FAILURE
+}

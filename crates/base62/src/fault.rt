@@ -1,6 +1,10 @@
 //! Why a text is not decoded, and why a number is not encoded.
 
 ghost use Rattle.std.specs.Prelude.{◌≡◌, ◌<◌, [], ◌∷◌, ◌++◌, Some, codes, decimal};
+ghost use Rattle.std.specs.Char.{digit_char};
+ghost use Rattle.std.specs.Char.Escape.{hex_digit_at};
+ghost use Rattle.std.specs.Fmt.{WritesOnOk, WritesStyledOnOk};
+ghost use Rattle.base62.specs.Fault.{decode_error_text, encode_error_text, escaped};
 
 use std::fmt;
 
@@ -27,8 +31,6 @@ pub enum EncodeError {
 /// A byte is printed by ASCII's default escape: `\t`, `\n`, `\r`, `\"`, `\'`, `\\`, the byte itself
 /// from 32 to 126, and else `\x` with two lower-case hexadecimal digits.
 impl fmt::Display for DecodeError {
-    ghost use Rattle.base62.specs.Fault.{decode_error_text};
-
     ghost output = { λ e. Some (decode_error_text e) };
 
     ghost styled_output = { λ e _. Some (decode_error_text e) };
@@ -52,8 +54,6 @@ impl fmt::Display for DecodeError {
 
 /// Prints what went wrong, and the same under any width, fill and alignment.
 impl fmt::Display for EncodeError {
-    ghost use Rattle.base62.specs.Fault.{encode_error_text};
-
     ghost output = { λ e. Some (encode_error_text e) };
 
     ghost styled_output = { λ e _. Some (encode_error_text e) };
@@ -65,11 +65,6 @@ impl fmt::Display for EncodeError {
         }
     }
 }
-
-ghost use Rattle.std.specs.Char.{digit_char};
-ghost use Rattle.std.specs.Char.Escape.{hex_digit_at};
-ghost use Rattle.std.specs.Fmt.{WritesOnOk, WritesStyledOnOk};
-ghost use Rattle.base62.specs.Fault.{escaped};
 
 #[tactic(auto, unfolding(crate::specs::Fault::escaped))]
 fn write_escaped<W: fmt::Write>(byte: u8, f: &mut fmt::Formatter<W>) -> fmt::Result
@@ -106,7 +101,7 @@ fn hex_digit(digit: u8) -> char
     ensures value { result ≡ digit_char digit }
     ensures ascii { result < 128 }
 {
-    char::from_digit(digit as u32, 16).unwrap()
+    char::from_digit(u32::from(digit), 16).unwrap()
 }
 
 // Writes the number as `{}` does, whatever options the formatter has.

@@ -15,6 +15,7 @@ mod alphabet;
 pub mod codec;
 pub mod fault;
 pub mod laws;
+pub mod model;
 pub mod number;
 
 pub use codec::{decode, encode_bytes};

@@ -1,0 +1,62 @@
+//! The definitions that the contracts cite, which stand in `specs/`, computed on examples.
+//!
+//! No call here takes part in a run: each states facts about the definitions alone.
+
+ghost use Rattle.std.specs.Prelude.{◌≡◌, ◌^◌, ◌-◌, ◌++◌, [], ◌∷◌, replicate, codes, Ok, Err};
+ghost use Rattle.base62.specs.Alphabet.{standard, alternative};
+ghost use Rattle.base62.specs.Value.{value};
+ghost use Rattle.base62.specs.Canonical.{IsCanonical};
+ghost use Rattle.base62.specs.Decoding.{decoding};
+ghost use Rattle.base62.specs.Fault.{escaped};
+ghost use Rattle.base62.specs.declared.fault.DecodeError.TheVariants.{ArithmeticOverflow, EmptyInput, InvalidBase62Byte};
+
+/// What some texts denote.
+pub fn values_by_example()
+    ensures word { value standard (codes "rustlang") ≡ 189876682536016 }
+    ensures other_case { value standard (codes "RUSTLANG") ≡ 96813686712946 }
+    ensures other_alphabet { value alternative (codes "rustlang") ≡ 96813686712946 }
+    ensures leading_zeros { value standard (codes "00LZ") ≡ 1337 }
+    ensures greatest { value standard (codes "7n42DGM5Tflk9n8mt7Fhc7") ≡ 2 ^ 128 - 1 }
+{}
+
+/// The texts of some numbers.
+pub fn canonical_texts_by_example()
+    ensures zero { IsCanonical standard (codes "0") 0 }
+    ensures one_letter { IsCanonical standard (codes "z") 61 }
+    ensures two_letters { IsCanonical standard (codes "10") 62 }
+    ensures other_alphabet { IsCanonical alternative (codes "lz") 1337 }
+    ensures greatest { IsCanonical standard (codes "7n42DGM5Tflk9n8mt7Fhc7") (2 ^ 128 - 1) }
+{}
+
+/// What decoding answers for some texts; 33 is `!`, which is no letter.
+pub fn decodings_by_example()
+    ensures empty { decoding standard [] ≡ Err EmptyInput }
+    ensures zeros_alone { decoding standard (codes "000") ≡ Ok 0 }
+    ensures index_counts_zeros { decoding standard (codes "0!") ≡ Err (InvalidBase62Byte 33 1) }
+    ensures long_before_bad { decoding standard (33 ∷ replicate 22 48) ≡ Err ArithmeticOverflow }
+    ensures bad_where_short { decoding standard (33 ∷ replicate 21 48) ≡ Err (InvalidBase62Byte 33 0) }
+    ensures bad_in_first_ten { decoding standard (codes "zzzzzzzzz!000000000000") ≡ Err (InvalidBase62Byte 33 9) }
+    ensures overflow_before_later_bad { decoding standard (codes "zzzzzzzzzz!00000000000") ≡ Err ArithmeticOverflow }
+    ensures greatest_first_ten { decoding standard (codes "7n42DGM5Tf!00000000000") ≡ Err (InvalidBase62Byte 33 10) }
+    ensures first_ten_one_more { decoding standard (codes "7n42DGM5Tg!00000000000") ≡ Err ArithmeticOverflow }
+    ensures last_bad { decoding standard (codes "7n42DGM5Tflk9n8mt7Fhc!") ≡ Err (InvalidBase62Byte 33 21) }
+    ensures greatest { decoding standard (codes "7n42DGM5Tflk9n8mt7Fhc7") ≡ Ok (2 ^ 128 - 1) }
+    ensures greatest_one_more { decoding standard (codes "7n42DGM5Tflk9n8mt7Fhc8") ≡ Err ArithmeticOverflow }
+    ensures other_alphabet { decoding alternative (codes "lz") ≡ Ok 1337 }
+{}
+
+/// How some bytes are shown.
+pub fn escapes_by_example()
+    ensures tab { escaped 9 ≡ codes "\\t" }
+    ensures line_feed { escaped 10 ≡ codes "\\n" }
+    ensures carriage_return { escaped 13 ≡ codes "\\r" }
+    ensures double_quote { escaped 34 ≡ codes "\\\"" }
+    ensures single_quote { escaped 39 ≡ codes "\\'" }
+    ensures backslash { escaped 92 ≡ codes "\\\\" }
+    ensures space { escaped 32 ≡ codes " " }
+    ensures tilde { escaped 126 ≡ codes "~" }
+    ensures null { escaped 0 ≡ codes "\\x00" }
+    ensures below_space { escaped 31 ≡ codes "\\x1f" }
+    ensures delete { escaped 127 ≡ codes "\\x7f" }
+    ensures greatest { escaped 255 ≡ codes "\\xff" }
+{}

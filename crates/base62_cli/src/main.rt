@@ -5,6 +5,8 @@
 mod fault;
 mod laws;
 mod reply;
+#[cfg(test)]
+mod tests;
 mod tool;
 
 use fault::ToolFault;

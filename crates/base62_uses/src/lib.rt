@@ -1,2 +1,99 @@
-//! Proved callers of `base62`, as its users write them.
+//! Six uses of `base62`, as a caller writes them.
 #![tactic(auto)]
+
+ghost use Rattle.std.specs.Prelude.{◌≤◌, length};
+ghost use Rattle.base62.specs.Alphabet.{standard};
+ghost use Rattle.base62.specs.Canonical.{IsCanonical};
+
+/// The text of the short link for a row's key. It never fails.
+pub fn link_text(key: u64, buf: &mut [u8; 22]) -> &[u8]
+    ensures text { IsCanonical standard result.now key }
+    ensures short { length result.now ≤ 22 }
+{
+    let len = base62::encode_bytes(key, buf).unwrap();
+    &buf[..len]
+}
+
+// ---- more uses
+
+ghost use Rattle.std.specs.Prelude.{◌≡◌, ◌≢◌, ◌<◌, ◌^◌, ◌↔◌, ◌++◌, ℕ, List, take, drop, IsTrue, IsOk, OnOk, OnErr};
+ghost use Rattle.std.specs.Bool.{OnTrue, OnFalse};
+ghost use Rattle.base62.specs.Canonical.{CanonicalFits};
+ghost use Rattle.base62.specs.Decoding.{decoding};
+
+use base62::{DecodeError, Number};
+use std::alloc::AllocError;
+
+/// The key that a link's text names. `None` says that the text names no number, or none below 2^64.
+pub fn link_key(text: &[u8]) -> Option<u64>
+    ensures { (key : ℕ) → key < 2 ^ 64
+        → ((result ≡ Some key) ↔ (decoding standard text.now ≡ Ok key)) }
+{
+    let number = base62::decode(text).ok()?;
+    u64::try_from(number).ok()
+}
+
+/// Whether two keys have different links: no link is shared by two keys.
+pub fn links_differ(a: u64, b: u64) -> bool
+    ensures { IsTrue result ↔ (a ≢ b) }
+{
+    let mut first = [0u8; 22];
+    let mut second = [0u8; 22];
+    link_text(a, &mut first) != link_text(b, &mut second)
+}
+
+/// A row with fields of fixed sizes, whose id is the first `id_len` bytes of `id`.
+#[derive(Clone, Copy, Debug, PartialEq, Eq)]
+pub struct Row {
+    pub id: [u8; 16],
+    pub id_len: u8,
+    pub visits: u64,
+}
+
+/// Sets a row's id. One whose text does not fit its field changes nothing.
+pub fn put_id(row: &mut Row, id: u128) -> bool
+    ensures fits { IsTrue result ↔ CanonicalFits standard id 16 }
+    ensures text { OnTrue result ((row.new.id_len ≤ 16)
+        × IsCanonical standard (take row.new.id_len row.new.id) id) }
+    ensures others { OnTrue result ((row.new.visits ≡ row.old.visits)
+        × (drop row.new.id_len row.new.id ≡ drop row.new.id_len row.old.id)) }
+    ensures refused { OnFalse result (row.new ≡ row.old) }
+{
+    let Ok(len) = base62::encode_bytes(id, &mut row.id) else {
+        return false;
+    };
+    row.id_len = len as u8;
+    true
+}
+
+/// The status with which a server answers a request for a link.
+pub fn status_of(text: &[u8]) -> u16
+    ensures found { IsOk (decoding standard text.now) → result ≡ 200 }
+    ensures bad_byte { (byte index : ℕ)
+        → decoding standard text.now ≡ Err (DecodeError.InvalidBase62Byte byte index)
+        → result ≡ 400 }
+    ensures empty { decoding standard text.now ≡ Err DecodeError.EmptyInput → result ≡ 411 }
+    ensures overflow { decoding standard text.now ≡ Err DecodeError.ArithmeticOverflow
+        → result ≡ 413 }
+{
+    match base62::decode(text) {
+        Ok(_) => 200,
+        Err(DecodeError::InvalidBase62Byte(_, _)) => 400,
+        Err(DecodeError::EmptyInput) => 411,
+        Err(DecodeError::ArithmeticOverflow) => 413,
+    }
+}
+
+/// Appends the text of a number of any type to a line, whole or not at all.
+pub fn append_number<T: Number>(line: &mut Vec<u8>, number: T) -> Result<(), AllocError>
+    ensures ok { OnOk result ((text : List ℕ) × IsCanonical standard text (T.meaning number)
+        × (line.new.items ≡ line.old.items ++ text)) }
+    ensures err { OnErr result (line.new.items ≡ line.old.items) }
+{
+    let mut buf = [0u8; 22];
+    let len = base62::encode_bytes(number, &mut buf).unwrap();
+    line.extend_from_slice(&buf[..len])
+}
+
+#[cfg(test)]
+mod tests;

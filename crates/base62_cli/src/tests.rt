@@ -1,0 +1,15 @@
+//! Tests of a run over readers and writers in memory, against values from outside.
+
+mod fault;
+mod memory;
+mod replies;
+mod streams;
+
+// The stored run.
+const STORED_INPUT: &str = "enc 1337\ndec rustlang\ndec \nenc x\nfoo\n";
+
+const STORED_OUTPUT: &str = "LZ\n\
+    189876682536016\n\
+    fault: Encoded input is an empty string\n\
+    fault: not a number\n\
+    fault: unknown command\n";

@@ -1,0 +1,158 @@
+//! The replies to lines: alone, in order, and across the borders of what a read takes.
+
+use super::{STORED_INPUT, STORED_OUTPUT};
+use crate::tool::run;
+use std::alloc::{AllocError, Global};
+use std::test::Fail;
+
+const REPLIES: [(&[u8], &str); 21] = [
+    (b"enc 62", "10"),
+    (b"enc 000", "0"),
+    (b"enc 00000000000000000000000000000000000000005", "5"),
+    // The largest number, and the number after it.
+    (
+        b"enc 340282366920938463463374607431768211455",
+        "7n42DGM5Tflk9n8mt7Fhc7",
+    ),
+    (
+        b"enc 340282366920938463463374607431768211456",
+        "fault: not a number",
+    ),
+    (b"enc ", "fault: not a number"),
+    (b"enc  1", "fault: not a number"),
+    (b"enc +1", "fault: not a number"),
+    (b"enc 1\r", "fault: not a number"),
+    (b"enc x", "fault: not a number"),
+    (b"dec rustlang", "189876682536016"),
+    (b"dec ", "fault: Encoded input is an empty string"),
+    (
+        b"dec ab c",
+        "fault: Encoded input contains the invalid byte b' ' at index 2",
+    ),
+    (
+        b"dec LZ\r",
+        "fault: Encoded input contains the invalid byte b'\\r' at index 2",
+    ),
+    (
+        b"dec \xff",
+        "fault: Encoded input contains the invalid byte b'\\xff' at index 0",
+    ),
+    (b"", "fault: unknown command"),
+    (b"\xff", "fault: unknown command"),
+    (b"enc", "fault: unknown command"),
+    (b"ENC 1", "fault: unknown command"),
+    // Two commands that are not there.
+    (b"alt 1337", "fault: unknown command"),
+    (b"adc LZ", "fault: unknown command"),
+];
+
+fn answers(alloc: Global, input: &[u8]) -> Result<Vec<u8>, Fail> {
+    let mut reader = input;
+    let mut written = Vec::new(alloc);
+    run(alloc, &mut reader, &mut written)?;
+    Ok(written)
+}
+
+fn push_line(text: &mut Vec<u8>, line: &[u8]) -> Result<(), AllocError> {
+    text.extend_from_slice(line)?;
+    text.push(b'\n')?;
+    Ok(())
+}
+
+fn padded(alloc: Global, front: &[u8], byte: u8, count: u32) -> Result<Vec<u8>, AllocError> {
+    let mut line = front.to_vec(alloc)?;
+    for _ in 0..count {
+        line.push(byte)?;
+    }
+    Ok(line)
+}
+
+#[test]
+fn whole_inputs(rt: HostRuntime) -> Result<(), Fail> {
+    let cases = [
+        ("", ""),
+        (STORED_INPUT, STORED_OUTPUT),
+        ("\n", "fault: unknown command\n"),
+        ("enc 62\n\nenc 62", "10\nfault: unknown command\n10\n"),
+    ];
+    for (input, output) in cases {
+        let written = answers(rt.alloc(), input.as_bytes())?;
+        assert_eq!(rt;
+            written.as_slice(),
+            output.as_bytes(),
+            "answering {input:?}"
+        );
+    }
+    Ok(())
+}
+
+// Each line with its line end and without it, and then all of them in one input.
+#[test]
+fn each_line(rt: HostRuntime) -> Result<(), Fail> {
+    let mut all_lines = Vec::new(rt.alloc());
+    let mut all_replies = Vec::new(rt.alloc());
+    for (line, reply) in REPLIES {
+        let mut input = Vec::new(rt.alloc());
+        let mut output = Vec::new(rt.alloc());
+        push_line(&mut input, line)?;
+        push_line(&mut output, reply.as_bytes())?;
+        assert_eq!(rt;
+            answers(rt.alloc(), input.as_slice())?,
+            output,
+            "answering {line:?}"
+        );
+        // An empty line without its end is no line.
+        if !line.is_empty() {
+            assert_eq!(rt;
+                answers(rt.alloc(), line)?,
+                output,
+                "answering {line:?} without its end"
+            );
+        }
+        all_lines.extend_from_slice(input.as_slice())?;
+        all_replies.extend_from_slice(output.as_slice())?;
+    }
+    assert_eq!(rt; answers(rt.alloc(), all_lines.as_slice())?, all_replies);
+    Ok(())
+}
+
+#[test]
+fn long_lines(rt: HostRuntime) -> Result<(), Fail> {
+    let cases: [(&[u8], u8, u32, &str); 3] = [
+        (b"enc ", b'9', 200, "fault: not a number\n"),
+        (b"dec ", b'0', 10_000, "0\n"),
+        (b"dec ", b'0', 100_000, "0\n"),
+    ];
+    for (front, byte, count, output) in cases {
+        let line = padded(rt.alloc(), front, byte, count)?;
+        let written = answers(rt.alloc(), line.as_slice())?;
+        assert_eq!(rt;
+            written.as_slice(),
+            output.as_bytes(),
+            "answering {count} bytes"
+        );
+    }
+    Ok(())
+}
+
+// A read takes up to 8192 bytes. The lines come in an order that no shift repeats.
+#[test]
+fn lines_across_reads(rt: HostRuntime) -> Result<(), Fail> {
+    let mut input = Vec::new(rt.alloc());
+    let mut output = Vec::new(rt.alloc());
+    for place in 0..3000u32 {
+        let (line, reply) = REPLIES[place.count_ones() as usize % REPLIES.len()];
+        push_line(&mut input, line)?;
+        push_line(&mut output, reply.as_bytes())?;
+    }
+    assert!(rt; input.len() > 3 * 8192);
+    for border in [8192, 2 * 8192, 3 * 8192] {
+        assert_ne!(rt;
+            input.get(border - 1),
+            Some(&b'\n'),
+            "a line ends at {border}"
+        );
+    }
+    assert_eq!(rt; answers(rt.alloc(), input.as_slice())?, output);
+    Ok(())
+}

@@ -1,0 +1,213 @@
+//! Readers and writers that move one byte a call, that fail, and that watch when they are called.
+
+use super::{STORED_INPUT, STORED_OUTPUT};
+use crate::fault::ToolFault;
+use crate::tool::run;
+use std::alloc::Global;
+use std::cell::Cell;
+use std::io;
+use std::io::{ErrorKind, Read, Write};
+use std::slice::Iter;
+use std::test::Fail;
+
+// Counts calls from 1, and fails one of them where it is told to.
+#[derive(Clone, Copy, Default)]
+struct Calls {
+    made: usize,
+    failing: Option<usize>,
+}
+
+impl Calls {
+    fn failing_at(call: usize) -> Self {
+        Calls {
+            made: 0,
+            failing: Some(call),
+        }
+    }
+
+    fn make(&mut self) -> io::Result<()> {
+        self.made = self.made.saturating_add(1);
+        if self.failing == Some(self.made) {
+            return Err(io::Error::from(ErrorKind::Other));
+        }
+        Ok(())
+    }
+}
+
+#[derive(Drop)]
+struct ByteReader<'a> {
+    rest: &'a [u8],
+    reads: Calls,
+}
+
+impl Read for ByteReader<'_> {
+    fn read(&mut self, buf: &mut [u8]) -> io::Result<usize> {
+        self.reads.make()?;
+        let (Some((byte, rest)), Some(place)) = (self.rest.split_first(), buf.first_mut()) else {
+            return Ok(0);
+        };
+        *place = *byte;
+        self.rest = rest;
+        Ok(1)
+    }
+}
+
+#[derive(Drop)]
+struct ByteWriter {
+    written: Vec<u8>,
+    // How many bytes were written at each flush.
+    flushed_at: Vec<usize>,
+    writes: Calls,
+    flushes: Calls,
+}
+
+impl ByteWriter {
+    fn new(alloc: Global, writes: Calls, flushes: Calls) -> Self {
+        ByteWriter {
+            written: Vec::new(alloc),
+            flushed_at: Vec::new(alloc),
+            writes,
+            flushes,
+        }
+    }
+}
+
+impl Write for ByteWriter {
+    fn write(&mut self, buf: &[u8]) -> io::Result<usize> {
+        self.writes.make()?;
+        let Some(byte) = buf.first() else {
+            return Ok(0);
+        };
+        self.written.push(*byte)?;
+        Ok(1)
+    }
+
+    fn flush(&mut self) -> io::Result<()> {
+        self.flushes.make()?;
+        self.flushed_at.push(self.written.len())?;
+        Ok(())
+    }
+}
+
+#[test]
+fn one_byte_a_call(rt: HostRuntime) -> Result<(), Fail> {
+    let mut reader = ByteReader {
+        rest: STORED_INPUT.as_bytes(),
+        reads: Calls::default(),
+    };
+    let mut writer = ByteWriter::new(rt.alloc(), Calls::default(), Calls::default());
+    run(rt.alloc(), &mut reader, &mut writer)?;
+    assert_eq!(rt; writer.written.as_slice(), STORED_OUTPUT.as_bytes());
+    assert_eq!(rt;
+        writer.flushed_at.as_slice(),
+        [STORED_OUTPUT.len()].as_slice()
+    );
+    Ok(())
+}
+
+#[test]
+fn failed_reads(rt: HostRuntime) -> Result<(), Fail> {
+    // The last read is the one that meets the end.
+    for call in 1..=STORED_INPUT.len() + 1 {
+        let mut reader = ByteReader {
+            rest: STORED_INPUT.as_bytes(),
+            reads: Calls::failing_at(call),
+        };
+        let mut written = Vec::new(rt.alloc());
+        let outcome = run(rt.alloc(), &mut reader, &mut written);
+        assert_eq!(rt; outcome, Err(ToolFault::Read), "at read {call}");
+        assert!(rt;
+            STORED_OUTPUT.as_bytes().starts_with(written.as_slice()),
+            "at read {call}"
+        );
+    }
+    Ok(())
+}
+
+#[test]
+fn failed_writes(rt: HostRuntime) -> Result<(), Fail> {
+    for call in 1..=STORED_OUTPUT.len() {
+        let mut writer = ByteWriter::new(rt.alloc(), Calls::failing_at(call), Calls::default());
+        let outcome = run(rt.alloc(), &mut STORED_INPUT.as_bytes(), &mut writer);
+        assert_eq!(rt; outcome, Err(ToolFault::Write), "at write {call}");
+        let before = STORED_OUTPUT.as_bytes().get(..call - 1);
+        assert_eq!(rt; Some(writer.written.as_slice()), before, "at write {call}");
+        assert!(rt; writer.flushed_at.is_empty(), "at write {call}");
+    }
+    Ok(())
+}
+
+#[test]
+fn full_writer(rt: HostRuntime) {
+    let mut room = [0u8; 2];
+    for len in 0..=2 {
+        let mut writer = &mut room[..len];
+        let outcome = run(rt.alloc(), &mut STORED_INPUT.as_bytes(), &mut writer);
+        assert_eq!(rt; outcome, Err(ToolFault::Write), "with room for {len} bytes");
+    }
+}
+
+#[test]
+fn failed_flush(rt: HostRuntime) -> Result<(), Fail> {
+    let mut writer = ByteWriter::new(rt.alloc(), Calls::default(), Calls::failing_at(1));
+    let outcome = run(rt.alloc(), &mut STORED_INPUT.as_bytes(), &mut writer);
+    assert_eq!(rt; outcome, Err(ToolFault::Write));
+    assert_eq!(rt; writer.written.as_slice(), STORED_OUTPUT.as_bytes());
+    Ok(())
+}
+
+// Gives one line a read, and fails where the replies to those before it have not gone out.
+#[derive(Drop)]
+struct Asker<'a> {
+    exchanges: Iter<'a, (&'static str, &'static str)>,
+    owed: usize,
+    taken: &'a Cell<usize>,
+}
+
+impl Read for Asker<'_> {
+    fn read(&mut self, buf: &mut [u8]) -> io::Result<usize> {
+        if self.taken.get() != self.owed {
+            return Err(io::Error::from(ErrorKind::Other));
+        }
+        let Some((line, reply)) = self.exchanges.next() else {
+            return Ok(0);
+        };
+        let count = line.len().min(buf.len());
+        buf[..count].copy_from_slice(&line.as_bytes()[..count]);
+        self.owed = self.owed.saturating_add(reply.len());
+        Ok(count)
+    }
+}
+
+#[derive(Drop)]
+struct Taker<'a> {
+    taken: &'a Cell<usize>,
+}
+
+impl Write for Taker<'_> {
+    fn write(&mut self, buf: &[u8]) -> io::Result<usize> {
+        self.taken.set(self.taken.get().saturating_add(buf.len()));
+        Ok(buf.len())
+    }
+
+    fn flush(&mut self) -> io::Result<()> {
+        Ok(())
+    }
+}
+
+#[test]
+fn replies_before_the_next_read(rt: HostRuntime) {
+    let exchanges = [
+        ("enc 1337\n", "LZ\n"),
+        ("dec rustlang\n", "189876682536016\n"),
+        ("foo\n", "fault: unknown command\n"),
+    ];
+    let taken = Cell::new(0);
+    let mut reader = Asker {
+        exchanges: exchanges.iter(),
+        owed: 0,
+        taken: &taken,
+    };
+    let mut writer = Taker { taken: &taken };
+    assert_eq!(rt; run(rt.alloc(), &mut reader, &mut writer), Ok(()));
+}

@@ -1,0 +1,80 @@
+use super::*;
+use std::test::Fail;
+
+#[test]
+fn texts_of_links(rt: HostRuntime) {
+    let mut buf = [0u8; 22];
+    assert_eq!(rt; link_text(0, &mut buf), b"0".as_slice());
+    assert_eq!(rt; link_text(1337, &mut buf), b"LZ".as_slice());
+    assert_eq!(rt; link_text(u64::MAX, &mut buf), b"LygHa16AHYF".as_slice());
+}
+
+#[test]
+fn keys_of_links(rt: HostRuntime) {
+    assert_eq!(rt; link_key(b"rustlang"), Some(189876682536016));
+    assert_eq!(rt; link_key(b"00LZ"), Some(1337));
+    assert_eq!(rt; link_key(b"LygHa16AHYF"), Some(u64::MAX));
+    assert_eq!(rt; link_key(b"LygHa16AHYG"), None);
+    assert_eq!(rt; link_key(b"rust-lang"), None);
+}
+
+#[test]
+fn links_of_two_keys(rt: HostRuntime) {
+    assert!(rt; links_differ(61, 62));
+    assert!(rt; !links_differ(62, 62));
+}
+
+#[test]
+fn ids_of_rows(rt: HostRuntime) {
+    let mut row = Row {
+        id: [b'.'; 16],
+        id_len: 0,
+        visits: 7,
+    };
+    assert!(rt; put_id(&mut row, 1337));
+    let short = Row {
+        id: *b"LZ..............",
+        id_len: 2,
+        visits: 7,
+    };
+    assert_eq!(rt; row, short);
+    assert!(rt; !put_id(&mut row, 62u128.pow(16)));
+    assert_eq!(rt; row, short);
+    assert!(rt; put_id(&mut row, 62u128.pow(16) - 1));
+    let full = Row {
+        id: [b'z'; 16],
+        id_len: 16,
+        visits: 7,
+    };
+    assert_eq!(rt; row, full);
+}
+
+#[test]
+fn statuses(rt: HostRuntime) {
+    assert_eq!(rt; status_of(b"7n42DGM5Tflk9n8mt7Fhc7"), 200);
+    assert_eq!(rt; status_of(b"7n42DGM5Tflk9n8mt7Fhc8"), 413);
+    assert_eq!(rt; status_of(b"rust-lang"), 400);
+    assert_eq!(rt; status_of(b""), 411);
+}
+
+// A key of a table, which means its own number.
+#[derive(Clone, Copy)]
+struct Key(u64);
+
+impl Number for Key {
+    ghost meaning = { λ k. k.0 };
+
+    fn number(self) -> u128 {
+        self.0 as u128
+    }
+}
+
+#[test]
+fn numbers_in_a_line(rt: HostRuntime) -> Result<(), Fail> {
+    let mut line = Vec::from_slice(rt.alloc(), b"/")?;
+    append_number(&mut line, Key(1337))?;
+    line.push(b'/')?;
+    append_number(&mut line, u128::MAX)?;
+    assert_eq!(rt; line.as_slice(), b"/LZ/7n42DGM5Tflk9n8mt7Fhc7".as_slice());
+    Ok(())
+}

@@ -4,3 +4,4 @@ pub mod ValueLemmas
 pub mod CanonicalLemmas
 pub mod DecodingLemmas
 pub mod FaultLemmas
+pub mod FixedLemmas

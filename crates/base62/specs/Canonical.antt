@@ -1,6 +1,6 @@
 -- The one text that is written for a number.
 use Rattle.std.specs.Prelude.{◌≡◌, ℕ, ◌<◌, ◌≤◌, List, length}
-use Rattle.base62.specs.Alphabet.{AreLetters}
+use Rattle.base62.specs.Alphabet.{IsAlphabet, AreLetters}
 use Rattle.base62.specs.Value.{value}
 
 -- a nonempty text of letters that denotes n
@@ -17,3 +17,7 @@ pub record IsCanonical (B text : List ℕ) (n : ℕ) : Type 0 where
 -- a canonical text of n is no longer than the room
 abbrev pub CanonicalFits : List ℕ → ℕ → ℕ → Type 0
 CanonicalFits B n room = (text : List ℕ) × IsCanonical B text n × (length text ≤ room)
+
+-- over any alphabet n has a canonical text, of count letters
+abbrev pub HasLetters : ℕ → ℕ → Type 0
+HasLetters n count = (B : List ℕ) → IsAlphabet B → (text : List ℕ) × IsCanonical B text n × (length text ≡ count)

@@ -19,9 +19,10 @@ abbrev pub first_invalid : List ℕ → List ℕ → DecodeError
 first_invalid B text =
     let index = prefix_len (is_letter B) text in InvalidBase62Byte (slice_index text index) index
 
--- The answer of decoding. An empty text and more than 22 bytes after the leading zeros are refused
--- unread; a bad byte among the first ten of those comes before an overflow that the first ten alone
--- show, and that comes before a later bad byte.
+-- The answer of decoding, by the first of these cases that fits:
+-- an empty text; more than 22 bytes after the leading zeros; a bad byte among the first ten of those;
+-- where they are 22, an overflow that the first ten show, whatever letters come after them; a later
+-- bad byte; a value of 2^128 or more; and any other text, which has its value.
 unfoldable pub decoding : List ℕ → List ℕ → Result ℕ DecodeError
 decoding B text =
     if length text == 0 then Err EmptyInput

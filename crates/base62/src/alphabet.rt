@@ -9,6 +9,9 @@ pub(crate) type Letters = [u8; 62];
 pub(crate) static STANDARD: Letters =
     *b"0123456789ABCDEFGHIJKLMNOPQRSTUVWXYZabcdefghijklmnopqrstuvwxyz";
 
+pub(crate) static ALTERNATIVE: Letters =
+    *b"0123456789abcdefghijklmnopqrstuvwxyzABCDEFGHIJKLMNOPQRSTUVWXYZ";
+
 // The digit of a byte, if it is a letter.
 #[inline]
 #[tactic(auto, unfolding(crate::specs::Alphabet::digit_of))]

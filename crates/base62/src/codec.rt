@@ -2,27 +2,29 @@
 
 ghost use Rattle.std.specs.Prelude.{◌≡◌, ◌+◌, ◌<◌, ◌≤◌, ◌↔◌, ◌^◌, length, take, drop, IsOk, IfOk, IfErr, OnErr, slice_index};
 ghost use Rattle.std.specs.List.{prefix_len};
-ghost use Rattle.base62.specs.Alphabet.{IsAlphabet, AreLetters, is_letter, standard};
+ghost use Rattle.base62.specs.Alphabet.{IsAlphabet, AreLetters, is_letter, standard, alternative};
 ghost use Rattle.base62.specs.Value.{value};
 ghost use Rattle.base62.specs.Canonical.{IsCanonical, CanonicalFits};
 ghost use Rattle.base62.specs.Decoding.{decoding, leading_zeros};
 ghost use Rattle.base62.specs.declared.fault.DecodeError.TheVariants.{InvalidBase62Byte};
 
-use crate::alphabet::{Letters, STANDARD, digit};
+use crate::alphabet::{ALTERNATIVE, Letters, STANDARD, digit};
+use crate::count::digit_count;
 use crate::fault::{DecodeError, EncodeError};
 use crate::number::Number;
 
 // No number below 2^128 has a longer text.
 const MAX_DIGITS: usize = 22;
 
-// Where an overflow is looked for before later bytes are read.
+// An overflow of this many digits, with zeros for the others, is found before a later byte is looked at.
 const FIRST_CHUNK: usize = 10;
 
 /// Writes the standard text of `num` to the front of `buf`, and answers its length, which is 1 to 22.
 ///
-/// The text is the shortest nonempty one that denotes the number. `Err(BufferTooSmall)` comes exactly
-/// where `buf` is shorter than that text, so never at 22 bytes or more, and leaves `buf` as it was.
-/// On `Ok` every byte after the text is as before. It takes no memory.
+/// The text is the shortest nonempty one of the letters `0` to `9`, `A` to `Z`, `a` to `z`, in that order
+/// of their digits, that denotes the number. `Err(BufferTooSmall)` comes exactly where `buf` is shorter
+/// than that text, so never at 22 bytes or more, and leaves `buf` as it was. On `Ok` every byte after the
+/// text is as before. It takes no memory.
 ///
 /// ```rust
 /// let mut buf = [0u8; 22];
@@ -34,21 +36,80 @@ pub fn encode_bytes<T: Number>(num: T, buf: &mut [u8]) -> Result<usize, EncodeEr
     ensures text { IfOk result (λ n. (n ≤ length buf.new)
         × IsCanonical standard (take n buf.new) (T.meaning num)) }
     ensures others { IfOk result (λ n. drop n buf.new ≡ drop n buf.old) }
+    ensures short { IfOk result (λ n. (1 ≤ n) × (n ≤ 22)) }
     ensures refused { OnErr result (buf.new ≡ buf.old) }
     ensures roomy { 22 ≤ length buf.old → IsOk result }
 {
     encode_over(&STANDARD, num.number(), buf)
 }
 
+/// Writes the alternative text of `num` to the front of `buf`, and answers its length, which is 1 to 22.
+///
+/// The text is the shortest nonempty one of the letters `0` to `9`, `a` to `z`, `A` to `Z`, in that order
+/// of their digits, that denotes the number. `Err(BufferTooSmall)` comes exactly where `buf` is shorter
+/// than that text, so never at 22 bytes or more, and leaves `buf` as it was. On `Ok` every byte after the
+/// text is as before. It takes no memory.
+///
+/// ```rust
+/// let mut buf = [0u8; 22];
+/// assert_eq!(rt; base62::encode_alternative_bytes(1337_u64, &mut buf), Ok(2));
+/// assert_eq!(rt; &buf[..2], b"lz".as_slice());
+/// ```
+pub fn encode_alternative_bytes<T: Number>(num: T, buf: &mut [u8]) -> Result<usize, EncodeError>
+    ensures fits { IsOk result ↔ CanonicalFits alternative (T.meaning num) (length buf.old) }
+    ensures text { IfOk result (λ n. (n ≤ length buf.new)
+        × IsCanonical alternative (take n buf.new) (T.meaning num)) }
+    ensures others { IfOk result (λ n. drop n buf.new ≡ drop n buf.old) }
+    ensures short { IfOk result (λ n. (1 ≤ n) × (n ≤ 22)) }
+    ensures refused { OnErr result (buf.new ≡ buf.old) }
+    ensures roomy { 22 ≤ length buf.old → IsOk result }
+{
+    encode_over(&ALTERNATIVE, num.number(), buf)
+}
+
 /// The number that the standard text `input` denotes.
+///
+/// The first of these cases that fits decides:
+///
+/// 1. An empty text gives `EmptyInput`.
+/// 2. More than 22 bytes after the leading zeros, which are the letters `0` that the text begins with,
+///    give `ArithmeticOverflow`, whatever they are.
+/// 3. A byte among the first ten of them that is no letter gives `InvalidBase62Byte` for the first such.
+/// 4. Where there are 22 of them, and the first ten with twelve zeros in place of the others denote 2^128
+///    or more, `ArithmeticOverflow` comes.
+/// 5. A later byte that is no letter gives `InvalidBase62Byte` for the first such.
+/// 6. A value of 2^128 or more gives `ArithmeticOverflow`.
+/// 7. Any other text gives its value, from 0 to 2^128 - 1.
+///
+/// So leading zeros change no value, there may be any count of them, and zeros alone denote 0. The index
+/// of a byte is counted from the start of `input`, leading zeros included. It takes no memory.
 ///
 /// ```rust
 /// assert_eq!(rt; base62::decode(b"rustlang"), Ok(189876682536016));
+/// assert_eq!(rt; base62::decode(b"00LZ"), Ok(1337));
+///
+/// let refused = Err(base62::DecodeError::InvalidBase62Byte(b'-', 4));
+/// assert_eq!(rt; base62::decode(b"00LZ-"), refused);
 /// ```
 pub fn decode(input: &[u8]) -> Result<u128, DecodeError>
     ensures { result ≡ decoding standard input.now }
 {
     decode_over(&STANDARD, input)
+}
+
+/// The number that the alternative text `input` denotes.
+///
+/// The cases are those of [`decode`], for the letters of [`encode_alternative_bytes`]: the leading zeros are
+/// the letters `0` here too. It takes no memory.
+///
+/// ```rust
+/// assert_eq!(rt; base62::decode_alternative(b"rustlang"), Ok(96813686712946));
+/// assert_eq!(rt; base62::decode_alternative(b"lz"), Ok(1337));
+/// ```
+pub fn decode_alternative(input: &[u8]) -> Result<u128, DecodeError>
+    ensures { result ≡ decoding alternative input.now }
+{
+    decode_over(&ALTERNATIVE, input)
 }
 
 // The encoder over any alphabet.
@@ -58,17 +119,18 @@ fn encode_over(letters: &Letters, n: u128, buf: &mut [u8]) -> Result<usize, Enco
     ensures text { IfOk result (λ len. (len ≤ length buf.new)
         × IsCanonical letters.now (take len buf.new) n) }
     ensures others { IfOk result (λ len. drop len buf.new ≡ drop len buf.old) }
+    ensures short { IfOk result (λ len. (1 ≤ len) × (len ≤ 22)) }
     ensures refused { OnErr result (buf.new ≡ buf.old) }
     ensures roomy { 22 ≤ length buf.old → IsOk result }
 {
-    let mut digits = [0u8; MAX_DIGITS];
-    let start = write_digits(letters, n, &mut digits);
-    let text = &digits[start..];
-    if buf.len() < text.len() {
+    let count = digit_count(n);
+    if buf.len() < count {
         return Err(EncodeError::BufferTooSmall);
     }
-    buf[..text.len()].copy_from_slice(text);
-    Ok(text.len())
+    let mut digits = [0u8; MAX_DIGITS];
+    let start = write_digits(letters, n, &mut digits);
+    buf[..count].copy_from_slice(&digits[start..]);
+    Ok(count)
 }
 
 // Writes the text of n to the end of `digits`, and answers where it starts.

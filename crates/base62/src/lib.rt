@@ -1,7 +1,10 @@
 //! A Base62 codec for numbers below 2^128, after the Rust crate `base62` 2.2.6.
 //!
-//! A number is written as the one shortest nonempty text over 62 letters that denotes it, and a text
-//! is read back exactly or refused with the fault that a written table names.
+//! A number is written as the one shortest nonempty text over 62 letters that denotes it, and a text is
+//! read back exactly or refused with the fault that [`decode`] names for it.
+//!
+//! There are two alphabets. The standard one is `0` to `9`, `A` to `Z`, `a` to `z`, and the alternative
+//! one is `0` to `9`, `a` to `z`, `A` to `Z`: a letter's digit is its place, counted from 0.
 //!
 //! ```rust
 //! let mut buf = [0u8; 22];
@@ -13,11 +16,13 @@
 
 mod alphabet;
 pub mod codec;
+pub mod count;
 pub mod fault;
 pub mod laws;
 pub mod model;
 pub mod number;
 
-pub use codec::{decode, encode_bytes};
+pub use codec::{decode, decode_alternative, encode_alternative_bytes, encode_bytes};
+pub use count::digit_count;
 pub use fault::{DecodeError, EncodeError};
 pub use number::Number;

@@ -1,4 +1,5 @@
 pub mod Fault
+pub mod Letters
 pub mod Lines
 pub mod Reply
 pub mod Output

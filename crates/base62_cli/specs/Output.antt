@@ -10,7 +10,7 @@ AreReplies (line ∷ lines) output =
     (reply : List ℕ) × (others : List ℕ) × IsReply line reply × AreReplies lines others
     × (output ≡ reply ++ 10 ∷ others)
 
--- the output for an input; there is one, by `one_output`
+-- the output for an input: there is exactly one, by `one_output`
 abbrev pub IsOutput : List ℕ → List ℕ → Type 0
 IsOutput input output = AreReplies (lines_of input) output
 

@@ -16,8 +16,11 @@ pub enum ToolFault {
     Memory,
 }
 
+/// Says what failed, and the same under any width, fill and alignment.
 impl fmt::Display for ToolFault {
     ghost output = { λ fault. Some (fault_text fault) };
+
+    ghost styled_output = { λ fault _. Some (fault_text fault) };
 
     #[tactic(auto, unfolding(crate::specs::Fault::fault_text))]
     fn fmt<W: fmt::Write>(&self, f: &mut fmt::Formatter<W>) -> fmt::Result {

@@ -3,7 +3,8 @@
 ghost use Rattle.std.specs.Prelude.{◌≡◌, ℕ, List};
 ghost use Rattle.base62_cli.specs.Output.{IsOutput};
 
-/// An input has at most one output.
+/// Every input has an output, and only one.
 pub fn one_output()
-    ensures { (input a b : List ℕ) → IsOutput input a → IsOutput input b → a ≡ b }
+    ensures exists { (input : List ℕ) → (output : List ℕ) × IsOutput input output }
+    ensures only { (input a b : List ℕ) → IsOutput input a → IsOutput input b → a ≡ b }
 {}

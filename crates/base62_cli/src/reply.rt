@@ -1,52 +1,84 @@
 //! The reply to one line.
 
-ghost use Rattle.std.specs.Prelude.{◌≡◌, ℕ, ◌∷◌, [], ◌++◌, List, OnOk, Some, None, if◌then◌else◌};
-ghost use Rattle.base62_cli.specs.Reply.{IsReply, IsEncodeReply, decoded_text, decimal_value, is_number};
+ghost use Rattle.std.specs.Prelude.{◌≡◌, ◌≤◌, ℕ, ◌∷◌, [], ◌++◌, List, take, OnOk, Some, None, if◌then◌else◌};
 ghost use Rattle.std.specs.Str.{all_ascii_digits};
-ghost use Rattle.base62.specs.Alphabet.{standard};
+ghost use Rattle.base62.specs.Canonical.{IsCanonical};
 ghost use Rattle.base62.specs.Decoding.{decoding};
+ghost use Rattle.base62_cli.specs.Letters.{alphabet_of};
+ghost use Rattle.base62_cli.specs.Reply.{IsReply, IsEncodeReply, decode_reply, decimal_value, is_number};
 
+use base62::DecodeError;
 use std::alloc::AllocError;
 use std::io::Write;
 use std::str;
 
-/// Appends the reply to `line`, and byte 10.
+// The letters that a command speaks of.
+#[derive(Clone, Copy)]
+pub(crate) enum Letters {
+    Standard,
+    Alternative,
+}
+
+/// Appends the reply to `line`, and `\n`. On `Err`, for want of memory, a part may have been appended.
 pub fn push_reply(line: &[u8], out: &mut Vec<u8>) -> Result<(), AllocError>
     ensures { OnOk result ((reply : List ℕ) × IsReply line.now reply
         × (out.new.items ≡ out.old.items ++ (reply ++ 10 ∷ []))) }
 {
     if line.starts_with(b"enc ") {
-        push_encoded(&line[4..], out)
+        push_encoded(Letters::Standard, &line[4..], out)
+    } else if line.starts_with(b"alt ") {
+        push_encoded(Letters::Alternative, &line[4..], out)
     } else if line.starts_with(b"dec ") {
-        push_decoded(&line[4..], out)
+        push_decoded(Letters::Standard, &line[4..], out)
+    } else if line.starts_with(b"adc ") {
+        push_decoded(Letters::Alternative, &line[4..], out)
     } else {
         out.extend_from_slice(b"fault: unknown command\n")
     }
 }
 
-fn push_encoded(text: &[u8], out: &mut Vec<u8>) -> Result<(), AllocError>
-    ensures { OnOk result ((reply : List ℕ) × IsEncodeReply text.now reply
+fn push_encoded(letters: Letters, text: &[u8], out: &mut Vec<u8>) -> Result<(), AllocError>
+    ensures { OnOk result ((reply : List ℕ) × IsEncodeReply (alphabet_of letters) text.now reply
         × (out.new.items ≡ out.old.items ++ (reply ++ 10 ∷ []))) }
 {
     let Some(number) = number_of(text) else {
         return out.extend_from_slice(b"fault: not a number\n");
     };
     let mut buf = [0u8; 22];
-    let len = base62::encode_bytes(number, &mut buf).unwrap();
+    let len = encode(letters, number, &mut buf);
     out.extend_from_slice(&buf[..len])?;
     out.push(b'\n')?;
     Ok(())
 }
 
-fn push_decoded(text: &[u8], out: &mut Vec<u8>) -> Result<(), AllocError>
-    ensures { OnOk result (out.new.items
-        ≡ out.old.items ++ (decoded_text (decoding standard text.now) ++ 10 ∷ [])) }
+fn encode(letters: Letters, number: u128, buf: &mut [u8; 22]) -> usize
+    ensures within { result ≤ 22 }
+    ensures text { IsCanonical (alphabet_of letters) (take result buf.new) number }
 {
-    let written = match base62::decode(text) {
+    match letters {
+        Letters::Standard => base62::encode_bytes(number, buf).unwrap(),
+        Letters::Alternative => base62::encode_alternative_bytes(number, buf).unwrap(),
+    }
+}
+
+fn push_decoded(letters: Letters, text: &[u8], out: &mut Vec<u8>) -> Result<(), AllocError>
+    ensures { OnOk result (out.new.items
+        ≡ out.old.items ++ (decode_reply (alphabet_of letters) text.now ++ 10 ∷ [])) }
+{
+    let written = match decode(letters, text) {
         Ok(number) => writeln!(out, "{number}"),
         Err(fault) => writeln!(out, "fault: {fault}"),
     };
     written.map_err(|_| AllocError)
+}
+
+fn decode(letters: Letters, text: &[u8]) -> Result<u128, DecodeError>
+    ensures { result ≡ decoding (alphabet_of letters) text.now }
+{
+    match letters {
+        Letters::Standard => base62::decode(text),
+        Letters::Alternative => base62::decode_alternative(text),
+    }
 }
 
 // The number that decimal digits denote, where it is below 2^128.

@@ -6,10 +6,12 @@ mod replies;
 mod streams;
 
 // The stored run.
-const STORED_INPUT: &str = "enc 1337\ndec rustlang\ndec \nenc x\nfoo\n";
+const STORED_INPUT: &str = "enc 1337\nalt 1337\ndec rustlang\nadc rustlang\ndec \nenc x\nfoo\n";
 
 const STORED_OUTPUT: &str = "LZ\n\
+    lz\n\
     189876682536016\n\
+    96813686712946\n\
     fault: Encoded input is an empty string\n\
     fault: not a number\n\
     fault: unknown command\n";

@@ -14,9 +14,29 @@ const CHUNK_LEN: usize = 8192;
 
 /// Answers each line of the reader, in order, and writes nothing else.
 ///
-/// A line ends with byte 10, and a last nonempty line needs none. The replies to what a read gave go
-/// out before the next read, and the writer is flushed once at the end. It takes memory for one line
-/// and for the replies to one read.
+/// A line ends with `\n`, and a last nonempty line needs none. A `\r` belongs to its line. A line is a
+/// command, one space, and then a text, which is all the rest and may be empty:
+///
+/// - `enc` and a decimal number below 2^128, with any count of leading zeros, is answered by the number's
+///   standard text, and `alt` by its alternative text. Any other text gives `fault: not a number`.
+/// - `dec` and a text is answered by the number that [`base62::decode`] gives for it, in decimal, and `adc`
+///   by that of [`base62::decode_alternative`]. Where they refuse it, `fault: ` and what they say comes.
+/// - Any other line is answered by `fault: unknown command`.
+///
+/// Each answer is followed by `\n`. The replies to what a read gave go out before the next read, and the
+/// writer is flushed once, at the end.
+///
+/// `Err(Read)` comes where a read fails, or where 2^64 - 1 reads meet no end; `Err(Write)` where the writer
+/// or its flush fails, or the writer takes nothing; `Err(Memory)` where there is none for a line or for the
+/// replies to a read, which is all the memory that a run takes. On `Err` some replies may have been written.
+///
+/// ```rust
+/// let mut input = b"enc 1337\ndec LZ".as_slice();
+/// let mut output = [0u8; 8];
+/// let mut writer = output.as_mut_slice();
+/// assert!(rt; run(rt.alloc(), &mut input, &mut writer).is_ok());
+/// assert_eq!(rt; &output, b"LZ\n1337\n");
+/// ```
 pub fn run<R: Read, W: Write>(
     alloc: Global,
     reader: &mut R,
@@ -29,6 +49,7 @@ pub fn run<R: Read, W: Write>(
     let mut chunk = [0u8; CHUNK_LEN];
     let mut line = Vec::new(alloc);
     let mut out = Vec::new(alloc);
+    // A loop needs a bound, and no reader is read 2^64 - 1 times.
     for _ in 0..u64::MAX {
         let Ok(count) = reader.read(&mut chunk) else {
             return Err(ToolFault::Read);

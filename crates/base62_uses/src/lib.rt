@@ -1,4 +1,4 @@
-//! Six uses of `base62`, as a caller writes them.
+//! Eight uses of `base62`, as a caller writes them.
 #![tactic(auto)]
 
 ghost use Rattle.std.specs.Prelude.{◌≤◌, length};
@@ -16,8 +16,9 @@ pub fn link_text(key: u64, buf: &mut [u8; 22]) -> &[u8]
 
 // ---- more uses
 
-ghost use Rattle.std.specs.Prelude.{◌≡◌, ◌≢◌, ◌<◌, ◌^◌, ◌↔◌, ◌++◌, ℕ, List, take, drop, IsTrue, IsOk, OnOk, OnErr};
+ghost use Rattle.std.specs.Prelude.{◌≡◌, ◌≢◌, ◌<◌, ◌+◌, ◌*◌, ◌^◌, ◌↔◌, ◌++◌, ℕ, List, take, drop, IsTrue, IsOk, OnOk, OnErr};
 ghost use Rattle.std.specs.Bool.{OnTrue, OnFalse};
+ghost use Rattle.base62.specs.Alphabet.{IsAlphabet};
 ghost use Rattle.base62.specs.Canonical.{CanonicalFits};
 ghost use Rattle.base62.specs.Decoding.{decoding};
 
@@ -93,6 +94,37 @@ pub fn append_number<T: Number>(line: &mut Vec<u8>, number: T) -> Result<(), All
     let mut buf = [0u8; 22];
     let len = base62::encode_bytes(number, &mut buf).unwrap();
     line.extend_from_slice(&buf[..len])
+}
+
+/// A key of two parts: the number of a shard, and a row in it.
+#[derive(Clone, Copy, Debug, PartialEq, Eq)]
+pub struct ShardedKey {
+    pub shard: u32,
+    pub row: u64,
+}
+
+/// Says what number a key means, and answers it: all that a type of one's own owes.
+impl Number for ShardedKey {
+    ghost meaning = { λ key. key.shard * 2 ^ 64 + key.row };
+
+    fn number(self) -> u128 {
+        u128::from(self.shard) * (1 << 64) + u128::from(self.row)
+    }
+}
+
+/// The text of a key of two parts.
+pub fn key_text(key: ShardedKey, buf: &mut [u8; 22]) -> &[u8]
+    ensures { IsCanonical standard result.now (key.shard * 2 ^ 64 + key.row) }
+{
+    let len = base62::encode_bytes(key, buf).unwrap();
+    &buf[..len]
+}
+
+/// How many bytes a column needs for the texts of keys up to `most`, in either alphabet.
+pub fn column_width(most: u64) -> usize
+    ensures { (B text : List ℕ) → IsAlphabet B → IsCanonical B text most → length text ≡ result }
+{
+    base62::digit_count(u128::from(most))
 }
 
 #[cfg(test)]

@@ -78,3 +78,23 @@ fn numbers_in_a_line(rt: HostRuntime) -> Result<(), Fail> {
     assert_eq!(rt; line.as_slice(), b"/LZ/7n42DGM5Tflk9n8mt7Fhc7".as_slice());
     Ok(())
 }
+
+#[test]
+fn texts_of_sharded_keys(rt: HostRuntime) {
+    let mut buf = [0u8; 22];
+    let first = ShardedKey { shard: 1, row: 0 };
+    assert_eq!(rt; key_text(first, &mut buf), b"LygHa16AHYG".as_slice());
+    let row = ShardedKey {
+        shard: 0,
+        row: 1337,
+    };
+    assert_eq!(rt; key_text(row, &mut buf), b"LZ".as_slice());
+}
+
+#[test]
+fn widths_of_columns(rt: HostRuntime) {
+    assert_eq!(rt; column_width(0), 1);
+    assert_eq!(rt; column_width(61), 1);
+    assert_eq!(rt; column_width(62), 2);
+    assert_eq!(rt; column_width(u64::MAX), 11);
+}

@@ -5,7 +5,7 @@ use crate::tool::run;
 use std::alloc::{AllocError, Global};
 use std::test::Fail;
 
-const REPLIES: [(&[u8], &str); 21] = [
+const REPLIES: [(&[u8], &str); 27] = [
     (b"enc 62", "10"),
     (b"enc 000", "0"),
     (b"enc 00000000000000000000000000000000000000005", "5"),
@@ -41,9 +41,17 @@ const REPLIES: [(&[u8], &str); 21] = [
     (b"\xff", "fault: unknown command"),
     (b"enc", "fault: unknown command"),
     (b"ENC 1", "fault: unknown command"),
-    // Two commands that are not there.
-    (b"alt 1337", "fault: unknown command"),
-    (b"adc LZ", "fault: unknown command"),
+    (b"alt 1337", "lz"),
+    (b"alt 000", "0"),
+    (b"alt x", "fault: not a number"),
+    (b"alt", "fault: unknown command"),
+    (b"adc rustlang", "96813686712946"),
+    (b"adc ", "fault: Encoded input is an empty string"),
+    (
+        b"adc l-",
+        "fault: Encoded input contains the invalid byte b'-' at index 1",
+    ),
+    (b"ADC lz", "fault: unknown command"),
 ];
 
 fn answers(alloc: Global, input: &[u8]) -> Result<Vec<u8>, Fail> {

@@ -5,5 +5,5 @@ use Rattle.base62_cli.proofs.reply.push_encoded.Goals as goal
 
 pub returns-in_default : goal.returns-in_default
 returns-in_default c =
-    on_ok_weaker c.extend_from_slice.result (λ h. (codes "fault: not a number", not_a_number c.args.text.now (sym c.number_of.ensures ∙ c.in_default.is), h))
+    on_ok_weaker c.extend_from_slice.result (λ h. (codes "fault: not a number", not_a_number _ c.args.text.now (sym c.number_of.ensures ∙ c.in_default.is), h))
     (appended_on_ok c.extend_from_slice.result _ _ (codes "fault: not a number\n") c.extend_from_slice.ensures.items)

@@ -1,14 +1,18 @@
 //! Numbers that can be encoded.
 
-ghost use Rattle.std.specs.Prelude.{◌≡◌, ℕ};
+ghost use Rattle.std.specs.Prelude.{◌≡◌, ℕ, if◌then◌else◌};
 
 /// A type whose values each mean a whole number from 0 to 2^128 - 1.
 ///
-/// An `impl` states the meaning as `meaning`, and its `number` answers it. `number` takes no memory
-/// and refuses nothing.
+/// An `impl` states the number that a value means as its ghost `meaning`, and its `number` answers that
+/// number. A caller's own type may have one, and is then encoded as the numbers here are. `number` takes
+/// no memory and refuses nothing.
 ///
 /// ```rust
+/// use base62::Number;
+///
 /// assert_eq!(rt; 1337_u64.number(), 1337_u128);
+/// assert_eq!(rt; 'é'.number(), 0xe9_u128);
 /// ```
 pub trait Number {
     // The number that a value means.
@@ -19,12 +23,59 @@ pub trait Number {
         ensures { result ≡ meaning self };
 }
 
+/// `false` means 0, and `true` means 1.
+impl Number for bool {
+    ghost meaning = { λ b. if b then 1 else 0 };
+
+    #[inline]
+    fn number(self) -> u128 {
+        u128::from(self)
+    }
+}
+
+/// A character means its Unicode scalar value.
+impl Number for char {
+    ghost meaning = { λ c. c };
+
+    #[inline]
+    fn number(self) -> u128 {
+        u128::from(self)
+    }
+}
+
+impl Number for u8 {
+    ghost meaning = { λ n. n };
+
+    #[inline]
+    fn number(self) -> u128 {
+        u128::from(self)
+    }
+}
+
+impl Number for u16 {
+    ghost meaning = { λ n. n };
+
+    #[inline]
+    fn number(self) -> u128 {
+        u128::from(self)
+    }
+}
+
+impl Number for u32 {
+    ghost meaning = { λ n. n };
+
+    #[inline]
+    fn number(self) -> u128 {
+        u128::from(self)
+    }
+}
+
 impl Number for u64 {
     ghost meaning = { λ n. n };
 
     #[inline]
     fn number(self) -> u128 {
-        self as u128
+        u128::from(self)
     }
 }
 

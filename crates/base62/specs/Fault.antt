@@ -1,6 +1,8 @@
 -- The texts of the faults.
 use Rattle.std.specs.Prelude.{ℕ, ◌==◌, ◌&&◌, nat_le, if◌then◌else◌, List, [], ◌∷◌, ◌++◌, codes, decimal}
 use Rattle.std.specs.Char.Escape.{hex_digit_at}
+use Rattle.std.specs.Ordering.{nat_cmp, ordering_then}
+use Rattle.std.specs.declared.cmp.Ordering.{Ordering}
 use Rattle.base62.specs.declared.fault.DecodeError.{DecodeError}
 use Rattle.base62.specs.declared.fault.DecodeError.TheVariants.{ArithmeticOverflow, EmptyInput, InvalidBase62Byte}
 use Rattle.base62.specs.declared.fault.EncodeError.{EncodeError}
@@ -30,3 +32,14 @@ decode_error_text (InvalidBase62Byte byte index) =
 -- what a fault of encoding says
 unfoldable pub encode_error_text : EncodeError → List ℕ
 encode_error_text BufferTooSmall = codes "Buffer too small to encode the number"
+
+-- the kinds of faults of decoding, in their order
+abbrev pub decode_error_rank : DecodeError → ℕ
+decode_error_rank ArithmeticOverflow = 0
+decode_error_rank EmptyInput = 1
+decode_error_rank (InvalidBase62Byte byte index) = 2
+
+-- faults of one kind go by byte and then by index, and others by their kinds
+abbrev pub decode_error_order : DecodeError → DecodeError → Ordering
+decode_error_order (InvalidBase62Byte b i) (InvalidBase62Byte c j) = ordering_then (nat_cmp b c) (nat_cmp i j)
+decode_error_order d e = nat_cmp (decode_error_rank d) (decode_error_rank e)

@@ -6,21 +6,23 @@ ghost use Rattle.std.specs.Char.Escape.{hex_digit_at};
 ghost use Rattle.std.specs.Fmt.{WritesOnOk, WritesStyledOnOk};
 ghost use Rattle.base62.specs.Fault.{decode_error_text, encode_error_text, escaped};
 
-use std::fmt;
+use std::{error, fmt};
 
 /// Why a text is no number below 2^128.
-#[derive(Clone, Copy, Debug, PartialEq, Eq)]
+#[derive(Clone, Copy, Debug, PartialEq, Eq, PartialOrd, Ord, Hash)]
 pub enum DecodeError {
-    /// The text denotes 2^128 or more, or its first bytes show that it would.
+    /// The text denotes 2^128 or more, or more than 22 bytes follow its leading zeros, or the first ten of
+    /// 22 show already that it would denote so much.
     ArithmeticOverflow,
     /// The text is empty.
     EmptyInput,
-    /// The byte at this index of the text, counted from its start, is no letter.
+    /// The first byte that is no letter, and its index, counted from the start of the text with its
+    /// leading zeros.
     InvalidBase62Byte(u8, usize),
 }
 
 /// Why a number is not written into a buffer.
-#[derive(Clone, Copy, Debug, PartialEq, Eq)]
+#[derive(Clone, Copy, Debug, PartialEq, Eq, PartialOrd, Ord, Hash)]
 pub enum EncodeError {
     /// The buffer is shorter than the text of the number.
     BufferTooSmall,
@@ -52,6 +54,8 @@ impl fmt::Display for DecodeError {
     }
 }
 
+impl error::Error for DecodeError {}
+
 /// Prints what went wrong, and the same under any width, fill and alignment.
 impl fmt::Display for EncodeError {
     ghost output = { λ e. Some (encode_error_text e) };
@@ -66,6 +70,10 @@ impl fmt::Display for EncodeError {
     }
 }
 
+impl error::Error for EncodeError {}
+
+// Writes the byte as the definition shows it. Plain writes, here and in what follows, for `write!` promises
+// nothing of a formatter that has a width.
 #[tactic(auto, unfolding(crate::specs::Fault::escaped))]
 fn write_escaped<W: fmt::Write>(byte: u8, f: &mut fmt::Formatter<W>) -> fmt::Result
     ensures writes { WritesOnOk W.write_str_gives f.old result (escaped byte) f.new }

@@ -1,29 +1,75 @@
-//! Numbers and their texts, both ways, and the inputs that are refused.
+//! Numbers and their texts over both alphabets, both ways, and the inputs that are refused.
 
 use base62::DecodeError::{ArithmeticOverflow, EmptyInput, InvalidBase62Byte};
 use base62::EncodeError::BufferTooSmall;
-use base62::{DecodeError, Number, decode, encode_bytes};
+use base62::{
+    DecodeError, EncodeError, Number, decode, decode_alternative, encode_alternative_bytes,
+    encode_bytes,
+};
+use std::alloc::{AllocError, Global};
 use std::process::Abort;
+use std::test::Fail;
 
 // What a buffer holds before a call, so that each byte that the call leaves alone shows. It is no letter.
-const FILLER: u8 = 0xa5;
+pub(crate) const FILLER: u8 = 0xa5;
+
+// Digits come first in both, and the two cases of the other letters change places.
+static STANDARD_LETTERS: [u8; 62] =
+    *b"0123456789ABCDEFGHIJKLMNOPQRSTUVWXYZabcdefghijklmnopqrstuvwxyz";
+
+static ALTERNATIVE_LETTERS: [u8; 62] =
+    *b"0123456789abcdefghijklmnopqrstuvwxyzABCDEFGHIJKLMNOPQRSTUVWXYZ";
+
+// The calls over one of the alphabets.
+#[derive(Clone, Copy, Debug)]
+pub(crate) enum Alphabet {
+    Standard,
+    Alternative,
+}
+
+const BOTH: [Alphabet; 2] = [Alphabet::Standard, Alphabet::Alternative];
+
+impl Alphabet {
+    fn letters(self) -> &'static [u8; 62] {
+        match self {
+            Alphabet::Standard => &STANDARD_LETTERS,
+            Alphabet::Alternative => &ALTERNATIVE_LETTERS,
+        }
+    }
+
+    fn encode<T: Number>(self, number: T, buffer: &mut [u8]) -> Result<usize, EncodeError> {
+        match self {
+            Alphabet::Standard => encode_bytes(number, buffer),
+            Alphabet::Alternative => encode_alternative_bytes(number, buffer),
+        }
+    }
+
+    fn decode(self, text: &[u8]) -> Result<u128, DecodeError> {
+        match self {
+            Alphabet::Standard => decode(text),
+            Alphabet::Alternative => decode_alternative(text),
+        }
+    }
+}
 
 // The text comes at the front of a longer buffer and fills one of its own length, with no other byte written.
-fn assert_encodes<T: Number + Copy>(rt: &impl Abort, number: T, text: &[u8]) {
+pub(crate) fn assert_encodes<T: Number + Copy>(
+    rt: &impl Abort,
+    alphabet: Alphabet,
+    number: T,
+    text: &[u8],
+) {
     assert!(rt; text.len() <= 22, "the text {text:?} is longer than any");
     let mut wanted = [FILLER; 22];
     wanted[..text.len()].copy_from_slice(text);
 
     let mut long = [FILLER; 22];
-    assert_eq!(rt;
-        encode_bytes(number, &mut long),
-        Ok(text.len()),
-        "encoding to {text:?}"
-    );
+    let outcome = alphabet.encode(number, &mut long);
+    assert_eq!(rt; outcome, Ok(text.len()), "encoding to {text:?}");
     assert_eq!(rt; long, wanted, "encoding to {text:?}");
 
     let mut exact = [FILLER; 22];
-    let outcome = encode_bytes(number, &mut exact[..text.len()]);
+    let outcome = alphabet.encode(number, &mut exact[..text.len()]);
     assert_eq!(rt;
         outcome,
         Ok(text.len()),
@@ -33,44 +79,51 @@ fn assert_encodes<T: Number + Copy>(rt: &impl Abort, number: T, text: &[u8]) {
 }
 
 // A number below 2^64 is encoded as each of the two types.
-fn assert_pair(rt: &impl Abort, number: u128, text: &[u8]) {
-    assert_encodes(rt, number, text);
+fn assert_pair(rt: &impl Abort, alphabet: Alphabet, number: u128, text: &[u8]) {
+    assert_encodes(rt, alphabet, number, text);
     if let Ok(small) = u64::try_from(number) {
-        assert_encodes(rt, small, text);
+        assert_encodes(rt, alphabet, small, text);
     }
-    assert_eq!(rt; decode(text), Ok(number), "decoding {text:?}");
+    assert_eq!(rt;
+        alphabet.decode(text),
+        Ok(number),
+        "decoding {text:?}, {alphabet:?}"
+    );
 }
 
+// Each number with its standard and its alternative text.
 #[test]
 fn numbers_and_texts(rt: HostRuntime) {
-    let pairs = [
-        (0, "0"),
-        (1337, "LZ"),
-        (1234567890, "1LY7VK"),
-        (691337691337, "CAcoUun"),
+    let rows = [
+        (0, "0", "0"),
+        (1337, "LZ", "lz"),
+        (1234567890, "1LY7VK", "1ly7vk"),
+        (691337691337, "CAcoUun", "caCOuUN"),
         // The largest u64, and the number after it.
-        (18446744073709551615, "LygHa16AHYF"),
-        (18446744073709551616, "LygHa16AHYG"),
+        (18446744073709551615, "LygHa16AHYF", "lYGhA16ahyf"),
+        (18446744073709551616, "LygHa16AHYG", "lYGhA16ahyg"),
         // The lower digits are all zero.
         (
             92202686130861137968548313400401640448,
             "26tF05fvSIgh0000000000",
+            "26Tf05FVsiGH0000000000",
         ),
         // The largest number.
         (
             340282366920938463463374607431768211455,
             "7n42DGM5Tflk9n8mt7Fhc7",
+            "7N42dgm5tFLK9N8MT7fHC7",
         ),
     ];
-    for (number, text) in pairs {
-        assert_pair(&rt, number, text.as_bytes());
+    for (number, standard, alternative) in rows {
+        assert_pair(&rt, Alphabet::Standard, number, standard.as_bytes());
+        assert_pair(&rt, Alphabet::Alternative, number, alternative.as_bytes());
     }
 }
 
-// Where a text becomes one letter longer: 62^k - 1 is k letters `z`, and 62^k is a `1` and k zeros.
+// Where a text becomes one letter longer: 62^k - 1 is k times the highest letter, and 62^k is a `1` and k zeros.
 #[test]
 fn powers_of_62(rt: HostRuntime) {
-    let highest_letters = [b'z'; 21];
     let mut one_and_zeros = [b'0'; 22];
     one_and_zeros[0] = b'1';
     let mut power: u128 = 1;
@@ -79,64 +132,253 @@ fn powers_of_62(rt: HostRuntime) {
             .checked_mul(62)
             .expect(&rt, "a power of 62 fits a u128");
         let before = power.checked_sub(1).expect(&rt, "a power of 62 is not 0");
-        assert_pair(&rt, before, &highest_letters[..exponent]);
-        assert_pair(&rt, power, &one_and_zeros[..exponent + 1]);
+        for (alphabet, highest) in [(Alphabet::Standard, b'z'), (Alphabet::Alternative, b'Z')] {
+            let highest_letters = [highest; 21];
+            assert_pair(&rt, alphabet, before, &highest_letters[..exponent]);
+            assert_pair(&rt, alphabet, power, &one_and_zeros[..exponent + 1]);
+        }
     }
 }
 
 #[test]
 fn buffers(rt: HostRuntime) {
-    let mut longer = [FILLER; 5];
-    assert_eq!(rt; encode_bytes(1337_u64, &mut longer), Ok(2));
-    assert_eq!(rt; longer, [b'L', b'Z', FILLER, FILLER, FILLER]);
+    let cases = [
+        (Alphabet::Standard, b'L', b'Z'),
+        (Alphabet::Alternative, b'l', b'z'),
+    ];
+    for (alphabet, first, second) in cases {
+        let mut longer = [FILLER; 5];
+        assert_eq!(rt;
+            alphabet.encode(1337_u64, &mut longer),
+            Ok(2),
+            "{alphabet:?}"
+        );
+        assert_eq!(rt;
+            longer,
+            [first, second, FILLER, FILLER, FILLER],
+            "{alphabet:?}"
+        );
 
+        assert_eq!(rt;
+            alphabet.encode(0_u64, &mut []),
+            Err(BufferTooSmall),
+            "even 0 has a letter, {alphabet:?}"
+        );
+
+        let mut shorter = [FILLER; 21];
+        assert_eq!(rt;
+            alphabet.encode(u128::MAX, &mut shorter),
+            Err(BufferTooSmall),
+            "{alphabet:?}"
+        );
+        assert_eq!(rt;
+            shorter,
+            [FILLER; 21],
+            "a refused call writes nothing, {alphabet:?}"
+        );
+    }
+}
+
+// The text of a number by the definition: one digit at a time, the last one first, until nothing is left.
+fn reference_text(alloc: Global, alphabet: Alphabet, number: u128) -> Result<Vec<u8>, AllocError> {
+    let letters = alphabet.letters();
+    let mut text = Vec::new(alloc);
+    let mut left = number;
+    for _ in 0..22 {
+        text.push(letters[(left % 62) as usize])?;
+        left /= 62;
+        if left == 0 {
+            break;
+        }
+    }
+    text.reverse();
+    Ok(text)
+}
+
+// The buffer is a part of longer bytes: one letter short, just long enough, and as long as any text.
+fn assert_buffers(rt: &impl Abort, alphabet: Alphabet, number: u128, text: &[u8]) {
+    let digits = text.len();
+    assert!(rt; 1 <= digits, "no text is empty");
+    assert!(rt; digits <= 22, "no text is longer");
+    let untouched = [FILLER; 24];
+    let mut written = untouched;
+    written[1..1 + digits].copy_from_slice(text);
+    let cases = [
+        (digits - 1, Err(BufferTooSmall), untouched),
+        (digits, Ok(digits), written),
+        (22, Ok(digits), written),
+    ];
+    for (length, answer, wanted) in cases {
+        assert!(rt; length <= 22);
+        let mut bytes = untouched;
+        let outcome = alphabet.encode(number, &mut bytes[1..1 + length]);
+        assert_eq!(rt; outcome, answer, "{number} in {length} bytes, {alphabet:?}");
+        assert_eq!(rt; bytes, wanted, "{number} in {length} bytes, {alphabet:?}");
+    }
     assert_eq!(rt;
-        encode_bytes(0_u64, &mut []),
-        Err(BufferTooSmall),
-        "even 0 has a letter"
+        alphabet.decode(text),
+        Ok(number),
+        "decoding {text:?}, {alphabet:?}"
     );
+}
 
-    let mut shorter = [FILLER; 21];
-    assert_eq!(rt; encode_bytes(u128::MAX, &mut shorter), Err(BufferTooSmall));
-    assert_eq!(rt; shorter, [FILLER; 21], "a refused call writes nothing");
+// The number, the one before it and the one after it.
+fn assert_buffers_around(rt: &impl Abort, alloc: Global, center: u128) -> Result<(), AllocError> {
+    assert!(rt; 0 < center);
+    assert!(rt; center < u128::MAX);
+    for alphabet in BOTH {
+        for number in [center - 1, center, center + 1] {
+            let text = reference_text(alloc, alphabet, number)?;
+            assert_buffers(rt, alphabet, number, text.as_slice());
+        }
+    }
+    Ok(())
 }
 
 #[test]
+fn exact_and_short_buffers(rt: HostRuntime) -> Result<(), Fail> {
+    for exponent in 0..=21 {
+        let power = 62_u128
+            .checked_pow(exponent)
+            .expect(&rt, "a power of 62 fits a u128");
+        assert_buffers_around(&rt, rt.alloc(), power)?;
+    }
+    // The largest u64, the number after it, and the number before the largest.
+    let centers = [
+        18446744073709551615,
+        18446744073709551616,
+        340282366920938463463374607431768211454,
+    ];
+    for center in centers {
+        assert_buffers_around(&rt, rt.alloc(), center)?;
+    }
+    Ok(())
+}
+
+// Each text with what it denotes over the standard and over the alternative alphabet.
+#[test]
 fn decoded_texts(rt: HostRuntime) {
-    let cases = [
-        ("000", 0),
+    let rows = [
+        ("000", 0, 0),
         (
             "00001000000000000000000000",
             43674252383913877424036476406214950912,
+            43674252383913877424036476406214950912,
         ),
-        ("rustlang", 189876682536016),
-        ("RUSTLANG", 96813686712946),
+        ("lz", 2975, 1337),
+        ("LZ", 1337, 2975),
+        ("rustlang", 189876682536016, 96813686712946),
+        ("RUSTLANG", 96813686712946, 189876682536016),
     ];
-    for (text, number) in cases {
-        assert_eq!(rt; decode(text.as_bytes()), Ok(number), "decoding {text:?}");
+    for (text, standard, alternative) in rows {
+        let bytes = text.as_bytes();
+        assert_eq!(rt; decode(bytes), Ok(standard), "decoding {text:?}");
+        assert_eq!(rt;
+            decode_alternative(bytes),
+            Ok(alternative),
+            "decoding {text:?}, alternative"
+        );
     }
-    assert_eq!(rt; decode(&[b'0'; 10000]), Ok(0), "decoding 10000 zeros");
+    for alphabet in BOTH {
+        assert_eq!(rt;
+            alphabet.decode(&[b'0'; 10000]),
+            Ok(0),
+            "decoding 10000 zeros, {alphabet:?}"
+        );
+    }
 }
 
 // Which fault is reported, where a text has more than one.
+// Each row has a text for each alphabet, the standard one first.
+const REFUSED: [(&str, &str, DecodeError); 12] = [
+    ("", "", EmptyInput),
+    ("!", "!", InvalidBase62Byte(b'!', 0)),
+    ("0!", "0!", InvalidBase62Byte(b'!', 1)),
+    // A text of more than 22 bytes after its leading zeros is refused before any of them is looked at.
+    (
+        "11111111111111111111111",
+        "11111111111111111111111",
+        ArithmeticOverflow,
+    ),
+    (
+        "!0000000000000000000000",
+        "!0000000000000000000000",
+        ArithmeticOverflow,
+    ),
+    (
+        "!000000000000000000000",
+        "!000000000000000000000",
+        InvalidBase62Byte(b'!', 0),
+    ),
+    // A wrong byte among the first ten is reported, and a later one only where those ten do not overflow.
+    (
+        "zzzzzzzzz!000000000000",
+        "ZZZZZZZZZ!000000000000",
+        InvalidBase62Byte(b'!', 9),
+    ),
+    (
+        "zzzzzzzzzz!00000000000",
+        "ZZZZZZZZZZ!00000000000",
+        ArithmeticOverflow,
+    ),
+    (
+        "7n42DGM5Tf!00000000000",
+        "7N42dgm5tF!00000000000",
+        InvalidBase62Byte(b'!', 10),
+    ),
+    (
+        "7n42DGM5Tg!00000000000",
+        "7N42dgm5tG!00000000000",
+        ArithmeticOverflow,
+    ),
+    // A wrong byte is reported before an overflow that only the last letters could make.
+    (
+        "7n42DGM5Tflk9n8mt7Fhc!",
+        "7N42dgm5tFLK9N8MT7fHC!",
+        InvalidBase62Byte(b'!', 21),
+    ),
+    (
+        "7n42DGM5Tflk9n8mt7Fhc8",
+        "7N42dgm5tFLK9N8MT7fHC8",
+        ArithmeticOverflow,
+    ),
+];
+
 #[test]
 fn refused_texts(rt: HostRuntime) {
-    let cases: [(&str, DecodeError); 10] = [
-        ("", EmptyInput),
-        ("0!", InvalidBase62Byte(b'!', 1)),
-        // A text of more than 22 bytes after its leading zeros is refused before any of them is looked at.
-        ("!0000000000000000000000", ArithmeticOverflow),
-        ("!000000000000000000000", InvalidBase62Byte(b'!', 0)),
-        // A wrong byte among the first ten is reported, and a later one only where those ten do not overflow.
-        ("zzzzzzzzz!000000000000", InvalidBase62Byte(b'!', 9)),
-        ("zzzzzzzzzz!00000000000", ArithmeticOverflow),
-        ("7n42DGM5Tf!00000000000", InvalidBase62Byte(b'!', 10)),
-        ("7n42DGM5Tg!00000000000", ArithmeticOverflow),
-        // A wrong byte is reported before an overflow that only the last letters could make.
-        ("7n42DGM5Tflk9n8mt7Fhc!", InvalidBase62Byte(b'!', 21)),
-        ("7n42DGM5Tflk9n8mt7Fhc8", ArithmeticOverflow),
-    ];
-    for (text, fault) in cases {
-        assert_eq!(rt; decode(text.as_bytes()), Err(fault), "decoding {text:?}");
+    for (standard, alternative, fault) in REFUSED {
+        assert_eq!(rt;
+            decode(standard.as_bytes()),
+            Err(fault),
+            "decoding {standard:?}"
+        );
+        assert_eq!(rt;
+            decode_alternative(alternative.as_bytes()),
+            Err(fault),
+            "decoding {alternative:?}, alternative"
+        );
+    }
+}
+
+// 24 bytes, two zeros, a `1` and more zeros, with a byte that is no letter in place of one after the two.
+// The first ten letters after the leading zeros end at place 11.
+#[test]
+fn bytes_that_are_no_letters(rt: HostRuntime) {
+    for byte in 0..=255_u8 {
+        if byte.is_ascii_alphanumeric() {
+            continue;
+        }
+        for place in [2, 3, 11, 12, 21, 22, 23_usize] {
+            let mut text = [b'0'; 24];
+            text[2] = b'1';
+            text[place] = byte;
+            for alphabet in BOTH {
+                assert_eq!(rt;
+                    alphabet.decode(&text),
+                    Err(InvalidBase62Byte(byte, place)),
+                    "the byte {byte} at {place}, {alphabet:?}"
+                );
+            }
+        }
     }
 }

@@ -4,6 +4,8 @@
 #[cfg(test)]
 mod codec;
 #[cfg(test)]
+mod count;
+#[cfg(test)]
 mod fault;
 #[cfg(test)]
 mod number;

@@ -1,11 +1,82 @@
-//! The number that a value of each type means.
+//! The number that a value of each type means, and its text.
 
-use base62::Number;
+ghost use Rattle.std.specs.Prelude.{◌+◌, ◌*◌, ◌^◌};
 
-// A u64's largest value is written out, so that a cast is not compared with itself.
+use crate::codec::{Alphabet, FILLER, assert_encodes};
+use base62::EncodeError::BufferTooSmall;
+use base62::{Number, encode_bytes};
+use std::process::Abort;
+
+// A caller's own type of two halves, which means high * 2^64 + low.
+#[derive(Clone, Copy)]
+struct Pair {
+    high: u64,
+    low: u64,
+}
+
+impl Number for Pair {
+    ghost meaning = { λ p. p.high * 2 ^ 64 + p.low };
+
+    fn number(self) -> u128 {
+        u128::from(self.high) * 18446744073709551616 + u128::from(self.low)
+    }
+}
+
+// The largest values are written out, so that a cast is not compared with itself.
 #[test]
 fn a_value_means_itself(rt: HostRuntime) {
+    assert_eq!(rt; false.number(), 0);
+    assert_eq!(rt; true.number(), 1);
+    assert_eq!(rt; 'z'.number(), 122);
+    assert_eq!(rt; char::MAX.number(), 1114111);
+    assert_eq!(rt; u8::MAX.number(), 255);
+    assert_eq!(rt; u16::MAX.number(), 65535);
+    assert_eq!(rt; u32::MAX.number(), 4294967295);
     assert_eq!(rt; 1337_u64.number(), 1337);
     assert_eq!(rt; u64::MAX.number(), 18446744073709551615);
     assert_eq!(rt; u128::MAX.number(), 340282366920938463463374607431768211455);
+}
+
+fn assert_standard<T: Number + Copy>(rt: &impl Abort, number: T, text: &str) {
+    assert_encodes(rt, Alphabet::Standard, number, text.as_bytes());
+}
+
+#[test]
+fn values_of_each_type(rt: HostRuntime) {
+    for (value, text) in [(true, "1"), (false, "0")] {
+        assert_standard(&rt, value, text);
+    }
+    for (value, text) in [('z', "1y"), ('\0', "0"), ('A', "13"), (char::MAX, "4fpX")] {
+        assert_standard(&rt, value, text);
+    }
+    for (value, text) in [(u8::MAX, "47"), (0, "0")] {
+        assert_standard(&rt, value, text);
+    }
+    assert_standard(&rt, u16::MAX, "H31");
+    assert_standard(&rt, u32::MAX, "4gfFC3");
+}
+
+#[test]
+fn values_of_a_callers_own_type(rt: HostRuntime) {
+    let cases = [
+        (0, 0, "0"),
+        (1, 0, "LygHa16AHYG"),
+        (u64::MAX, u64::MAX, "7n42DGM5Tflk9n8mt7Fhc7"),
+    ];
+    for (high, low, text) in cases {
+        assert_standard(&rt, Pair { high, low }, text);
+    }
+}
+
+#[test]
+fn buffers_of_other_lengths(rt: HostRuntime) {
+    let mut longer = [FILLER; 5];
+    assert_eq!(rt; encode_bytes(1337_u32, &mut longer), Ok(2));
+    assert_eq!(rt; longer, [b'L', b'Z', FILLER, FILLER, FILLER]);
+
+    assert_eq!(rt;
+        encode_bytes(0_u8, &mut []),
+        Err(BufferTooSmall),
+        "even 0 has a letter"
+    );
 }

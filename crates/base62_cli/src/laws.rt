@@ -1,10 +1,22 @@
 //! What follows from the definitions alone.
 
-ghost use Rattle.std.specs.Prelude.{◌≡◌, ℕ, List};
+ghost use Rattle.std.specs.Prelude.{◌≡◌, ◌≢◌, ℕ, List, [], ◌∷◌, ◌++◌};
+ghost use Rattle.std.specs.List.{All};
+ghost use Rattle.base62_cli.specs.Lines.{lines_of};
 ghost use Rattle.base62_cli.specs.Output.{IsOutput};
 
 /// Every input has an output, and only one.
 pub fn one_output()
     ensures exists { (input : List ℕ) → (output : List ℕ) × IsOutput input output }
     ensures only { (input a b : List ℕ) → IsOutput input a → IsOutput input b → a ≡ b }
+{}
+
+/// Where lines end: an empty input has none, a byte 10 ends what stands before it, and a nonempty rest that
+/// has no byte 10 is one line. These three say what the lines of every input are.
+pub fn lines_of_an_input()
+    ensures empty { lines_of [] ≡ [] }
+    ensures ended { (line bytes : List ℕ) → All (λ b. b ≢ 10) line
+        → lines_of (line ++ 10 ∷ bytes) ≡ line ∷ lines_of bytes }
+    ensures rest { (b : ℕ) (line : List ℕ) → All (λ c. c ≢ 10) (b ∷ line)
+        → lines_of (b ∷ line) ≡ (b ∷ line) ∷ [] }
 {}

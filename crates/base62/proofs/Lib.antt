@@ -5,3 +5,4 @@ pub mod CanonicalLemmas
 pub mod DecodingLemmas
 pub mod FaultLemmas
 pub mod FixedLemmas
+pub mod RoundTripLemmas

@@ -1,9 +1,10 @@
 //! What follows from the definitions alone. No call here takes part in a run.
 
-ghost use Rattle.std.specs.Prelude.{◌≡◌, ◌<◌, ◌^◌, ◌↔◌, ℕ, List, true};
+ghost use Rattle.std.specs.Prelude.{◌≡◌, ◌<◌, ◌^◌, ◌↔◌, ℕ, List, true, Ok};
 ghost use Rattle.std.specs.declared.cmp.Ordering.TheVariants.{Equal};
 ghost use Rattle.base62.specs.Alphabet.{IsAlphabet, standard, alternative};
 ghost use Rattle.base62.specs.Canonical.{IsCanonical};
+ghost use Rattle.base62.specs.Decoding.{decoding};
 ghost use Rattle.base62.specs.Fault.{decode_error_order};
 ghost use Rattle.base62.specs.declared.fault.DecodeError.{DecodeError};
 ghost use Rattle.base62.specs.declared.fault.EncodeError.{EncodeError};
@@ -24,6 +25,15 @@ pub fn one_text()
         → (text : List ℕ) × IsCanonical B text n }
     ensures only { (B : List ℕ) → IsAlphabet B → (n : ℕ) (a b : List ℕ)
         → IsCanonical B a n → IsCanonical B b n → a ≡ b }
+{}
+
+/// Over any alphabet decoding gives back the number below 2^128 of its canonical text, and no text is the
+/// canonical text of two numbers.
+pub fn round_trip()
+    ensures back { (B : List ℕ) → IsAlphabet B → (n : ℕ) → n < 2 ^ 128 → (text : List ℕ)
+        → IsCanonical B text n → decoding B text ≡ Ok n }
+    ensures unshared { (B text : List ℕ) (m n : ℕ)
+        → IsCanonical B text m → IsCanonical B text n → m ≡ n }
 {}
 
 /// How faults of decoding compare: an overflow is least, then comes the empty input, and then bad

@@ -1,4 +1,4 @@
-//! Eight uses of `base62`, as a caller writes them.
+//! Ten uses of `base62`, as a caller writes them.
 #![tactic(auto)]
 
 ghost use Rattle.std.specs.Prelude.{◌≤◌, length};
@@ -18,7 +18,7 @@ pub fn link_text(key: u64, buf: &mut [u8; 22]) -> &[u8]
 
 ghost use Rattle.std.specs.Prelude.{◌≡◌, ◌≢◌, ◌<◌, ◌+◌, ◌*◌, ◌^◌, ◌↔◌, ◌++◌, ℕ, List, take, drop, IsTrue, IsOk, OnOk, OnErr};
 ghost use Rattle.std.specs.Bool.{OnTrue, OnFalse};
-ghost use Rattle.base62.specs.Alphabet.{IsAlphabet};
+ghost use Rattle.base62.specs.Alphabet.{IsAlphabet, alternative};
 ghost use Rattle.base62.specs.Canonical.{CanonicalFits};
 ghost use Rattle.base62.specs.Decoding.{decoding};
 
@@ -32,6 +32,21 @@ pub fn link_key(text: &[u8]) -> Option<u64>
 {
     let number = base62::decode(text).ok()?;
     u64::try_from(number).ok()
+}
+
+/// The text of a token's number in the alternative alphabet. It never fails.
+pub fn token_text(number: u128, buf: &mut [u8; 22]) -> &[u8]
+    ensures { IsCanonical alternative result.now number }
+{
+    let len = base62::encode_alternative_bytes(number, buf).unwrap();
+    &buf[..len]
+}
+
+/// The number that a token's text names. `None` says that the text names none below 2^128.
+pub fn token_number(text: &[u8]) -> Option<u128>
+    ensures { (n : ℕ) → (result ≡ Some n) ↔ (decoding alternative text.now ≡ Ok n) }
+{
+    base62::decode_alternative(text).ok()
 }
 
 /// Whether two keys have different links: no link is shared by two keys.

@@ -98,3 +98,11 @@ fn widths_of_columns(rt: HostRuntime) {
     assert_eq!(rt; column_width(62), 2);
     assert_eq!(rt; column_width(u64::MAX), 11);
 }
+
+#[test]
+fn tokens_and_their_numbers(rt: HostRuntime) {
+    let mut buf = [0u8; 22];
+    assert_eq!(rt; token_text(691337691337, &mut buf), b"caCOuUN".as_slice());
+    assert_eq!(rt; token_number(b"caCOuUN"), Some(691337691337));
+    assert_eq!(rt; token_number(b"caCOuUN-"), None);
+}

@@ -1,13 +1,15 @@
 -- The digits of letters.
-use Rattle.std.proofs.Common.{◌≡◌, ℕ, ◌<◌, ◌≤◌, Bool, true, eqb, ltb, List, length, get_or, map, Option, Some, None, is_some, unwrap_or, refl, sym, ap, ◌∙◌, arith, eq-eqb}
-use Rattle.std.specs.List.{position_or_len, range_with_len}
+use Rattle.std.proofs.Common.{◌≡◌, ℕ, ◌<◌, ◌≤◌, Bool, true, eqb, ltb, List, length, get_or, map, Option, Some, None, is_some, unwrap_or, refl, sym, ap, ◌∙◌, subst, arith, eq-eqb}
+use Rattle.std.specs.List.{position_or_len, range_with_len, list_all, All}
 use Rattle.std.proofs.lemmas.Bool.{ne_eqb, eqb-true, lt-ltb, ltb-true}
 use Rattle.std.proofs.lemmas.List.{get_or-map}
 use Rattle.std.proofs.lemmas.List.FromFn.{get_or-map-range_with_len}
 use Rattle.std.proofs.lemmas.List.Quantifiers.{position-Some}
 use Rattle.std.proofs.lemmas.List.Sums.{position_or_len_is, AllPass-from_list_all}
 use Rattle.std.proofs.lemmas.List.Elements.{All-weaker}
-use Rattle.base62.specs.Alphabet.{IsAlphabet, standard, alternative, digit_of, is_letter}
+use Rattle.std.specs.Str.{IsAscii}
+use Rattle.std.proofs.lemmas.Str.Ascii.{IsAscii-from_all}
+use Rattle.base62.specs.Alphabet.{IsAlphabet, AreLetters, standard, alternative, digit_of, is_letter}
 use Rattle.base62.specs.Value.{digit_or_zero}
 
 -- the letter at place d has digit d
@@ -65,19 +67,36 @@ distinct_from_places B n e len i j p q same =
     let first = λ (k : ℕ) (h : k < n). sym (get_or-map (digit_of B) B k 0 None (omega (arith, len))) ∙ ap (λ xs. get_or xs k None) e ∙ get_or-map-range_with_len (λ m. Some m) 0 n k k None h (omega arith) in
     some_injective i j (sym (first i p) ∙ ap (digit_of B) same ∙ first j q)
 
--- the two built-in alphabets are alphabets
+all_below : (k : ℕ) (B : List ℕ) → list_all (λ b. ltb b k) B ≡ true → All (λ b. b < k) B
+all_below k B h = All-weaker (λ b. ltb b k ≡ true) (λ b. b < k) (λ b below. ltb-true b k below) B (AllPass-from_list_all (λ b. ltb b k) B h)
+
+is_alphabet : (B : List ℕ) → length B ≡ 62 → list_all (λ b. ltb b 256) B ≡ true → map (digit_of B) B ≡ map (λ i. Some i) (range_with_len 0 62) → IsAlphabet B
+is_alphabet B size bytes places = record {
+  size = size;
+  bytes = all_below 256 B bytes;
+  distinct = distinct_from_places B 62 places size;
+}
+
+-- the two built-in alphabets are alphabets, of ASCII bytes
 pub standard_is_alphabet : IsAlphabet standard
 unfolding standard digit_of
-standard_is_alphabet = record {
-  size = refl;
-  bytes = All-weaker (λ b. ltb b 256 ≡ true) (λ b. b < 256) (λ b h. ltb-true b 256 h) standard (AllPass-from_list_all (λ b. ltb b 256) standard refl);
-  distinct = distinct_from_places standard 62 refl refl;
-}
+standard_is_alphabet = is_alphabet standard refl refl refl
 
 pub alternative_is_alphabet : IsAlphabet alternative
 unfolding alternative digit_of
-alternative_is_alphabet = record {
-  size = refl;
-  bytes = All-weaker (λ b. ltb b 256 ≡ true) (λ b. b < 256) (λ b h. ltb-true b 256 h) alternative (AllPass-from_list_all (λ b. ltb b 256) alternative refl);
-  distinct = distinct_from_places alternative 62 refl refl;
-}
+alternative_is_alphabet = is_alphabet alternative refl refl refl
+
+pub standard_is_ascii : IsAscii standard
+unfolding standard
+standard_is_ascii = IsAscii-from_all standard (all_below 128 standard refl)
+
+pub alternative_is_ascii : IsAscii alternative
+unfolding alternative
+alternative_is_ascii = IsAscii-from_all alternative (all_below 128 alternative refl)
+
+-- over an alphabet of ASCII bytes a text of letters is ASCII
+pub letters_ascii : (B : List ℕ) → IsAscii B → (text : List ℕ) → AreLetters B text → IsAscii text
+letters_ascii B ascii text letters =
+    let below = λ (b : ℕ) (h : is_letter B b ≡ true).
+    let at = letter-digit_of B b _ (digit_of-is B b h) in subst (λ l. l < 128) at.1 (ascii (digit_or_zero B b)) in
+    IsAscii-from_all text (All-weaker (λ b. is_letter B b ≡ true) (λ b. b < 128) below text letters)

@@ -6,3 +6,5 @@ pub mod DecodingLemmas
 pub mod FaultLemmas
 pub mod FixedLemmas
 pub mod RoundTripLemmas
+pub mod PaddingLemmas
+pub mod TextLemmas

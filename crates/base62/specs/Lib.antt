@@ -4,3 +4,4 @@ pub mod Value
 pub mod Canonical
 pub mod Decoding
 pub mod Fault
+pub mod Padding

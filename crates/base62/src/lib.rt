@@ -21,8 +21,16 @@ pub mod fault;
 pub mod laws;
 pub mod model;
 pub mod number;
+pub mod show;
+pub mod target;
+mod text;
 
 pub use codec::{decode, decode_alternative, encode_alternative_bytes, encode_bytes};
 pub use count::digit_count;
 pub use fault::{DecodeError, EncodeError};
 pub use number::Number;
+pub use show::{Fmt, FmtAlternative, encode_fmt, encode_fmt_alt};
+pub use target::{
+    encode, encode_alternative, encode_alternative_buf, encode_alternative_io, encode_buf,
+    encode_io,
+};

@@ -1,13 +1,16 @@
 //! The definitions that the contracts cite, which stand in `specs/`, computed on examples.
 //!
 //! No call here takes part in a run: each states facts about the definitions alone.
+#![tactic(auto, unfolding(crate::specs::Alphabet::standard, crate::specs::Alphabet::alternative, crate::specs::Alphabet::digit_of, crate::specs::Places::sum_over_places, crate::specs::Value::value, crate::specs::Decoding::decoding, crate::specs::Fault::escaped, crate::specs::Padding::displayed))]
 
-ghost use Rattle.std.specs.Prelude.{◌≡◌, ◌^◌, ◌-◌, ◌++◌, [], ◌∷◌, replicate, codes, Ok, Err};
+ghost use Rattle.std.specs.Prelude.{◌≡◌, ◌^◌, ◌-◌, ◌++◌, [], ◌∷◌, replicate, codes, Ok, Err, Some, None};
+ghost use Rattle.std.specs.declared.fmt.Alignment.TheVariants.{Left, Right, Center};
 ghost use Rattle.base62.specs.Alphabet.{standard, alternative};
 ghost use Rattle.base62.specs.Value.{value};
 ghost use Rattle.base62.specs.Canonical.{IsCanonical};
 ghost use Rattle.base62.specs.Decoding.{decoding};
 ghost use Rattle.base62.specs.Fault.{escaped};
+ghost use Rattle.base62.specs.Padding.{padded_to, displayed};
 ghost use Rattle.base62.specs.declared.fault.DecodeError.TheVariants.{ArithmeticOverflow, EmptyInput, InvalidBase62Byte};
 
 /// What some texts denote.
@@ -59,4 +62,18 @@ pub fn escapes_by_example()
     ensures below_space { escaped 31 ≡ codes "\\x1f" }
     ensures delete { escaped 127 ≡ codes "\\x7f" }
     ensures greatest { escaped 255 ≡ codes "\\xff" }
+{}
+
+/// What displays of `LZ` write; 32 is a space, 48 is `0`, 42 is `*`, and 233 is `é`, whose bytes are 195 and
+/// 169.
+pub fn displays_by_example()
+    ensures no_width { padded_to None 32 Right (codes "LZ") ≡ codes "LZ" }
+    ensures narrow { padded_to (Some 1) 32 Right (codes "LZ") ≡ codes "LZ" }
+    ensures left { padded_to (Some 5) 32 Left (codes "LZ") ≡ codes "LZ   " }
+    ensures right { padded_to (Some 22) 48 Right (codes "LZ") ≡ replicate 20 48 ++ codes "LZ" }
+    ensures centred { padded_to (Some 7) 42 Center (codes "LZ") ≡ codes "**LZ***" }
+    ensures two_bytes { padded_to (Some 4) 233 Right (codes "LZ")
+        ≡ 195 ∷ 169 ∷ 195 ∷ 169 ∷ codes "LZ" }
+    ensures no_alignment { displayed None (Some 5) 32 0 (codes "LZ") ≡ Some (codes "LZ   ") }
+    ensures precision { displayed (Some 1) None 32 0 (codes "LZ") ≡ None }
 {}

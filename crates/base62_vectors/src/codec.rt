@@ -1,56 +1,15 @@
 //! Numbers and their texts over both alphabets, both ways, and the inputs that are refused.
 
+use crate::alphabets::{Alphabet, BOTH, NUMBERS, reference_text};
 use base62::DecodeError::{ArithmeticOverflow, EmptyInput, InvalidBase62Byte};
 use base62::EncodeError::BufferTooSmall;
-use base62::{
-    DecodeError, EncodeError, Number, decode, decode_alternative, encode_alternative_bytes,
-    encode_bytes,
-};
+use base62::{DecodeError, Number, decode, decode_alternative};
 use std::alloc::{AllocError, Global};
 use std::process::Abort;
 use std::test::Fail;
 
 // What a buffer holds before a call, so that each byte that the call leaves alone shows. It is no letter.
 pub(crate) const FILLER: u8 = 0xa5;
-
-// Digits come first in both, and the two cases of the other letters change places.
-static STANDARD_LETTERS: [u8; 62] =
-    *b"0123456789ABCDEFGHIJKLMNOPQRSTUVWXYZabcdefghijklmnopqrstuvwxyz";
-
-static ALTERNATIVE_LETTERS: [u8; 62] =
-    *b"0123456789abcdefghijklmnopqrstuvwxyzABCDEFGHIJKLMNOPQRSTUVWXYZ";
-
-// The calls over one of the alphabets.
-#[derive(Clone, Copy, Debug)]
-pub(crate) enum Alphabet {
-    Standard,
-    Alternative,
-}
-
-const BOTH: [Alphabet; 2] = [Alphabet::Standard, Alphabet::Alternative];
-
-impl Alphabet {
-    fn letters(self) -> &'static [u8; 62] {
-        match self {
-            Alphabet::Standard => &STANDARD_LETTERS,
-            Alphabet::Alternative => &ALTERNATIVE_LETTERS,
-        }
-    }
-
-    fn encode<T: Number>(self, number: T, buffer: &mut [u8]) -> Result<usize, EncodeError> {
-        match self {
-            Alphabet::Standard => encode_bytes(number, buffer),
-            Alphabet::Alternative => encode_alternative_bytes(number, buffer),
-        }
-    }
-
-    fn decode(self, text: &[u8]) -> Result<u128, DecodeError> {
-        match self {
-            Alphabet::Standard => decode(text),
-            Alphabet::Alternative => decode_alternative(text),
-        }
-    }
-}
 
 // The text comes at the front of a longer buffer and fills one of its own length, with no other byte written.
 pub(crate) fn assert_encodes<T: Number + Copy>(
@@ -91,31 +50,9 @@ fn assert_pair(rt: &impl Abort, alphabet: Alphabet, number: u128, text: &[u8]) {
     );
 }
 
-// Each number with its standard and its alternative text.
 #[test]
 fn numbers_and_texts(rt: HostRuntime) {
-    let rows = [
-        (0, "0", "0"),
-        (1337, "LZ", "lz"),
-        (1234567890, "1LY7VK", "1ly7vk"),
-        (691337691337, "CAcoUun", "caCOuUN"),
-        // The largest u64, and the number after it.
-        (18446744073709551615, "LygHa16AHYF", "lYGhA16ahyf"),
-        (18446744073709551616, "LygHa16AHYG", "lYGhA16ahyg"),
-        // The lower digits are all zero.
-        (
-            92202686130861137968548313400401640448,
-            "26tF05fvSIgh0000000000",
-            "26Tf05FVsiGH0000000000",
-        ),
-        // The largest number.
-        (
-            340282366920938463463374607431768211455,
-            "7n42DGM5Tflk9n8mt7Fhc7",
-            "7N42dgm5tFLK9N8MT7fHC7",
-        ),
-    ];
-    for (number, standard, alternative) in rows {
+    for (number, standard, alternative) in NUMBERS {
         assert_pair(&rt, Alphabet::Standard, number, standard.as_bytes());
         assert_pair(&rt, Alphabet::Alternative, number, alternative.as_bytes());
     }
@@ -177,22 +114,6 @@ fn buffers(rt: HostRuntime) {
             "a refused call writes nothing, {alphabet:?}"
         );
     }
-}
-
-// The text of a number by the definition: one digit at a time, the last one first, until nothing is left.
-fn reference_text(alloc: Global, alphabet: Alphabet, number: u128) -> Result<Vec<u8>, AllocError> {
-    let letters = alphabet.letters();
-    let mut text = Vec::new(alloc);
-    let mut left = number;
-    for _ in 0..22 {
-        text.push(letters[(left % 62) as usize])?;
-        left /= 62;
-        if left == 0 {
-            break;
-        }
-    }
-    text.reverse();
-    Ok(text)
 }
 
 // The buffer is a part of longer bytes: one letter short, just long enough, and as long as any text.

@@ -2,10 +2,20 @@
 #![tactic(auto)]
 
 #[cfg(test)]
+mod alphabets;
+#[cfg(test)]
 mod codec;
 #[cfg(test)]
 mod count;
 #[cfg(test)]
 mod fault;
 #[cfg(test)]
+mod memory;
+#[cfg(test)]
 mod number;
+#[cfg(test)]
+mod show;
+#[cfg(test)]
+mod target;
+#[cfg(test)]
+mod writers;

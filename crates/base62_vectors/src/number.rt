@@ -2,7 +2,8 @@
 
 ghost use Rattle.std.specs.Prelude.{◌+◌, ◌*◌, ◌^◌};
 
-use crate::codec::{Alphabet, FILLER, assert_encodes};
+use crate::alphabets::Alphabet;
+use crate::codec::{FILLER, assert_encodes};
 use base62::EncodeError::BufferTooSmall;
 use base62::{Number, encode_bytes};
 use std::process::Abort;

@@ -1,0 +1,93 @@
+-- What `pad` writes of a text is the text padded as the definition says.
+use Rattle.std.proofs.Common.{◌≡◌, ℕ, zero, suc, ◌+◌, ◌-◌, ◌/◌, ◌^◌, ◌≤◌, ◌<◌, eqb, leb, Bool, true, false, cond, List, [], ◌∷◌, ◌++◌, length, Option, Some, None, refl, sym, ap, ◌∙◌, subst, append_assoc, arith, inl, inr}
+use Rattle.std.specs.Prelude.{IfSome, Result}
+use Rattle.std.specs.Option.{option_map}
+use Rattle.std.specs.Fmt.{char_count, take_chars, is_char_start, padded, formatter_spec, spec_width, spec_fill, spec_precision, WritesStyledOnOk, DisplaysStyledOnOk}
+use Rattle.std.specs.declared.fmt.Error.{Error}
+use Rattle.std.specs.declared.fmt.Formatter.{Formatter}
+use Rattle.std.specs.declared.fmt.Alignment.{Alignment}
+use Rattle.std.specs.declared.fmt.Alignment.TheVariants.{Left, Right, Center}
+use Rattle.std.proofs.lemmas.Bool.{cases_lt, cases_eq, ne_eqb, eq-eqb, lt-leb, le-leb}
+use Rattle.std.proofs.lemmas.List.{append-nil}
+use Rattle.base62.specs.Padding.{fills, aligned, padded_to, alignment_of, displayed}
+
+cond_same : {A : Type 0} (t : Bool) (x y z : A) → x ≡ z → y ≡ z → cond t x y ≡ z
+cond_same true x y z p q = p
+cond_same false x y z p q = q
+
+-- a text of at most n bytes has at most n characters
+take_chars_all : (n : ℕ) (text : List ℕ) → length text ≤ n → take_chars n text ≡ text
+unfolding take_chars
+take_chars_all n [] short = refl
+take_chars_all n (b ∷ text) short = cond_same (is_char_start b) _ _ _
+    (rw (ne_eqb n 0 (λ e. omega arith), take_chars_all (n - 1) text (omega arith)) refl)
+    (rw (take_chars_all n text (omega arith)) refl)
+
+module _ (fill : ℕ) (text : List ℕ) where
+  pub aligned-none : (a : Alignment) → aligned a fill 0 text ≡ text
+  aligned-none Left = append-nil text
+  aligned-none Right = refl
+  aligned-none Center = append-nil text
+
+  padded_to-some : (width : ℕ) (a : Alignment) → padded_to (Some width) fill a text ≡ aligned a fill (width - char_count text) text
+  padded_to-some width a = elim (cases_lt (char_count text) width) [
+    | inl less ↦ rw (lt-leb width (char_count text) less) refl
+    | inr more ↦
+        let none : width - char_count text ≡ 0 = omega arith in
+        rw (le-leb width (char_count text) more, none) (sym (aligned-none a))
+  ]
+
+  -- a width of 0 is none
+  padded_to-aligned : (width : ℕ) (a : Alignment) → padded_to (cond (eqb width 0) None (Some width)) fill a text ≡ aligned a fill (width - char_count text) text
+  padded_to-aligned width a = elim (cases_eq width 0) [
+    | inl none ↦
+        let short : width - char_count text ≡ 0 = omega arith in rw (short, none) (sym (aligned-none a))
+    | inr some ↦ rw (ne_eqb width 0 some) (padded_to-some width a)
+  ]
+
+  -- how much of the padding stands in front of the text, by the number of the alignment
+  abbrev in_front : ℕ → ℕ → ℕ
+  in_front number padding = let align = cond (eqb number 0) 1 number in
+      cond (eqb align 1) 0 (cond (eqb align 2) (padding / 2) padding)
+
+  around : (front padding : ℕ) → List ℕ
+  around front padding = fills fill front ++ (text ++ fills fill (padding - front))
+
+  aligned-around : (number padding : ℕ) → IfSome (alignment_of number) (λ a. around (in_front number padding) padding ≡ aligned a fill padding text)
+  unfolding around
+  aligned-around zero p = let all : p - 0 ≡ p = omega arith in rw all refl
+  aligned-around (suc zero) p = let all : p - 0 ≡ p = omega arith in rw all refl
+  aligned-around (suc (suc zero)) p = sym (append_assoc (fills fill (p / 2)) text (fills fill (p - p / 2)))
+  aligned-around (suc (suc (suc zero))) p =
+      let none : p - p ≡ 0 = omega arith in rw none (ap (λ t. fills fill p ++ t) (append-nil text))
+  aligned-around (suc (suc (suc (suc k)))) p =
+      let n : ℕ = suc (suc (suc (suc k))) in
+      rw (lt-leb n 1 (omega arith), ne_eqb n 2 (λ e. omega arith), ne_eqb n 3 (λ e. omega arith)) tt
+
+mapped : (o : Option Alignment) (f g : Alignment → List ℕ) (text : List ℕ) → ((a : Alignment) → f a ≡ g a) → IfSome o (λ a. text ≡ g a) → IfSome (option_map f o) (λ bs. text ≡ bs)
+mapped None f g text same h = tt
+mapped (Some a) f g text same h = h ∙ sym (same a)
+
+-- what `pad` writes, by the numbers that the options hold
+by_numbers : (precision width fill number : ℕ) (text : List ℕ) → length text ≤ 22 → IfSome (displayed (cond (eqb precision (2 ^ 64 - 1)) None (Some precision)) (cond (eqb width 0) None (Some width)) fill number text) (λ bs. around fill (take_chars precision text) (in_front fill text number (width - char_count (take_chars precision text))) (width - char_count (take_chars precision text)) ≡ bs)
+unfolding displayed
+by_numbers precision width fill number text short = elim (cases_eq precision (2 ^ 64 - 1)) [
+  | inl none ↦
+      let whole : take_chars (2 ^ 64 - 1) text ≡ text = take_chars_all (2 ^ 64 - 1) text (omega arith) in
+      rw (none, whole) (mapped (alignment_of number) _ (λ a. aligned a fill (width - char_count text) text) _ (padded_to-aligned fill text width) (aligned-around fill text number (width - char_count text)))
+  | inr some ↦ rw (ne_eqb precision (2 ^ 64 - 1) some) tt
+]
+
+-- the text that `pad` writes under a formatter's options, as a display is said to write it
+displayed-padded : {W : Type 0} (f : Formatter W) (text : List ℕ) → length text ≤ 22 → IfSome (displayed (spec_precision (formatter_spec f)) (spec_width (formatter_spec f)) (spec_fill (formatter_spec f)) (formatter_spec f).align text) (λ bs. padded (formatter_spec f) text ≡ bs)
+unfolding padded around
+displayed-padded f text short = by_numbers _ _ _ _ text short
+
+carried : (o : Option (List ℕ)) (P : List ℕ → Type 0) (text : List ℕ) → P text → IfSome o (λ bs. text ≡ bs) → IfSome o P
+carried None P text p e = tt
+carried (Some bs) P text p e = subst P e p
+
+-- where `pad` has written a text, a display has written it
+pub pad_displays : {W : Type 0} (took : W → List ℕ → W → Type 0) (f g : Formatter W) (r : Result (Unit {0}) Error) (text : List ℕ) → length text ≤ 22 → WritesStyledOnOk took f r (padded (formatter_spec f) text) g → DisplaysStyledOnOk took f r (displayed (spec_precision (formatter_spec f)) (spec_width (formatter_spec f)) (spec_fill (formatter_spec f)) (formatter_spec f).align text) g
+pad_displays took f g r text short wrote =
+    carried (displayed (spec_precision (formatter_spec f)) (spec_width (formatter_spec f)) (spec_fill (formatter_spec f)) (formatter_spec f).align text) (λ bs. WritesStyledOnOk took f r bs g) (padded (formatter_spec f) text) wrote (displayed-padded f text short)

@@ -1,0 +1,99 @@
+//! Numbers that display as their texts.
+
+ghost use Rattle.std.specs.Prelude.{ℕ, List, Some};
+ghost use Rattle.std.specs.Fmt.{spec_width, spec_fill, spec_precision};
+ghost use Rattle.base62.specs.Alphabet.{standard, alternative};
+ghost use Rattle.base62.specs.Canonical.{IsCanonical};
+ghost use Rattle.base62.specs.Padding.{displayed};
+
+use crate::number::Number;
+use crate::text::Text;
+use std::fmt;
+use std::marker::Model;
+
+/// A number that displays as its standard text: what [`encode_fmt`] answers. Contracts see it as that text.
+#[derive(Drop)]
+pub struct Fmt {
+    text: Text,
+}
+
+impl Model for Fmt {
+    ghost Value = { List ℕ };
+
+    ghost view = { λ f. f.text };
+}
+
+/// A number that displays as its alternative text: what [`encode_fmt_alt`] answers. Contracts see it as that
+/// text.
+#[derive(Drop)]
+pub struct FmtAlternative {
+    text: Text,
+}
+
+impl Model for FmtAlternative {
+    ghost Value = { List ℕ };
+
+    ghost view = { λ f. f.text };
+}
+
+/// A value that displays as the standard text of `num`, which has 1 to 22 letters.
+///
+/// It takes no memory and refuses nothing. A display pads the text to a width as [`Fmt`] says.
+///
+/// ```rust
+/// println!(rt; "{}", base62::encode_fmt(1337_u64))?;     // LZ
+/// println!(rt; "{:0>5}", base62::encode_fmt(1337_u64))?; // 000LZ
+/// ```
+pub fn encode_fmt<T: Number>(num: T) -> Fmt
+    ensures { IsCanonical standard result (T.meaning num) }
+{
+    Fmt {
+        text: Text::standard(num),
+    }
+}
+
+/// A value that displays as the alternative text of `num`, which has 1 to 22 letters.
+///
+/// It takes no memory and refuses nothing. A display pads the text to a width as [`FmtAlternative`] says.
+///
+/// ```rust
+/// println!(rt; "{}", base62::encode_fmt_alt(1337_u64))?;     // lz
+/// println!(rt; "{:0>5}", base62::encode_fmt_alt(1337_u64))?; // 000lz
+/// ```
+pub fn encode_fmt_alt<T: Number>(num: T) -> FmtAlternative
+    ensures { IsCanonical alternative result (T.meaning num) }
+{
+    FmtAlternative {
+        text: Text::alternative(num),
+    }
+}
+
+/// Writes the text, padded to the formatter's width.
+///
+/// A width counts characters, and one that is not greater than the text leaves it whole. The fill is a space
+/// where none is stated. A text with no stated alignment stands left; a centred one has half of the padding,
+/// rounded down, in front. `Err` is the fault of what is written to.
+impl fmt::Display for Fmt {
+    ghost output = { λ text. Some text };
+
+    ghost styled_output = { λ text o.
+        displayed (spec_precision o) (spec_width o) (spec_fill o) o.align text };
+
+    #[tactic(auto, using(crate::proofs::PaddingLemmas::pad_displays))]
+    fn fmt<W: fmt::Write>(&self, f: &mut fmt::Formatter<W>) -> fmt::Result {
+        f.pad(self.text.as_str())
+    }
+}
+
+/// Writes the text, padded to the formatter's width as for [`Fmt`].
+impl fmt::Display for FmtAlternative {
+    ghost output = { λ text. Some text };
+
+    ghost styled_output = { λ text o.
+        displayed (spec_precision o) (spec_width o) (spec_fill o) o.align text };
+
+    #[tactic(auto, using(crate::proofs::PaddingLemmas::pad_displays))]
+    fn fmt<W: fmt::Write>(&self, f: &mut fmt::Formatter<W>) -> fmt::Result {
+        f.pad(self.text.as_str())
+    }
+}

@@ -1,0 +1,142 @@
+//! Encoding into texts and to writers.
+
+ghost use Rattle.std.specs.Prelude.{◌≡◌, ◌+◌, ◌-◌, ◌≤◌, ◌++◌, ℕ, List, length, IsOk, IfOk, OnOk, OnErr};
+ghost use Rattle.std.specs.String.{string_bytes, string_len, string_capacity};
+ghost use Rattle.std.specs.Io.KnownBytes.{Appends};
+ghost use Rattle.base62.specs.Alphabet.{standard, alternative};
+ghost use Rattle.base62.specs.Canonical.{IsCanonical, CanonicalFits};
+
+use crate::number::Number;
+use crate::text::Text;
+use std::alloc::{AllocError, Global};
+use std::io::{self, Write};
+
+/// The standard text of `num`, which has 1 to 22 letters and is the one that [`encode_bytes`] writes.
+///
+/// `Err` comes where memory for the text was refused, which is asked for once. It takes no other memory.
+///
+/// ```rust
+/// let text = base62::encode(rt.alloc(), 1234567890_u64)?;
+/// assert_eq!(rt; text.as_str(), "1LY7VK");
+/// ```
+///
+/// [`encode_bytes`]: crate::encode_bytes
+pub fn encode<T: Number>(alloc: Global, num: T) -> Result<String, AllocError>
+    ensures { IfOk result (λ text. IsCanonical standard (string_bytes text) (T.meaning num)) }
+{
+    String::from_str(alloc, Text::standard(num).as_str())
+}
+
+/// The alternative text of `num`, which has 1 to 22 letters and is the one that
+/// [`encode_alternative_bytes`] writes.
+///
+/// `Err` comes where memory for the text was refused, which is asked for once. It takes no other memory.
+///
+/// ```rust
+/// let text = base62::encode_alternative(rt.alloc(), 1234567890_u64)?;
+/// assert_eq!(rt; text.as_str(), "1ly7vk");
+/// ```
+///
+/// [`encode_alternative_bytes`]: crate::encode_alternative_bytes
+pub fn encode_alternative<T: Number>(alloc: Global, num: T) -> Result<String, AllocError>
+    ensures { IfOk result (λ text. IsCanonical alternative (string_bytes text) (T.meaning num)) }
+{
+    String::from_str(alloc, Text::alternative(num).as_str())
+}
+
+/// Appends the standard text of `num`, which has 1 to 22 letters, to `buf`.
+///
+/// `Err` comes where memory was refused, and leaves `buf` as it was. Room for the whole text is asked for
+/// once, before any of it is appended, and only where `buf` has not so much to spare: with 22 bytes to spare
+/// there is always enough. It takes no other memory.
+///
+/// ```rust
+/// let mut link = String::from_str(rt.alloc(), "https://example.org/")?;
+/// base62::encode_buf(1337_u64, &mut link)?;
+/// assert_eq!(rt; link.as_str(), "https://example.org/LZ");
+/// ```
+#[tactic(auto, using(crate::proofs::TextLemmas::canonical_fits))]
+pub fn encode_buf<T: Number>(num: T, buf: &mut String) -> Result<(), AllocError>
+    ensures ok { OnOk result ((text : List ℕ) × IsCanonical standard text (T.meaning num)
+        × (string_bytes buf.new ≡ string_bytes buf.old ++ text)) }
+    ensures err { OnErr result ((string_bytes buf.new ≡ string_bytes buf.old)
+        × (string_capacity buf.new ≡ string_capacity buf.old)) }
+    ensures fits { CanonicalFits standard (T.meaning num) (string_capacity buf.old - string_len buf.old)
+        → IsOk result }
+    ensures roomy { string_len buf.old + 22 ≤ string_capacity buf.old → IsOk result }
+{
+    append(&Text::standard(num), buf)
+}
+
+/// Appends the alternative text of `num`, which has 1 to 22 letters, to `buf`.
+///
+/// `Err` comes where memory was refused, and leaves `buf` as it was. Room for the whole text is asked for
+/// once, before any of it is appended, and only where `buf` has not so much to spare: with 22 bytes to spare
+/// there is always enough. It takes no other memory.
+///
+/// ```rust
+/// let mut link = String::from_str(rt.alloc(), "https://example.org/")?;
+/// base62::encode_alternative_buf(1337_u64, &mut link)?;
+/// assert_eq!(rt; link.as_str(), "https://example.org/lz");
+/// ```
+#[tactic(auto, using(crate::proofs::TextLemmas::canonical_fits))]
+pub fn encode_alternative_buf<T: Number>(num: T, buf: &mut String) -> Result<(), AllocError>
+    ensures ok { OnOk result ((text : List ℕ) × IsCanonical alternative text (T.meaning num)
+        × (string_bytes buf.new ≡ string_bytes buf.old ++ text)) }
+    ensures err { OnErr result ((string_bytes buf.new ≡ string_bytes buf.old)
+        × (string_capacity buf.new ≡ string_capacity buf.old)) }
+    ensures fits { CanonicalFits alternative (T.meaning num)
+        (string_capacity buf.old - string_len buf.old) → IsOk result }
+    ensures roomy { string_len buf.old + 22 ≤ string_capacity buf.old → IsOk result }
+{
+    append(&Text::alternative(num), buf)
+}
+
+fn append(text: &Text, buf: &mut String) -> Result<(), AllocError>
+    ensures ok { OnOk result (string_bytes buf.new ≡ string_bytes buf.old ++ text.now) }
+    ensures err { OnErr result ((string_bytes buf.new ≡ string_bytes buf.old)
+        × (string_capacity buf.new ≡ string_capacity buf.old)) }
+    ensures fits { length text.now ≤ string_capacity buf.old - string_len buf.old → IsOk result }
+    ensures roomy { string_len buf.old + 22 ≤ string_capacity buf.old → IsOk result }
+{
+    let text = text.as_str();
+    buf.reserve(text.len())?;
+    buf.push_str(text).unwrap();
+    Ok(())
+}
+
+/// Writes the standard text of `num`, which has 1 to 22 letters, to `w`.
+///
+/// The text is handed to the writer whole, and the writer is not flushed. `Err` is the writer's own fault, or
+/// says that it took nothing, and of how much it took before nothing is said. No memory is taken, but what the
+/// writer may take.
+///
+/// ```rust
+/// let mut out = Vec::new(rt.alloc());
+/// base62::encode_io(1337_u64, &mut out)?;
+/// assert_eq!(rt; out.as_slice(), b"LZ".as_slice());
+/// ```
+pub fn encode_io<T: Number, W: Write>(num: T, w: &mut W) -> io::Result<()>
+    ensures { OnOk result ((text : List ℕ) × IsCanonical standard text (T.meaning num)
+        × Appends (W.contents w.old) (W.contents w.new) text) }
+{
+    w.write_all(Text::standard(num).as_bytes())
+}
+
+/// Writes the alternative text of `num`, which has 1 to 22 letters, to `w`.
+///
+/// The text is handed to the writer whole, and the writer is not flushed. `Err` is the writer's own fault, or
+/// says that it took nothing, and of how much it took before nothing is said. No memory is taken, but what the
+/// writer may take.
+///
+/// ```rust
+/// let mut out = Vec::new(rt.alloc());
+/// base62::encode_alternative_io(1337_u64, &mut out)?;
+/// assert_eq!(rt; out.as_slice(), b"lz".as_slice());
+/// ```
+pub fn encode_alternative_io<T: Number, W: Write>(num: T, w: &mut W) -> io::Result<()>
+    ensures { OnOk result ((text : List ℕ) × IsCanonical alternative text (T.meaning num)
+        × Appends (W.contents w.old) (W.contents w.new) text) }
+{
+    w.write_all(Text::alternative(num).as_bytes())
+}

@@ -1,0 +1,101 @@
+//! What the calls that make texts answer where they are refused memory, and which calls ask for none.
+
+use crate::alphabets::{Alphabet, in_both};
+use std::process::Abort;
+use std::test::Fail;
+
+const ALTERNATIVE: &str = "7N42dgm5tFLK9N8MT7fHC7";
+
+const STANDARD: &str = "7n42DGM5Tflk9n8mt7Fhc7";
+
+const EARLIER: &str = "Base62: ";
+
+fn is_text_refused(rt: &(impl Abort + AllocGlobal), alphabet: Alphabet, wanted: &str) -> bool {
+    let Ok(text) = alphabet.text(rt.alloc(), u128::MAX) else {
+        return true;
+    };
+    assert_eq!(rt; text.as_str(), wanted, "{alphabet:?}");
+    false
+}
+
+// A refused call leaves the text as it was.
+fn is_append_refused(rt: &impl Abort, alphabet: Alphabet, text: &mut String, wanted: &str) -> bool {
+    assert_eq!(rt;
+        text.capacity(),
+        EARLIER.len(),
+        "there is room to spare, {alphabet:?}"
+    );
+    let outcome = alphabet.append(u128::MAX, text);
+    let Some(added) = text.as_str().strip_prefix(EARLIER) else {
+        panic!(rt; "the earlier text is gone, {alphabet:?}");
+    };
+    if outcome.is_err() {
+        assert_eq!(rt; added, "", "{alphabet:?}");
+        assert_eq!(rt; text.capacity(), EARLIER.len(), "{alphabet:?}");
+        return true;
+    }
+    assert_eq!(rt; added, wanted, "{alphabet:?}");
+    false
+}
+
+// These calls ask for no memory, so none of them is ever refused any.
+fn assert_no_memory(rt: &impl Abort, text: &mut String) {
+    for (alphabet, wanted) in in_both(STANDARD, ALTERNATIVE) {
+        text.clear();
+        assert!(rt; alphabet.append(u128::MAX, text).is_ok(), "{alphabet:?}");
+        assert_eq!(rt; text.as_str(), wanted, "{alphabet:?}");
+
+        let mut buffer = [0u8; 22];
+        assert_eq!(rt;
+            alphabet.encode(u128::MAX, &mut buffer),
+            Ok(22),
+            "{alphabet:?}"
+        );
+        assert_eq!(rt; alphabet.decode(&buffer), Ok(u128::MAX), "{alphabet:?}");
+
+        let mut room = [0u8; 22];
+        let mut writer = room.as_mut_slice();
+        assert!(rt;
+            alphabet.write(u128::MAX, &mut writer).is_ok(),
+            "{alphabet:?}"
+        );
+        assert_eq!(rt; room, buffer, "{alphabet:?}");
+    }
+}
+
+// Says which step was refused memory, for `.ci/refused-memory`, which has each request refused in turn. The
+// last step is there for it to see that the calls made no further request.
+#[test]
+fn refused_memory(rt: HostRuntime) -> Result<(), Fail> {
+    let (Ok(mut standard), Ok(mut alternative), Ok(mut roomy)) = (
+        String::from_str(rt.alloc(), EARLIER),
+        String::from_str(rt.alloc(), EARLIER),
+        String::with_capacity(rt.alloc(), 64),
+    ) else {
+        println!(rt; "refused: set-up")?;
+        return Ok(());
+    };
+    assert_no_memory(&rt, &mut roomy);
+    let steps = [
+        ("encode", is_text_refused(&rt, Alphabet::Standard, STANDARD)),
+        (
+            "encode_alternative",
+            is_text_refused(&rt, Alphabet::Alternative, ALTERNATIVE),
+        ),
+        (
+            "encode_buf",
+            is_append_refused(&rt, Alphabet::Standard, &mut standard, STANDARD),
+        ),
+        (
+            "encode_alternative_buf",
+            is_append_refused(&rt, Alphabet::Alternative, &mut alternative, ALTERNATIVE),
+        ),
+        ("after", Vec::<u8>::with_capacity(rt.alloc(), 1).is_err()),
+    ];
+    for (step, is_refused) in steps {
+        if is_refused {
+            println!(rt; "refused: {step}")?;
+        }
+    }
+    Ok(())
+}

@@ -1,0 +1,52 @@
+//! A writer in memory that watches how it is called, and fails where it is told to.
+
+use std::alloc::Global;
+use std::io::{self, ErrorKind, Write};
+
+#[derive(Drop)]
+pub(crate) struct TestWriter {
+    pub(crate) written: Vec<u8>,
+    // How many bytes each call of `write` was handed.
+    pub(crate) handed: Vec<usize>,
+    pub(crate) flushes: usize,
+    // The most that it takes in one call.
+    most: usize,
+    // The call of `write`, counted from 1, that fails.
+    failing: Option<usize>,
+}
+
+impl TestWriter {
+    pub(crate) fn taking(alloc: Global, most: usize) -> Self {
+        TestWriter {
+            written: Vec::new(alloc),
+            handed: Vec::new(alloc),
+            flushes: 0,
+            most,
+            failing: None,
+        }
+    }
+
+    pub(crate) fn failing_at(alloc: Global, most: usize, call: usize) -> Self {
+        TestWriter {
+            failing: Some(call),
+            ..TestWriter::taking(alloc, most)
+        }
+    }
+}
+
+impl Write for TestWriter {
+    fn write(&mut self, buf: &[u8]) -> io::Result<usize> {
+        self.handed.push(buf.len())?;
+        if self.failing == Some(self.handed.len()) {
+            return Err(io::Error::from(ErrorKind::Other));
+        }
+        let taken = self.most.min(buf.len());
+        self.written.extend_from_slice(&buf[..taken])?;
+        Ok(taken)
+    }
+
+    fn flush(&mut self) -> io::Result<()> {
+        self.flushes = self.flushes.saturating_add(1);
+        Ok(())
+    }
+}

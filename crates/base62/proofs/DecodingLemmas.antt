@@ -66,7 +66,7 @@ bad_after p xs n bad true e =
 not_all : (p : ℕ → Bool) (xs : List ℕ) (n : ℕ) → prefix_len p (drop n xs) < length (drop n xs) → list_all p xs ≡ false
 not_all p xs n bad = bad_after p xs n bad (list_all p xs) refl
 
-not_empty : (text : List ℕ) → 0 < length text → eqb (length text) 0 ≡ false
+pub not_empty : (text : List ℕ) → 0 < length text → eqb (length text) 0 ≡ false
 not_empty text h = ne_eqb (length text) 0 (λ e. omega arith)
 
 not_above : (m n : ℕ) → n ≤ m → ltb m n ≡ false

@@ -2,9 +2,14 @@ pub mod PlacesLemmas
 pub mod AlphabetLemmas
 pub mod ValueLemmas
 pub mod CanonicalLemmas
+pub mod LengthLemmas
 pub mod DecodingLemmas
 pub mod FaultLemmas
 pub mod FixedLemmas
 pub mod RoundTripLemmas
 pub mod PaddingLemmas
 pub mod TextLemmas
+pub mod CaseLemmas
+pub mod OverflowLemmas
+pub mod AnswerLemmas
+pub mod ZeroLemmas

@@ -1,5 +1,5 @@
 -- What `pad` writes of a text is the text padded as the definition says.
-use Rattle.std.proofs.Common.{◌≡◌, ℕ, zero, suc, ◌+◌, ◌-◌, ◌/◌, ◌^◌, ◌≤◌, ◌<◌, eqb, leb, Bool, true, false, cond, List, [], ◌∷◌, ◌++◌, length, Option, Some, None, refl, sym, ap, ◌∙◌, subst, append_assoc, arith, inl, inr}
+use Rattle.std.proofs.Common.{◌≡◌, ℕ, zero, suc, ◌-◌, ◌/◌, ◌^◌, ◌≤◌, eqb, Bool, true, false, cond, List, [], ◌∷◌, ◌++◌, length, Option, Some, None, refl, sym, ap, ◌∙◌, subst, append_assoc, arith, inl, inr}
 use Rattle.std.specs.Prelude.{IfSome, Result}
 use Rattle.std.specs.Option.{option_map}
 use Rattle.std.specs.Fmt.{char_count, take_chars, is_char_start, padded, formatter_spec, spec_width, spec_fill, spec_precision, WritesStyledOnOk, DisplaysStyledOnOk}
@@ -7,7 +7,7 @@ use Rattle.std.specs.declared.fmt.Error.{Error}
 use Rattle.std.specs.declared.fmt.Formatter.{Formatter}
 use Rattle.std.specs.declared.fmt.Alignment.{Alignment}
 use Rattle.std.specs.declared.fmt.Alignment.TheVariants.{Left, Right, Center}
-use Rattle.std.proofs.lemmas.Bool.{cases_lt, cases_eq, ne_eqb, eq-eqb, lt-leb, le-leb}
+use Rattle.std.proofs.lemmas.Bool.{cases_lt, cases_eq, ne_eqb, lt-leb, le-leb}
 use Rattle.std.proofs.lemmas.List.{append-nil}
 use Rattle.base62.specs.Padding.{fills, aligned, padded_to, alignment_of, displayed}
 

@@ -11,7 +11,7 @@ use Rattle.base62.proofs.FixedLemmas.{fixed, length-fixed, letters-fixed, value-
 use Rattle.base62.proofs.DecodingLemmas.{IsCut, decoding-ok, value-rest}
 
 -- a canonical text of a number below 2^128 has at most 22 letters, since 22 are enough
-canonical_short : (B text : List ℕ) → IsAlphabet B → (n : ℕ) → n < 2 ^ 128 → IsCanonical B text n → length text ≤ 22
+pub canonical_short : (B text : List ℕ) → IsAlphabet B → (n : ℕ) → n < 2 ^ 128 → IsCanonical B text n → length text ≤ 22
 canonical_short B text ok n small canonical =
     let size = length-fixed B 22 n in
     let le = canonical.shortest (fixed B 22 n) (record { nonempty = omega (arith, size); letters = letters-fixed B ok 22 n; value_is = value-fixed B ok 22 n (omega arith) }) in

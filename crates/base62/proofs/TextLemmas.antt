@@ -2,7 +2,6 @@
 use Rattle.std.proofs.Common.{ℕ, ◌≤◌, List, length, refl, arith}
 use Rattle.std.specs.Prelude.{Result, Ok, Err, MatchResult, IsOk}
 use Rattle.std.specs.Str.{IsAscii}
-use Rattle.base62.specs.Alphabet.{standard, alternative}
 use Rattle.base62.specs.Canonical.{IsCanonical, CanonicalFits}
 use Rattle.base62.proofs.AlphabetLemmas.{standard_is_ascii, alternative_is_ascii, letters_ascii}
 

@@ -5,3 +5,5 @@ pub mod Canonical
 pub mod Decoding
 pub mod Fault
 pub mod Padding
+pub mod Case
+pub mod Laws

@@ -1,10 +1,13 @@
 //! What follows from the definitions alone. No call here takes part in a run.
 
-ghost use Rattle.std.specs.Prelude.{◌≡◌, ◌<◌, ◌^◌, ◌↔◌, ℕ, List, true, Ok};
+ghost use Rattle.std.specs.Prelude.{◌≡◌, ◌+◌, ◌*◌, ◌<◌, ◌≤◌, ◌^◌, ◌↔◌, ◌∷◌, ◌++◌, ℕ, List, length, true, Ok};
 ghost use Rattle.std.specs.declared.cmp.Ordering.TheVariants.{Equal};
-ghost use Rattle.base62.specs.Alphabet.{IsAlphabet, standard, alternative};
+ghost use Rattle.base62.specs.Alphabet.{IsAlphabet, AreLetters, zero_letter, standard, alternative};
+ghost use Rattle.base62.specs.Value.{value};
 ghost use Rattle.base62.specs.Canonical.{IsCanonical};
 ghost use Rattle.base62.specs.Decoding.{decoding};
+ghost use Rattle.base62.specs.Case.{exchange_case};
+ghost use Rattle.base62.specs.Laws.{HasNoNeedlessZero, AnswerTells, number_or_overflow, one_place_on};
 ghost use Rattle.base62.specs.Fault.{decode_error_order};
 ghost use Rattle.base62.specs.declared.fault.DecodeError.{DecodeError};
 ghost use Rattle.base62.specs.declared.fault.EncodeError.{EncodeError};
@@ -19,12 +22,17 @@ pub fn built_in_alphabets()
 {}
 
 /// Over any alphabet each number below 2^128 has a canonical text, which is a shortest nonempty text of
-/// letters that denotes it, and has only one.
+/// letters that denotes it, and has only one, of 1 to 22 letters. A text of letters is the canonical text
+/// of its value exactly where it has one letter, or more of which the first is not the zero letter.
 pub fn one_text()
     ensures exists { (B : List ℕ) → IsAlphabet B → (n : ℕ) → n < 2 ^ 128
         → (text : List ℕ) × IsCanonical B text n }
     ensures only { (B : List ℕ) → IsAlphabet B → (n : ℕ) (a b : List ℕ)
         → IsCanonical B a n → IsCanonical B b n → a ≡ b }
+    ensures lengths { (B : List ℕ) → IsAlphabet B → (n : ℕ) → n < 2 ^ 128 → (text : List ℕ)
+        → IsCanonical B text n → (1 ≤ length text) × (length text ≤ 22) }
+    ensures which { (B : List ℕ) → IsAlphabet B → (text : List ℕ) → AreLetters B text
+        → (IsCanonical B text (value B text) ↔ HasNoNeedlessZero B text) }
 {}
 
 /// Over any alphabet decoding gives back the number below 2^128 of its canonical text, and no text is the
@@ -34,6 +42,37 @@ pub fn round_trip()
         → IsCanonical B text n → decoding B text ≡ Ok n }
     ensures unshared { (B text : List ℕ) (m n : ℕ)
         → IsCanonical B text m → IsCanonical B text n → m ≡ n }
+{}
+
+/// Over any alphabet decoding accepts exactly the nonempty texts of letters of a value below 2^128, and the
+/// canonical text of that value is the text without its leading zeros. A fault that names a byte names the
+/// first that is no letter. Where an overflow is answered and no bad byte is the first after the leading
+/// zeros, the text denotes 2^128 or more, whatever letters stand in place of its bad bytes.
+pub fn accepted_and_refused()
+    ensures { (B : List ℕ) → IsAlphabet B → (text : List ℕ) → AnswerTells B text }
+{}
+
+/// Over any alphabet two texts that are accepted, one after the other, denote the number of the first with
+/// the second's letters as its lower places, or overflow.
+pub fn concatenation()
+    ensures { (B : List ℕ) → IsAlphabet B → (a b : List ℕ) (m n : ℕ)
+        → decoding B a ≡ Ok m → decoding B b ≡ Ok n
+        → decoding B (a ++ b) ≡ number_or_overflow (m * 62 ^ length b + n) }
+{}
+
+/// Over any alphabet a zero letter in front of a nonempty text changes nothing but the index of a bad byte.
+pub fn zero_in_front()
+    ensures { (B : List ℕ) → IsAlphabet B → (text : List ℕ) → 0 < length text
+        → decoding B (zero_letter B ∷ text) ≡ one_place_on (decoding B text) }
+{}
+
+/// The alternative alphabet is the standard one with the case of its letters exchanged, and so are its texts
+/// and what decoding answers for them, faults included.
+pub fn exchange_of_case()
+    ensures canonical { (text : List ℕ) (n : ℕ)
+        → IsCanonical standard text n ↔ IsCanonical alternative (exchange_case text) n }
+    ensures decoded { (text : List ℕ)
+        → decoding alternative text ≡ decoding standard (exchange_case text) }
 {}
 
 /// How faults of decoding compare: an overflow is least, then comes the empty input, and then bad

@@ -1,5 +1,8 @@
+use Rattle.base62.specs.Value.{value}
 use Rattle.base62.proofs.CanonicalLemmas.{one_canonical}
 use Rattle.base62.proofs.FixedLemmas.{some_canonical}
+use Rattle.base62.proofs.LengthLemmas.{no_needless_zero, canonical_of_value}
+use Rattle.base62.proofs.RoundTripLemmas.{canonical_short}
 use Rattle.base62.proofs.laws.one_text.Goals as goal
 
 pub returns-clause-exists : goal.returns-clause-exists
@@ -7,3 +10,9 @@ returns-clause-exists c = some_canonical
 
 pub returns-clause-only : goal.returns-clause-only
 returns-clause-only c = one_canonical
+
+pub returns-clause-lengths : goal.returns-clause-lengths
+returns-clause-lengths c = λ B ok n small text canonical. (canonical.denotes.nonempty, canonical_short B text ok n small canonical)
+
+pub returns-clause-which : goal.returns-clause-which
+returns-clause-which c = λ B ok text letters. (no_needless_zero B ok text (value B text), canonical_of_value B ok text letters)

@@ -1,5 +1,4 @@
 use Rattle.std.proofs.lemmas.Str.{IsUtf8-from_ascii}
-use Rattle.std.proofs.lemmas.Result.{MatchResult-from_both}
 use Rattle.base62.proofs.TextLemmas.{ok_unless}
 use Rattle.base62.proofs.text.Text.as_str.Goals as goal
 

@@ -1,0 +1,192 @@
+-- Exchange of case turns the alternative alphabet into the standard one.
+use Rattle.std.proofs.Common.{◌≡◌, ℕ, ◌<◌, ◌≤◌, ◌==◌, ◌&&◌, ◌||◌, Bool, true, false, leb, ltb, List, [], ◌∷◌, length, get_or, map, take, drop, Option, Some, None, is_some, unwrap_or, refl, sym, ap, ◌∙◌, inl, inr, arith}
+use Rattle.std.specs.List.{range_with_len, prefix_len, list_all}
+use Rattle.std.proofs.lemmas.Bool.{agree_below_at, cases_lt, lt-leb, and_right, eqb-true, ltb-true}
+use Rattle.std.proofs.Math.ListN.{get_or-map}
+use Rattle.std.proofs.lemmas.List.{length-map, take-map, drop-map, get_or_past}
+use Rattle.std.proofs.lemmas.List.FromFn.{get_or-map-range_with_len}
+use Rattle.std.proofs.lemmas.List.Sums.{AllPass-from_list_all, list_all-from_AllPass, prefix_len_stops}
+use Rattle.base62.specs.Alphabet.{AreLetters, standard, alternative, digit_of, is_letter, zero_letter}
+use Rattle.base62.specs.Places.{sum_over_places}
+use Rattle.base62.specs.Value.{value, digit_or_zero}
+use Rattle.base62.specs.Canonical.{Denotes, IsCanonical}
+use Rattle.base62.specs.Decoding.{decoding, leading_zeros, rest, first_invalid}
+use Rattle.base62.specs.Case.{other_case, exchange_case}
+use Rattle.base62.proofs.AlphabetLemmas.{letter-digit_of}
+
+-- two functions that give one list over the numbers below n agree there
+same_on_range : {Y : Type 0} (f g : ℕ → Y) (n : ℕ) → map f (range_with_len 0 n) ≡ map g (range_with_len 0 n) → (b : ℕ) → b < n → f b ≡ g b
+same_on_range f g n e b h =
+    sym (get_or-map-range_with_len f 0 n b b (f b) h (omega arith)) ∙ ap (λ xs. get_or xs b (f b)) e ∙ get_or-map-range_with_len g 0 n b b (f b) h (omega arith)
+
+-- only letters of ASCII have another case
+other_case-past : (b : ℕ) → 128 ≤ b → other_case b ≡ b
+unfolding other_case
+other_case-past b h =
+    let first : (leb 65 b && leb b 90) ≡ false = and_right _ _ (lt-leb b 90 (omega arith)) in
+    let second : (leb 97 b && leb b 122) ≡ false = and_right _ _ (lt-leb b 122 (omega arith)) in
+    rw (first, second)
+
+other_case-below : (b : ℕ) → b < 128 → other_case (other_case b) ≡ b
+unfolding other_case
+other_case-below b h = same_on_range (λ b. other_case (other_case b)) (λ b. b) 128 refl b h
+
+other_case_twice : (b : ℕ) → other_case (other_case b) ≡ b
+other_case_twice b = elim (cases_lt b 128) [
+  | inl less ↦ other_case-below b less
+  | inr more ↦ ap other_case (other_case-past b more) ∙ other_case-past b more
+]
+
+exchange_case_twice : (text : List ℕ) → exchange_case (exchange_case text) ≡ text
+exchange_case_twice [] = refl
+exchange_case_twice (b ∷ text) = rw (other_case_twice b, exchange_case_twice text)
+
+-- a byte above each letter has no digit
+none_above : (B : List ℕ) → list_all (λ l. ltb l 128) B ≡ true → (b : ℕ) → 128 ≤ b → (o : Option ℕ) → digit_of B b ≡ o → o ≡ None
+none_above B low b h None e = refl
+none_above B low b h (Some d) e =
+    let at = letter-digit_of B b d e in
+    let below = ltb-true (get_or B d 0) 128 (AllPass-from_list_all (λ l. ltb l 128) B low d 0 at.0) in
+    absurd (omega (arith, at.1))
+
+standard-above : (b : ℕ) → 128 ≤ b → digit_of standard b ≡ None
+unfolding standard
+standard-above b h = none_above standard refl b h (digit_of standard b) refl
+
+alternative-above : (b : ℕ) → 128 ≤ b → digit_of alternative b ≡ None
+unfolding alternative
+alternative-above b h = none_above alternative refl b h (digit_of alternative b) refl
+
+digits_below : (b : ℕ) → b < 128 → digit_of alternative b ≡ digit_of standard (other_case b)
+unfolding standard alternative digit_of other_case
+digits_below b h = same_on_range (digit_of alternative) (λ b. digit_of standard (other_case b)) 128 refl b h
+
+-- a byte has the digit in one alphabet that it has in the other with its case exchanged
+digit_in_standard : (b : ℕ) → digit_of alternative b ≡ digit_of standard (other_case b)
+digit_in_standard b = elim (cases_lt b 128) [
+  | inl less ↦ digits_below b less
+  | inr more ↦ alternative-above b more ∙ sym (ap (digit_of standard) (other_case-past b more) ∙ standard-above b more)
+]
+
+digit_in_alternative : (b : ℕ) → digit_of standard b ≡ digit_of alternative (other_case b)
+digit_in_alternative b = sym (digit_in_standard (other_case b) ∙ ap (digit_of standard) (other_case_twice b))
+
+-- a test of each byte, before and after a change of the bytes
+module _ {X Y : Type 0} (p : X → Bool) (q : Y → Bool) (f : X → Y) (same : (x : X) → p x ≡ q (f x)) where
+  list_all-changed : (xs : List X) → list_all p xs ≡ list_all q (map f xs)
+  list_all-changed [] = refl
+  list_all-changed (x ∷ xs) = rw (same x, list_all-changed xs)
+
+  prefix_len-changed : (xs : List X) → prefix_len p xs ≡ prefix_len q (map f xs)
+  prefix_len-changed [] = refl
+  prefix_len-changed (x ∷ xs) = rw (same x, prefix_len-changed xs)
+
+-- two alphabets of which one has the letters of the other with their case exchanged
+module _ (A B : List ℕ) (same : (b : ℕ) → digit_of A b ≡ digit_of B (other_case b)) where
+  digit_exchanged : (b : ℕ) → digit_or_zero A b ≡ digit_or_zero B (other_case b)
+  digit_exchanged b = ap (λ o. unwrap_or o 0) (same b)
+
+  letter_exchanged : (b : ℕ) → is_letter A b ≡ is_letter B (other_case b)
+  letter_exchanged b = ap is_some (same b)
+
+  digits_exchanged : (text : List ℕ) → map (digit_or_zero A) text ≡ map (digit_or_zero B) (exchange_case text)
+  digits_exchanged [] = refl
+  digits_exchanged (b ∷ text) = rw (digit_exchanged b, digits_exchanged text)
+
+  value_exchanged : (text : List ℕ) → value A text ≡ value B (exchange_case text)
+  unfolding value
+  value_exchanged text = ap (sum_over_places 62) (digits_exchanged text)
+
+  all_exchanged : (text : List ℕ) → list_all (is_letter A) text ≡ list_all (is_letter B) (exchange_case text)
+  all_exchanged text = list_all-changed (is_letter A) (is_letter B) other_case letter_exchanged text
+
+  letters_exchanged : (text : List ℕ) → AreLetters A text → AreLetters B (exchange_case text)
+  letters_exchanged text letters =
+      AllPass-from_list_all (is_letter B) (exchange_case text) (sym (all_exchanged text) ∙ list_all-from_AllPass (is_letter A) text letters)
+
+  denotes_exchanged : (text : List ℕ) (n : ℕ) → Denotes A text n → Denotes B (exchange_case text) n
+  denotes_exchanged text n d = record {
+    nonempty = rw length-map d.nonempty;
+    letters = letters_exchanged text d.letters;
+    value_is = sym (value_exchanged text) ∙ d.value_is;
+  }
+
+canonical_exchanged : (A B : List ℕ) → ((b : ℕ) → digit_of A b ≡ digit_of B (other_case b)) → ((b : ℕ) → digit_of B b ≡ digit_of A (other_case b)) → (text : List ℕ) (n : ℕ) → IsCanonical A text n → IsCanonical B (exchange_case text) n
+canonical_exchanged A B same back text n canonical = record {
+  denotes = denotes_exchanged A B same text n canonical.denotes;
+  shortest = λ other d. rw length-map (rw length-map at (canonical.shortest (exchange_case other) (denotes_exchanged B A back other n d)));
+}
+
+pub canonical_in_alternative : (text : List ℕ) (n : ℕ) → IsCanonical standard text n → IsCanonical alternative (exchange_case text) n
+canonical_in_alternative text n canonical = canonical_exchanged standard alternative digit_in_alternative digit_in_standard text n canonical
+
+pub canonical_in_standard : (text : List ℕ) (n : ℕ) → IsCanonical alternative (exchange_case text) n → IsCanonical standard text n
+canonical_in_standard text n canonical =
+    rw exchange_case_twice at (canonical_exchanged alternative standard digit_in_standard digit_in_alternative (exchange_case text) n canonical)
+
+-- the zero letter of both alphabets is the digit 0, which has no case
+zero_below : (b : ℕ) → b < 128 → (b == zero_letter alternative) ≡ (other_case b == zero_letter standard)
+unfolding standard alternative other_case
+zero_below b h = agree_below_at (λ b. b == zero_letter alternative) (λ b. other_case b == zero_letter standard) 128 b refl h
+
+same_zero : (b : ℕ) → (b == zero_letter alternative) ≡ (b == zero_letter standard)
+unfolding standard alternative
+same_zero b = refl
+
+zero_exchanged : (b : ℕ) → (b == zero_letter alternative) ≡ (other_case b == zero_letter standard)
+zero_exchanged b = elim (cases_lt b 128) [
+  | inl less ↦ zero_below b less
+  | inr more ↦ same_zero b ∙ ap (λ k. k == zero_letter standard) (sym (other_case-past b more))
+]
+
+zeros_exchanged : (text : List ℕ) → leading_zeros alternative text ≡ leading_zeros standard (exchange_case text)
+zeros_exchanged text = prefix_len-changed (λ b. b == zero_letter alternative) (λ b. b == zero_letter standard) other_case zero_exchanged text
+
+rest_exchanged : (text : List ℕ) → exchange_case (rest alternative text) ≡ rest standard (exchange_case text)
+rest_exchanged text = sym (drop-map other_case (leading_zeros alternative text) text) ∙ ap (λ z. drop z (exchange_case text)) (zeros_exchanged text)
+
+-- a byte that is no letter has no other case
+stays_below : (b : ℕ) → b < 128 → (is_letter alternative b || other_case b == b) ≡ true
+unfolding alternative digit_of other_case
+stays_below b h = agree_below_at (λ b. is_letter alternative b || other_case b == b) (λ b. true) 128 b refl h
+
+stays : (b : ℕ) → is_letter alternative b ≡ false → other_case b ≡ b
+stays b bad = elim (cases_lt b 128) [
+  | inl less ↦ eqb-true _ _ (rw bad at (stays_below b less))
+  | inr more ↦ other_case-past b more
+]
+
+-- a byte at an index, after the exchange; past the end stands 0, which stays
+at_exchanged : (text : List ℕ) (i : ℕ) → get_or (exchange_case text) i 0 ≡ other_case (get_or text i 0)
+unfolding other_case
+at_exchanged text i = get_or-map other_case text i 0
+
+no_letter_past : is_letter alternative 0 ≡ false
+unfolding alternative digit_of
+no_letter_past = refl
+
+-- what stands where the letters end is no letter
+bad_or_past : (text : List ℕ) → is_letter alternative (get_or text (prefix_len (is_letter alternative) text) 0) ≡ false
+bad_or_past text =
+    let i = prefix_len (is_letter alternative) text in
+    elim (cases_lt i (length text)) [
+      | inl less ↦ prefix_len_stops (is_letter alternative) text 0 less
+      | inr more ↦ ap (is_letter alternative) (get_or_past text i 0 more) ∙ no_letter_past
+    ]
+
+first_invalid_exchanged : (text : List ℕ) → first_invalid alternative text ≡ first_invalid standard (exchange_case text)
+first_invalid_exchanged text =
+    let i = prefix_len (is_letter alternative) text in
+    let place : i ≡ prefix_len (is_letter standard) (exchange_case text) =
+    prefix_len-changed (is_letter alternative) (is_letter standard) other_case (letter_exchanged alternative standard digit_in_standard) text in
+    let byte : get_or (exchange_case text) i 0 ≡ get_or text i 0 = at_exchanged text i ∙ stays (get_or text i 0) (bad_or_past text) in
+    rw (← place, byte)
+
+-- decoding answers alike, since each of its tests does
+pub decoding_exchanged : (text : List ℕ) → decoding alternative text ≡ decoding standard (exchange_case text)
+unfolding decoding
+decoding_exchanged text =
+    let r : List ℕ = rest alternative text in
+    let values = value_exchanged alternative standard digit_in_standard in
+    let all = all_exchanged alternative standard digit_in_standard in
+    rw (← rest_exchanged text, length-map text other_case, length-map r other_case, take-map other_case 10 r, ← all (take 10 r), ← all r, ← values (take 10 r), ← values r, ← values text, ← first_invalid_exchanged text)

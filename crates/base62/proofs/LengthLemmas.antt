@@ -1,0 +1,52 @@
+-- A text of letters is canonical exactly where it has no needless zero letter.
+use Rattle.std.proofs.Common.{true, ◌≡◌, ◌≢◌, ◌⊎◌, ℕ, suc, ◌-◌, ◌*◌, ◌^◌, ◌<◌, ◌≤◌, List, [], ◌∷◌, length, get_or, refl, sym, ap, ◌∙◌, inl, inr, arith}
+use Rattle.std.proofs.Math.Nat.{le-mul_of_pos_right}
+use Rattle.std.proofs.lemmas.Bool.{cases_eq}
+use Rattle.std.proofs.lemmas.List.Elements.{All-tail}
+use Rattle.base62.specs.Alphabet.{IsAlphabet, AreLetters, is_letter, zero_letter}
+use Rattle.base62.specs.Value.{value, digit_or_zero}
+use Rattle.base62.specs.Canonical.{IsCanonical}
+use Rattle.base62.specs.Laws.{HasNoNeedlessZero}
+use Rattle.base62.proofs.AlphabetLemmas.{is_letter-letter, digit_or_zero-letter, same_letter}
+use Rattle.base62.proofs.ValueLemmas.{value-cons}
+use Rattle.base62.proofs.CanonicalLemmas.{canonical_is}
+
+-- a canonical text of two or more letters does not begin with the zero letter, since the others would do
+first_differs : (B : List ℕ) → IsAlphabet B → (b : ℕ) (text : List ℕ) (n : ℕ) → IsCanonical B (b ∷ text) n → 0 < length text → b ≢ zero_letter B
+first_differs B ok b text n canonical more e =
+    let P : ℕ → Type 0 = λ b. is_letter B b ≡ true in
+    let digit : digit_or_zero B b ≡ 0 = ap (digit_or_zero B) e ∙ digit_or_zero-letter B ok 0 (omega arith) in
+    let same : value B (b ∷ text) ≡ value B text = value-cons B b text ∙ rw digit (omega arith) in
+    let least = canonical.shortest text (record { nonempty = more; letters = All-tail P b text canonical.denotes.letters; value_is = sym same ∙ canonical.denotes.value_is }) in
+    omega (arith, least)
+
+pub no_needless_zero : (B : List ℕ) → IsAlphabet B → (text : List ℕ) (n : ℕ) → IsCanonical B text n → HasNoNeedlessZero B text
+no_needless_zero B ok [] n canonical = absurd (omega (arith, canonical.denotes.nonempty))
+no_needless_zero B ok (b ∷ []) n canonical = (omega arith, inl refl)
+no_needless_zero B ok (b ∷ c ∷ text) n canonical = (omega arith, inr (first_differs B ok b (c ∷ text) n canonical (omega arith)))
+
+-- a letter other than the zero letter has a digit of at least 1
+digit_some : (B : List ℕ) → IsAlphabet B → (b : ℕ) → is_letter B b ≡ true → b ≢ zero_letter B → 0 < digit_or_zero B b
+digit_some B ok b letter other = elim (cases_eq (digit_or_zero B b) 0) [
+  | inl none ↦ absurd (other (same_letter B b (zero_letter B) letter (is_letter-letter B ok 0 (omega arith)) (none ∙ sym (digit_or_zero-letter B ok 0 (omega arith)))))
+  | inr some ↦ omega arith
+]
+
+-- such a letter in front alone weighs more than all that can come after it
+pub first_weighs : (B : List ℕ) → IsAlphabet B → (text : List ℕ) → 0 < length text → is_letter B (get_or text 0 0) ≡ true → get_or text 0 0 ≢ zero_letter B → 62 ^ (length text - 1) ≤ value B text
+first_weighs B ok [] some letter other = absurd (omega arith)
+first_weighs B ok (b ∷ text) some letter other =
+    let back : suc (length text) - 1 ≡ length text = omega arith in
+    let weight : 62 ^ length text ≤ digit_or_zero B b * 62 ^ length text = omega (arith, le-mul_of_pos_right (62 ^ length text) (digit_some B ok b letter other)) in
+    rw (back, value-cons B b text) (omega arith)
+
+-- one letter less could not hold the value of a text that has no needless zero letter
+needs_each : (B : List ℕ) → IsAlphabet B → (text : List ℕ) → AreLetters B text → HasNoNeedlessZero B text → (length text ≡ 1) ⊎ (62 ^ (length text - 1) ≤ value B text)
+needs_each B ok text letters has = elim has.1 [
+  | inl one ↦ inl one
+  | inr differs ↦ inr (first_weighs B ok text has.0 (letters 0 0 has.0) differs)
+]
+
+pub canonical_of_value : (B : List ℕ) → IsAlphabet B → (text : List ℕ) → AreLetters B text → HasNoNeedlessZero B text → IsCanonical B text (value B text)
+canonical_of_value B ok text letters has =
+    canonical_is B ok text (value B text) (record { nonempty = has.0; letters = letters; value_is = refl }) (needs_each B ok text letters has)

@@ -1,0 +1,5 @@
+use Rattle.base62.proofs.AnswerLemmas.{answer_tells}
+use Rattle.base62.proofs.laws.accepted_and_refused.Goals as goal
+
+pub returns : goal.returns
+returns c = answer_tells

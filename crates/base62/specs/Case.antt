@@ -1,0 +1,13 @@
+-- Exchange of capital and small letters.
+use Rattle.std.specs.Prelude.{ℕ, ◌+◌, ◌-◌, ◌&&◌, nat_le, if◌then◌else◌, List, map}
+
+-- a capital letter of ASCII, 65 to 90, as the small one, and a small one, 97 to 122, as the capital; others stay
+unfoldable pub other_case : ℕ → ℕ
+other_case b =
+    if nat_le 65 b && nat_le b 90 then b + 32
+    else if nat_le 97 b && nat_le b 122 then b - 32
+    else b
+
+-- a text with the case of each byte exchanged
+abbrev pub exchange_case : List ℕ → List ℕ
+exchange_case text = map other_case text

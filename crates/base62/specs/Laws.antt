@@ -1,0 +1,47 @@
+-- What the laws of texts speak of, over the definitions alone.
+use Rattle.std.specs.Prelude.{◌≡◌, ◌≢◌, ℕ, ◌+◌, ◌<◌, ◌≤◌, ◌==◌, ◌^◌, ◌↔◌, ◌⊎◌, nat_lt, true, false, if◌then◌else◌, List, [], ◌∷◌, length, slice_index, Result, Ok, Err, IsOk}
+use Rattle.base62.specs.declared.fault.DecodeError.{DecodeError}
+use Rattle.base62.specs.declared.fault.DecodeError.TheVariants.{ArithmeticOverflow, EmptyInput, InvalidBase62Byte}
+use Rattle.base62.specs.Alphabet.{AreLetters, is_letter, zero_letter}
+use Rattle.base62.specs.Value.{value}
+use Rattle.base62.specs.Canonical.{IsCanonical}
+use Rattle.base62.specs.Decoding.{decoding, rest}
+
+-- a text has one letter, or more of which the first is not the zero letter
+abbrev pub HasNoNeedlessZero : List ℕ → List ℕ → Type 0
+HasNoNeedlessZero B text = (0 < length text) × ((length text ≡ 1) ⊎ (slice_index text 0 ≢ zero_letter B))
+
+-- a text without its leading zeros, but for the last where it has nothing else
+abbrev pub without_zeros : List ℕ → List ℕ → List ℕ
+without_zeros B text = if length (rest B text) == 0 then zero_letter B ∷ [] else rest B text
+
+-- the byte at the index is no letter, and each before it is one
+pub record IsFirstInvalid (B text : List ℕ) (byte index : ℕ) : Type 0 where
+  pub within : index < length text
+  pub byte_is : byte ≡ slice_index text index
+  pub no_letter : is_letter B byte ≡ false
+  pub letters_before : (i : ℕ) → i < index → is_letter B (slice_index text i) ≡ true
+
+-- another text of the same length is letters alone, and has each letter of the text at its place
+pub record AgreesAtLetters (B text other : List ℕ) : Type 0 where
+  pub size : length other ≡ length text
+  pub letters : AreLetters B other
+  pub agrees : (i : ℕ) → i < length text → is_letter B (slice_index text i) ≡ true → slice_index other i ≡ slice_index text i
+
+-- what an answer of decoding tells of the text
+pub record AnswerTells (B text : List ℕ) : Type 0 where
+  pub accepted : IsOk (decoding B text) ↔ ((0 < length text) × AreLetters B text × (value B text < 2 ^ 128))
+  pub canonical : (n : ℕ) → decoding B text ≡ Ok n → IsCanonical B (without_zeros B text) n
+  pub empty : decoding B text ≡ Err EmptyInput → length text ≡ 0
+  pub named : (byte index : ℕ) → decoding B text ≡ Err (InvalidBase62Byte byte index) → IsFirstInvalid B text byte index
+  pub overflow : decoding B text ≡ Err ArithmeticOverflow → is_letter B (slice_index (rest B text) 0) ≡ true
+      → (other : List ℕ) → AgreesAtLetters B text other → 2 ^ 128 ≤ value B other
+
+-- a number, or an overflow where it is 2^128 or more
+abbrev pub number_or_overflow : ℕ → Result ℕ DecodeError
+number_or_overflow n = if nat_lt n (2 ^ 128) then Ok n else Err ArithmeticOverflow
+
+-- the same answer, where a bad byte stands one place further on
+abbrev pub one_place_on : Result ℕ DecodeError → Result ℕ DecodeError
+one_place_on (Err (InvalidBase62Byte byte index)) = Err (InvalidBase62Byte byte (index + 1))
+one_place_on answer = answer

@@ -23,6 +23,23 @@ impl Model for Fmt {
     ghost view = { λ f. f.text };
 }
 
+/// Writes the text, padded to the formatter's width.
+///
+/// A width counts characters, and one that is not greater than the text leaves it whole. The fill is a space
+/// where none is stated. A text with no stated alignment stands left; a centred one has half of the padding,
+/// rounded down, in front. `Err` is the fault of what is written to.
+impl fmt::Display for Fmt {
+    ghost output = { λ text. Some text };
+
+    ghost styled_output = { λ text o.
+        displayed (spec_precision o) (spec_width o) (spec_fill o) o.align text };
+
+    #[tactic(auto, using(crate::proofs::PaddingLemmas::pad_displays))]
+    fn fmt<W: fmt::Write>(&self, f: &mut fmt::Formatter<W>) -> fmt::Result {
+        f.pad(self.text.as_str())
+    }
+}
+
 /// A number that displays as its alternative text: what [`encode_fmt_alt`] answers. Contracts see it as that
 /// text.
 #[derive(Drop)]
@@ -34,6 +51,19 @@ impl Model for FmtAlternative {
     ghost Value = { List ℕ };
 
     ghost view = { λ f. f.text };
+}
+
+/// Writes the text, padded to the formatter's width as for [`Fmt`].
+impl fmt::Display for FmtAlternative {
+    ghost output = { λ text. Some text };
+
+    ghost styled_output = { λ text o.
+        displayed (spec_precision o) (spec_width o) (spec_fill o) o.align text };
+
+    #[tactic(auto, using(crate::proofs::PaddingLemmas::pad_displays))]
+    fn fmt<W: fmt::Write>(&self, f: &mut fmt::Formatter<W>) -> fmt::Result {
+        f.pad(self.text.as_str())
+    }
 }
 
 /// A value that displays as the standard text of `num`, which has 1 to 22 letters.
@@ -65,35 +95,5 @@ pub fn encode_fmt_alt<T: Number>(num: T) -> FmtAlternative
 {
     FmtAlternative {
         text: Text::alternative(num),
-    }
-}
-
-/// Writes the text, padded to the formatter's width.
-///
-/// A width counts characters, and one that is not greater than the text leaves it whole. The fill is a space
-/// where none is stated. A text with no stated alignment stands left; a centred one has half of the padding,
-/// rounded down, in front. `Err` is the fault of what is written to.
-impl fmt::Display for Fmt {
-    ghost output = { λ text. Some text };
-
-    ghost styled_output = { λ text o.
-        displayed (spec_precision o) (spec_width o) (spec_fill o) o.align text };
-
-    #[tactic(auto, using(crate::proofs::PaddingLemmas::pad_displays))]
-    fn fmt<W: fmt::Write>(&self, f: &mut fmt::Formatter<W>) -> fmt::Result {
-        f.pad(self.text.as_str())
-    }
-}
-
-/// Writes the text, padded to the formatter's width as for [`Fmt`].
-impl fmt::Display for FmtAlternative {
-    ghost output = { λ text. Some text };
-
-    ghost styled_output = { λ text o.
-        displayed (spec_precision o) (spec_width o) (spec_fill o) o.align text };
-
-    #[tactic(auto, using(crate::proofs::PaddingLemmas::pad_displays))]
-    fn fmt<W: fmt::Write>(&self, f: &mut fmt::Formatter<W>) -> fmt::Result {
-        f.pad(self.text.as_str())
     }
 }

@@ -41,7 +41,7 @@ first_weighs B ok (b ∷ text) some letter other =
     rw (back, value-cons B b text) (omega arith)
 
 -- one letter less could not hold the value of a text that has no needless zero letter
-needs_each : (B : List ℕ) → IsAlphabet B → (text : List ℕ) → AreLetters B text → HasNoNeedlessZero B text → (length text ≡ 1) ⊎ (62 ^ (length text - 1) ≤ value B text)
+pub needs_each : (B : List ℕ) → IsAlphabet B → (text : List ℕ) → AreLetters B text → HasNoNeedlessZero B text → (length text ≡ 1) ⊎ (62 ^ (length text - 1) ≤ value B text)
 needs_each B ok text letters has = elim has.1 [
   | inl one ↦ inl one
   | inr differs ↦ inr (first_weighs B ok text has.0 (letters 0 0 has.0) differs)

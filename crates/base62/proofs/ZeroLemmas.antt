@@ -26,7 +26,7 @@ first_invalid_front B text ok =
     let more : suc index ≡ index + 1 = omega arith in
     ap (λ k. InvalidBase62Byte (get_or (zero_letter B ∷ text) k 0) k) place ∙ ap (InvalidBase62Byte (get_or text index 0)) more
 
-value_front : (B text : List ℕ) → IsAlphabet B → value B (zero_letter B ∷ text) ≡ value B text
+pub value_front : (B text : List ℕ) → IsAlphabet B → value B (zero_letter B ∷ text) ≡ value B text
 value_front B text ok = rw (value-cons B (zero_letter B) text, digit_or_zero-letter B ok 0 (omega arith)) (omega arith)
 
 -- in each case of a test a bad byte moves on

@@ -7,3 +7,5 @@ pub mod Fault
 pub mod Padding
 pub mod Case
 pub mod Laws
+pub mod Order
+pub mod Key

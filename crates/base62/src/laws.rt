@@ -1,12 +1,15 @@
 //! What follows from the definitions alone. No call here takes part in a run.
 
-ghost use Rattle.std.specs.Prelude.{◌≡◌, ◌+◌, ◌*◌, ◌<◌, ◌≤◌, ◌^◌, ◌↔◌, ◌∷◌, ◌++◌, ℕ, List, length, true, Ok};
+ghost use Rattle.std.specs.Prelude.{◌≡◌, ◌+◌, ◌*◌, ◌<◌, ◌≤◌, ◌^◌, ◌↔◌, ◌∷◌, ◌++◌, ℕ, List, length, true, Ok, Some, None};
+ghost use Rattle.std.specs.Ordering.{nat_cmp};
 ghost use Rattle.std.specs.declared.cmp.Ordering.TheVariants.{Equal};
 ghost use Rattle.base62.specs.Alphabet.{IsAlphabet, AreLetters, zero_letter, standard, alternative};
 ghost use Rattle.base62.specs.Value.{value};
 ghost use Rattle.base62.specs.Canonical.{IsCanonical};
 ghost use Rattle.base62.specs.Decoding.{decoding};
 ghost use Rattle.base62.specs.Case.{exchange_case};
+ghost use Rattle.base62.specs.Key.{IsKey, BeginsWith, IsInInterval, interval_ends};
+ghost use Rattle.base62.specs.Order.{byte_order, length_first_order, Ascends};
 ghost use Rattle.base62.specs.Laws.{HasNoNeedlessZero, AnswerTells, number_or_overflow, one_place_on};
 ghost use Rattle.base62.specs.Fault.{decode_error_order};
 ghost use Rattle.base62.specs.declared.fault.DecodeError.{DecodeError};
@@ -73,6 +76,44 @@ pub fn exchange_of_case()
         → IsCanonical standard text n ↔ IsCanonical alternative (exchange_case text) n }
     ensures decoded { (text : List ℕ)
         → decoding alternative text ≡ decoding standard (exchange_case text) }
+{}
+
+/// Over any alphabet each number below 62^22 has a key, which is a text of exactly 22 letters that denotes it,
+/// and has only one.
+pub fn keys()
+    ensures exists { (B : List ℕ) → IsAlphabet B → (n : ℕ) → n < 62 ^ 22
+        → (key : List ℕ) × IsKey B key n }
+    ensures only { (B : List ℕ) → IsAlphabet B → (n : ℕ) (a b : List ℕ)
+        → IsKey B a n → IsKey B b n → a ≡ b }
+{}
+
+/// Over an alphabet whose letters ascend by byte, as the standard ones do, texts of letters of one length
+/// compare by their bytes as their values, and so keys compare as their numbers. Canonical texts compare as
+/// their numbers where the shorter comes first and texts of one length go by their bytes.
+pub fn order_of_texts()
+    ensures standard { Ascends standard }
+    ensures one_length { (B : List ℕ) → IsAlphabet B → Ascends B → (a b : List ℕ)
+        → AreLetters B a → AreLetters B b → length a ≡ length b
+        → byte_order a b ≡ nat_cmp (value B a) (value B b) }
+    ensures keys { (B : List ℕ) → IsAlphabet B → Ascends B → (a b : List ℕ) (m n : ℕ)
+        → IsKey B a m → IsKey B b n → byte_order a b ≡ nat_cmp m n }
+    ensures canonical { (B : List ℕ) → IsAlphabet B → Ascends B → (a b : List ℕ) (m n : ℕ)
+        → IsCanonical B a m → IsCanonical B b n → length_first_order a b ≡ nat_cmp m n }
+{}
+
+/// Over any alphabet the key of a number begins with a front of at most 22 letters exactly where the number is
+/// in the front's interval. The ends of an interval are the least and the greatest number below 2^128 in it,
+/// and there are none exactly where there is no such number.
+pub fn fronts()
+    ensures begins { (B : List ℕ) → IsAlphabet B → (front key : List ℕ) (n : ℕ)
+        → AreLetters B front → length front ≤ 22 → IsKey B key n
+        → (BeginsWith front key ↔ IsInInterval B front n) }
+    ensures none { (B : List ℕ) → IsAlphabet B → (front : List ℕ) → AreLetters B front
+        → (interval_ends B front ≡ None ↔ ((n : ℕ) → n < 2 ^ 128 → IsInInterval B front n → ⊥)) }
+    ensures ends { (B : List ℕ) → IsAlphabet B → (front : List ℕ) (least greatest : ℕ) → AreLetters B front
+        → interval_ends B front ≡ Some (least, greatest)
+        → (least ≤ greatest) × (greatest < 2 ^ 128)
+        × ((n : ℕ) → n < 2 ^ 128 → (IsInInterval B front n ↔ ((least ≤ n) × (n ≤ greatest)))) }
 {}
 
 /// How faults of decoding compare: an overflow is least, then comes the empty input, and then bad

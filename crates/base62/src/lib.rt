@@ -18,6 +18,7 @@ mod alphabet;
 pub mod codec;
 pub mod count;
 pub mod fault;
+pub mod key;
 pub mod laws;
 pub mod model;
 pub mod number;
@@ -28,6 +29,7 @@ mod text;
 pub use codec::{decode, decode_alternative, encode_alternative_bytes, encode_bytes};
 pub use count::digit_count;
 pub use fault::{DecodeError, EncodeError};
+pub use key::{encode_key, key_range};
 pub use number::Number;
 pub use show::{Fmt, FmtAlternative, encode_fmt, encode_fmt_alt};
 pub use target::{

@@ -1,0 +1,219 @@
+-- Which keys begin with a front, and the ends of its interval.
+use Rattle.std.proofs.Common.{◌≡◌, ℕ, ◌+◌, ◌-◌, ◌*◌, ◌^◌, ◌<◌, ◌≤◌, ◌↔◌, true, false, List, length, get_or, take, drop, min, Option, Some, None, Result, Ok, Err, refl, sym, ap, ◌∙◌, subst, arith}
+use Rattle.std.specs.List.{prefix_len, list_all}
+use Rattle.std.proofs.Math.Nat.{one-le-pow, le-mul_of_pos_right}
+use Rattle.std.proofs.lemmas.Bool.{cond_both, false_from_ne_true, false≢true, ltb-true, ltb-false, leb-true, leb-false, lt-ltb, le-ltb, lt-leb, le-leb}
+use Rattle.std.proofs.lemmas.List.{take-append-drop, length-take, length-take-le, length-drop, nil_from_length}
+use Rattle.std.proofs.lemmas.List.Sums.{prefix_len_is, AllPass-from_list_all, list_all-from_AllPass}
+use Rattle.std.proofs.lemmas.List.Elements.{All-take}
+use Rattle.std.proofs.lemmas.Nat.{same_from_place}
+use Rattle.base62.specs.declared.fault.DecodeError.{DecodeError}
+use Rattle.base62.specs.declared.fault.DecodeError.TheVariants.{InvalidBase62Byte}
+use Rattle.base62.specs.Alphabet.{IsAlphabet, AreLetters, is_letter}
+use Rattle.base62.specs.Value.{value}
+use Rattle.base62.specs.Key.{IsKey, BeginsWith, IsInInterval, span, interval_ends, range_of}
+use Rattle.base62.specs.Order.{IsNotAfter}
+use Rattle.base62.proofs.ValueLemmas.{value-nil, value-append, value-lt, same_text}
+use Rattle.base62.proofs.FixedLemmas.{fixed, length-fixed, letters-fixed, value-fixed}
+
+-- ---- which keys begin with a front
+
+-- what the first k letters of a key denote, with the others as its lower places
+key_parts : (B : List ℕ) → IsAlphabet B → (key : List ℕ) (n k : ℕ) → IsKey B key n → (value B (take k key) * 62 ^ (22 - k) + value B (drop k key) ≡ n) × (value B (drop k key) < 62 ^ (22 - k))
+key_parts B ok key n k is =
+    let size : length (drop k key) ≡ 22 - k = length-drop k key ∙ ap (λ m. m - k) is.size in
+    let parts = sym (value-append B (take k key) (drop k key)) ∙ ap (value B) (take-append-drop k key) ∙ is.value_is in
+    (rw size at parts, rw size at (value-lt B ok (drop k key)))
+
+-- a number of w whole spans and a part of one more is among those of v whole spans exactly where v is w
+same_span : (v w part s n : ℕ) → w * s + part ≡ n → part < s → v * s ≤ n → n < (v + 1) * s → w ≡ v
+same_span v w part s n e less from below =
+    let rest : v * s + (n - v * s) ≡ w * s + part = omega (arith, e) in
+    let places = same_from_place v (n - v * s) w part s (omega arith) less rest in
+    sym places.0
+
+-- the key of a number begins with a front of at most 22 letters exactly where the number is in its interval
+pub in_interval : (B : List ℕ) → IsAlphabet B → (front key : List ℕ) (n : ℕ) → length front ≤ 22 → IsKey B key n → BeginsWith front key → IsInInterval B front n
+in_interval B ok front key n short is begins =
+    let parts = key_parts B ok key n (length front) is in
+    let same : value B (take (length front) key) ≡ value B front = ap (value B) begins in
+    let sum : value B front * span front + value B (drop (length front) key) ≡ n = rw (← same) parts.0 in
+    record { short = short; from = omega (arith, sum); below = omega (arith, sum, parts.1) }
+
+pub begins_with : (B : List ℕ) → IsAlphabet B → (front key : List ℕ) (n : ℕ) → AreLetters B front → IsKey B key n → IsInInterval B front n → BeginsWith front key
+begins_with B ok front key n letters is inside =
+    let k = length front in
+    let P : ℕ → Type 0 = λ b. is_letter B b ≡ true in
+    let parts = key_parts B ok key n k is in
+    let same : value B (take k key) ≡ value B front = same_span (value B front) _ _ _ n parts.0 parts.1 inside.from inside.below in
+    let size : length (take k key) ≡ k = length-take-le k key (omega (arith, inside.short, is.size)) in
+    same_text B ok (take k key) front size (All-take P k key is.letters) letters same
+
+-- a front of a key is no longer than a key
+begins_short : (B front key : List ℕ) (n : ℕ) → IsKey B key n → BeginsWith front key → length front ≤ 22
+begins_short B front key n is begins =
+    let size : min (length front) (length key) ≡ length front = sym (length-take (length front) key) ∙ ap length begins in
+    omega (arith, size, is.size)
+
+-- ---- the ends of an interval
+
+pub span_some : (front : List ℕ) → 1 ≤ span front
+span_some front = one-le-pow (22 - length front) 62 (omega arith)
+
+ends-long : (B front : List ℕ) → 22 < length front → interval_ends B front ≡ None
+unfolding interval_ends
+ends-long B front long = rw (lt-ltb 22 (length front) long)
+
+ends-above : (B front : List ℕ) → length front ≤ 22 → 2 ^ 128 ≤ value B front * span front → interval_ends B front ≡ None
+unfolding interval_ends
+ends-above B front short big = rw (le-ltb 22 (length front) short, le-leb (2 ^ 128) (value B front * span front) big)
+
+-- the least and the greatest number of an interval that begins below 2^128
+abbrev pub least_of : List ℕ → List ℕ → ℕ
+least_of B front = value B front * span front
+
+abbrev pub greatest_of : List ℕ → List ℕ → ℕ
+greatest_of B front = min ((value B front + 1) * span front - 1) (2 ^ 128 - 1)
+
+ends-some : (B front : List ℕ) → length front ≤ 22 → least_of B front < 2 ^ 128 → interval_ends B front ≡ Some (least_of B front, greatest_of B front)
+unfolding interval_ends
+ends-some B front short small = rw (le-ltb 22 (length front) short, lt-leb (2 ^ 128) (least_of B front) small)
+
+-- what holds in each case of the ends holds of them
+ends_cases : (B front : List ℕ) (P : Option (ℕ × ℕ) → Type 0)
+    → (22 < length front → P None)
+    → (2 ^ 128 ≤ least_of B front → P None)
+    → (length front ≤ 22 → least_of B front < 2 ^ 128 → P (Some (least_of B front, greatest_of B front)))
+    → P (interval_ends B front)
+unfolding interval_ends
+ends_cases B front P long above some =
+    cond_both _ _ _ P (λ t. long (ltb-true _ _ t)) (λ f1.
+    cond_both _ _ _ P (λ t. above (leb-true _ _ t)) (λ f2.
+    some (ltb-false _ _ f1) (leb-false _ _ f2)))
+
+-- there are no ends exactly where no number below 2^128 is in the interval
+pub none_inside : (B front : List ℕ) → interval_ends B front ≡ None → (n : ℕ) → n < 2 ^ 128 → IsInInterval B front n → ⊥
+none_inside B front = ends_cases B front (λ r. r ≡ None → (n : ℕ) → n < 2 ^ 128 → IsInInterval B front n → ⊥)
+    (λ long e n small inside. omega (arith, inside.short))
+    (λ big e n small inside. omega (arith, inside.from))
+    (λ short some e n small inside. cc)
+
+pub no_ends : (B front : List ℕ) → ((n : ℕ) → n < 2 ^ 128 → IsInInterval B front n → ⊥) → interval_ends B front ≡ None
+no_ends B front h = ends_cases B front (λ r. r ≡ None)
+    (λ long. refl)
+    (λ big. refl)
+    (λ short small. absurd (h (least_of B front) small (record { short = short; from = omega arith; below = omega (arith, span_some front) })))
+
+-- the ends are the least and the greatest number below 2^128 in the interval
+abbrev pub AreEnds : List ℕ → List ℕ → ℕ → ℕ → Type 0
+AreEnds B front least greatest = (least ≤ greatest) × (greatest < 2 ^ 128)
+    × ((n : ℕ) → n < 2 ^ 128 → (IsInInterval B front n ↔ ((least ≤ n) × (n ≤ greatest))))
+
+least_and_greatest : (B front : List ℕ) → length front ≤ 22 → least_of B front < 2 ^ 128 → AreEnds B front (least_of B front) (greatest_of B front)
+least_and_greatest B front short small =
+    let some = span_some front in (
+      omega arith,
+      omega arith,
+      λ n h. (λ inside. (inside.from, omega (arith, inside.below)), λ between. record { short = short; from = between.0; below = omega (arith, between.1) }),
+    )
+
+some_pair : (p q : ℕ × ℕ) → Some p ≡ Some q → p ≡ q
+some_pair p q e = cc
+
+pub ends_are : (B front : List ℕ) (least greatest : ℕ) → interval_ends B front ≡ Some (least, greatest) → AreEnds B front least greatest
+ends_are B front least greatest = ends_cases B front (λ r. r ≡ Some (least, greatest) → AreEnds B front least greatest)
+    (λ long e. cc)
+    (λ big e. cc)
+    (λ short small e.
+    let same = some_pair (least_of B front, greatest_of B front) (least, greatest) e in
+    subst (λ p. AreEnds B front p.0 p.1) same (least_and_greatest B front short small))
+
+-- ---- the range of a front
+
+range_of-letters : (B front : List ℕ) → AreLetters B front → range_of B front ≡ Ok (interval_ends B front)
+range_of-letters B front letters = rw (list_all-from_AllPass (is_letter B) front letters)
+
+-- the first byte that is no letter is named
+pub range_of-bad : (B front : List ℕ) (i : ℕ) → i < length front → ((k : ℕ) → k < i → is_letter B (get_or front k 0) ≡ true) → is_letter B (get_or front i 0) ≡ false
+    → range_of B front ≡ Err (InvalidBase62Byte (get_or front i 0) i)
+range_of-bad B front i inside before bad =
+    let place : prefix_len (is_letter B) front ≡ i = prefix_len_is (is_letter B) front i 0 (omega arith) before (λ _. bad) in
+    let some_bad : list_all (is_letter B) front ≡ false = false_from_ne_true _ (λ t. false≢true (sym bad ∙ AllPass-from_list_all (is_letter B) front t i 0 inside)) in
+    rw (some_bad, place)
+
+-- all keys begin with the empty front
+ends-empty : (B front : List ℕ) → length front ≡ 0 → interval_ends B front ≡ Some (0, 2 ^ 128 - 1)
+unfolding interval_ends
+ends-empty B front none = rw (nil_from_length front none, value-nil B)
+
+pub range_of-empty : (B front : List ℕ) → AreLetters B front → length front ≡ 0 → range_of B front ≡ Ok (Some (0, 2 ^ 128 - 1))
+range_of-empty B front letters none = range_of-letters B front letters ∙ ap Ok (ends-empty B front none)
+
+pub range_of-long : (B front : List ℕ) → AreLetters B front → 22 < length front → range_of B front ≡ Ok None
+range_of-long B front letters long = range_of-letters B front letters ∙ ap Ok (ends-long B front long)
+
+pub range_of-above : (B front : List ℕ) → AreLetters B front → length front ≤ 22 → 2 ^ 128 ≤ least_of B front → range_of B front ≡ Ok None
+range_of-above B front letters short big = range_of-letters B front letters ∙ ap Ok (ends-above B front short big)
+
+-- a front that denotes 2^128 or more begins no key of a number below it
+pub range_of-over : (B front : List ℕ) → AreLetters B front → length front ≤ 22 → 2 ^ 128 ≤ value B front → range_of B front ≡ Ok None
+range_of-over B front letters short big =
+    range_of-above B front letters short (omega (arith, big, le-mul_of_pos_right (value B front) (span_some front)))
+
+-- the ends as the code computes them
+pub range_of-some : (B front : List ℕ) (least greatest : ℕ) → AreLetters B front → length front ≤ 22 → least_of B front < 2 ^ 128
+    → least ≡ least_of B front → greatest ≡ min (least + (span front - 1)) (2 ^ 128 - 1) → range_of B front ≡ Ok (Some (least, greatest))
+range_of-some B front least greatest letters short small low high =
+    let last : least_of B front + (span front - 1) ≡ (value B front + 1) * span front - 1 = omega (arith, span_some front) in
+    range_of-letters B front letters ∙ ap Ok (ends-some B front short small) ∙ rw (high, low, last)
+
+-- no key of a number below 2^128 begins with the front
+abbrev pub BeginsNoKey : List ℕ → List ℕ → Type 0
+BeginsNoKey B front = (n : ℕ) (key : List ℕ) → n < 2 ^ 128 → IsKey B key n → BeginsWith front key → ⊥
+
+begins_no_key : (B : List ℕ) → IsAlphabet B → (front : List ℕ) → interval_ends B front ≡ None → BeginsNoKey B front
+begins_no_key B ok front none = λ n key small is begins.
+    none_inside B front none n small (in_interval B ok front key n (begins_short B front key n is begins) is begins)
+
+no_ends_of : (B : List ℕ) → IsAlphabet B → (front : List ℕ) → AreLetters B front → BeginsNoKey B front → interval_ends B front ≡ None
+no_ends_of B ok front letters h = no_ends B front (λ n small inside.
+    let is : IsKey B (fixed B 22 n) n = record { size = length-fixed B 22 n; letters = letters-fixed B ok 22 n; value_is = value-fixed B ok 22 n (omega arith) } in
+    h n (fixed B 22 n) small is (begins_with B ok front (fixed B 22 n) n letters is inside))
+
+-- which ends a range that is no fault has
+range_accepts : (B front : List ℕ) (ends : Option (ℕ × ℕ)) → range_of B front ≡ Ok ends → AreLetters B front × (interval_ends B front ≡ ends)
+range_accepts B front = cond_both (list_all (is_letter B) front) _ _ (λ r. (ends : Option (ℕ × ℕ)) → r ≡ Ok ends → AreLetters B front × (interval_ends B front ≡ ends))
+    (λ t ends e. (AllPass-from_list_all (is_letter B) front t, cc))
+    (λ f ends e. cc)
+
+-- a range of letters is empty exactly where no key begins with them
+pub range_none : (B : List ℕ) → IsAlphabet B → (front : List ℕ) (r : Result (Option (ℕ × ℕ)) DecodeError) → r ≡ range_of B front → AreLetters B front → (r ≡ Ok None ↔ BeginsNoKey B front)
+range_none B ok front r exact letters = (
+  λ none. begins_no_key B ok front (range_accepts B front None (sym exact ∙ none)).1,
+  λ h. exact ∙ range_of-letters B front letters ∙ ap Ok (no_ends_of B ok front letters h),
+)
+
+-- keys compare by their bytes as their numbers do
+abbrev pub KeysAscend : List ℕ → Type 0
+KeysAscend B = (a b : List ℕ) (m n : ℕ) → IsKey B a m → IsKey B b n → (IsNotAfter a b ↔ (m ≤ n))
+
+-- where keys ascend, those that begin with a front are the ones from the key of the least number to that of the greatest
+scan_is : (B : List ℕ) → IsAlphabet B → KeysAscend B → (front : List ℕ) → AreLetters B front
+    → (least greatest : ℕ) → interval_ends B front ≡ Some (least, greatest)
+    → (low key high : List ℕ) (n : ℕ) → n < 2 ^ 128 → IsKey B low least → IsKey B key n → IsKey B high greatest
+    → (BeginsWith front key ↔ (IsNotAfter low key × IsNotAfter key high))
+scan_is B ok ascend front letters least greatest e low key high n small lo is hi =
+    let between = (ends_are B front least greatest e).2 n small in
+    let lower = ascend low key least n lo is in
+    let upper = ascend key high n greatest is hi in (
+      λ begins. let at = between.0 (in_interval B ok front key n (begins_short B front key n is begins) is begins) in (lower.1 at.0, upper.1 at.1),
+      λ h. begins_with B ok front key n letters is (between.1 (lower.0 h.0, upper.0 h.1)),
+    )
+
+pub range_scan : (B : List ℕ) → IsAlphabet B → KeysAscend B → (front : List ℕ) (r : Result (Option (ℕ × ℕ)) DecodeError) → r ≡ range_of B front
+    → (least greatest : ℕ) → r ≡ Ok (Some (least, greatest))
+    → (low key high : List ℕ) (n : ℕ) → n < 2 ^ 128 → IsKey B low least → IsKey B key n → IsKey B high greatest
+    → (BeginsWith front key ↔ (IsNotAfter low key × IsNotAfter key high))
+range_scan B ok ascend front r exact least greatest e =
+    let accepts = range_accepts B front (Some (least, greatest)) (sym exact ∙ e) in
+    scan_is B ok ascend front accepts.0 least greatest accepts.1

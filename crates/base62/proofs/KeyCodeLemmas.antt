@@ -1,0 +1,69 @@
+-- What the code of keys rests on: zero letters in front of a text, and decoding one letter or a front.
+use Rattle.std.proofs.Common.{true, false, ◌≡◌, ℕ, zero, suc, ◌+◌, ◌-◌, ◌^◌, ◌<◌, ◌≤◌, List, [], ◌∷◌, ◌++◌, length, take, drop, replicate, Ok, Err, refl, sym, ap, ◌∙◌, inl, inr, arith}
+use Rattle.std.specs.Result.{is_err}
+use Rattle.std.proofs.lemmas.Bool.{cases_lt, lt-ltb, false≢true, false_from_ne_true}
+use Rattle.std.proofs.lemmas.List.{length-append, length-replicate, drop-replicate, length-take-le}
+use Rattle.std.proofs.lemmas.List.Elements.{All-nil, All-cons, All-append, All-replicate}
+use Rattle.base62.specs.declared.fault.DecodeError.{DecodeError}
+use Rattle.base62.specs.Alphabet.{IsAlphabet, AreLetters, is_letter, zero_letter}
+use Rattle.base62.specs.Value.{value}
+use Rattle.base62.specs.Canonical.{Denotes}
+use Rattle.base62.specs.Decoding.{decoding}
+use Rattle.base62.specs.Key.{IsKey}
+use Rattle.base62.proofs.AlphabetLemmas.{is_letter-letter}
+use Rattle.base62.proofs.ValueLemmas.{value-lt_most}
+use Rattle.base62.proofs.AnswerLemmas.{answer_cases, decoding-letters}
+use Rattle.base62.proofs.ZeroLemmas.{value_front}
+
+-- zero letters in front add nothing
+value-zeros : (B : List ℕ) → IsAlphabet B → (k : ℕ) (text : List ℕ) → value B (replicate k (zero_letter B) ++ text) ≡ value B text
+value-zeros B ok zero text = refl
+value-zeros B ok (suc k) text = value_front B (replicate k (zero_letter B) ++ text) ok ∙ value-zeros B ok k text
+
+-- a text that denotes n is its key, once zero letters in front fill it up to 22
+padded_key : (B : List ℕ) → IsAlphabet B → (text : List ℕ) (n k : ℕ) → Denotes B text n → k + length text ≡ 22 → IsKey B (replicate k (zero_letter B) ++ text) n
+padded_key B ok text n k denotes full =
+    let P : ℕ → Type 0 = λ b. is_letter B b ≡ true in
+    let zeros : AreLetters B (replicate k (zero_letter B)) = All-replicate P k (zero_letter B) (is_letter-letter B ok 0 (omega arith)) in
+    record {
+      size = length-append (replicate k (zero_letter B)) text ∙ ap (λ m. m + length text) (length-replicate k (zero_letter B)) ∙ full;
+      letters = All-append P (replicate k (zero_letter B)) text zeros denotes.letters;
+      value_is = value-zeros B ok k text ∙ denotes.value_is;
+    }
+
+-- a buffer of 22 bytes with a text in front of zero letters, after the text has been moved behind them
+pub moved_key : (B : List ℕ) → IsAlphabet B → (buf key : List ℕ) (n len : ℕ) → length buf ≡ 22 → len ≤ length buf → Denotes B (take len buf) n
+    → drop len buf ≡ drop len (replicate 22 (zero_letter B))
+    → key ≡ drop (length buf - (22 - len)) buf ++ take (length buf - (22 - len)) buf → IsKey B key n
+moved_key B ok buf key n len size within denotes others after =
+    let place : length buf - (22 - len) ≡ len = omega arith in
+    let zeros : drop len buf ≡ replicate (22 - len) (zero_letter B) = others ∙ drop-replicate len 22 (zero_letter B) in
+    let whole : key ≡ replicate (22 - len) (zero_letter B) ++ take len buf = rw (place, zeros) at after in
+    let filled : 22 - len + length (take len buf) ≡ 22 = omega (arith, length-take-le len buf within) in
+    rw whole (padded_key B ok (take len buf) n (22 - len) denotes filled)
+
+-- letters that denote a number below 2^128 are accepted
+letters_accepted : (B text : List ℕ) → IsAlphabet B → 0 < length text → AreLetters B text → value B text < 2 ^ 128 → decoding B text ≡ Ok (value B text)
+letters_accepted B text ok some letters small = decoding-letters B text ok some letters ∙ rw (lt-ltb (value B text) (2 ^ 128) small)
+
+-- a byte alone is accepted exactly where it is a letter
+pub accepted_letter : (B : List ℕ) (b : ℕ) → IsAlphabet B → is_err (decoding B (b ∷ [])) ≡ false → is_letter B b ≡ true
+accepted_letter B b ok = answer_cases B (b ∷ []) ok (λ r. is_err r ≡ false → is_letter B b ≡ true)
+    (λ none e. cc)
+    (λ some over e. cc)
+    (λ byte index first e. cc)
+    (λ denotes small e. denotes.letters 0 0 (omega arith))
+
+pub refused_letter : (B : List ℕ) (b : ℕ) → IsAlphabet B → is_err (decoding B (b ∷ [])) ≡ true → is_letter B b ≡ false
+refused_letter B b ok e = false_from_ne_true (is_letter B b) (λ letter.
+    let P : ℕ → Type 0 = λ b. is_letter B b ≡ true in
+    let below = value-lt_most B ok (b ∷ []) 1 (omega arith) in
+    let accepted = letters_accepted B (b ∷ []) ok (omega arith) (All-cons P b [] letter (All-nil P)) (omega arith) in
+    false≢true (sym (ap is_err accepted) ∙ e))
+
+-- letters that are refused denote 2^128 or more
+pub refused_value : (B text : List ℕ) → IsAlphabet B → 0 < length text → AreLetters B text → (e : DecodeError) → decoding B text ≡ Err e → 2 ^ 128 ≤ value B text
+refused_value B text ok some letters e refused = elim (cases_lt (value B text) (2 ^ 128)) [
+  | inl less ↦ let accepted = letters_accepted B text ok some letters less in absurd (cc)
+  | inr more ↦ more
+]

@@ -1,0 +1,21 @@
+-- Each number below 62^22 has a key, and has only one.
+use Rattle.std.proofs.Common.{◌≡◌, ℕ, ◌^◌, ◌<◌, List, sym, ◌∙◌}
+use Rattle.base62.specs.Alphabet.{IsAlphabet}
+use Rattle.base62.specs.Key.{IsKey}
+use Rattle.base62.proofs.ValueLemmas.{same_text}
+use Rattle.base62.proofs.FixedLemmas.{fixed, length-fixed, letters-fixed, value-fixed}
+
+-- the text of exactly 22 letters for the last 22 digits of n is the key of n
+pub key-fixed : (B : List ℕ) → IsAlphabet B → (n : ℕ) → n < 62 ^ 22 → IsKey B (fixed B 22 n) n
+key-fixed B ok n h = record {
+  size = length-fixed B 22 n;
+  letters = letters-fixed B ok 22 n;
+  value_is = value-fixed B ok 22 n h;
+}
+
+pub some_key : (B : List ℕ) → IsAlphabet B → (n : ℕ) → n < 62 ^ 22 → (key : List ℕ) × IsKey B key n
+some_key B ok n h = (fixed B 22 n, key-fixed B ok n h)
+
+-- a number has one key
+pub one_key : (B : List ℕ) → IsAlphabet B → (n : ℕ) (a b : List ℕ) → IsKey B a n → IsKey B b n → a ≡ b
+one_key B ok n a b p q = same_text B ok a b (p.size ∙ sym q.size) p.letters q.letters (p.value_is ∙ sym q.value_is)

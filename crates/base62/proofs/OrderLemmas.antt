@@ -1,0 +1,115 @@
+-- Texts over an alphabet whose letters ascend compare as the numbers that they denote.
+use Rattle.std.proofs.Common.{true, ◌≡◌, ◌≢◌, ◌↔◌, ℕ, ◌+◌, ◌-◌, ◌*◌, ◌^◌, ◌<◌, ◌≤◌, ltb, List, [], ◌∷◌, length, get_or, refl, sym, ◌∙◌, inl, inr, arith}
+use Rattle.std.specs.Ordering.{nat_cmp, ordering_then}
+use Rattle.std.specs.Cmp.{nat_cmp_is}
+use Rattle.std.specs.declared.cmp.Ordering.TheVariants.{Less, Equal, Greater}
+use Rattle.std.proofs.Math.Nat.{mul-le-mul_right}
+use Rattle.std.proofs.lemmas.Bool.{agree_below_at, cases_lt, cases_order, ltb-true}
+use Rattle.std.proofs.lemmas.Cmp.{ranked}
+use Rattle.std.proofs.lemmas.List.Elements.{All-head, All-tail}
+use Rattle.std.proofs.lemmas.Map.Keys.{sorted_from_strictly_increasing, below_from_sorted}
+use Rattle.base62.specs.Alphabet.{IsAlphabet, AreLetters, standard, is_letter}
+use Rattle.base62.specs.Value.{value, digit_or_zero}
+use Rattle.base62.specs.Canonical.{IsCanonical}
+use Rattle.base62.specs.Key.{IsKey}
+use Rattle.base62.specs.Order.{byte_order, IsNotAfter, length_first_order, Ascends}
+use Rattle.base62.proofs.AlphabetLemmas.{letter-digit_of, digit_of-is, same_letter}
+use Rattle.base62.proofs.ValueLemmas.{value-cons, value-lt, value-lt_most}
+use Rattle.base62.proofs.LengthLemmas.{no_needless_zero, needs_each}
+
+-- the standard letters ascend
+pub standard_ascends : Ascends standard
+unfolding standard
+standard_ascends d h = ltb-true _ _ (agree_below_at (λ d. ltb (get_or standard d 0) (get_or standard (d + 1) 0)) (λ d. true) 61 d refl h)
+
+-- what a comparison of two numbers answers
+less_is : (m n : ℕ) → m < n → nat_cmp m n ≡ Less
+less_is m n h = sym (nat_cmp_is m n Less h)
+
+equal_is : (m n : ℕ) → m ≡ n → nat_cmp m n ≡ Equal
+equal_is m n h = sym (nat_cmp_is m n Equal h)
+
+greater_is : (m n : ℕ) → n < m → nat_cmp m n ≡ Greater
+greater_is m n h = sym (nat_cmp_is m n Greater h)
+
+-- two numbers compare as two others that stand as they do
+compared_alike : (x y m n : ℕ) → (x < y → m < n) → (x ≡ y → m ≡ n) → (y < x → n < m) → nat_cmp m n ≡ nat_cmp x y
+compared_alike x y m n less equal greater = elim (cases_order x y) [
+  | inl e ↦ equal_is m n (equal e) ∙ sym (equal_is x y e)
+  | inr (inl h) ↦ less_is m n (less h) ∙ sym (less_is x y h)
+  | inr (inr h) ↦ greater_is m n (greater h) ∙ sym (greater_is x y h)
+]
+
+-- one more at a first place outweighs all that can come after it
+place-lt : (x u y v w : ℕ) → x < y → u < w → x * w + u < y * w + v
+place-lt x u y v w more below = let weighs : (x + 1) * w ≤ y * w = mul-le-mul_right w (omega arith) in omega arith
+
+-- first places decide, and where they are one, what comes after them
+place_compares : (x u y v w : ℕ) → u < w → v < w → nat_cmp (x * w + u) (y * w + v) ≡ ordering_then (nat_cmp x y) (nat_cmp u v)
+place_compares x u y v w p q = elim (cases_order x y) [
+  | inl e ↦ rw (equal_is x y e, e) (compared_alike u v (y * w + u) (y * w + v) (λ h. omega arith) (λ h. omega arith) (λ h. omega arith))
+  | inr (inl h) ↦ rw (less_is x y h) (less_is _ _ (place-lt x u y v w h p))
+  | inr (inr h) ↦ rw (greater_is x y h) (greater_is _ _ (place-lt y v x u w h q))
+]
+
+-- a later letter of an alphabet that ascends is a greater byte
+later_greater : (B : List ℕ) → IsAlphabet B → Ascends B → (i j : ℕ) → i < j → j < 62 → get_or B i 0 < get_or B j 0
+later_greater B ok up i j more inside =
+    below_from_sorted B i j 0 (sorted_from_strictly_increasing B (λ d h. up d (omega (arith, ok.size)))) more (omega (arith, ok.size))
+
+-- a letter of a greater digit is a greater byte
+greater_letter : (B : List ℕ) → IsAlphabet B → Ascends B → (x y : ℕ) → is_letter B x ≡ true → is_letter B y ≡ true → digit_or_zero B x < digit_or_zero B y → x < y
+greater_letter B ok up x y p q more =
+    let at = letter-digit_of B x _ (digit_of-is B x p) in
+    let bt = letter-digit_of B y _ (digit_of-is B y q) in
+    let less = later_greater B ok up (digit_or_zero B x) (digit_or_zero B y) more (omega (arith, bt.0, ok.size)) in
+    omega (arith, at.1, bt.1)
+
+-- letters compare as their digits
+letters_compare : (B : List ℕ) → IsAlphabet B → Ascends B → (x y : ℕ) → is_letter B x ≡ true → is_letter B y ≡ true → nat_cmp x y ≡ nat_cmp (digit_or_zero B x) (digit_or_zero B y)
+letters_compare B ok up x y p q =
+    compared_alike (digit_or_zero B x) (digit_or_zero B y) x y (greater_letter B ok up x y p q) (same_letter B x y p q) (greater_letter B ok up y x q p)
+
+-- texts of one length compare by their bytes as their values
+pub texts_compare : (B : List ℕ) → IsAlphabet B → Ascends B → (a b : List ℕ) → AreLetters B a → AreLetters B b → length a ≡ length b → byte_order a b ≡ nat_cmp (value B a) (value B b)
+texts_compare B ok up [] [] p q len = sym (equal_is (value B []) (value B []) refl)
+texts_compare B ok up [] (y ∷ ys) p q len = absurd (omega arith)
+texts_compare B ok up (x ∷ xs) [] p q len = absurd (omega arith)
+texts_compare B ok up (x ∷ xs) (y ∷ ys) p q len =
+    let P : ℕ → Type 0 = λ b. is_letter B b ≡ true in
+    let tails : length xs ≡ length ys = omega arith in
+    let first = letters_compare B ok up x y (All-head P x xs p) (All-head P y ys q) in
+    let later = texts_compare B ok up xs ys (All-tail P x xs p) (All-tail P y ys q) tails in
+    let places = place_compares (digit_or_zero B x) (value B xs) (digit_or_zero B y) (value B ys) (62 ^ length xs) (value-lt B ok xs) (rw tails (value-lt B ok ys)) in
+    rw (value-cons B x xs, value-cons B y ys, ← tails, places, first, later)
+
+-- keys compare by their bytes as their numbers
+pub keys_compare : (B : List ℕ) → IsAlphabet B → Ascends B → (a b : List ℕ) (m n : ℕ) → IsKey B a m → IsKey B b n → byte_order a b ≡ nat_cmp m n
+keys_compare B ok up a b m n p q =
+    rw (p.value_is, q.value_is) at (texts_compare B ok up a b p.letters q.letters (p.size ∙ sym q.size))
+
+-- the shorter of two canonical texts has the smaller number
+shorter-lt : (B : List ℕ) → IsAlphabet B → (a b : List ℕ) (m n : ℕ) → IsCanonical B a m → IsCanonical B b n → length a < length b → m < n
+shorter-lt B ok a b m n p q less = elim (needs_each B ok b q.denotes.letters (no_needless_zero B ok b n q)) [
+  | inl one ↦ absurd (omega (arith, p.denotes.nonempty))
+  | inr weighs ↦ let below = value-lt_most B ok a (length b - 1) (omega arith) in omega (arith, p.denotes.value_is, q.denotes.value_is)
+]
+
+-- canonical texts compare as their numbers where the shorter comes first
+pub canonical_compare : (B : List ℕ) → IsAlphabet B → Ascends B → (a b : List ℕ) (m n : ℕ) → IsCanonical B a m → IsCanonical B b n → length_first_order a b ≡ nat_cmp m n
+canonical_compare B ok up a b m n p q = elim (cases_order (length a) (length b)) [
+  | inl e ↦ rw (equal_is (length a) (length b) e) (rw (p.denotes.value_is, q.denotes.value_is) at (texts_compare B ok up a b p.denotes.letters q.denotes.letters e))
+  | inr (inl h) ↦ rw (less_is (length a) (length b) h) (sym (less_is m n (shorter-lt B ok a b m n p q h)))
+  | inr (inr h) ↦ rw (greater_is (length a) (length b) h) (sym (greater_is m n (shorter-lt B ok b a n m q p h)))
+]
+
+-- one number is at most another exactly where they do not compare as greater
+at_most_iff : (m n : ℕ) → ((nat_cmp m n ≢ Greater) ↔ (m ≤ n))
+at_most_iff m n = elim (cases_lt n m) [
+  | inl more ↦ (λ h. absurd (h (greater_is m n more)), λ h. absurd (omega arith))
+  | inr less ↦ (λ h. less, λ h e. let more : n < m = ranked m n Greater (sym e) in absurd (omega arith))
+]
+
+-- one key is before another, or is the same, exactly where its number is at most the other's
+pub not_after_iff : (B : List ℕ) → IsAlphabet B → Ascends B → (a b : List ℕ) (m n : ℕ) → IsKey B a m → IsKey B b n → (IsNotAfter a b ↔ (m ≤ n))
+not_after_iff B ok up a b m n p q = rw (keys_compare B ok up a b m n p q) (at_most_iff m n)

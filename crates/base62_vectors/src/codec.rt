@@ -211,7 +211,7 @@ fn decoded_texts(rt: HostRuntime) {
 
 // Which fault is reported, where a text has more than one.
 // Each row has a text for each alphabet, the standard one first.
-const REFUSED: [(&str, &str, DecodeError); 12] = [
+pub(crate) const REFUSED: [(&str, &str, DecodeError); 12] = [
     ("", "", EmptyInput),
     ("!", "!", InvalidBase62Byte(b'!', 0)),
     ("0!", "0!", InvalidBase62Byte(b'!', 1)),

@@ -10,6 +10,10 @@ mod count;
 #[cfg(test)]
 mod fault;
 #[cfg(test)]
+mod key;
+#[cfg(test)]
+mod laws;
+#[cfg(test)]
 mod memory;
 #[cfg(test)]
 mod number;

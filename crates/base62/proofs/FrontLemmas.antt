@@ -217,3 +217,10 @@ pub range_scan : (B : List ℕ) → IsAlphabet B → KeysAscend B → (front : L
 range_scan B ok ascend front r exact least greatest e =
     let accepts = range_accepts B front (Some (least, greatest)) (sym exact ∙ e) in
     scan_is B ok ascend front accepts.0 least greatest accepts.1
+
+-- no key begins with a front that has a bad byte
+pub none_begin_with_bad : (B front key : List ℕ) (n : ℕ) (e : DecodeError) → range_of B front ≡ Err e → IsKey B key n → BeginsWith front key → ⊥
+none_begin_with_bad B front key n e refused is begins =
+    let P : ℕ → Type 0 = λ b. is_letter B b ≡ true in
+    let letters : AreLetters B front = subst (AreLetters B) begins (All-take P (length front) key is.letters) in
+    let accepted : range_of B front ≡ Ok (interval_ends B front) = rw (list_all-from_AllPass (is_letter B) front letters) refl in cc

@@ -1,27 +1,26 @@
 -- What `pad` writes of a text is the text padded as the definition says.
-use Rattle.std.proofs.Common.{◌≡◌, ℕ, zero, suc, ◌-◌, ◌/◌, ◌^◌, ◌≤◌, eqb, Bool, true, false, cond, List, [], ◌∷◌, ◌++◌, length, Option, Some, None, refl, sym, ap, ◌∙◌, subst, append_assoc, arith, inl, inr}
+use Rattle.std.proofs.Common.{◌≡◌, ℕ, zero, suc, ◌-◌, ◌/◌, ◌^◌, ◌≤◌, ◌<◌, eqb, ltb, replicate, Bool, true, false, cond, List, [], ◌∷◌, ◌++◌, length, Option, Some, None, refl, sym, ap, ◌∙◌, subst, append_assoc, arith, inl, inr}
 use Rattle.std.specs.Prelude.{IfSome, Result}
 use Rattle.std.specs.Option.{option_map}
+use Rattle.std.specs.List.{repeat}
 use Rattle.std.specs.Fmt.{char_count, take_chars, is_char_start, padded, formatter_spec, spec_width, spec_fill, spec_precision, WritesStyledOnOk, DisplaysStyledOnOk}
 use Rattle.std.specs.declared.fmt.Error.{Error}
 use Rattle.std.specs.declared.fmt.Formatter.{Formatter}
 use Rattle.std.specs.declared.fmt.Alignment.{Alignment}
 use Rattle.std.specs.declared.fmt.Alignment.TheVariants.{Left, Right, Center}
-use Rattle.std.proofs.lemmas.Bool.{cases_lt, cases_eq, ne_eqb, lt-leb, le-leb}
+use Rattle.std.proofs.lemmas.Bool.{cases_lt, cases_eq, cond_both, ne_eqb, lt-leb, le-leb, lt-ltb}
 use Rattle.std.proofs.lemmas.List.{append-nil}
+use Rattle.std.proofs.lemmas.Str.{encode_ascii}
+use Rattle.std.specs.Str.{IsAscii}
 use Rattle.base62.specs.Padding.{fills, aligned, padded_to, alignment_of, displayed}
-
-cond_same : {A : Type 0} (t : Bool) (x y z : A) → x ≡ z → y ≡ z → cond t x y ≡ z
-cond_same true x y z p q = p
-cond_same false x y z p q = q
 
 -- a text of at most n bytes has at most n characters
 take_chars_all : (n : ℕ) (text : List ℕ) → length text ≤ n → take_chars n text ≡ text
 unfolding take_chars
 take_chars_all n [] short = refl
-take_chars_all n (b ∷ text) short = cond_same (is_char_start b) _ _ _
-    (rw (ne_eqb n 0 (λ e. omega arith), take_chars_all (n - 1) text (omega arith)) refl)
-    (rw (take_chars_all n text (omega arith)) refl)
+take_chars_all n (b ∷ text) short = cond_both (is_char_start b) _ _ (λ shown. shown ≡ b ∷ text)
+    (λ start. rw (ne_eqb n 0 (λ e. omega arith), take_chars_all (n - 1) text (omega arith)) refl)
+    (λ inside. rw (take_chars_all n text (omega arith)) refl)
 
 module _ (fill : ℕ) (text : List ℕ) where
   pub aligned-none : (a : Alignment) → aligned a fill 0 text ≡ text
@@ -91,3 +90,25 @@ carried (Some bs) P text p e = subst P e p
 pub pad_displays : {W : Type 0} (took : W → List ℕ → W → Type 0) (f g : Formatter W) (r : Result (Unit {0}) Error) (text : List ℕ) → length text ≤ 22 → WritesStyledOnOk took f r (padded (formatter_spec f) text) g → DisplaysStyledOnOk took f r (displayed (spec_precision (formatter_spec f)) (spec_width (formatter_spec f)) (spec_fill (formatter_spec f)) (formatter_spec f).align text) g
 pad_displays took f g r text short wrote =
     carried (displayed (spec_precision (formatter_spec f)) (spec_width (formatter_spec f)) (spec_fill (formatter_spec f)) (formatter_spec f).align text) (λ bs. WritesStyledOnOk took f r bs g) (padded (formatter_spec f) text) wrote (displayed-padded f text short)
+
+-- ---- a text of ASCII, padded by ASCII
+
+characters-ascii : (text : List ℕ) → IsAscii text → char_count text ≡ length text
+unfolding char_count
+characters-ascii [] ascii = refl
+characters-ascii (b ∷ text) ascii =
+    let first : ltb b 128 ≡ true = lt-ltb b 128 (ascii 0) in
+    let others = characters-ascii text (λ i. ascii (suc i)) in
+    rw (first, others) (omega arith)
+
+repeat-one : (b count : ℕ) → repeat count (b ∷ []) ≡ replicate count b
+repeat-one b zero = refl
+repeat-one b (suc count) = rw (repeat-one b count) refl
+
+fills-ascii : (fill : ℕ) → fill < 128 → (count : ℕ) → fills fill count ≡ replicate count fill
+fills-ascii fill ascii count = rw (encode_ascii fill ascii) (repeat-one fill count)
+
+-- a text that stands right has as many fills in front as it is short of bytes
+pub padded_right : (width fill : ℕ) (text : List ℕ) → IsAscii text → fill < 128 → padded_to (Some width) fill Right text ≡ replicate (width - length text) fill ++ text
+padded_right width fill text ascii small =
+    padded_to-some fill text width Right ∙ rw (characters-ascii text ascii, fills-ascii fill small (width - length text)) refl

@@ -1,4 +1,4 @@
-//! Ten uses of `base62`, as a caller writes them.
+//! Uses of `base62`, as a caller writes them.
 #![tactic(auto)]
 
 ghost use Rattle.std.specs.Prelude.{◌≤◌, length};
@@ -16,14 +16,18 @@ pub fn link_text(key: u64, buf: &mut [u8; 22]) -> &[u8]
 
 // ---- more uses
 
-ghost use Rattle.std.specs.Prelude.{◌≡◌, ◌≢◌, ◌<◌, ◌+◌, ◌*◌, ◌^◌, ◌↔◌, ◌++◌, ℕ, List, take, drop, IsTrue, IsOk, OnOk, OnErr};
+ghost use Rattle.std.specs.Prelude.{◌≡◌, ◌≢◌, ◌<◌, ◌+◌, ◌-◌, ◌*◌, ◌^◌, ◌↔◌, ◌∷◌, ◌++◌, [], ℕ, List, take, drop, replicate, codes, IsTrue, IsOk, IfOk, OnOk, OnErr};
+ghost use Rattle.std.specs.String.{string_bytes};
+ghost use Rattle.std.specs.Io.KnownBytes.{Appends};
 ghost use Rattle.std.specs.Bool.{OnTrue, OnFalse};
 ghost use Rattle.base62.specs.Alphabet.{IsAlphabet, alternative};
 ghost use Rattle.base62.specs.Canonical.{CanonicalFits};
 ghost use Rattle.base62.specs.Decoding.{decoding};
+ghost use Rattle.base62.specs.Key.{IsKey, BeginsWith};
 
 use base62::{DecodeError, Number};
-use std::alloc::AllocError;
+use std::alloc::{AllocError, Global};
+use std::io::{self, Write};
 
 /// The key that a link's text names. `None` says that the text names no number, or none below 2^64.
 pub fn link_key(text: &[u8]) -> Option<u64>
@@ -32,6 +36,14 @@ pub fn link_key(text: &[u8]) -> Option<u64>
 {
     let number = base62::decode(text).ok()?;
     u64::try_from(number).ok()
+}
+
+/// The key that is read back from a key's own link: it is the key.
+pub fn key_of_own_link(key: u64) -> Option<u64>
+    ensures { result ≡ Some key }
+{
+    let mut buf = [0u8; 22];
+    link_key(link_text(key, &mut buf))
 }
 
 /// The text of a token's number in the alternative alphabet. It never fails.
@@ -109,6 +121,48 @@ pub fn append_number<T: Number>(line: &mut Vec<u8>, number: T) -> Result<(), All
     let mut buf = [0u8; 22];
     let len = base62::encode_bytes(number, &mut buf).unwrap();
     line.extend_from_slice(&buf[..len])
+}
+
+/// The address of a row's short link. `Err` says that there was no memory for it.
+pub fn link_address(alloc: Global, key: u64) -> Result<String, AllocError>
+    ensures { IfOk result (λ address. (text : List ℕ) × IsCanonical standard text key
+        × (string_bytes address ≡ codes "https://example.org/" ++ text)) }
+{
+    let mut address = String::from_str(alloc, "https://example.org/")?;
+    base62::encode_buf(key, &mut address)?;
+    Ok(address)
+}
+
+/// The text of a number in a column of 22 letters, with zeros in front. `Err` says that there was no memory
+/// for it.
+pub fn column_text(alloc: Global, number: u128) -> Result<String, AllocError>
+    ensures { IfOk result (λ column. (text : List ℕ) × IsCanonical standard text number
+        × (string_bytes column ≡ replicate (22 - length text) 48 ++ text)) }
+{
+    format!(in alloc; "{:0>22}", base62::encode_fmt(number))
+}
+
+/// Writes a line of the text of a number to a writer.
+pub fn write_line<W: Write>(number: u128, writer: &mut W) -> io::Result<()>
+    ensures { OnOk result ((text : List ℕ) × IsCanonical standard text number
+        × Appends (W.contents writer.old) (W.contents writer.new) (text ++ 10 ∷ [])) }
+{
+    base62::encode_io(number, writer)?;
+    writer.write_all(b"\n")
+}
+
+/// Whether a scan of a table for the rows whose keys begin with a front takes the row of a key. The scan goes
+/// from the key of the least number to the key of the greatest, and takes no row where there is no number.
+pub fn is_scanned(front: &[u8], key: &[u8; 22]) -> bool
+    ensures { (n : ℕ) → n < 2 ^ 128 → IsKey standard key.now n
+        → (IsTrue result ↔ BeginsWith front.now key.now) }
+{
+    let Ok(Some((least, greatest))) = base62::key_range(front) else {
+        return false;
+    };
+    let low = base62::encode_key(least);
+    let high = base62::encode_key(greatest);
+    low <= *key && *key <= high
 }
 
 /// A key of two parts: the number of a shard, and a row in it.

@@ -19,6 +19,13 @@ fn keys_of_links(rt: HostRuntime) {
 }
 
 #[test]
+fn keys_of_own_links(rt: HostRuntime) {
+    for key in [0, 61, 62, 1337, u64::MAX] {
+        assert_eq!(rt; key_of_own_link(key), Some(key));
+    }
+}
+
+#[test]
 fn links_of_two_keys(rt: HostRuntime) {
     assert!(rt; links_differ(61, 62));
     assert!(rt; !links_differ(62, 62));
@@ -105,4 +112,49 @@ fn tokens_and_their_numbers(rt: HostRuntime) {
     assert_eq!(rt; token_text(691337691337, &mut buf), b"caCOuUN".as_slice());
     assert_eq!(rt; token_number(b"caCOuUN"), Some(691337691337));
     assert_eq!(rt; token_number(b"caCOuUN-"), None);
+}
+
+#[test]
+fn addresses_of_links(rt: HostRuntime) -> Result<(), Fail> {
+    let address = link_address(rt.alloc(), 1337)?;
+    assert_eq!(rt; address.as_str(), "https://example.org/LZ");
+    Ok(())
+}
+
+#[test]
+fn texts_in_a_column(rt: HostRuntime) -> Result<(), Fail> {
+    let short = column_text(rt.alloc(), 1337)?;
+    assert_eq!(rt; short.as_str(), "00000000000000000000LZ");
+    let full = column_text(rt.alloc(), u128::MAX)?;
+    assert_eq!(rt; full.as_str(), "7n42DGM5Tflk9n8mt7Fhc7");
+    Ok(())
+}
+
+#[test]
+fn lines_of_a_writer(rt: HostRuntime) -> Result<(), Fail> {
+    let mut written = Vec::new(rt.alloc());
+    write_line(1337, &mut written)?;
+    write_line(0, &mut written)?;
+    assert_eq!(rt; written.as_slice(), b"LZ\n0\n".as_slice());
+    Ok(())
+}
+
+#[test]
+fn scans_of_a_table(rt: HostRuntime) {
+    let keys = [
+        b"00000000000000000000KZ",
+        b"00000000000000000000L0",
+        b"00000000000000000000LZ",
+        b"00000000000000000000Lz",
+        b"00000000000000000000M0",
+    ];
+    for (key, is_wanted) in keys.iter().zip([false, true, true, true, false]) {
+        assert_eq!(rt; is_scanned(b"00000000000000000000L", key), is_wanted);
+        assert!(rt;
+            is_scanned(b"", key),
+            "each key begins with the empty front"
+        );
+        assert!(rt; !is_scanned(b"8", key), "no key begins so");
+        assert!(rt; !is_scanned(b"!", key), "no key begins so");
+    }
 }

@@ -1,6 +1,7 @@
 //! What the calls that make texts answer where they are refused memory, and which calls ask for none.
 
 use crate::alphabets::{Alphabet, in_both};
+use base62::{digit_count, encode_key, key_range};
 use std::process::Abort;
 use std::test::Fail;
 
@@ -61,6 +62,10 @@ fn assert_no_memory(rt: &impl Abort, text: &mut String) {
         );
         assert_eq!(rt; room, buffer, "{alphabet:?}");
     }
+    assert_eq!(rt; digit_count(u128::MAX), 22);
+    let key = encode_key(u128::MAX);
+    assert_eq!(rt; key.as_slice(), STANDARD.as_bytes());
+    assert_eq!(rt; key_range(&key), Ok(Some((u128::MAX, u128::MAX))));
 }
 
 // Says which step was refused memory, for `.ci/refused-memory`, which has each request refused in turn. The

@@ -31,6 +31,7 @@ const FIRST_CHUNK: usize = 10;
 /// assert_eq!(rt; base62::encode_bytes(1337_u64, &mut buf), Ok(2));
 /// assert_eq!(rt; &buf[..2], b"LZ".as_slice());
 /// ```
+#[tactic(auto, using(crate::proofs::AlphabetLemmas::standard_is_alphabet), unfolding(crate::specs::Alphabet::standard))]
 pub fn encode_bytes<T: Number>(num: T, buf: &mut [u8]) -> Result<usize, EncodeError>
     ensures fits { IsOk result ↔ CanonicalFits standard (T.meaning num) (length buf.old) }
     ensures text { IfOk result (λ n. (n ≤ length buf.new)
@@ -55,6 +56,7 @@ pub fn encode_bytes<T: Number>(num: T, buf: &mut [u8]) -> Result<usize, EncodeEr
 /// assert_eq!(rt; base62::encode_alternative_bytes(1337_u64, &mut buf), Ok(2));
 /// assert_eq!(rt; &buf[..2], b"lz".as_slice());
 /// ```
+#[tactic(auto, using(crate::proofs::AlphabetLemmas::alternative_is_alphabet), unfolding(crate::specs::Alphabet::alternative))]
 pub fn encode_alternative_bytes<T: Number>(num: T, buf: &mut [u8]) -> Result<usize, EncodeError>
     ensures fits { IsOk result ↔ CanonicalFits alternative (T.meaning num) (length buf.old) }
     ensures text { IfOk result (λ n. (n ≤ length buf.new)
@@ -91,6 +93,7 @@ pub fn encode_alternative_bytes<T: Number>(num: T, buf: &mut [u8]) -> Result<usi
 /// let refused = Err(base62::DecodeError::InvalidBase62Byte(b'-', 4));
 /// assert_eq!(rt; base62::decode(b"00LZ-"), refused);
 /// ```
+#[tactic(auto, using(crate::proofs::AlphabetLemmas::standard_is_alphabet), unfolding(crate::specs::Alphabet::standard))]
 pub fn decode(input: &[u8]) -> Result<u128, DecodeError>
     ensures { result ≡ decoding standard input.now }
 {
@@ -106,6 +109,7 @@ pub fn decode(input: &[u8]) -> Result<u128, DecodeError>
 /// assert_eq!(rt; base62::decode_alternative(b"rustlang"), Ok(96813686712946));
 /// assert_eq!(rt; base62::decode_alternative(b"lz"), Ok(1337));
 /// ```
+#[tactic(auto, using(crate::proofs::AlphabetLemmas::alternative_is_alphabet), unfolding(crate::specs::Alphabet::alternative))]
 pub fn decode_alternative(input: &[u8]) -> Result<u128, DecodeError>
     ensures { result ≡ decoding alternative input.now }
 {

@@ -122,6 +122,10 @@ decoding-letters B text ok some letters =
     (λ byte index first. absurd (false≢true (sym first.no_letter ∙ ap (is_letter B) first.byte_is ∙ letters index 0 first.within)))
     (λ denotes small. rw (lt-ltb (value B text) (2 ^ 128) small))
 
+-- letters that denote a number below 2^128 are accepted
+pub letters_accepted : (B text : List ℕ) → IsAlphabet B → 0 < length text → AreLetters B text → value B text < 2 ^ 128 → decoding B text ≡ Ok (value B text)
+letters_accepted B text ok some letters small = decoding-letters B text ok some letters ∙ rw (lt-ltb (value B text) (2 ^ 128) small)
+
 -- one accepted text after another
 pub decoding-append : (B : List ℕ) → IsAlphabet B → (a b : List ℕ) (m n : ℕ) → decoding B a ≡ Ok m → decoding B b ≡ Ok n → decoding B (a ++ b) ≡ number_or_overflow (m * 62 ^ length b + n)
 decoding-append B ok a b m n p q =

@@ -14,7 +14,8 @@ use Rattle.base62.specs.Value.{value}
 use Rattle.base62.specs.Key.{IsKey, BeginsWith, IsInInterval, span, interval_ends, range_of}
 use Rattle.base62.specs.Order.{IsNotAfter}
 use Rattle.base62.proofs.ValueLemmas.{value-nil, value-append, value-lt, same_text}
-use Rattle.base62.proofs.FixedLemmas.{fixed, length-fixed, letters-fixed, value-fixed}
+use Rattle.base62.proofs.FixedLemmas.{fixed}
+use Rattle.base62.proofs.KeyLemmas.{key-fixed}
 
 -- ---- which keys begin with a front
 
@@ -177,7 +178,7 @@ begins_no_key B ok front none = λ n key small is begins.
 
 no_ends_of : (B : List ℕ) → IsAlphabet B → (front : List ℕ) → AreLetters B front → BeginsNoKey B front → interval_ends B front ≡ None
 no_ends_of B ok front letters h = no_ends B front (λ n small inside.
-    let is : IsKey B (fixed B 22 n) n = record { size = length-fixed B 22 n; letters = letters-fixed B ok 22 n; value_is = value-fixed B ok 22 n (omega arith) } in
+    let is = key-fixed B ok n (omega arith) in
     h n (fixed B 22 n) small is (begins_with B ok front (fixed B 22 n) n letters is inside))
 
 -- which ends a range that is no fault has
@@ -223,4 +224,4 @@ pub none_begin_with_bad : (B front key : List ℕ) (n : ℕ) (e : DecodeError) �
 none_begin_with_bad B front key n e refused is begins =
     let P : ℕ → Type 0 = λ b. is_letter B b ≡ true in
     let letters : AreLetters B front = subst (AreLetters B) begins (All-take P (length front) key is.letters) in
-    let accepted : range_of B front ≡ Ok (interval_ends B front) = rw (list_all-from_AllPass (is_letter B) front letters) refl in cc
+    let accepted = range_of-letters B front letters in cc

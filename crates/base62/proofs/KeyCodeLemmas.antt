@@ -1,7 +1,7 @@
 -- What the code of keys rests on: zero letters in front of a text, and decoding one letter or a front.
-use Rattle.std.proofs.Common.{true, false, ◌≡◌, ℕ, zero, suc, ◌+◌, ◌-◌, ◌^◌, ◌<◌, ◌≤◌, List, [], ◌∷◌, ◌++◌, length, take, drop, replicate, Ok, Err, refl, sym, ap, ◌∙◌, inl, inr, arith}
+use Rattle.std.proofs.Common.{true, false, ◌≡◌, ℕ, zero, suc, ◌+◌, ◌-◌, ◌^◌, ◌<◌, ◌≤◌, List, [], ◌∷◌, ◌++◌, length, take, drop, replicate, Err, refl, sym, ap, ◌∙◌, inl, inr, arith}
 use Rattle.std.specs.Result.{is_err}
-use Rattle.std.proofs.lemmas.Bool.{cases_lt, lt-ltb, false≢true, false_from_ne_true}
+use Rattle.std.proofs.lemmas.Bool.{cases_lt, false≢true, false_from_ne_true}
 use Rattle.std.proofs.lemmas.List.{length-append, length-replicate, drop-replicate, length-take-le}
 use Rattle.std.proofs.lemmas.List.Elements.{All-nil, All-cons, All-append, All-replicate}
 use Rattle.base62.specs.declared.fault.DecodeError.{DecodeError}
@@ -12,7 +12,7 @@ use Rattle.base62.specs.Decoding.{decoding}
 use Rattle.base62.specs.Key.{IsKey}
 use Rattle.base62.proofs.AlphabetLemmas.{is_letter-letter}
 use Rattle.base62.proofs.ValueLemmas.{value-lt_most}
-use Rattle.base62.proofs.AnswerLemmas.{answer_cases, decoding-letters}
+use Rattle.base62.proofs.AnswerLemmas.{answer_cases, letters_accepted}
 use Rattle.base62.proofs.ZeroLemmas.{value_front}
 
 -- zero letters in front add nothing
@@ -41,10 +41,6 @@ moved_key B ok buf key n len size within denotes others after =
     let whole : key ≡ replicate (22 - len) (zero_letter B) ++ take len buf = rw (place, zeros) at after in
     let filled : 22 - len + length (take len buf) ≡ 22 = omega (arith, length-take-le len buf within) in
     rw whole (padded_key B ok (take len buf) n (22 - len) denotes filled)
-
--- letters that denote a number below 2^128 are accepted
-letters_accepted : (B text : List ℕ) → IsAlphabet B → 0 < length text → AreLetters B text → value B text < 2 ^ 128 → decoding B text ≡ Ok (value B text)
-letters_accepted B text ok some letters small = decoding-letters B text ok some letters ∙ rw (lt-ltb (value B text) (2 ^ 128) small)
 
 -- a byte alone is accepted exactly where it is a letter
 pub accepted_letter : (B : List ℕ) (b : ℕ) → IsAlphabet B → is_err (decoding B (b ∷ [])) ≡ false → is_letter B b ≡ true

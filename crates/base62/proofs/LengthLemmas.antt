@@ -1,4 +1,4 @@
--- A text of letters is canonical exactly where it has no needless zero letter.
+-- A text of letters is canonical exactly where it has no needless zero letter, and how long it is.
 use Rattle.std.proofs.Common.{true, ◌≡◌, ◌≢◌, ◌⊎◌, ℕ, suc, ◌-◌, ◌*◌, ◌^◌, ◌<◌, ◌≤◌, List, [], ◌∷◌, length, get_or, refl, sym, ap, ◌∙◌, inl, inr, arith}
 use Rattle.std.proofs.Math.Nat.{le-mul_of_pos_right}
 use Rattle.std.proofs.lemmas.Bool.{cases_eq}
@@ -10,6 +10,7 @@ use Rattle.base62.specs.Laws.{HasNoNeedlessZero}
 use Rattle.base62.proofs.AlphabetLemmas.{is_letter-letter, digit_or_zero-letter, same_letter}
 use Rattle.base62.proofs.ValueLemmas.{value-cons}
 use Rattle.base62.proofs.CanonicalLemmas.{canonical_is}
+use Rattle.base62.proofs.FixedLemmas.{fixed, length-fixed, letters-fixed, value-fixed}
 
 -- a canonical text of two or more letters does not begin with the zero letter, since the others would do
 first_differs : (B : List ℕ) → IsAlphabet B → (b : ℕ) (text : List ℕ) (n : ℕ) → IsCanonical B (b ∷ text) n → 0 < length text → b ≢ zero_letter B
@@ -50,3 +51,10 @@ needs_each B ok text letters has = elim has.1 [
 pub canonical_of_value : (B : List ℕ) → IsAlphabet B → (text : List ℕ) → AreLetters B text → HasNoNeedlessZero B text → IsCanonical B text (value B text)
 canonical_of_value B ok text letters has =
     canonical_is B ok text (value B text) (record { nonempty = has.0; letters = letters; value_is = refl }) (needs_each B ok text letters has)
+
+-- a canonical text of a number below 2^128 has at most 22 letters, since 22 are enough
+pub canonical_short : (B text : List ℕ) → IsAlphabet B → (n : ℕ) → n < 2 ^ 128 → IsCanonical B text n → length text ≤ 22
+canonical_short B text ok n small canonical =
+    let size = length-fixed B 22 n in
+    let le = canonical.shortest (fixed B 22 n) (record { nonempty = omega (arith, size); letters = letters-fixed B ok 22 n; value_is = value-fixed B ok 22 n (omega arith) }) in
+    omega (arith, size, le)

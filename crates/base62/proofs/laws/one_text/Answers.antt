@@ -1,8 +1,7 @@
 use Rattle.base62.specs.Value.{value}
 use Rattle.base62.proofs.CanonicalLemmas.{one_canonical}
 use Rattle.base62.proofs.FixedLemmas.{some_canonical}
-use Rattle.base62.proofs.LengthLemmas.{no_needless_zero, canonical_of_value}
-use Rattle.base62.proofs.RoundTripLemmas.{canonical_short}
+use Rattle.base62.proofs.LengthLemmas.{canonical_short, no_needless_zero, canonical_of_value}
 use Rattle.base62.proofs.laws.one_text.Goals as goal
 
 pub returns-clause-exists : goal.returns-clause-exists

@@ -178,6 +178,7 @@ first_invalid_named B text byte index b i is first =
 pub answer_tells : (B : List ℕ) → IsAlphabet B → (text : List ℕ) → AnswerTells B text
 answer_tells B ok text = record {
   accepted = decoding_accepts_iff B text ok;
+  value_is = λ n is. sym (decoding_accepts B text ok n is).0.value_is;
   canonical = λ n is. without_zeros_canonical B text ok n (decoding_accepts B text ok n is).0;
   empty = answer_cases B text ok (λ r. r ≡ Err EmptyInput → length text ≡ 0) (λ e is. e) (λ some over is. cc) (λ byte index first is. cc) (λ denotes small is. cc);
   named = answer_cases B text ok (λ r. (byte index : ℕ) → r ≡ Err (InvalidBase62Byte byte index) → IsFirstInvalid B text byte index)

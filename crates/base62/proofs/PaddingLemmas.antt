@@ -61,7 +61,7 @@ module _ (fill : ℕ) (text : List ℕ) where
       let none : p - p ≡ 0 = omega arith in rw none (ap (λ t. fills fill p ++ t) (append-nil text))
   aligned-around (suc (suc (suc (suc k)))) p =
       let n : ℕ = suc (suc (suc (suc k))) in
-      rw (lt-leb n 1 (omega arith), ne_eqb n 2 (λ e. omega arith), ne_eqb n 3 (λ e. omega arith)) tt
+      rw (ne_eqb n 0 (λ e. omega arith), ne_eqb n 1 (λ e. omega arith), ne_eqb n 2 (λ e. omega arith), ne_eqb n 3 (λ e. omega arith)) tt
 
 mapped : (o : Option Alignment) (f g : Alignment → List ℕ) (text : List ℕ) → ((a : Alignment) → f a ≡ g a) → IfSome o (λ a. text ≡ g a) → IfSome (option_map f o) (λ bs. text ≡ bs)
 mapped None f g text same h = tt

@@ -7,7 +7,7 @@ use Rattle.base62.specs.Value.{value}
 use Rattle.base62.specs.Canonical.{IsCanonical}
 use Rattle.base62.specs.Decoding.{decoding, rest}
 
--- a text has one letter, or more of which the first is not the zero letter
+-- a nonempty text has one letter, or begins with another than the zero letter
 abbrev pub HasNoNeedlessZero : List ℕ → List ℕ → Type 0
 HasNoNeedlessZero B text = (0 < length text) × ((length text ≡ 1) ⊎ (slice_index text 0 ≢ zero_letter B))
 
@@ -28,9 +28,12 @@ pub record AgreesAtLetters (B text other : List ℕ) : Type 0 where
   pub letters : AreLetters B other
   pub agrees : (i : ℕ) → i < length text → is_letter B (slice_index text i) ≡ true → slice_index other i ≡ slice_index text i
 
--- what an answer of decoding tells of the text
+-- What an answer of decoding tells of the text: which texts are accepted, of which value and canonical text;
+-- which byte a fault names; and that an overflow that is answered where the rest begins with a letter would
+-- be one whatever letters stood in place of the bad bytes.
 pub record AnswerTells (B text : List ℕ) : Type 0 where
   pub accepted : IsOk (decoding B text) ↔ ((0 < length text) × AreLetters B text × (value B text < 2 ^ 128))
+  pub value_is : (n : ℕ) → decoding B text ≡ Ok n → n ≡ value B text
   pub canonical : (n : ℕ) → decoding B text ≡ Ok n → IsCanonical B (without_zeros B text) n
   pub empty : decoding B text ≡ Err EmptyInput → length text ≡ 0
   pub named : (byte index : ℕ) → decoding B text ≡ Err (InvalidBase62Byte byte index) → IsFirstInvalid B text byte index

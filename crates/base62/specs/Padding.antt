@@ -11,8 +11,8 @@ use Rattle.std.specs.declared.fmt.Alignment.TheVariants.{Left, Right, Center}
 abbrev pub fills : ℕ → ℕ → List ℕ
 fills fill count = repeat count (encode_utf8 fill)
 
--- a text with the characters that it is short of filled in: behind one that stands left, in front of one that
--- stands right, and for a centred one half of them, rounded down, in front and the others behind
+-- a text with the missing characters filled in: behind a left-aligned one, in front of a right-aligned one, and
+-- for a centred one half of them, rounded down, in front and the others behind
 abbrev pub aligned : Alignment → ℕ → ℕ → List ℕ → List ℕ
 aligned Left fill missing text = text ++ fills fill missing
 aligned Right fill missing text = fills fill missing ++ text
@@ -24,14 +24,16 @@ padded_to None fill alignment text = text
 padded_to (Some width) fill alignment text =
     if nat_le width (char_count text) then text else aligned alignment fill (width - char_count text) text
 
--- the alignment that a formatter holds as a number: 0 where none is stated, and then a text stands left, and
--- 1, 2 and 3 for `<`, `^` and `>`; it holds no other
+-- the alignment that a formatter holds as a number: 0 where none is stated, for a text is left-aligned then,
+-- and 1, 2 and 3 for `<`, `^` and `>`; of other numbers nothing is said
 abbrev pub alignment_of : ℕ → Option Alignment
 alignment_of number =
-    if nat_le number 1 then Some Left
+    if number == 0 then Some Left
+    else if number == 1 then Some Left
     else if number == 2 then Some Center else if number == 3 then Some Right else None
 
--- what a display of the text writes: the padded text; of a stated precision nothing is said
+-- what a display of the text writes: the padded text; of a stated precision nothing is said, nor of a number
+-- that is no alignment
 unfoldable pub displayed : Option ℕ → Option ℕ → ℕ → ℕ → List ℕ → Option (List ℕ)
 displayed precision width fill number text =
     if is_none precision then option_map (λ alignment. padded_to width fill alignment text) (alignment_of number)

@@ -14,7 +14,7 @@ use crate::fault::{DecodeError, EncodeError};
 use crate::number::Number;
 
 // No number below 2^128 has a longer text.
-const MAX_DIGITS: usize = 22;
+pub(crate) const MAX_DIGITS: usize = 22;
 
 // An overflow of this many digits, with zeros for the others, is found before a later byte is looked at.
 const FIRST_CHUNK: usize = 10;

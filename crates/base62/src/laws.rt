@@ -49,14 +49,14 @@ pub fn round_trip()
 
 /// Over any alphabet decoding accepts exactly the nonempty texts of letters of a value below 2^128, and the
 /// canonical text of that value is the text without its leading zeros. A fault that names a byte names the
-/// first that is no letter. Where an overflow is answered and no bad byte is the first after the leading
-/// zeros, the text denotes 2^128 or more, whatever letters stand in place of its bad bytes.
+/// first that is not a letter. Where an overflow is answered and the first byte after the leading zeros is a
+/// letter, the text denotes 2^128 or more, whatever letters stand in place of its bad bytes.
 pub fn accepted_and_refused()
     ensures { (B : List ℕ) → IsAlphabet B → (text : List ℕ) → AnswerTells B text }
 {}
 
-/// Over any alphabet two texts that are accepted, one after the other, denote the number of the first with
-/// the second's letters as its lower places, or overflow.
+/// Over any alphabet a text of number m followed by one of k letters and number n denotes m * 62^k + n, or
+/// overflows where that is 2^128 or more.
 pub fn concatenation()
     ensures { (B : List ℕ) → IsAlphabet B → (a b : List ℕ) (m n : ℕ)
         → decoding B a ≡ Ok m → decoding B b ≡ Ok n
@@ -69,9 +69,12 @@ pub fn zero_in_front()
         → decoding B (zero_letter B ∷ text) ≡ one_place_on (decoding B text) }
 {}
 
-/// The alternative alphabet is the standard one with the case of its letters exchanged, and so are its texts
-/// and what decoding answers for them, faults included.
+/// The alternative alphabet is the standard one with the case of its letters exchanged, and so are the
+/// canonical texts. Decoding a text over the alternative alphabet answers what decoding it with its case
+/// exchanged answers over the standard one, faults included.
+#[tactic(auto, unfolding(crate::specs::Alphabet::standard, crate::specs::Alphabet::alternative, crate::specs::Case::other_case))]
 pub fn exchange_of_case()
+    ensures alphabets { exchange_case standard ≡ alternative }
     ensures canonical { (text : List ℕ) (n : ℕ)
         → IsCanonical standard text n ↔ IsCanonical alternative (exchange_case text) n }
     ensures decoded { (text : List ℕ)

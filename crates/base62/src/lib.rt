@@ -12,6 +12,10 @@
 //! assert_eq!(rt; &buf[..2], b"LZ".as_slice());
 //! assert_eq!(rt; base62::decode(b"LZ"), Ok(1337));
 //! ```
+//!
+//! The text goes into a buffer ([`encode_bytes`]), a `String` ([`encode`], [`encode_buf`]), a writer
+//! ([`encode_io`]) or a format string ([`encode_fmt`]), and each of these has a twin over the alternative
+//! alphabet. [`encode_key`] makes texts of a fixed length, which sort as their numbers.
 #![tactic(auto)]
 
 mod alphabet;

@@ -26,13 +26,14 @@ impl Model for Fmt {
 /// Writes the text, padded to the formatter's width.
 ///
 /// A width counts characters, and one that is not greater than the text leaves it whole. The fill is a space
-/// where none is stated. A text with no stated alignment stands left; a centred one has half of the padding,
-/// rounded down, in front. `Err` is the fault of what is written to.
+/// where none is stated. A text with no stated alignment is left-aligned; a centred one has half of the
+/// padding, rounded down, in front. A stated precision cuts the text, and nothing is promised of what is left.
+/// `Err` is the error of the underlying writer. It takes no memory of its own.
 impl fmt::Display for Fmt {
     ghost output = { λ text. Some text };
 
-    ghost styled_output = { λ text o.
-        displayed (spec_precision o) (spec_width o) (spec_fill o) o.align text };
+    ghost styled_output = { λ text options. displayed (spec_precision options) (spec_width options)
+        (spec_fill options) options.align text };
 
     #[tactic(auto, using(crate::proofs::PaddingLemmas::pad_displays))]
     fn fmt<W: fmt::Write>(&self, f: &mut fmt::Formatter<W>) -> fmt::Result {
@@ -57,8 +58,8 @@ impl Model for FmtAlternative {
 impl fmt::Display for FmtAlternative {
     ghost output = { λ text. Some text };
 
-    ghost styled_output = { λ text o.
-        displayed (spec_precision o) (spec_width o) (spec_fill o) o.align text };
+    ghost styled_output = { λ text options. displayed (spec_precision options) (spec_width options)
+        (spec_fill options) options.align text };
 
     #[tactic(auto, using(crate::proofs::PaddingLemmas::pad_displays))]
     fn fmt<W: fmt::Write>(&self, f: &mut fmt::Formatter<W>) -> fmt::Result {

@@ -13,7 +13,8 @@ use std::io::{self, Write};
 
 /// The standard text of `num`, which has 1 to 22 letters and is the one that [`encode_bytes`] writes.
 ///
-/// `Err` comes where memory for the text was refused, which is asked for once. It takes no other memory.
+/// Memory for the text is requested once, and `Err` says that the request was refused. It takes no other
+/// memory.
 ///
 /// ```rust
 /// let text = base62::encode(rt.alloc(), 1234567890_u64)?;
@@ -30,7 +31,8 @@ pub fn encode<T: Number>(alloc: Global, num: T) -> Result<String, AllocError>
 /// The alternative text of `num`, which has 1 to 22 letters and is the one that
 /// [`encode_alternative_bytes`] writes.
 ///
-/// `Err` comes where memory for the text was refused, which is asked for once. It takes no other memory.
+/// Memory for the text is requested once, and `Err` says that the request was refused. It takes no other
+/// memory.
 ///
 /// ```rust
 /// let text = base62::encode_alternative(rt.alloc(), 1234567890_u64)?;
@@ -46,9 +48,9 @@ pub fn encode_alternative<T: Number>(alloc: Global, num: T) -> Result<String, Al
 
 /// Appends the standard text of `num`, which has 1 to 22 letters, to `buf`.
 ///
-/// `Err` comes where memory was refused, and leaves `buf` as it was. Room for the whole text is asked for
-/// once, before any of it is appended, and only where `buf` has not so much to spare: with 22 bytes to spare
-/// there is always enough. It takes no other memory.
+/// `Err` says that memory was refused, and leaves `buf` as it was. Room for the whole text is requested once,
+/// before any of it is appended, unless `buf` has that much spare capacity: 22 spare bytes are always enough.
+/// It takes no other memory.
 ///
 /// ```rust
 /// let mut link = String::from_str(rt.alloc(), "https://example.org/")?;
@@ -70,9 +72,9 @@ pub fn encode_buf<T: Number>(num: T, buf: &mut String) -> Result<(), AllocError>
 
 /// Appends the alternative text of `num`, which has 1 to 22 letters, to `buf`.
 ///
-/// `Err` comes where memory was refused, and leaves `buf` as it was. Room for the whole text is asked for
-/// once, before any of it is appended, and only where `buf` has not so much to spare: with 22 bytes to spare
-/// there is always enough. It takes no other memory.
+/// `Err` says that memory was refused, and leaves `buf` as it was. Room for the whole text is requested once,
+/// before any of it is appended, unless `buf` has that much spare capacity: 22 spare bytes are always enough.
+/// It takes no other memory.
 ///
 /// ```rust
 /// let mut link = String::from_str(rt.alloc(), "https://example.org/")?;
@@ -101,15 +103,16 @@ fn append(text: &Text, buf: &mut String) -> Result<(), AllocError>
 {
     let text = text.as_str();
     buf.reserve(text.len())?;
+    // There is room now, so this can't be refused.
     buf.push_str(text).unwrap();
     Ok(())
 }
 
 /// Writes the standard text of `num`, which has 1 to 22 letters, to `w`.
 ///
-/// The text is handed to the writer whole, and the writer is not flushed. `Err` is the writer's own fault, or
-/// says that it took nothing, and of how much it took before nothing is said. No memory is taken, but what the
-/// writer may take.
+/// The text is handed to the writer whole, and the writer is not flushed. `Err` is the writer's own error, or
+/// says that it took nothing; how many bytes it had taken by then is not specified. It takes no memory of its
+/// own.
 ///
 /// ```rust
 /// let mut out = Vec::new(rt.alloc());
@@ -125,9 +128,9 @@ pub fn encode_io<T: Number, W: Write>(num: T, w: &mut W) -> io::Result<()>
 
 /// Writes the alternative text of `num`, which has 1 to 22 letters, to `w`.
 ///
-/// The text is handed to the writer whole, and the writer is not flushed. `Err` is the writer's own fault, or
-/// says that it took nothing, and of how much it took before nothing is said. No memory is taken, but what the
-/// writer may take.
+/// The text is handed to the writer whole, and the writer is not flushed. `Err` is the writer's own error, or
+/// says that it took nothing; how many bytes it had taken by then is not specified. It takes no memory of its
+/// own.
 ///
 /// ```rust
 /// let mut out = Vec::new(rt.alloc());

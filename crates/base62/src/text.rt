@@ -5,7 +5,7 @@ ghost use Rattle.std.specs.Str.{IsAscii};
 ghost use Rattle.base62.specs.Alphabet.{standard, alternative};
 ghost use Rattle.base62.specs.Canonical.{IsCanonical};
 
-use crate::codec::{encode_alternative_bytes, encode_bytes};
+use crate::codec::{MAX_DIGITS, encode_alternative_bytes, encode_bytes};
 use crate::number::Number;
 use std::marker::Model;
 use std::str;
@@ -13,7 +13,7 @@ use std::str;
 // A text of at most 22 letters, which are ASCII.
 #[derive(Drop)]
 pub(crate) struct Text {
-    bytes: [u8; 22],
+    bytes: [u8; MAX_DIGITS],
     len: usize,
 }
 
@@ -30,7 +30,7 @@ impl Text {
     pub(crate) fn standard<T: Number>(num: T) -> Text
         ensures { IsCanonical standard result (T.meaning num) }
     {
-        let mut bytes = [0; 22];
+        let mut bytes = [0; MAX_DIGITS];
         let len = encode_bytes(num, &mut bytes).unwrap();
         Text { bytes, len }
     }
@@ -39,7 +39,7 @@ impl Text {
     pub(crate) fn alternative<T: Number>(num: T) -> Text
         ensures { IsCanonical alternative result (T.meaning num) }
     {
-        let mut bytes = [0; 22];
+        let mut bytes = [0; MAX_DIGITS];
         let len = encode_alternative_bytes(num, &mut bytes).unwrap();
         Text { bytes, len }
     }

@@ -1,27 +1,12 @@
 //! Uses of `base62`, as a caller writes them.
 #![tactic(auto)]
 
-ghost use Rattle.std.specs.Prelude.{◌≤◌, length};
-ghost use Rattle.base62.specs.Alphabet.{standard};
-ghost use Rattle.base62.specs.Canonical.{IsCanonical};
-
-/// The text of the short link for a row's key. It never fails.
-pub fn link_text(key: u64, buf: &mut [u8; 22]) -> &[u8]
-    ensures text { IsCanonical standard result.now key }
-    ensures short { length result.now ≤ 22 }
-{
-    let len = base62::encode_bytes(key, buf).unwrap();
-    &buf[..len]
-}
-
-// ---- more uses
-
-ghost use Rattle.std.specs.Prelude.{◌≡◌, ◌≢◌, ◌<◌, ◌+◌, ◌-◌, ◌*◌, ◌^◌, ◌↔◌, ◌∷◌, ◌++◌, [], ℕ, List, take, drop, replicate, codes, IsTrue, IsOk, IfOk, OnOk, OnErr};
+ghost use Rattle.std.specs.Prelude.{◌≡◌, ◌≢◌, ◌<◌, ◌≤◌, ◌+◌, ◌-◌, ◌*◌, ◌^◌, ◌↔◌, ◌∷◌, ◌++◌, [], ℕ, List, take, drop, length, replicate, codes, IsTrue, IsOk, IfOk, OnOk, OnErr};
 ghost use Rattle.std.specs.String.{string_bytes};
 ghost use Rattle.std.specs.Io.KnownBytes.{Appends};
 ghost use Rattle.std.specs.Bool.{OnTrue, OnFalse};
-ghost use Rattle.base62.specs.Alphabet.{IsAlphabet, alternative};
-ghost use Rattle.base62.specs.Canonical.{CanonicalFits};
+ghost use Rattle.base62.specs.Alphabet.{IsAlphabet, standard, alternative};
+ghost use Rattle.base62.specs.Canonical.{IsCanonical, CanonicalFits};
 ghost use Rattle.base62.specs.Decoding.{decoding};
 ghost use Rattle.base62.specs.Key.{IsKey, BeginsWith};
 
@@ -29,21 +14,30 @@ use base62::{DecodeError, Number};
 use std::alloc::{AllocError, Global};
 use std::io::{self, Write};
 
-/// The key that a link's text names. `None` says that the text names no number, or none below 2^64.
-pub fn link_key(text: &[u8]) -> Option<u64>
-    ensures { (key : ℕ) → key < 2 ^ 64
-        → ((result ≡ Some key) ↔ (decoding standard text.now ≡ Ok key)) }
+/// The text of the short link for a row's id. It never fails.
+pub fn link_text(id: u64, buf: &mut [u8; 22]) -> &[u8]
+    ensures text { IsCanonical standard result.now id }
+    ensures short { length result.now ≤ 22 }
+{
+    let len = base62::encode_bytes(id, buf).unwrap();
+    &buf[..len]
+}
+
+/// The id that a link's text names. `None` says that the text names no number, or none below 2^64.
+pub fn link_id(text: &[u8]) -> Option<u64>
+    ensures { (id : ℕ) → id < 2 ^ 64
+        → ((result ≡ Some id) ↔ (decoding standard text.now ≡ Ok id)) }
 {
     let number = base62::decode(text).ok()?;
     u64::try_from(number).ok()
 }
 
-/// The key that is read back from a key's own link: it is the key.
-pub fn key_of_own_link(key: u64) -> Option<u64>
-    ensures { result ≡ Some key }
+/// The id that is read back from an id's own link: it is the id.
+pub fn id_of_own_link(id: u64) -> Option<u64>
+    ensures { result ≡ Some id }
 {
     let mut buf = [0u8; 22];
-    link_key(link_text(key, &mut buf))
+    link_id(link_text(id, &mut buf))
 }
 
 /// The text of a token's number in the alternative alphabet. It never fails.
@@ -61,7 +55,7 @@ pub fn token_number(text: &[u8]) -> Option<u128>
     base62::decode_alternative(text).ok()
 }
 
-/// Whether two keys have different links: no link is shared by two keys.
+/// Whether two ids have different links: no link is shared by two ids.
 pub fn links_differ(a: u64, b: u64) -> bool
     ensures { IsTrue result ↔ (a ≢ b) }
 {
@@ -124,12 +118,12 @@ pub fn append_number<T: Number>(line: &mut Vec<u8>, number: T) -> Result<(), All
 }
 
 /// The address of a row's short link. `Err` says that there was no memory for it.
-pub fn link_address(alloc: Global, key: u64) -> Result<String, AllocError>
-    ensures { IfOk result (λ address. (text : List ℕ) × IsCanonical standard text key
+pub fn link_address(alloc: Global, id: u64) -> Result<String, AllocError>
+    ensures { IfOk result (λ address. (text : List ℕ) × IsCanonical standard text id
         × (string_bytes address ≡ codes "https://example.org/" ++ text)) }
 {
     let mut address = String::from_str(alloc, "https://example.org/")?;
-    base62::encode_buf(key, &mut address)?;
+    base62::encode_buf(id, &mut address)?;
     Ok(address)
 }
 
@@ -165,31 +159,31 @@ pub fn is_scanned(front: &[u8], key: &[u8; 22]) -> bool
     low <= *key && *key <= high
 }
 
-/// A key of two parts: the number of a shard, and a row in it.
+/// An id of two parts: the number of a shard, and a row in it.
 #[derive(Clone, Copy, Debug, PartialEq, Eq)]
-pub struct ShardedKey {
+pub struct ShardedId {
     pub shard: u32,
     pub row: u64,
 }
 
-/// Says what number a key means, and answers it: all that a type of one's own owes.
-impl Number for ShardedKey {
-    ghost meaning = { λ key. key.shard * 2 ^ 64 + key.row };
+/// Says what number an id means, and answers it: all that a type of one's own owes.
+impl Number for ShardedId {
+    ghost meaning = { λ id. id.shard * 2 ^ 64 + id.row };
 
     fn number(self) -> u128 {
         u128::from(self.shard) * (1 << 64) + u128::from(self.row)
     }
 }
 
-/// The text of a key of two parts.
-pub fn key_text(key: ShardedKey, buf: &mut [u8; 22]) -> &[u8]
-    ensures { IsCanonical standard result.now (key.shard * 2 ^ 64 + key.row) }
+/// The text of an id of two parts.
+pub fn sharded_text(id: ShardedId, buf: &mut [u8; 22]) -> &[u8]
+    ensures { IsCanonical standard result.now (id.shard * 2 ^ 64 + id.row) }
 {
-    let len = base62::encode_bytes(key, buf).unwrap();
+    let len = base62::encode_bytes(id, buf).unwrap();
     &buf[..len]
 }
 
-/// How many bytes a column needs for the texts of keys up to `most`, in either alphabet.
+/// How many bytes a column needs for the texts of ids up to `most`, in either alphabet.
 pub fn column_width(most: u64) -> usize
     ensures { (B text : List ℕ) → IsAlphabet B → IsCanonical B text most → length text ≡ result }
 {

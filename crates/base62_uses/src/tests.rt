@@ -10,23 +10,23 @@ fn texts_of_links(rt: HostRuntime) {
 }
 
 #[test]
-fn keys_of_links(rt: HostRuntime) {
-    assert_eq!(rt; link_key(b"rustlang"), Some(189876682536016));
-    assert_eq!(rt; link_key(b"00LZ"), Some(1337));
-    assert_eq!(rt; link_key(b"LygHa16AHYF"), Some(u64::MAX));
-    assert_eq!(rt; link_key(b"LygHa16AHYG"), None);
-    assert_eq!(rt; link_key(b"rust-lang"), None);
+fn ids_of_links(rt: HostRuntime) {
+    assert_eq!(rt; link_id(b"rustlang"), Some(189876682536016));
+    assert_eq!(rt; link_id(b"00LZ"), Some(1337));
+    assert_eq!(rt; link_id(b"LygHa16AHYF"), Some(u64::MAX));
+    assert_eq!(rt; link_id(b"LygHa16AHYG"), None);
+    assert_eq!(rt; link_id(b"rust-lang"), None);
 }
 
 #[test]
-fn keys_of_own_links(rt: HostRuntime) {
-    for key in [0, 61, 62, 1337, u64::MAX] {
-        assert_eq!(rt; key_of_own_link(key), Some(key));
+fn ids_of_own_links(rt: HostRuntime) {
+    for id in [0, 61, 62, 1337, u64::MAX] {
+        assert_eq!(rt; id_of_own_link(id), Some(id));
     }
 }
 
 #[test]
-fn links_of_two_keys(rt: HostRuntime) {
+fn links_of_two_ids(rt: HostRuntime) {
     assert!(rt; links_differ(61, 62));
     assert!(rt; !links_differ(62, 62));
 }
@@ -64,12 +64,12 @@ fn statuses(rt: HostRuntime) {
     assert_eq!(rt; status_of(b""), 411);
 }
 
-// A key of a table, which means its own number.
+// An id of a table, which means its own number.
 #[derive(Clone, Copy)]
-struct Key(u64);
+struct Id(u64);
 
-impl Number for Key {
-    ghost meaning = { λ k. k.0 };
+impl Number for Id {
+    ghost meaning = { λ id. id.0 };
 
     fn number(self) -> u128 {
         self.0 as u128
@@ -79,7 +79,7 @@ impl Number for Key {
 #[test]
 fn numbers_in_a_line(rt: HostRuntime) -> Result<(), Fail> {
     let mut line = Vec::from_slice(rt.alloc(), b"/")?;
-    append_number(&mut line, Key(1337))?;
+    append_number(&mut line, Id(1337))?;
     line.push(b'/')?;
     append_number(&mut line, u128::MAX)?;
     assert_eq!(rt; line.as_slice(), b"/LZ/7n42DGM5Tflk9n8mt7Fhc7".as_slice());
@@ -87,15 +87,15 @@ fn numbers_in_a_line(rt: HostRuntime) -> Result<(), Fail> {
 }
 
 #[test]
-fn texts_of_sharded_keys(rt: HostRuntime) {
+fn texts_of_sharded_ids(rt: HostRuntime) {
     let mut buf = [0u8; 22];
-    let first = ShardedKey { shard: 1, row: 0 };
-    assert_eq!(rt; key_text(first, &mut buf), b"LygHa16AHYG".as_slice());
-    let row = ShardedKey {
+    let first = ShardedId { shard: 1, row: 0 };
+    assert_eq!(rt; sharded_text(first, &mut buf), b"LygHa16AHYG".as_slice());
+    let row = ShardedId {
         shard: 0,
         row: 1337,
     };
-    assert_eq!(rt; key_text(row, &mut buf), b"LZ".as_slice());
+    assert_eq!(rt; sharded_text(row, &mut buf), b"LZ".as_slice());
 }
 
 #[test]

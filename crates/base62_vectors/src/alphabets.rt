@@ -3,7 +3,7 @@
 use base62::{
     DecodeError, EncodeError, Number, decode, decode_alternative, encode, encode_alternative,
     encode_alternative_buf, encode_alternative_bytes, encode_alternative_io, encode_buf,
-    encode_bytes, encode_io,
+    encode_bytes, encode_fmt, encode_fmt_alt, encode_io,
 };
 use std::alloc::{AllocError, Global};
 use std::io::{self, Write};
@@ -64,6 +64,13 @@ impl Alphabet {
         }
     }
 
+    pub(crate) fn shown<T: Number>(self, alloc: Global, number: T) -> Result<String, AllocError> {
+        match self {
+            Alphabet::Standard => format!(in alloc; "{}", encode_fmt(number)),
+            Alphabet::Alternative => format!(in alloc; "{}", encode_fmt_alt(number)),
+        }
+    }
+
     pub(crate) fn write<T: Number, W: Write>(self, number: T, writer: &mut W) -> io::Result<()> {
         match self {
             Alphabet::Standard => encode_io(number, writer),
@@ -103,7 +110,7 @@ pub(crate) const NUMBERS: [(u128, &str, &str); 8] = [
     ),
 ];
 
-// The text of a number by the definition: one digit at a time, the last one first, until nothing is left.
+// The text of a number by repeated division: one digit at a time, the last one first, until nothing is left.
 pub(crate) fn reference_text(
     alloc: Global,
     alphabet: Alphabet,

@@ -8,7 +8,7 @@ use std::cmp::Ordering;
 use std::process::Abort;
 use std::test::Fail;
 
-// The key of a number by the definition: 22 digits, the last one first.
+// The key of a number by repeated division: 22 digits, the last one first.
 fn plain_key(number: u128) -> [u8; 22] {
     let letters = Alphabet::Standard.letters();
     let mut key = [b'0'; 22];
@@ -118,7 +118,7 @@ fn keys_of_numbers(rt: HostRuntime) {
 }
 
 #[test]
-fn keys_by_the_definition(rt: HostRuntime) -> Result<(), Fail> {
+fn keys_by_division(rt: HostRuntime) -> Result<(), Fail> {
     for number in &numbers(&rt, 3000)? {
         let key = encode_key(*number);
         assert_eq!(rt; key, plain_key(*number), "the key of {number}");
@@ -227,7 +227,7 @@ fn assert_range(rt: &impl Abort, front: &[u8], number: u128) {
 
 // The first letters of a key, and of a key and two zeros, as they are and with another last letter.
 #[test]
-fn ranges_by_the_definition(rt: HostRuntime) -> Result<(), Fail> {
+fn ranges_by_plain_keys(rt: HostRuntime) -> Result<(), Fail> {
     for number in &numbers(&rt, 60)? {
         let mut letters = [b'0'; 24];
         letters[..22].copy_from_slice(&plain_key(*number));

@@ -79,11 +79,8 @@ fn one_text_after_another(rt: HostRuntime) -> Result<(), Fail> {
         assert_decodes(&rt, second, Ok(second_number))?;
         let both = format!(in rt.alloc(); "{first}{second}")?;
         assert_decodes(&rt, both.as_str(), answer)?;
-        assert_eq!(rt;
-            moved_up(first_number, second_number, second.len() as u32),
-            answer.ok(),
-            "the places of {second:?} after {first:?}"
-        );
+        let moved = moved_up(first_number, second_number, second.len() as u32);
+        assert_eq!(rt; decode(both.as_bytes()).ok(), moved, "decoding {both:?}");
     }
     Ok(())
 }
@@ -117,11 +114,14 @@ fn same_digits_in_both_cases(rt: HostRuntime) -> Result<(), Fail> {
     assert_eq!(rt; decode(b"RUSTLANG"), Ok(96813686712946));
     assert_eq!(rt; decode_alternative(b"rustlang"), Ok(96813686712946));
     for (number, standard, alternative) in NUMBERS {
+        let other = exchanged(rt.alloc(), standard)?;
         assert_eq!(rt;
-            exchanged(rt.alloc(), standard)?.as_slice(),
-            alternative.as_bytes(),
-            "the texts of {number}"
+            decode_alternative(other.as_slice()),
+            Ok(number),
+            "{standard:?}"
         );
+        let other = exchanged(rt.alloc(), alternative)?;
+        assert_eq!(rt; decode(other.as_slice()), Ok(number), "{alternative:?}");
     }
     Ok(())
 }

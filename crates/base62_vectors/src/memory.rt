@@ -1,7 +1,7 @@
 //! What the calls that make texts answer where they are refused memory, and which calls ask for none.
 
 use crate::alphabets::{Alphabet, BOTH, in_both};
-use base62::{digit_count, encode_key, key_range};
+use base62::{digit_count, encode_fmt, encode_fmt_alt, encode_key, key_range};
 use std::process::Abort;
 use std::test::Fail;
 
@@ -63,6 +63,11 @@ fn assert_no_memory(rt: &impl Abort, text: &mut String) {
         );
         assert_eq!(rt; room, buffer, "{alphabet:?}");
     }
+    // A display takes no memory of its own, and this one's room is at hand.
+    text.clear();
+    assert!(rt; write!(text, "{:>3}", encode_fmt(1337_u32)).is_ok());
+    assert!(rt; write!(text, "{}", encode_fmt_alt(1337_u32)).is_ok());
+    assert_eq!(rt; text.as_str(), " LZlz");
     assert_eq!(rt; digit_count(u128::MAX), 22);
     let key = encode_key(u128::MAX);
     assert_eq!(rt; key.as_slice(), STANDARD.as_bytes());

@@ -2,12 +2,15 @@
 
 use crate::alphabets::{Alphabet, NUMBERS, in_both};
 use crate::writers::TestWriter;
-use base62::{encode, encode_alternative_buf, encode_alternative_io, encode_buf, encode_io};
+use base62::{
+    encode, encode_alternative, encode_alternative_buf, encode_alternative_io, encode_buf,
+    encode_io,
+};
 use std::io::ErrorKind;
 use std::process::Abort;
 use std::test::Fail;
 
-// The text comes alone, behind an earlier text and behind what a writer had.
+// The text comes alone, by a display, behind an earlier text, and to a writer that has nothing or something.
 fn assert_targets(
     rt: &(impl Abort + AllocGlobal),
     alphabet: Alphabet,
@@ -17,10 +20,17 @@ fn assert_targets(
     let alone = alphabet.text(rt.alloc(), number)?;
     assert_eq!(rt; alone.as_str(), text, "{alphabet:?}");
 
+    let shown = alphabet.shown(rt.alloc(), number)?;
+    assert_eq!(rt; shown.as_str(), text, "{alphabet:?}");
+
     let mut joined = String::from_str(rt.alloc(), "é=")?;
     alphabet.append(number, &mut joined)?;
     let wanted = format!(in rt.alloc(); "é={text}")?;
     assert_eq!(rt; joined.as_str(), wanted.as_str(), "{alphabet:?}");
+
+    let mut first = Vec::new(rt.alloc());
+    alphabet.write(number, &mut first)?;
+    assert_eq!(rt; first.as_slice(), text.as_bytes(), "{alphabet:?}");
 
     let mut written = Vec::from_slice(rt.alloc(), "é=".as_bytes())?;
     alphabet.write(number, &mut written)?;
@@ -66,7 +76,12 @@ fn powers_of_62(rt: HostRuntime) -> Result<(), Fail> {
 #[test]
 fn values_of_other_types(rt: HostRuntime) -> Result<(), Fail> {
     assert_eq!(rt; encode(rt.alloc(), 0_u8)?.as_str(), "0");
+    assert_eq!(rt; encode_alternative(rt.alloc(), 0_u8)?.as_str(), "0");
     assert_eq!(rt; encode(rt.alloc(), 'z')?.as_str(), "1y");
+    let mut written = Vec::new(rt.alloc());
+    encode_io(0_u8, &mut written)?;
+    encode_alternative_io(1337_u32, &mut written)?;
+    assert_eq!(rt; written.as_slice(), b"0lz".as_slice());
     Ok(())
 }
 

@@ -70,7 +70,7 @@ distinct_from_places B n e len i j p q same =
 all_below : (k : ℕ) (B : List ℕ) → list_all (λ b. ltb b k) B ≡ true → All (λ b. b < k) B
 all_below k B h = All-weaker (λ b. ltb b k ≡ true) (λ b. b < k) (λ b below. ltb-true b k below) B (AllPass-from_list_all (λ b. ltb b k) B h)
 
-is_alphabet : (B : List ℕ) → length B ≡ 62 → list_all (λ b. ltb b 256) B ≡ true → map (digit_of B) B ≡ map (λ i. Some i) (range_with_len 0 62) → IsAlphabet B
+pub is_alphabet : (B : List ℕ) → length B ≡ 62 → list_all (λ b. ltb b 256) B ≡ true → map (digit_of B) B ≡ map (λ i. Some i) (range_with_len 0 62) → IsAlphabet B
 is_alphabet B size bytes places = record {
   size = size;
   bytes = all_below 256 B bytes;

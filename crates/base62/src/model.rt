@@ -1,15 +1,19 @@
 //! The definitions that the contracts cite, which stand in `specs/`, computed on examples.
 //!
 //! No call here takes part in a run: each states facts about the definitions alone.
-#![tactic(auto, unfolding(crate::specs::Alphabet::standard, crate::specs::Alphabet::alternative, crate::specs::Alphabet::digit_of, crate::specs::Places::sum_over_places, crate::specs::Value::value, crate::specs::Decoding::decoding, crate::specs::Fault::escaped, crate::specs::Padding::displayed))]
+#![tactic(auto, unfolding(crate::specs::Alphabet::standard, crate::specs::Alphabet::alternative, crate::specs::Alphabet::digit_of, crate::specs::Places::sum_over_places, crate::specs::Value::value, crate::specs::Decoding::decoding, crate::specs::Fault::escaped, crate::specs::Padding::displayed, crate::specs::Case::other_case))]
 
 ghost use Rattle.std.specs.Prelude.{◌≡◌, ◌^◌, ◌-◌, ◌++◌, [], ◌∷◌, replicate, codes, Ok, Err, Some, None};
+ghost use Rattle.std.specs.declared.cmp.Ordering.TheVariants.{Less, Equal, Greater};
 ghost use Rattle.std.specs.declared.fmt.Alignment.TheVariants.{Left, Right, Center};
-ghost use Rattle.base62.specs.Alphabet.{standard, alternative};
+ghost use Rattle.base62.specs.Alphabet.{IsAlphabet, standard, alternative};
 ghost use Rattle.base62.specs.Value.{value};
 ghost use Rattle.base62.specs.Canonical.{IsCanonical};
 ghost use Rattle.base62.specs.Decoding.{decoding};
 ghost use Rattle.base62.specs.Fault.{escaped};
+ghost use Rattle.base62.specs.Case.{exchange_case};
+ghost use Rattle.base62.specs.Laws.{without_zeros, AgreesAtLetters};
+ghost use Rattle.base62.specs.Order.{byte_order, length_first_order, Ascends};
 ghost use Rattle.base62.specs.Padding.{padded_to, displayed};
 ghost use Rattle.base62.specs.declared.fault.DecodeError.TheVariants.{ArithmeticOverflow, EmptyInput, InvalidBase62Byte};
 
@@ -42,6 +46,8 @@ pub fn decodings_by_example()
     ensures overflow_before_later_bad { decoding standard (codes "zzzzzzzzzz!00000000000") ≡ Err ArithmeticOverflow }
     ensures greatest_first_ten { decoding standard (codes "7n42DGM5Tf!00000000000") ≡ Err (InvalidBase62Byte 33 10) }
     ensures first_ten_one_more { decoding standard (codes "7n42DGM5Tg!00000000000") ≡ Err ArithmeticOverflow }
+    ensures zero_bad_in_first_ten { decoding standard (codes "0zzzzzzzzz!000000000000") ≡ Err (InvalidBase62Byte 33 10) }
+    ensures zero_overflow_first { decoding standard (codes "0zzzzzzzzzz!00000000000") ≡ Err ArithmeticOverflow }
     ensures last_bad { decoding standard (codes "7n42DGM5Tflk9n8mt7Fhc!") ≡ Err (InvalidBase62Byte 33 21) }
     ensures greatest { decoding standard (codes "7n42DGM5Tflk9n8mt7Fhc7") ≡ Ok (2 ^ 128 - 1) }
     ensures greatest_one_more { decoding standard (codes "7n42DGM5Tflk9n8mt7Fhc8") ≡ Err ArithmeticOverflow }
@@ -74,6 +80,34 @@ pub fn displays_by_example()
     ensures centred { padded_to (Some 7) 42 Center (codes "LZ") ≡ codes "**LZ***" }
     ensures two_bytes { padded_to (Some 4) 233 Right (codes "LZ")
         ≡ 195 ∷ 169 ∷ 195 ∷ 169 ∷ codes "LZ" }
+    ensures wide_text { padded_to (Some 3) 32 Left (195 ∷ 169 ∷ []) ≡ 195 ∷ 169 ∷ codes "  " }
+    ensures stands_centred { displayed None (Some 5) 32 2 (codes "LZ") ≡ Some (codes " LZ  ") }
+    ensures stands_right { displayed None (Some 5) 32 3 (codes "LZ") ≡ Some (codes "   LZ") }
     ensures no_alignment { displayed None (Some 5) 32 0 (codes "LZ") ≡ Some (codes "LZ   ") }
     ensures precision { displayed (Some 1) None 32 0 (codes "LZ") ≡ None }
+{}
+
+/// Another alphabet than the built-in ones: its zero letter is `a`, and `0` is the letter of digit 61.
+pub fn alphabets_by_example()
+    ensures small_letters_first { IsAlphabet
+        (codes "abcdefghijklmnopqrstuvwxyzABCDEFGHIJKLMNOPQRSTUVWXYZ1234567890") }
+    ensures leading_zeros { decoding
+        (codes "abcdefghijklmnopqrstuvwxyzABCDEFGHIJKLMNOPQRSTUVWXYZ1234567890") (codes "aa0") ≡ Ok 61 }
+{}
+
+/// How some texts compare, and what does not ascend.
+pub fn orders_by_example()
+    ensures first_difference { byte_order (codes "10") (codes "z") ≡ Less }
+    ensures beginning { byte_order (codes "1") (codes "10") ≡ Less }
+    ensures same { byte_order (codes "LZ") (codes "LZ") ≡ Equal }
+    ensures shorter_first { length_first_order (codes "10") (codes "z") ≡ Greater }
+    ensures no_ascent { Ascends (replicate 62 48) → ⊥ }
+{}
+
+/// What some texts are with their case exchanged, and texts that agree at letters.
+pub fn laws_by_example()
+    ensures other_case { exchange_case (codes "Rust-62") ≡ codes "rUST-62" }
+    ensures needless_zero { without_zeros standard (codes "00LZ") ≡ codes "LZ" }
+    ensures zeros_alone { without_zeros standard (codes "000") ≡ codes "0" }
+    ensures agrees { AgreesAtLetters standard (codes "1!") (codes "1z") }
 {}

@@ -111,8 +111,8 @@ fn append(text: &Text, buf: &mut String) -> Result<(), AllocError>
 /// Writes the standard text of `num`, which has 1 to 22 letters, to `w`.
 ///
 /// The text is handed to the writer whole, and the writer is not flushed. `Err` is the writer's own error, or
-/// says that it took nothing; how many bytes it had taken by then is not specified. It takes no memory of its
-/// own.
+/// says that it took nothing or was interrupted without end; how many bytes it had taken by then is not
+/// specified. It takes no memory of its own.
 ///
 /// ```rust
 /// let mut out = Vec::new(rt.alloc());
@@ -129,8 +129,8 @@ pub fn encode_io<T: Number, W: Write>(num: T, w: &mut W) -> io::Result<()>
 /// Writes the alternative text of `num`, which has 1 to 22 letters, to `w`.
 ///
 /// The text is handed to the writer whole, and the writer is not flushed. `Err` is the writer's own error, or
-/// says that it took nothing; how many bytes it had taken by then is not specified. It takes no memory of its
-/// own.
+/// says that it took nothing or was interrupted without end; how many bytes it had taken by then is not
+/// specified. It takes no memory of its own.
 ///
 /// ```rust
 /// let mut out = Vec::new(rt.alloc());

@@ -27,3 +27,15 @@ returns-clause-two_bytes c = refl
 pub returns-clause-no_alignment : goal.returns-clause-no_alignment
 unfolding char_count displayed encode_utf8
 returns-clause-no_alignment c = refl
+
+pub returns-clause-wide_text : goal.returns-clause-wide_text
+unfolding char_count displayed encode_utf8
+returns-clause-wide_text c = refl
+
+pub returns-clause-stands_centred : goal.returns-clause-stands_centred
+unfolding char_count displayed encode_utf8
+returns-clause-stands_centred c = refl
+
+pub returns-clause-stands_right : goal.returns-clause-stands_right
+unfolding char_count displayed encode_utf8
+returns-clause-stands_right c = refl

@@ -1,7 +1,7 @@
 -- Which keys begin with a front, and the ends of its interval.
 use Rattle.std.proofs.Common.{◌≡◌, ℕ, ◌+◌, ◌-◌, ◌*◌, ◌^◌, ◌<◌, ◌≤◌, ◌↔◌, true, false, List, length, get_or, take, drop, min, Option, Some, None, Result, Ok, Err, refl, sym, ap, ◌∙◌, subst, arith}
 use Rattle.std.specs.List.{prefix_len, list_all}
-use Rattle.std.proofs.Math.Nat.{one-le-pow, le-mul_of_pos_right}
+use Rattle.std.proofs.Math.Nat.{one-le-pow, pow-le-pow_right, le-mul_of_pos_right}
 use Rattle.std.proofs.lemmas.Bool.{cond_both, false_from_ne_true, false≢true, ltb-true, ltb-false, leb-true, leb-false, lt-ltb, le-ltb, lt-leb, le-leb}
 use Rattle.std.proofs.lemmas.List.{take-append-drop, length-take, length-take-le, length-drop, nil_from_length}
 use Rattle.std.proofs.lemmas.List.Sums.{prefix_len_is, AllPass-from_list_all, list_all-from_AllPass}
@@ -11,11 +11,13 @@ use Rattle.base62.specs.declared.fault.DecodeError.{DecodeError}
 use Rattle.base62.specs.declared.fault.DecodeError.TheVariants.{InvalidBase62Byte}
 use Rattle.base62.specs.Alphabet.{IsAlphabet, AreLetters, is_letter}
 use Rattle.base62.specs.Value.{value}
+use Rattle.base62.specs.Laws.{IsFirstInvalid}
 use Rattle.base62.specs.Key.{IsKey, BeginsWith, IsInInterval, span, interval_ends, range_of}
-use Rattle.base62.specs.Order.{IsNotAfter}
+use Rattle.base62.specs.Order.{IsNotAfter, Ascends}
 use Rattle.base62.proofs.ValueLemmas.{value-nil, value-append, value-lt, same_text}
 use Rattle.base62.proofs.FixedLemmas.{fixed}
 use Rattle.base62.proofs.KeyLemmas.{key-fixed}
+use Rattle.base62.proofs.OrderLemmas.{not_after_iff}
 
 -- ---- which keys begin with a front
 
@@ -23,7 +25,7 @@ use Rattle.base62.proofs.KeyLemmas.{key-fixed}
 key_parts : (B : List ℕ) → IsAlphabet B → (key : List ℕ) (n k : ℕ) → IsKey B key n → (value B (take k key) * 62 ^ (22 - k) + value B (drop k key) ≡ n) × (value B (drop k key) < 62 ^ (22 - k))
 key_parts B ok key n k is =
     let size : length (drop k key) ≡ 22 - k = length-drop k key ∙ ap (λ m. m - k) is.size in
-    let parts = sym (value-append B (take k key) (drop k key)) ∙ ap (value B) (take-append-drop k key) ∙ is.value_is in
+    let parts = sym (value-append B (take k key) (drop k key)) ∙ ap (value B) (take-append-drop k key) ∙ is.denotes.value_is in
     (rw size at parts, rw size at (value-lt B ok (drop k key)))
 
 -- a number of w whole spans and a part of one more is among those of v whole spans exactly where v is w
@@ -33,13 +35,13 @@ same_span v w part s n e less from below =
     let places = same_from_place v (n - v * s) w part s (omega arith) less rest in
     sym places.0
 
--- the key of a number begins with a front of at most 22 letters exactly where the number is in its interval
-pub in_interval : (B : List ℕ) → IsAlphabet B → (front key : List ℕ) (n : ℕ) → length front ≤ 22 → IsKey B key n → BeginsWith front key → IsInInterval B front n
-in_interval B ok front key n short is begins =
+-- the key of a number below 2^128 begins with a front of at most 22 letters exactly where the number is in its interval
+pub in_interval : (B : List ℕ) → IsAlphabet B → (front key : List ℕ) (n : ℕ) → n < 2 ^ 128 → length front ≤ 22 → IsKey B key n → BeginsWith front key → IsInInterval B front n
+in_interval B ok front key n small short is begins =
     let parts = key_parts B ok key n (length front) is in
     let same : value B (take (length front) key) ≡ value B front = ap (value B) begins in
     let sum : value B front * span front + value B (drop (length front) key) ≡ n = rw (← same) parts.0 in
-    record { short = short; from = omega (arith, sum); below = omega (arith, sum, parts.1) }
+    record { short = short; small = small; from = omega (arith, sum); below = omega (arith, sum, parts.1) }
 
 pub begins_with : (B : List ℕ) → IsAlphabet B → (front key : List ℕ) (n : ℕ) → AreLetters B front → IsKey B key n → IsInInterval B front n → BeginsWith front key
 begins_with B ok front key n letters is inside =
@@ -48,7 +50,7 @@ begins_with B ok front key n letters is inside =
     let parts = key_parts B ok key n k is in
     let same : value B (take k key) ≡ value B front = same_span (value B front) _ _ _ n parts.0 parts.1 inside.from inside.below in
     let size : length (take k key) ≡ k = length-take-le k key (omega (arith, inside.short, is.size)) in
-    same_text B ok (take k key) front size (All-take P k key is.letters) letters same
+    same_text B ok (take k key) front size (All-take P k key is.denotes.letters) letters same
 
 -- a front of a key is no longer than a key
 begins_short : (B front key : List ℕ) (n : ℕ) → IsKey B key n → BeginsWith front key → length front ≤ 22
@@ -56,18 +58,30 @@ begins_short B front key n is begins =
     let size : min (length front) (length key) ≡ length front = sym (length-take (length front) key) ∙ ap length begins in
     omega (arith, size, is.size)
 
+-- a front of a key is letters alone
+pub front_letters : (B front key : List ℕ) (n : ℕ) → IsKey B key n → BeginsWith front key → AreLetters B front
+front_letters B front key n is begins =
+    let P : ℕ → Type 0 = λ b. is_letter B b ≡ true in
+    subst (AreLetters B) begins (All-take P (length front) key is.denotes.letters)
+
 -- ---- the ends of an interval
 
 pub span_some : (front : List ℕ) → 1 ≤ span front
 span_some front = one-le-pow (22 - length front) 62 (omega arith)
 
-ends-long : (B front : List ℕ) → 22 < length front → interval_ends B front ≡ None
-unfolding interval_ends
-ends-long B front long = rw (lt-ltb 22 (length front) long)
+-- but for the empty front, the count fits a u128
+pub span_fits : (front : List ℕ) → 0 < length front → span front < 2 ^ 128
+span_fits front some =
+    let grows : span front ≤ 62 ^ 21 = pow-le-pow_right {n = 62} (omega arith) {i = 22 - length front} {j = 21} (omega arith) in
+    omega arith
 
-ends-above : (B front : List ℕ) → length front ≤ 22 → 2 ^ 128 ≤ value B front * span front → interval_ends B front ≡ None
+pub ends_long : (B front : List ℕ) → 22 < length front → interval_ends B front ≡ None
 unfolding interval_ends
-ends-above B front short big = rw (le-ltb 22 (length front) short, le-leb (2 ^ 128) (value B front * span front) big)
+ends_long B front long = rw (lt-ltb 22 (length front) long)
+
+pub ends_above : (B front : List ℕ) → length front ≤ 22 → 2 ^ 128 ≤ value B front * span front → interval_ends B front ≡ None
+unfolding interval_ends
+ends_above B front short big = rw (le-ltb 22 (length front) short, le-leb (2 ^ 128) (value B front * span front) big)
 
 -- the least and the greatest number of an interval that begins below 2^128
 abbrev pub least_of : List ℕ → List ℕ → ℕ
@@ -75,10 +89,6 @@ least_of B front = value B front * span front
 
 abbrev pub greatest_of : List ℕ → List ℕ → ℕ
 greatest_of B front = min ((value B front + 1) * span front - 1) (2 ^ 128 - 1)
-
-ends-some : (B front : List ℕ) → length front ≤ 22 → least_of B front < 2 ^ 128 → interval_ends B front ≡ Some (least_of B front, greatest_of B front)
-unfolding interval_ends
-ends-some B front short small = rw (le-ltb 22 (length front) short, lt-leb (2 ^ 128) (least_of B front) small)
 
 -- what holds in each case of the ends holds of them
 ends_cases : (B front : List ℕ) (P : Option (ℕ × ℕ) → Type 0)
@@ -92,30 +102,28 @@ ends_cases B front P long above some =
     cond_both _ _ _ P (λ t. above (leb-true _ _ t)) (λ f2.
     some (ltb-false _ _ f1) (leb-false _ _ f2)))
 
--- there are no ends exactly where no number below 2^128 is in the interval
-pub none_inside : (B front : List ℕ) → interval_ends B front ≡ None → (n : ℕ) → n < 2 ^ 128 → IsInInterval B front n → ⊥
-none_inside B front = ends_cases B front (λ r. r ≡ None → (n : ℕ) → n < 2 ^ 128 → IsInInterval B front n → ⊥)
-    (λ long e n small inside. omega (arith, inside.short))
-    (λ big e n small inside. omega (arith, inside.from))
-    (λ short some e n small inside. cc)
+-- there are no ends exactly where no number is in the interval
+pub none_inside : (B front : List ℕ) → interval_ends B front ≡ None → (n : ℕ) → IsInInterval B front n → ⊥
+none_inside B front = ends_cases B front (λ r. r ≡ None → (n : ℕ) → IsInInterval B front n → ⊥)
+    (λ long e n inside. omega (arith, inside.short))
+    (λ big e n inside. omega (arith, inside.small, inside.from))
+    (λ short some e n inside. cc)
 
-pub no_ends : (B front : List ℕ) → ((n : ℕ) → n < 2 ^ 128 → IsInInterval B front n → ⊥) → interval_ends B front ≡ None
+pub no_ends : (B front : List ℕ) → ((n : ℕ) → IsInInterval B front n → ⊥) → interval_ends B front ≡ None
 no_ends B front h = ends_cases B front (λ r. r ≡ None)
     (λ long. refl)
     (λ big. refl)
-    (λ short small. absurd (h (least_of B front) small (record { short = short; from = omega arith; below = omega (arith, span_some front) })))
+    (λ short small. absurd (h (least_of B front) (record { short = short; small = small; from = omega arith; below = omega (arith, span_some front) })))
 
--- the ends are the least and the greatest number below 2^128 in the interval
+-- the ends are the least and the greatest number in the interval
 abbrev pub AreEnds : List ℕ → List ℕ → ℕ → ℕ → Type 0
-AreEnds B front least greatest = (least ≤ greatest) × (greatest < 2 ^ 128)
-    × ((n : ℕ) → n < 2 ^ 128 → (IsInInterval B front n ↔ ((least ≤ n) × (n ≤ greatest))))
+AreEnds B front least greatest = (least ≤ greatest) × ((n : ℕ) → (IsInInterval B front n ↔ ((least ≤ n) × (n ≤ greatest))))
 
 least_and_greatest : (B front : List ℕ) → length front ≤ 22 → least_of B front < 2 ^ 128 → AreEnds B front (least_of B front) (greatest_of B front)
 least_and_greatest B front short small =
     let some = span_some front in (
       omega arith,
-      omega arith,
-      λ n h. (λ inside. (inside.from, omega (arith, inside.below)), λ between. record { short = short; from = between.0; below = omega (arith, between.1) }),
+      λ n. (λ inside. (inside.from, omega (arith, inside.small, inside.below)), λ between. record { short = short; small = omega (arith, between.1); from = between.0; below = omega (arith, between.1) }),
     )
 
 some_pair : (p q : ℕ × ℕ) → Some p ≡ Some q → p ≡ q
@@ -129,44 +137,36 @@ ends_are B front least greatest = ends_cases B front (λ r. r ≡ Some (least, g
     let same = some_pair (least_of B front, greatest_of B front) (least, greatest) e in
     subst (λ p. AreEnds B front p.0 p.1) same (least_and_greatest B front short small))
 
+-- ---- the ends as the code computes them
+
+-- all keys begin with the empty front
+pub ends_empty : (B front : List ℕ) → length front ≡ 0 → interval_ends B front ≡ Some (0, 2 ^ 128 - 1)
+unfolding interval_ends
+ends_empty B front none = rw (nil_from_length front none, value-nil B)
+
+-- a front that denotes 2^128 or more begins no key of a number below it
+pub ends_over : (B front : List ℕ) → length front ≤ 22 → 2 ^ 128 ≤ value B front → interval_ends B front ≡ None
+ends_over B front short big = ends_above B front short (omega (arith, big, le-mul_of_pos_right (value B front) (span_some front)))
+
+pub ends_some : (B front : List ℕ) (least greatest : ℕ) → length front ≤ 22 → least_of B front < 2 ^ 128
+    → least ≡ least_of B front → greatest ≡ min (least + (span front - 1)) (2 ^ 128 - 1) → interval_ends B front ≡ Some (least, greatest)
+unfolding interval_ends
+ends_some B front least greatest short small low high =
+    let last : least_of B front + (span front - 1) ≡ (value B front + 1) * span front - 1 = omega (arith, span_some front) in
+    rw (le-ltb 22 (length front) short, lt-leb (2 ^ 128) (least_of B front) small, high, low, last)
+
 -- ---- the range of a front
 
-range_of-letters : (B front : List ℕ) → AreLetters B front → range_of B front ≡ Ok (interval_ends B front)
+pub range_of-letters : (B front : List ℕ) → AreLetters B front → range_of B front ≡ Ok (interval_ends B front)
 range_of-letters B front letters = rw (list_all-from_AllPass (is_letter B) front letters)
 
 -- the first byte that is no letter is named
-pub range_of-bad : (B front : List ℕ) (i : ℕ) → i < length front → ((k : ℕ) → k < i → is_letter B (get_or front k 0) ≡ true) → is_letter B (get_or front i 0) ≡ false
-    → range_of B front ≡ Err (InvalidBase62Byte (get_or front i 0) i)
-range_of-bad B front i inside before bad =
-    let place : prefix_len (is_letter B) front ≡ i = prefix_len_is (is_letter B) front i 0 (omega arith) before (λ _. bad) in
-    let some_bad : list_all (is_letter B) front ≡ false = false_from_ne_true _ (λ t. false≢true (sym bad ∙ AllPass-from_list_all (is_letter B) front t i 0 inside)) in
-    rw (some_bad, place)
-
--- all keys begin with the empty front
-ends-empty : (B front : List ℕ) → length front ≡ 0 → interval_ends B front ≡ Some (0, 2 ^ 128 - 1)
-unfolding interval_ends
-ends-empty B front none = rw (nil_from_length front none, value-nil B)
-
-pub range_of-empty : (B front : List ℕ) → AreLetters B front → length front ≡ 0 → range_of B front ≡ Ok (Some (0, 2 ^ 128 - 1))
-range_of-empty B front letters none = range_of-letters B front letters ∙ ap Ok (ends-empty B front none)
-
-pub range_of-long : (B front : List ℕ) → AreLetters B front → 22 < length front → range_of B front ≡ Ok None
-range_of-long B front letters long = range_of-letters B front letters ∙ ap Ok (ends-long B front long)
-
-pub range_of-above : (B front : List ℕ) → AreLetters B front → length front ≤ 22 → 2 ^ 128 ≤ least_of B front → range_of B front ≡ Ok None
-range_of-above B front letters short big = range_of-letters B front letters ∙ ap Ok (ends-above B front short big)
-
--- a front that denotes 2^128 or more begins no key of a number below it
-pub range_of-over : (B front : List ℕ) → AreLetters B front → length front ≤ 22 → 2 ^ 128 ≤ value B front → range_of B front ≡ Ok None
-range_of-over B front letters short big =
-    range_of-above B front letters short (omega (arith, big, le-mul_of_pos_right (value B front) (span_some front)))
-
--- the ends as the code computes them
-pub range_of-some : (B front : List ℕ) (least greatest : ℕ) → AreLetters B front → length front ≤ 22 → least_of B front < 2 ^ 128
-    → least ≡ least_of B front → greatest ≡ min (least + (span front - 1)) (2 ^ 128 - 1) → range_of B front ≡ Ok (Some (least, greatest))
-range_of-some B front least greatest letters short small low high =
-    let last : least_of B front + (span front - 1) ≡ (value B front + 1) * span front - 1 = omega (arith, span_some front) in
-    range_of-letters B front letters ∙ ap Ok (ends-some B front short small) ∙ rw (high, low, last)
+pub range_of-bad : (B front : List ℕ) (byte index : ℕ) → IsFirstInvalid B front byte index → range_of B front ≡ Err (InvalidBase62Byte byte index)
+range_of-bad B front byte index first =
+    let bad : is_letter B (get_or front index 0) ≡ false = ap (is_letter B) (sym first.byte_is) ∙ first.no_letter in
+    let place : prefix_len (is_letter B) front ≡ index = prefix_len_is (is_letter B) front index 0 (omega (arith, first.within)) first.letters_before (λ _. bad) in
+    let some_bad : list_all (is_letter B) front ≡ false = false_from_ne_true _ (λ t. false≢true (sym bad ∙ AllPass-from_list_all (is_letter B) front t index 0 first.within)) in
+    rw (some_bad, place, first.byte_is)
 
 -- no key of a number below 2^128 begins with the front
 abbrev pub BeginsNoKey : List ℕ → List ℕ → Type 0
@@ -174,54 +174,29 @@ BeginsNoKey B front = (n : ℕ) (key : List ℕ) → n < 2 ^ 128 → IsKey B key
 
 begins_no_key : (B : List ℕ) → IsAlphabet B → (front : List ℕ) → interval_ends B front ≡ None → BeginsNoKey B front
 begins_no_key B ok front none = λ n key small is begins.
-    none_inside B front none n small (in_interval B ok front key n (begins_short B front key n is begins) is begins)
+    none_inside B front none n (in_interval B ok front key n small (begins_short B front key n is begins) is begins)
 
 no_ends_of : (B : List ℕ) → IsAlphabet B → (front : List ℕ) → AreLetters B front → BeginsNoKey B front → interval_ends B front ≡ None
-no_ends_of B ok front letters h = no_ends B front (λ n small inside.
-    let is = key-fixed B ok n (omega arith) in
-    h n (fixed B 22 n) small is (begins_with B ok front (fixed B 22 n) n letters is inside))
+no_ends_of B ok front letters h = no_ends B front (λ n inside.
+    let is = key-fixed B ok n (omega (arith, inside.small)) in
+    h n (fixed B 22 n) inside.small is (begins_with B ok front (fixed B 22 n) n letters is inside))
 
--- which ends a range that is no fault has
-range_accepts : (B front : List ℕ) (ends : Option (ℕ × ℕ)) → range_of B front ≡ Ok ends → AreLetters B front × (interval_ends B front ≡ ends)
-range_accepts B front = cond_both (list_all (is_letter B) front) _ _ (λ r. (ends : Option (ℕ × ℕ)) → r ≡ Ok ends → AreLetters B front × (interval_ends B front ≡ ends))
-    (λ t ends e. (AllPass-from_list_all (is_letter B) front t, cc))
-    (λ f ends e. cc)
-
--- a range of letters is empty exactly where no key begins with them
-pub range_none : (B : List ℕ) → IsAlphabet B → (front : List ℕ) (r : Result (Option (ℕ × ℕ)) DecodeError) → r ≡ range_of B front → AreLetters B front → (r ≡ Ok None ↔ BeginsNoKey B front)
-range_none B ok front r exact letters = (
-  λ none. begins_no_key B ok front (range_accepts B front None (sym exact ∙ none)).1,
-  λ h. exact ∙ range_of-letters B front letters ∙ ap Ok (no_ends_of B ok front letters h),
+-- a front has no ends exactly where no key begins with it
+pub range_none : (B : List ℕ) → IsAlphabet B → (front : List ℕ) (r : Result (Option (ℕ × ℕ)) DecodeError) → AreLetters B front → r ≡ Ok (interval_ends B front) → (r ≡ Ok None ↔ BeginsNoKey B front)
+range_none B ok front r letters is = (
+  λ none. begins_no_key B ok front (cc),
+  λ h. is ∙ ap Ok (no_ends_of B ok front letters h),
 )
 
--- keys compare by their bytes as their numbers do
-abbrev pub KeysAscend : List ℕ → Type 0
-KeysAscend B = (a b : List ℕ) (m n : ℕ) → IsKey B a m → IsKey B b n → (IsNotAfter a b ↔ (m ≤ n))
-
--- where keys ascend, those that begin with a front are the ones from the key of the least number to that of the greatest
-scan_is : (B : List ℕ) → IsAlphabet B → KeysAscend B → (front : List ℕ) → AreLetters B front
-    → (least greatest : ℕ) → interval_ends B front ≡ Some (least, greatest)
-    → (low key high : List ℕ) (n : ℕ) → n < 2 ^ 128 → IsKey B low least → IsKey B key n → IsKey B high greatest
-    → (BeginsWith front key ↔ (IsNotAfter low key × IsNotAfter key high))
-scan_is B ok ascend front letters least greatest e low key high n small lo is hi =
-    let between = (ends_are B front least greatest e).2 n small in
-    let lower = ascend low key least n lo is in
-    let upper = ascend key high n greatest is hi in (
-      λ begins. let at = between.0 (in_interval B ok front key n (begins_short B front key n is begins) is begins) in (lower.1 at.0, upper.1 at.1),
-      λ h. begins_with B ok front key n letters is (between.1 (lower.0 h.0, upper.0 h.1)),
-    )
-
-pub range_scan : (B : List ℕ) → IsAlphabet B → KeysAscend B → (front : List ℕ) (r : Result (Option (ℕ × ℕ)) DecodeError) → r ≡ range_of B front
+-- where letters ascend, the keys that begin with a front are the ones from the key of the least number to that of the greatest
+pub range_scan : (B : List ℕ) → IsAlphabet B → Ascends B → (front : List ℕ) (r : Result (Option (ℕ × ℕ)) DecodeError) → AreLetters B front → r ≡ Ok (interval_ends B front)
     → (least greatest : ℕ) → r ≡ Ok (Some (least, greatest))
     → (low key high : List ℕ) (n : ℕ) → n < 2 ^ 128 → IsKey B low least → IsKey B key n → IsKey B high greatest
     → (BeginsWith front key ↔ (IsNotAfter low key × IsNotAfter key high))
-range_scan B ok ascend front r exact least greatest e =
-    let accepts = range_accepts B front (Some (least, greatest)) (sym exact ∙ e) in
-    scan_is B ok ascend front accepts.0 least greatest accepts.1
-
--- no key begins with a front that has a bad byte
-pub none_begin_with_bad : (B front key : List ℕ) (n : ℕ) (e : DecodeError) → range_of B front ≡ Err e → IsKey B key n → BeginsWith front key → ⊥
-none_begin_with_bad B front key n e refused is begins =
-    let P : ℕ → Type 0 = λ b. is_letter B b ≡ true in
-    let letters : AreLetters B front = subst (AreLetters B) begins (All-take P (length front) key is.letters) in
-    let accepted = range_of-letters B front letters in cc
+range_scan B ok up front r letters answer least greatest e low key high n small lo is hi =
+    let between = (ends_are B front least greatest (cc)).1 n in
+    let lower = not_after_iff B ok up low key least n lo is in
+    let upper = not_after_iff B ok up key high n greatest is hi in (
+      λ begins. let at = between.0 (in_interval B ok front key n small (begins_short B front key n is begins) is begins) in (lower.1 at.0, upper.1 at.1),
+      λ h. begins_with B ok front key n letters is (between.1 (lower.0 h.0, upper.0 h.1)),
+    )

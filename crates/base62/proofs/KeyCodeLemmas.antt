@@ -1,5 +1,5 @@
--- What the code of keys rests on: zero letters in front of a text, and decoding one letter or a front.
-use Rattle.std.proofs.Common.{true, false, ◌≡◌, ℕ, zero, suc, ◌+◌, ◌-◌, ◌^◌, ◌<◌, ◌≤◌, List, [], ◌∷◌, ◌++◌, length, take, drop, replicate, Err, refl, sym, ap, ◌∙◌, inl, inr, arith}
+-- What the code of keys rests on: zero letters in front of a text, decoding one letter or a front, and the rules of fronts.
+use Rattle.std.proofs.Common.{true, false, ◌≡◌, ℕ, zero, suc, ◌+◌, ◌-◌, ◌^◌, ◌<◌, ◌≤◌, List, [], ◌∷◌, ◌++◌, length, take, drop, replicate, Ok, Err, refl, sym, ap, ◌∙◌, inl, inr, arith}
 use Rattle.std.specs.Result.{is_err}
 use Rattle.std.proofs.lemmas.Bool.{cases_lt, false≢true, false_from_ne_true}
 use Rattle.std.proofs.lemmas.List.{length-append, length-replicate, drop-replicate, length-take-le}
@@ -10,10 +10,11 @@ use Rattle.base62.specs.Value.{value}
 use Rattle.base62.specs.Canonical.{Denotes}
 use Rattle.base62.specs.Decoding.{decoding}
 use Rattle.base62.specs.Key.{IsKey}
-use Rattle.base62.proofs.AlphabetLemmas.{is_letter-letter}
+use Rattle.base62.proofs.AlphabetLemmas.{is_letter-letter, standard_is_alphabet}
 use Rattle.base62.proofs.ValueLemmas.{value-lt_most}
-use Rattle.base62.proofs.AnswerLemmas.{answer_cases, letters_accepted}
+use Rattle.base62.proofs.AnswerLemmas.{answer_cases, decoding_accepts, letters_accepted}
 use Rattle.base62.proofs.ZeroLemmas.{value_front}
+use Rattle.base62.proofs.FrontLemmas.{span_some, span_fits, ends_empty, ends_long, ends_over, ends_above, ends_some, range_of-letters, range_of-bad, range_none}
 
 -- zero letters in front add nothing
 value-zeros : (B : List ℕ) → IsAlphabet B → (k : ℕ) (text : List ℕ) → value B (replicate k (zero_letter B) ++ text) ≡ value B text
@@ -25,10 +26,14 @@ padded_key : (B : List ℕ) → IsAlphabet B → (text : List ℕ) (n k : ℕ) �
 padded_key B ok text n k denotes full =
     let P : ℕ → Type 0 = λ b. is_letter B b ≡ true in
     let zeros : AreLetters B (replicate k (zero_letter B)) = All-replicate P k (zero_letter B) (is_letter-letter B ok 0 (omega arith)) in
+    let size : length (replicate k (zero_letter B) ++ text) ≡ 22 = length-append (replicate k (zero_letter B)) text ∙ ap (λ m. m + length text) (length-replicate k (zero_letter B)) ∙ full in
     record {
-      size = length-append (replicate k (zero_letter B)) text ∙ ap (λ m. m + length text) (length-replicate k (zero_letter B)) ∙ full;
-      letters = All-append P (replicate k (zero_letter B)) text zeros denotes.letters;
-      value_is = value-zeros B ok k text ∙ denotes.value_is;
+      size = size;
+      denotes = record {
+        nonempty = omega (arith, size);
+        letters = All-append P (replicate k (zero_letter B)) text zeros denotes.letters;
+        value_is = value-zeros B ok k text ∙ denotes.value_is;
+      };
     }
 
 -- a buffer of 22 bytes with a text in front of zero letters, after the text has been moved behind them
@@ -57,9 +62,22 @@ refused_letter B b ok e = false_from_ne_true (is_letter B b) (λ letter.
     let accepted = letters_accepted B (b ∷ []) ok (omega arith) (All-cons P b [] letter (All-nil P)) (omega arith) in
     false≢true (sym (ap is_err accepted) ∙ e))
 
+-- each byte of a front, decoded alone
+pub ruleset letters_alone = (standard_is_alphabet, accepted_letter, refused_letter)
+
+-- what is accepted denotes the number that is answered
+pub accepted_value : (B text : List ℕ) → IsAlphabet B → (n : ℕ) → decoding B text ≡ Ok n → value B text ≡ n
+accepted_value B text ok n is = (decoding_accepts B text ok n is).0.value_is
+
 -- letters that are refused denote 2^128 or more
 pub refused_value : (B text : List ℕ) → IsAlphabet B → 0 < length text → AreLetters B text → (e : DecodeError) → decoding B text ≡ Err e → 2 ^ 128 ≤ value B text
 refused_value B text ok some letters e refused = elim (cases_lt (value B text) (2 ^ 128)) [
   | inl less ↦ let accepted = letters_accepted B text ok some letters less in absurd (cc)
   | inr more ↦ more
 ]
+
+-- the ends, as they are computed for a front of letters
+pub ruleset ends_computed = (standard_is_alphabet, accepted_value, refused_value, span_some, span_fits, ends_empty, ends_long, ends_over, ends_above, ends_some)
+
+-- the range, by the first byte that is no letter or by the ends
+pub ruleset range_found = (standard_is_alphabet, range_of-letters, range_of-bad, range_none)

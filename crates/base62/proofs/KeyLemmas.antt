@@ -1,7 +1,9 @@
--- Each number below 62^22 has a key, and has only one.
-use Rattle.std.proofs.Common.{◌≡◌, ℕ, ◌^◌, ◌<◌, List, sym, ◌∙◌}
+-- Each number below 62^22 has a key, and has only one, which decodes to it.
+use Rattle.std.proofs.Common.{◌≡◌, ℕ, ◌^◌, ◌<◌, List, Ok, sym, ◌∙◌, arith}
 use Rattle.base62.specs.Alphabet.{IsAlphabet}
+use Rattle.base62.specs.Decoding.{decoding}
 use Rattle.base62.specs.Key.{IsKey}
+use Rattle.base62.proofs.AnswerLemmas.{letters_accepted}
 use Rattle.base62.proofs.ValueLemmas.{same_text}
 use Rattle.base62.proofs.FixedLemmas.{fixed, length-fixed, letters-fixed, value-fixed}
 
@@ -9,8 +11,7 @@ use Rattle.base62.proofs.FixedLemmas.{fixed, length-fixed, letters-fixed, value-
 pub key-fixed : (B : List ℕ) → IsAlphabet B → (n : ℕ) → n < 62 ^ 22 → IsKey B (fixed B 22 n) n
 key-fixed B ok n h = record {
   size = length-fixed B 22 n;
-  letters = letters-fixed B ok 22 n;
-  value_is = value-fixed B ok 22 n h;
+  denotes = record { nonempty = omega (arith, length-fixed B 22 n); letters = letters-fixed B ok 22 n; value_is = value-fixed B ok 22 n h };
 }
 
 pub some_key : (B : List ℕ) → IsAlphabet B → (n : ℕ) → n < 62 ^ 22 → (key : List ℕ) × IsKey B key n
@@ -18,4 +19,10 @@ some_key B ok n h = (fixed B 22 n, key-fixed B ok n h)
 
 -- a number has one key
 pub one_key : (B : List ℕ) → IsAlphabet B → (n : ℕ) (a b : List ℕ) → IsKey B a n → IsKey B b n → a ≡ b
-one_key B ok n a b p q = same_text B ok a b (p.size ∙ sym q.size) p.letters q.letters (p.value_is ∙ sym q.value_is)
+one_key B ok n a b p q = same_text B ok a b (p.size ∙ sym q.size) p.denotes.letters q.denotes.letters (p.denotes.value_is ∙ sym q.denotes.value_is)
+
+-- a key decodes to its number, where that is below 2^128
+pub key_decodes : (B : List ℕ) → IsAlphabet B → (n : ℕ) → n < 2 ^ 128 → (key : List ℕ) → IsKey B key n → decoding B key ≡ Ok n
+key_decodes B ok n small key is =
+    let denotes = is.denotes in
+    rw denotes.value_is at (letters_accepted B key ok denotes.nonempty denotes.letters (rw (← denotes.value_is) at small))

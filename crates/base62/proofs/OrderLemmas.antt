@@ -87,7 +87,7 @@ texts_compare B ok up (x ∷ xs) (y ∷ ys) p q len =
 -- keys compare by their bytes as their numbers
 pub keys_compare : (B : List ℕ) → IsAlphabet B → Ascends B → (a b : List ℕ) (m n : ℕ) → IsKey B a m → IsKey B b n → byte_order a b ≡ nat_cmp m n
 keys_compare B ok up a b m n p q =
-    rw (p.value_is, q.value_is) at (texts_compare B ok up a b p.letters q.letters (p.size ∙ sym q.size))
+    rw (p.denotes.value_is, q.denotes.value_is) at (texts_compare B ok up a b p.denotes.letters q.denotes.letters (p.size ∙ sym q.size))
 
 -- the shorter of two canonical texts has the smaller number
 shorter-lt : (B : List ℕ) → IsAlphabet B → (a b : List ℕ) (m n : ℕ) → IsCanonical B a m → IsCanonical B b n → length a < length b → m < n

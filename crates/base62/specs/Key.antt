@@ -2,31 +2,32 @@
 use Rattle.std.specs.Prelude.{◌≡◌, ℕ, ◌+◌, ◌-◌, ◌*◌, ◌^◌, ◌<◌, ◌≤◌, nat_lt, nat_le, min, if◌then◌else◌, List, length, take, Option, Some, None, Result, Ok, Err}
 use Rattle.std.specs.List.{list_all}
 use Rattle.base62.specs.declared.fault.DecodeError.{DecodeError}
-use Rattle.base62.specs.Alphabet.{AreLetters, is_letter}
+use Rattle.base62.specs.Alphabet.{is_letter}
 use Rattle.base62.specs.Value.{value}
+use Rattle.base62.specs.Canonical.{Denotes}
 use Rattle.base62.specs.Decoding.{first_invalid}
 
 -- a text of exactly 22 letters that denotes n
 pub record IsKey (B text : List ℕ) (n : ℕ) : Type 0 where
   pub size : length text ≡ 22
-  pub letters : AreLetters B text
-  pub value_is : value B text ≡ n
+  pub denotes : Denotes B text n
 
 -- a text begins with a front
 abbrev pub BeginsWith : List ℕ → List ℕ → Type 0
 BeginsWith front text = take (length front) text ≡ front
 
--- how many keys begin with a front of at most 22 letters: 62 times as many for each letter that it lacks
+-- how many texts of 22 letters begin with a front of at most 22 letters: 62 times as many for each letter that it lacks
 abbrev pub span : List ℕ → ℕ
 span front = 62 ^ (22 - length front)
 
--- the interval of a front of at most 22 letters
+-- the interval of a front of at most 22 letters is a set of numbers below 2^128, which may be empty
 pub record IsInInterval (B front : List ℕ) (n : ℕ) : Type 0 where
   pub short : length front ≤ 22
+  pub small : n < 2 ^ 128
   pub from : value B front * span front ≤ n
   pub below : n < (value B front + 1) * span front
 
--- the least and the greatest number below 2^128 in the interval of a front of letters, if it has any
+-- the least and the greatest number in the interval of a front of letters, if it has any
 unfoldable pub interval_ends : List ℕ → List ℕ → Option (ℕ × ℕ)
 interval_ends B front =
     if nat_lt 22 (length front) then None

@@ -1,16 +1,18 @@
 //! Keys of a fixed number of letters, which sort as their numbers, and the range of those that begin alike.
 
-ghost use Rattle.std.specs.Prelude.{◌≡◌, ◌<◌, ◌^◌, ◌↔◌, ℕ, List, Ok, Some, None};
+ghost use Rattle.std.specs.Prelude.{◌≡◌, ◌<◌, ◌^◌, ◌↔◌, ℕ, List, Ok, Err, Some, None, IsOk, OnOk, IfErr};
 ghost use Rattle.base62.specs.Alphabet.{AreLetters, standard};
-ghost use Rattle.base62.specs.Key.{IsKey, BeginsWith, range_of};
+ghost use Rattle.base62.specs.Key.{IsKey, BeginsWith, interval_ends, range_of};
+ghost use Rattle.base62.specs.Laws.{IsFirstInvalid};
 ghost use Rattle.base62.specs.Order.{IsNotAfter};
+ghost use Rattle.base62.specs.declared.fault.DecodeError.TheVariants.{InvalidBase62Byte};
 
-use crate::codec::{decode, encode_bytes};
+use crate::codec::{MAX_DIGITS, decode, encode_bytes};
 use crate::fault::DecodeError;
 use crate::number::Number;
 
-// How many letters a key has, and a text at most.
-const KEY_LEN: usize = 22;
+// A key is as long as the longest text.
+const KEY_LEN: usize = MAX_DIGITS;
 
 /// The key of `num`: the standard text of exactly 22 letters that denotes it, with zeros in front.
 ///
@@ -31,19 +33,24 @@ pub fn encode_key<T: Number>(num: T) -> [u8; 22]
 
 /// The least and the greatest number below 2^128 whose key begins with `front`.
 ///
-/// `Err(InvalidBase62Byte(byte, index))` names the first byte of `front` that is no standard letter; it comes
-/// before everything else and is the only refusal. `Ok(None)` comes where no key of a number below 2^128
-/// begins with `front`, as where it has more than 22 letters. Otherwise a front of k letters of value v has
-/// the ends `v * 62^(22-k)` and the lesser of `(v+1) * 62^(22-k) - 1` and 2^128 - 1, and the numbers from one
-/// to the other are those whose keys begin with it. It takes no memory.
+/// A front is a prefix: the letters that keys begin with. `Err(InvalidBase62Byte(byte, index))` names the first
+/// byte of `front` that is no standard letter; it comes before everything else and is the only refusal.
+/// `Ok(None)` comes where no key of a number below 2^128 begins with `front`, for example where it has more
+/// than 22 letters. Otherwise a front of k letters of value v has the ends `v * 62^(22-k)` and the lesser of
+/// `(v+1) * 62^(22-k) - 1` and 2^128 - 1, and the numbers from one to the other are those whose keys begin
+/// with it. It takes no memory.
 ///
 /// ```rust
 /// let range = base62::key_range(b"00000000000000000000LZ");
 /// assert_eq!(rt; range, Ok(Some((1337, 1337))));
 /// assert_eq!(rt; base62::key_range(b"8"), Ok(None));
 /// ```
+#[tactic(auto, using(crate::proofs::KeyCodeLemmas::range_found))]
 pub fn key_range(front: &[u8]) -> Result<Option<(u128, u128)>, DecodeError>
     ensures exact { result ≡ range_of standard front.now }
+    ensures accepted { IsOk result ↔ AreLetters standard front.now }
+    ensures named { (byte index : ℕ) → result ≡ Err (InvalidBase62Byte byte index)
+        → IsFirstInvalid standard front.now byte index }
     ensures none { AreLetters standard front.now → (result ≡ Ok None ↔ ((n : ℕ) (key : List ℕ)
         → n < 2 ^ 128 → IsKey standard key n → BeginsWith front.now key → ⊥)) }
     ensures scan { (least greatest : ℕ) → result ≡ Ok (Some (least, greatest))
@@ -51,23 +58,47 @@ pub fn key_range(front: &[u8]) -> Result<Option<(u128, u128)>, DecodeError>
         → IsKey standard low least → IsKey standard key n → IsKey standard high greatest
         → (BeginsWith front.now key ↔ (IsNotAfter low key × IsNotAfter key high)) }
 {
+    check_letters(front)?;
+    Ok(ends_of(front))
+}
+
+// Refuses a front that has a byte which is no letter, and names the first.
+#[tactic(auto, using(crate::proofs::KeyCodeLemmas::letters_alone))]
+fn check_letters(front: &[u8]) -> Result<(), DecodeError>
+    ensures ok { OnOk result (AreLetters standard front.now) }
+    ensures err { IfErr result (λ e. (byte index : ℕ) × (e ≡ InvalidBase62Byte byte index)
+        × IsFirstInvalid standard front.now byte index) }
+{
+    // Each byte is decoded alone, for a whole front may overflow before decoding names a bad byte.
     for (index, byte) in front.iter().enumerate() {
         if decode(&[*byte]).is_err() {
             return Err(DecodeError::InvalidBase62Byte(*byte, index));
         }
     }
+    Ok(())
+}
+
+// The ends of the interval of a front of letters, if it has any.
+#[tactic(auto, using(crate::proofs::KeyCodeLemmas::ends_computed))]
+fn ends_of(front: &[u8]) -> Option<(u128, u128)>
+    requires { AreLetters standard front.now }
+    ensures { result ≡ interval_ends standard front.now }
+{
+    // 62^22 is no u128, so the empty front, with which all keys begin, stands apart.
     if front.is_empty() {
-        return Ok(Some((0, u128::MAX)));
+        return Some((0, u128::MAX));
     }
     if front.len() > KEY_LEN {
-        return Ok(None);
+        return None;
     }
+    // Decoding refuses a text of letters for an overflow alone.
     let Ok(value) = decode(front) else {
-        return Ok(None);
+        return None;
     };
     let span = 62u128.pow((KEY_LEN - front.len()) as u32);
     let Some(least) = value.checked_mul(span) else {
-        return Ok(None);
+        return None;
     };
-    Ok(Some((least, least.saturating_add(span - 1))))
+    // The sum saturates at 2^128 - 1, so it is the lesser of the two ends.
+    Some((least, least.saturating_add(span - 1)))
 }

@@ -82,12 +82,14 @@ pub fn exchange_of_case()
 {}
 
 /// Over any alphabet each number below 62^22 has a key, which is a text of exactly 22 letters that denotes it,
-/// and has only one.
+/// and has only one. Decoding gives back the number below 2^128 of its key.
 pub fn keys()
     ensures exists { (B : List ℕ) → IsAlphabet B → (n : ℕ) → n < 62 ^ 22
         → (key : List ℕ) × IsKey B key n }
     ensures only { (B : List ℕ) → IsAlphabet B → (n : ℕ) (a b : List ℕ)
         → IsKey B a n → IsKey B b n → a ≡ b }
+    ensures decoded { (B : List ℕ) → IsAlphabet B → (n : ℕ) → n < 2 ^ 128 → (key : List ℕ)
+        → IsKey B key n → decoding B key ≡ Ok n }
 {}
 
 /// Over an alphabet whose letters ascend by byte, as the standard ones do, texts of letters of one length
@@ -104,19 +106,18 @@ pub fn order_of_texts()
         → IsCanonical B a m → IsCanonical B b n → length_first_order a b ≡ nat_cmp m n }
 {}
 
-/// Over any alphabet the key of a number begins with a front of at most 22 letters exactly where the number is
-/// in the front's interval. The ends of an interval are the least and the greatest number below 2^128 in it,
-/// and there are none exactly where there is no such number.
+/// Over any alphabet the key of a number below 2^128 begins with a front of at most 22 letters exactly where
+/// the number is in the front's interval. The numbers from the one end of an interval to the other are those in
+/// it, so its ends are the least and the greatest of them, and there are none exactly where it is empty.
 pub fn fronts()
-    ensures begins { (B : List ℕ) → IsAlphabet B → (front key : List ℕ) (n : ℕ)
+    ensures begins { (B : List ℕ) → IsAlphabet B → (front key : List ℕ) (n : ℕ) → n < 2 ^ 128
         → AreLetters B front → length front ≤ 22 → IsKey B key n
         → (BeginsWith front key ↔ IsInInterval B front n) }
     ensures none { (B : List ℕ) → IsAlphabet B → (front : List ℕ) → AreLetters B front
-        → (interval_ends B front ≡ None ↔ ((n : ℕ) → n < 2 ^ 128 → IsInInterval B front n → ⊥)) }
+        → (interval_ends B front ≡ None ↔ ((n : ℕ) → IsInInterval B front n → ⊥)) }
     ensures ends { (B : List ℕ) → IsAlphabet B → (front : List ℕ) (least greatest : ℕ) → AreLetters B front
         → interval_ends B front ≡ Some (least, greatest)
-        → (least ≤ greatest) × (greatest < 2 ^ 128)
-        × ((n : ℕ) → n < 2 ^ 128 → (IsInInterval B front n ↔ ((least ≤ n) × (n ≤ greatest)))) }
+        → (least ≤ greatest) × ((n : ℕ) → (IsInInterval B front n ↔ ((least ≤ n) × (n ≤ greatest)))) }
 {}
 
 /// How faults of decoding compare: an overflow is least, then comes the empty input, and then bad

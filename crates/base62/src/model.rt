@@ -1,7 +1,7 @@
 //! The definitions that the contracts cite, which stand in `specs/`, computed on examples.
 //!
 //! No call here takes part in a run: each states facts about the definitions alone.
-#![tactic(auto, unfolding(crate::specs::Alphabet::standard, crate::specs::Alphabet::alternative, crate::specs::Alphabet::digit_of, crate::specs::Places::sum_over_places, crate::specs::Value::value, crate::specs::Decoding::decoding, crate::specs::Fault::escaped, crate::specs::Padding::displayed, crate::specs::Case::other_case))]
+#![tactic(auto, unfolding(crate::specs::Alphabet::standard, crate::specs::Alphabet::alternative, crate::specs::Alphabet::digit_of, crate::specs::Places::sum_over_places, crate::specs::Value::value, crate::specs::Decoding::decoding, crate::specs::Fault::escaped, crate::specs::Padding::displayed, crate::specs::Case::other_case, crate::specs::Key::interval_ends))]
 
 ghost use Rattle.std.specs.Prelude.{◌≡◌, ◌^◌, ◌-◌, ◌++◌, [], ◌∷◌, replicate, codes, Ok, Err, Some, None};
 ghost use Rattle.std.specs.declared.cmp.Ordering.TheVariants.{Less, Equal, Greater};
@@ -13,6 +13,7 @@ ghost use Rattle.base62.specs.Decoding.{decoding};
 ghost use Rattle.base62.specs.Fault.{escaped};
 ghost use Rattle.base62.specs.Case.{exchange_case};
 ghost use Rattle.base62.specs.Laws.{without_zeros, AgreesAtLetters};
+ghost use Rattle.base62.specs.Key.{IsKey, range_of};
 ghost use Rattle.base62.specs.Order.{byte_order, length_first_order, Ascends};
 ghost use Rattle.base62.specs.Padding.{padded_to, displayed};
 ghost use Rattle.base62.specs.declared.fault.DecodeError.TheVariants.{ArithmeticOverflow, EmptyInput, InvalidBase62Byte};
@@ -110,4 +111,20 @@ pub fn laws_by_example()
     ensures needless_zero { without_zeros standard (codes "00LZ") ≡ codes "LZ" }
     ensures zeros_alone { without_zeros standard (codes "000") ≡ codes "0" }
     ensures agrees { AgreesAtLetters standard (codes "1!") (codes "1z") }
+{}
+
+/// Keys and ranges of fronts; 48 is `0` and 33 is `!`.
+pub fn ranges_by_example()
+    ensures key { IsKey standard (replicate 20 48 ++ codes "LZ") 1337 }
+    ensures whole_key { range_of standard (replicate 20 48 ++ codes "LZ") ≡ Ok (Some (1337, 1337)) }
+    ensures all_but_one { range_of standard (replicate 20 48 ++ codes "L") ≡ Ok (Some (1302, 1363)) }
+    ensures no_letter { range_of standard [] ≡ Ok (Some (0, 2 ^ 128 - 1)) }
+    ensures first_zero { range_of standard (codes "0")
+        ≡ Ok (Some (0, 43674252383913877424036476406214950911)) }
+    ensures cut_at_the_greatest { range_of standard (codes "7n")
+        ≡ Ok (Some (340236514539200045093703517809706795008, 2 ^ 128 - 1)) }
+    ensures above { range_of standard (codes "7o") ≡ Ok None }
+    ensures overlong { range_of standard (replicate 23 48) ≡ Ok None }
+    ensures bad_byte { range_of standard (codes "7o!") ≡ Err (InvalidBase62Byte 33 2) }
+    ensures bad_in_overlong { range_of standard (replicate 23 48 ++ 33 ∷ []) ≡ Err (InvalidBase62Byte 33 23) }
 {}

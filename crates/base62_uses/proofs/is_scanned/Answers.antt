@@ -1,6 +1,7 @@
-use Rattle.std.proofs.Common.{refl, sym, ◌∙◌}
+use Rattle.std.proofs.Common.{refl}
+use Rattle.std.proofs.lemmas.Bool.{false≢true}
 use Rattle.base62.specs.Alphabet.{standard}
-use Rattle.base62.proofs.FrontLemmas.{none_begin_with_bad}
+use Rattle.base62.proofs.FrontLemmas.{front_letters}
 use Rattle.base62.proofs.OrderLemmas.{le_iff_not_after}
 use Rattle.base62_uses.proofs.is_scanned.Goals as goal
 
@@ -8,7 +9,7 @@ use Rattle.base62_uses.proofs.is_scanned.Goals as goal
 pub returns-in_default-2 : goal.returns-in_default-2
 returns-in_default-2 c = λ n small is. (
   λ t. cc,
-  λ begins. absurd (none_begin_with_bad standard _ _ n c.in_default.field-0 (sym c.key_range.ensures.exact ∙ c.in_default.is) is begins),
+  λ begins. absurd (false≢true (rw c.in_default.is at (c.key_range.ensures.accepted.1 (front_letters standard _ _ n is begins)))),
 )
 
 pub returns-then-le : goal.returns-then-le

@@ -2,7 +2,7 @@ use Rattle.base62.proofs.FrontLemmas.{in_interval, begins_with, none_inside, no_
 use Rattle.base62.proofs.laws.fronts.Goals as goal
 
 pub returns-clause-begins : goal.returns-clause-begins
-returns-clause-begins c = λ B ok front key n letters short is. (in_interval B ok front key n short is, begins_with B ok front key n letters is)
+returns-clause-begins c = λ B ok front key n small letters short is. (in_interval B ok front key n small short is, begins_with B ok front key n letters is)
 
 pub returns-clause-none : goal.returns-clause-none
 returns-clause-none c = λ B ok front letters. (none_inside B front, no_ends B front)

@@ -19,6 +19,7 @@ use crate::fault;
 use std::hash::Hash;
 
 /// The standard and the alternative alphabet each are 62 bytes, of which no two are equal.
+#[tactic(auto, using(crate::proofs::AlphabetLemmas::standard_is_alphabet, crate::proofs::AlphabetLemmas::alternative_is_alphabet))]
 pub fn built_in_alphabets()
     ensures standard { IsAlphabet standard }
     ensures alternative { IsAlphabet alternative }
@@ -83,6 +84,7 @@ pub fn exchange_of_case()
 
 /// Over any alphabet each number below 62^22 has a key, which is a text of exactly 22 letters that denotes it,
 /// and has only one. Decoding gives back the number below 2^128 of its key.
+#[tactic(auto, using(crate::proofs::KeyLemmas::some_key, crate::proofs::KeyLemmas::one_key, crate::proofs::KeyLemmas::key_decodes))]
 pub fn keys()
     ensures exists { (B : List ℕ) → IsAlphabet B → (n : ℕ) → n < 62 ^ 22
         → (key : List ℕ) × IsKey B key n }
@@ -95,6 +97,7 @@ pub fn keys()
 /// Over an alphabet whose letters ascend by byte, as the standard ones do, texts of letters of one length
 /// compare by their bytes as their values, and so keys compare as their numbers. Canonical texts compare as
 /// their numbers where the shorter comes first and texts of one length go by their bytes.
+#[tactic(auto, using(crate::proofs::OrderLemmas::standard_ascends, crate::proofs::OrderLemmas::texts_compare, crate::proofs::OrderLemmas::keys_compare, crate::proofs::OrderLemmas::canonical_compare))]
 pub fn order_of_texts()
     ensures standard { Ascends standard }
     ensures one_length { (B : List ℕ) → IsAlphabet B → Ascends B → (a b : List ℕ)

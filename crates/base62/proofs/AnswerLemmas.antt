@@ -11,8 +11,8 @@ use Rattle.base62.specs.declared.fault.DecodeError.TheVariants.{ArithmeticOverfl
 use Rattle.base62.specs.Alphabet.{IsAlphabet, AreLetters, is_letter, zero_letter}
 use Rattle.base62.specs.Value.{value}
 use Rattle.base62.specs.Canonical.{Denotes, IsCanonical}
-use Rattle.base62.specs.Decoding.{decoding, leading_zeros, rest, first_invalid}
-use Rattle.base62.specs.Laws.{AgreesAtLetters, AnswerTells, IsFirstInvalid, number_or_overflow, without_zeros}
+use Rattle.base62.specs.Decoding.{decoding, leading_zeros, rest, first_invalid, IsFirstInvalid}
+use Rattle.base62.specs.Laws.{AgreesAtLetters, AnswerTells, number_or_overflow, without_zeros}
 use Rattle.base62.proofs.AlphabetLemmas.{is_letter-letter, digit_or_zero-letter}
 use Rattle.base62.proofs.ValueLemmas.{value-nil, value-append, value-one}
 use Rattle.base62.proofs.DecodingLemmas.{letter_before, value-rest}

@@ -11,9 +11,9 @@ use Rattle.base62.specs.declared.fault.DecodeError.{DecodeError}
 use Rattle.base62.specs.declared.fault.DecodeError.TheVariants.{InvalidBase62Byte}
 use Rattle.base62.specs.Alphabet.{IsAlphabet, AreLetters, is_letter}
 use Rattle.base62.specs.Value.{value}
-use Rattle.base62.specs.Laws.{IsFirstInvalid}
-use Rattle.base62.specs.Key.{IsKey, BeginsWith, IsInInterval, span, interval_ends, range_of}
-use Rattle.base62.specs.Order.{IsNotAfter, Ascends}
+use Rattle.base62.specs.Decoding.{IsFirstInvalid}
+use Rattle.base62.specs.Key.{IsKey, BeginsWith, BeginsNoKey, BeginsKeysOf, BeginsKeysBetween, IsInInterval, span, interval_ends, range_of}
+use Rattle.base62.specs.Order.{Ascends}
 use Rattle.base62.proofs.ValueLemmas.{value-nil, value-append, value-lt, same_text}
 use Rattle.base62.proofs.FixedLemmas.{fixed}
 use Rattle.base62.proofs.KeyLemmas.{key-fixed}
@@ -168,10 +168,6 @@ range_of-bad B front byte index first =
     let some_bad : list_all (is_letter B) front ≡ false = false_from_ne_true _ (λ t. false≢true (sym bad ∙ AllPass-from_list_all (is_letter B) front t index 0 first.within)) in
     rw (some_bad, place, first.byte_is)
 
--- no key of a number below 2^128 begins with the front
-abbrev pub BeginsNoKey : List ℕ → List ℕ → Type 0
-BeginsNoKey B front = (n : ℕ) (key : List ℕ) → n < 2 ^ 128 → IsKey B key n → BeginsWith front key → ⊥
-
 begins_no_key : (B : List ℕ) → IsAlphabet B → (front : List ℕ) → interval_ends B front ≡ None → BeginsNoKey B front
 begins_no_key B ok front none = λ n key small is begins.
     none_inside B front none n (in_interval B ok front key n small (begins_short B front key n is begins) is begins)
@@ -188,15 +184,24 @@ range_none B ok front r letters is = (
   λ h. is ∙ ap Ok (no_ends_of B ok front letters h),
 )
 
--- where letters ascend, the keys that begin with a front are the ones from the key of the least number to that of the greatest
-pub range_scan : (B : List ℕ) → IsAlphabet B → Ascends B → (front : List ℕ) (r : Result (Option (ℕ × ℕ)) DecodeError) → AreLetters B front → r ≡ Ok (interval_ends B front)
-    → (least greatest : ℕ) → r ≡ Ok (Some (least, greatest))
-    → (low key high : List ℕ) (n : ℕ) → n < 2 ^ 128 → IsKey B low least → IsKey B key n → IsKey B high greatest
-    → (BeginsWith front key ↔ (IsNotAfter low key × IsNotAfter key high))
-range_scan B ok up front r letters answer least greatest e low key high n small lo is hi =
-    let between = (ends_are B front least greatest (cc)).1 n in
+-- the keys that begin with a front are those of the numbers from its one end to the other
+pub range_ends : (B : List ℕ) → IsAlphabet B → (front : List ℕ) (r : Result (Option (ℕ × ℕ)) DecodeError) → AreLetters B front → r ≡ Ok (interval_ends B front)
+    → (least greatest : ℕ) → r ≡ Ok (Some (least, greatest)) → BeginsKeysOf B front least greatest
+range_ends B ok front r letters answer least greatest e =
+    let ends = ends_are B front least greatest (cc) in
+    record {
+      some = ends.0;
+      keys = λ n key small is. (
+        λ begins. (ends.1 n).0 (in_interval B ok front key n small (begins_short B front key n is begins) is begins),
+        λ between. begins_with B ok front key n letters is ((ends.1 n).1 between),
+      );
+    }
+
+-- where letters ascend, they are the ones from the key of the least number to that of the greatest
+pub range_scan : (B : List ℕ) → IsAlphabet B → Ascends B → (front : List ℕ) (least greatest : ℕ) → BeginsKeysOf B front least greatest → BeginsKeysBetween B front least greatest
+range_scan B ok up front least greatest ends low key high n small lo is hi =
     let lower = not_after_iff B ok up low key least n lo is in
     let upper = not_after_iff B ok up key high n greatest is hi in (
-      λ begins. let at = between.0 (in_interval B ok front key n small (begins_short B front key n is begins) is begins) in (lower.1 at.0, upper.1 at.1),
-      λ h. begins_with B ok front key n letters is (between.1 (lower.0 h.0, upper.0 h.1)),
+      λ begins. let at = (ends.keys n key small is).0 begins in (lower.1 at.0, upper.1 at.1),
+      λ h. (ends.keys n key small is).1 (lower.0 h.0, upper.0 h.1),
     )

@@ -1,5 +1,5 @@
 -- What decoding answers for every text, by seven cases of which the first that fits decides.
-use Rattle.std.specs.Prelude.{ℕ, ◌*◌, ◌^◌, ◌==◌, ◌&&◌, nat_lt, nat_le, not, if◌then◌else◌, List, length, take, drop, slice_index, Result, Ok, Err}
+use Rattle.std.specs.Prelude.{◌≡◌, ℕ, ◌*◌, ◌^◌, ◌<◌, ◌==◌, ◌&&◌, nat_lt, nat_le, true, false, not, if◌then◌else◌, List, length, take, drop, slice_index, Result, Ok, Err}
 use Rattle.std.specs.List.{prefix_len, list_all}
 use Rattle.base62.specs.declared.fault.DecodeError.{DecodeError}
 use Rattle.base62.specs.declared.fault.DecodeError.TheVariants.{ArithmeticOverflow, EmptyInput, InvalidBase62Byte}
@@ -33,3 +33,10 @@ decoding B text =
     else if not (list_all (is_letter B) (rest B text)) then Err (first_invalid B text)
     else if nat_le (2 ^ 128) (value B (rest B text)) then Err ArithmeticOverflow
     else Ok (value B text)
+
+-- the byte at the index is no letter, and each before it is one
+pub record IsFirstInvalid (B text : List ℕ) (byte index : ℕ) : Type 0 where
+  pub within : index < length text
+  pub byte_is : byte ≡ slice_index text index
+  pub no_letter : is_letter B byte ≡ false
+  pub letters_before : (i : ℕ) → i < index → is_letter B (slice_index text i) ≡ true

@@ -1,11 +1,11 @@
 -- What the laws of texts speak of, over the definitions alone.
-use Rattle.std.specs.Prelude.{◌≡◌, ◌≢◌, ℕ, ◌+◌, ◌<◌, ◌≤◌, ◌==◌, ◌^◌, ◌↔◌, ◌⊎◌, nat_lt, true, false, if◌then◌else◌, List, [], ◌∷◌, length, slice_index, Result, Ok, Err, IsOk}
+use Rattle.std.specs.Prelude.{◌≡◌, ◌≢◌, ℕ, ◌+◌, ◌<◌, ◌≤◌, ◌==◌, ◌^◌, ◌↔◌, ◌⊎◌, nat_lt, true, if◌then◌else◌, List, [], ◌∷◌, length, slice_index, Result, Ok, Err, IsOk}
 use Rattle.base62.specs.declared.fault.DecodeError.{DecodeError}
 use Rattle.base62.specs.declared.fault.DecodeError.TheVariants.{ArithmeticOverflow, EmptyInput, InvalidBase62Byte}
 use Rattle.base62.specs.Alphabet.{AreLetters, is_letter, zero_letter}
 use Rattle.base62.specs.Value.{value}
 use Rattle.base62.specs.Canonical.{IsCanonical}
-use Rattle.base62.specs.Decoding.{decoding, rest}
+use Rattle.base62.specs.Decoding.{decoding, rest, IsFirstInvalid}
 
 -- a nonempty text has one letter, or begins with another than the zero letter
 abbrev pub HasNoNeedlessZero : List ℕ → List ℕ → Type 0
@@ -14,13 +14,6 @@ HasNoNeedlessZero B text = (0 < length text) × ((length text ≡ 1) ⊎ (slice_
 -- a text without its leading zeros, but for the last where it has nothing else
 abbrev pub without_zeros : List ℕ → List ℕ → List ℕ
 without_zeros B text = if length (rest B text) == 0 then zero_letter B ∷ [] else rest B text
-
--- the byte at the index is no letter, and each before it is one
-pub record IsFirstInvalid (B text : List ℕ) (byte index : ℕ) : Type 0 where
-  pub within : index < length text
-  pub byte_is : byte ≡ slice_index text index
-  pub no_letter : is_letter B byte ≡ false
-  pub letters_before : (i : ℕ) → i < index → is_letter B (slice_index text i) ≡ true
 
 -- another text of the same length is letters alone, and has each letter of the text at its place
 pub record AgreesAtLetters (B text other : List ℕ) : Type 0 where

@@ -3,6 +3,7 @@ pub mod Places
 pub mod Value
 pub mod Canonical
 pub mod Decoding
+pub mod Encoding
 pub mod Fault
 pub mod Padding
 pub mod Case

@@ -1,10 +1,11 @@
 //! Encoding into a buffer, and decoding.
 
-ghost use Rattle.std.specs.Prelude.{◌≡◌, ◌+◌, ◌<◌, ◌≤◌, ◌↔◌, ◌^◌, length, take, drop, IsOk, IfOk, IfErr, OnErr, slice_index};
+ghost use Rattle.std.specs.Prelude.{◌≡◌, ◌+◌, ◌<◌, ◌≤◌, ◌^◌, length, drop, IfOk, IfErr, slice_index};
 ghost use Rattle.std.specs.List.{prefix_len};
 ghost use Rattle.base62.specs.Alphabet.{IsAlphabet, AreLetters, is_letter, standard, alternative};
 ghost use Rattle.base62.specs.Value.{value};
-ghost use Rattle.base62.specs.Canonical.{IsCanonical, CanonicalFits};
+ghost use Rattle.base62.specs.Canonical.{IsCanonical};
+ghost use Rattle.base62.specs.Encoding.{EncodesInto};
 ghost use Rattle.base62.specs.Decoding.{decoding, leading_zeros};
 ghost use Rattle.base62.specs.declared.fault.DecodeError.TheVariants.{InvalidBase62Byte};
 
@@ -33,13 +34,7 @@ const FIRST_CHUNK: usize = 10;
 /// ```
 #[tactic(auto, using(crate::proofs::AlphabetLemmas::standard_is_alphabet), unfolding(crate::specs::Alphabet::standard))]
 pub fn encode_bytes<T: Number>(num: T, buf: &mut [u8]) -> Result<usize, EncodeError>
-    ensures fits { IsOk result ↔ CanonicalFits standard (T.meaning num) (length buf.old) }
-    ensures text { IfOk result (λ n. (n ≤ length buf.new)
-        × IsCanonical standard (take n buf.new) (T.meaning num)) }
-    ensures others { IfOk result (λ n. drop n buf.new ≡ drop n buf.old) }
-    ensures short { IfOk result (λ n. (1 ≤ n) × (n ≤ 22)) }
-    ensures refused { OnErr result (buf.new ≡ buf.old) }
-    ensures roomy { 22 ≤ length buf.old → IsOk result }
+    ensures { EncodesInto standard (T.meaning num) buf.old buf.new result }
 {
     encode_over(&STANDARD, num.number(), buf)
 }
@@ -58,13 +53,7 @@ pub fn encode_bytes<T: Number>(num: T, buf: &mut [u8]) -> Result<usize, EncodeEr
 /// ```
 #[tactic(auto, using(crate::proofs::AlphabetLemmas::alternative_is_alphabet), unfolding(crate::specs::Alphabet::alternative))]
 pub fn encode_alternative_bytes<T: Number>(num: T, buf: &mut [u8]) -> Result<usize, EncodeError>
-    ensures fits { IsOk result ↔ CanonicalFits alternative (T.meaning num) (length buf.old) }
-    ensures text { IfOk result (λ n. (n ≤ length buf.new)
-        × IsCanonical alternative (take n buf.new) (T.meaning num)) }
-    ensures others { IfOk result (λ n. drop n buf.new ≡ drop n buf.old) }
-    ensures short { IfOk result (λ n. (1 ≤ n) × (n ≤ 22)) }
-    ensures refused { OnErr result (buf.new ≡ buf.old) }
-    ensures roomy { 22 ≤ length buf.old → IsOk result }
+    ensures { EncodesInto alternative (T.meaning num) buf.old buf.new result }
 {
     encode_over(&ALTERNATIVE, num.number(), buf)
 }
@@ -119,13 +108,7 @@ pub fn decode_alternative(input: &[u8]) -> Result<u128, DecodeError>
 // The encoder over any alphabet.
 fn encode_over(letters: &Letters, n: u128, buf: &mut [u8]) -> Result<usize, EncodeError>
     requires { IsAlphabet letters.now }
-    ensures fits { IsOk result ↔ CanonicalFits letters.now n (length buf.old) }
-    ensures text { IfOk result (λ len. (len ≤ length buf.new)
-        × IsCanonical letters.now (take len buf.new) n) }
-    ensures others { IfOk result (λ len. drop len buf.new ≡ drop len buf.old) }
-    ensures short { IfOk result (λ len. (1 ≤ len) × (len ≤ 22)) }
-    ensures refused { OnErr result (buf.new ≡ buf.old) }
-    ensures roomy { 22 ≤ length buf.old → IsOk result }
+    ensures { EncodesInto letters.now n buf.old buf.new result }
 {
     let count = digit_count(n);
     if buf.len() < count {

@@ -1,10 +1,9 @@
 //! Keys of a fixed number of letters, which sort as their numbers, and the range of those that begin alike.
 
-ghost use Rattle.std.specs.Prelude.{◌≡◌, ◌<◌, ◌^◌, ◌↔◌, ℕ, List, Ok, Err, Some, None, IsOk, OnOk, IfErr};
+ghost use Rattle.std.specs.Prelude.{◌≡◌, ◌↔◌, ℕ, Ok, Err, Some, None, IsOk, OnOk, IfErr};
 ghost use Rattle.base62.specs.Alphabet.{AreLetters, standard};
-ghost use Rattle.base62.specs.Key.{IsKey, BeginsWith, interval_ends, range_of};
-ghost use Rattle.base62.specs.Laws.{IsFirstInvalid};
-ghost use Rattle.base62.specs.Order.{IsNotAfter};
+ghost use Rattle.base62.specs.Key.{IsKey, BeginsNoKey, BeginsKeysOf, BeginsKeysBetween, interval_ends, range_of};
+ghost use Rattle.base62.specs.Decoding.{IsFirstInvalid};
 ghost use Rattle.base62.specs.declared.fault.DecodeError.TheVariants.{InvalidBase62Byte};
 
 use crate::codec::{MAX_DIGITS, decode, encode_bytes};
@@ -51,12 +50,12 @@ pub fn key_range(front: &[u8]) -> Result<Option<(u128, u128)>, DecodeError>
     ensures accepted { IsOk result ↔ AreLetters standard front.now }
     ensures named { (byte index : ℕ) → result ≡ Err (InvalidBase62Byte byte index)
         → IsFirstInvalid standard front.now byte index }
-    ensures none { AreLetters standard front.now → (result ≡ Ok None ↔ ((n : ℕ) (key : List ℕ)
-        → n < 2 ^ 128 → IsKey standard key n → BeginsWith front.now key → ⊥)) }
+    ensures none { AreLetters standard front.now
+        → (result ≡ Ok None ↔ BeginsNoKey standard front.now) }
+    ensures ends { (least greatest : ℕ) → result ≡ Ok (Some (least, greatest))
+        → BeginsKeysOf standard front.now least greatest }
     ensures scan { (least greatest : ℕ) → result ≡ Ok (Some (least, greatest))
-        → (low key high : List ℕ) (n : ℕ) → n < 2 ^ 128
-        → IsKey standard low least → IsKey standard key n → IsKey standard high greatest
-        → (BeginsWith front.now key ↔ (IsNotAfter low key × IsNotAfter key high)) }
+        → BeginsKeysBetween standard front.now least greatest }
 {
     check_letters(front)?;
     Ok(ends_of(front))

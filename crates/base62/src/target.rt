@@ -2,9 +2,9 @@
 
 ghost use Rattle.std.specs.Prelude.{◌≡◌, ◌+◌, ◌-◌, ◌≤◌, ◌++◌, ℕ, List, length, IsOk, IfOk, OnOk, OnErr};
 ghost use Rattle.std.specs.String.{string_bytes, string_len, string_capacity};
-ghost use Rattle.std.specs.Io.KnownBytes.{Appends};
 ghost use Rattle.base62.specs.Alphabet.{standard, alternative};
-ghost use Rattle.base62.specs.Canonical.{IsCanonical, CanonicalFits};
+ghost use Rattle.base62.specs.Canonical.{IsCanonical};
+ghost use Rattle.base62.specs.Encoding.{AppendsTo, WritesCanonical};
 
 use crate::number::Number;
 use crate::text::Text;
@@ -59,13 +59,7 @@ pub fn encode_alternative<T: Number>(alloc: Global, num: T) -> Result<String, Al
 /// ```
 #[tactic(auto, using(crate::proofs::TextLemmas::canonical_fits))]
 pub fn encode_buf<T: Number>(num: T, buf: &mut String) -> Result<(), AllocError>
-    ensures ok { OnOk result ((text : List ℕ) × IsCanonical standard text (T.meaning num)
-        × (string_bytes buf.new ≡ string_bytes buf.old ++ text)) }
-    ensures err { OnErr result ((string_bytes buf.new ≡ string_bytes buf.old)
-        × (string_capacity buf.new ≡ string_capacity buf.old)) }
-    ensures fits { CanonicalFits standard (T.meaning num) (string_capacity buf.old - string_len buf.old)
-        → IsOk result }
-    ensures roomy { string_len buf.old + 22 ≤ string_capacity buf.old → IsOk result }
+    ensures { AppendsTo standard (T.meaning num) buf.old buf.new result }
 {
     append(&Text::standard(num), buf)
 }
@@ -83,13 +77,7 @@ pub fn encode_buf<T: Number>(num: T, buf: &mut String) -> Result<(), AllocError>
 /// ```
 #[tactic(auto, using(crate::proofs::TextLemmas::canonical_fits))]
 pub fn encode_alternative_buf<T: Number>(num: T, buf: &mut String) -> Result<(), AllocError>
-    ensures ok { OnOk result ((text : List ℕ) × IsCanonical alternative text (T.meaning num)
-        × (string_bytes buf.new ≡ string_bytes buf.old ++ text)) }
-    ensures err { OnErr result ((string_bytes buf.new ≡ string_bytes buf.old)
-        × (string_capacity buf.new ≡ string_capacity buf.old)) }
-    ensures fits { CanonicalFits alternative (T.meaning num)
-        (string_capacity buf.old - string_len buf.old) → IsOk result }
-    ensures roomy { string_len buf.old + 22 ≤ string_capacity buf.old → IsOk result }
+    ensures { AppendsTo alternative (T.meaning num) buf.old buf.new result }
 {
     append(&Text::alternative(num), buf)
 }
@@ -100,6 +88,7 @@ fn append(text: &Text, buf: &mut String) -> Result<(), AllocError>
         × (string_capacity buf.new ≡ string_capacity buf.old)) }
     ensures fits { length text.now ≤ string_capacity buf.old - string_len buf.old → IsOk result }
     ensures roomy { string_len buf.old + 22 ≤ string_capacity buf.old → IsOk result }
+    ensures capacity { string_capacity buf.old ≤ string_capacity buf.new }
 {
     let text = text.as_str();
     buf.reserve(text.len())?;
@@ -120,8 +109,7 @@ fn append(text: &Text, buf: &mut String) -> Result<(), AllocError>
 /// assert_eq!(rt; out.as_slice(), b"LZ".as_slice());
 /// ```
 pub fn encode_io<T: Number, W: Write>(num: T, w: &mut W) -> io::Result<()>
-    ensures { OnOk result ((text : List ℕ) × IsCanonical standard text (T.meaning num)
-        × Appends (W.contents w.old) (W.contents w.new) text) }
+    ensures { OnOk result (WritesCanonical standard (T.meaning num) (W.contents w.old) (W.contents w.new)) }
 {
     w.write_all(Text::standard(num).as_bytes())
 }
@@ -138,8 +126,7 @@ pub fn encode_io<T: Number, W: Write>(num: T, w: &mut W) -> io::Result<()>
 /// assert_eq!(rt; out.as_slice(), b"lz".as_slice());
 /// ```
 pub fn encode_alternative_io<T: Number, W: Write>(num: T, w: &mut W) -> io::Result<()>
-    ensures { OnOk result ((text : List ℕ) × IsCanonical alternative text (T.meaning num)
-        × Appends (W.contents w.old) (W.contents w.new) text) }
+    ensures { OnOk result (WritesCanonical alternative (T.meaning num) (W.contents w.old) (W.contents w.new)) }
 {
     w.write_all(Text::alternative(num).as_bytes())
 }

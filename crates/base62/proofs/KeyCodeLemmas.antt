@@ -14,7 +14,7 @@ use Rattle.base62.proofs.AlphabetLemmas.{is_letter-letter, standard_is_alphabet}
 use Rattle.base62.proofs.ValueLemmas.{value-lt_most}
 use Rattle.base62.proofs.AnswerLemmas.{answer_cases, decoding_accepts, letters_accepted}
 use Rattle.base62.proofs.ZeroLemmas.{value_front}
-use Rattle.base62.proofs.FrontLemmas.{span_some, span_fits, ends_empty, ends_long, ends_over, ends_above, ends_some, range_of-letters, range_of-bad, range_none}
+use Rattle.base62.proofs.FrontLemmas.{span_some, span_fits, ends_empty, ends_long, ends_over, ends_above, ends_some, range_of-letters, range_of-bad, range_none, range_ends}
 
 -- zero letters in front add nothing
 value-zeros : (B : List ℕ) → IsAlphabet B → (k : ℕ) (text : List ℕ) → value B (replicate k (zero_letter B) ++ text) ≡ value B text
@@ -80,4 +80,4 @@ refused_value B text ok some letters e refused = elim (cases_lt (value B text) (
 pub ruleset ends_computed = (standard_is_alphabet, accepted_value, refused_value, span_some, span_fits, ends_empty, ends_long, ends_over, ends_above, ends_some)
 
 -- the range, by the first byte that is no letter or by the ends
-pub ruleset range_found = (standard_is_alphabet, range_of-letters, range_of-bad, range_none)
+pub ruleset range_found = (standard_is_alphabet, range_of-letters, range_of-bad, range_none, range_ends)

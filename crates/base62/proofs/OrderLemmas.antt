@@ -5,7 +5,7 @@ use Rattle.std.specs.Ordering.{nat_cmp, is_le, ordering_then, partial_ordering_t
 use Rattle.std.specs.Cmp.{nat_cmp_is}
 use Rattle.std.specs.declared.cmp.Ordering.TheVariants.{Less, Equal, Greater}
 use Rattle.std.proofs.Math.Nat.{mul-le-mul_right}
-use Rattle.std.proofs.lemmas.Bool.{agree_below_at, cases_lt, cases_order, ltb-true}
+use Rattle.std.proofs.lemmas.Bool.{agree_below, agree_below_at, cases_lt, cases_order, ltb-true}
 use Rattle.std.proofs.lemmas.Cmp.{ranked}
 use Rattle.std.proofs.lemmas.List.Elements.{All-head, All-tail}
 use Rattle.std.proofs.lemmas.Map.Keys.{sorted_from_strictly_increasing, below_from_sorted}
@@ -18,10 +18,16 @@ use Rattle.base62.proofs.AlphabetLemmas.{letter-digit_of, digit_of-is, same_lett
 use Rattle.base62.proofs.ValueLemmas.{value-cons, value-lt, value-lt_most}
 use Rattle.base62.proofs.LengthLemmas.{no_needless_zero, needs_each}
 
--- the standard letters ascend
+-- the letter at a place is a lesser byte than the one after it
+abbrev pub rises : List ℕ → ℕ → Bool
+rises B d = ltb (get_or B d 0) (get_or B (d + 1) 0)
+
+pub ascends_by : (B : List ℕ) → agree_below (rises B) (λ d. true) 61 ≡ true → Ascends B
+ascends_by B all d h = ltb-true _ _ (agree_below_at (rises B) (λ d. true) 61 d all h)
+
 pub standard_ascends : Ascends standard
 unfolding standard
-standard_ascends d h = ltb-true _ _ (agree_below_at (λ d. ltb (get_or standard d 0) (get_or standard (d + 1) 0)) (λ d. true) 61 d refl h)
+standard_ascends = ascends_by standard refl
 
 -- what a comparison of two numbers answers
 less_is : (m n : ℕ) → m < n → nat_cmp m n ≡ Less

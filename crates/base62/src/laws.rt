@@ -145,3 +145,13 @@ pub fn order_of_encode_errors()
     ensures hashed_alike { (d e : EncodeError)
         → ⟦<fault::EncodeError as Hash>⟧.hash_input d ≡ ⟦<fault::EncodeError as Hash>⟧.hash_input e }
 {}
+
+/// A clone of a fault is the fault, and making one never fails.
+pub fn clones_of_errors()
+    ensures decode_error { (d e : DecodeError) → ⟦<fault::DecodeError as Clone>⟧.is_clone d e → e ≡ d }
+    ensures decode_error_always { (d : DecodeError)
+        → ⟦<fault::DecodeError as Clone>⟧.is_infallible d }
+    ensures encode_error { (d e : EncodeError) → ⟦<fault::EncodeError as Clone>⟧.is_clone d e → e ≡ d }
+    ensures encode_error_always { (d : EncodeError)
+        → ⟦<fault::EncodeError as Clone>⟧.is_infallible d }
+{}

@@ -4,6 +4,7 @@
 #![tactic(auto, unfolding(crate::specs::Alphabet::standard, crate::specs::Alphabet::alternative, crate::specs::Alphabet::digit_of, crate::specs::Places::sum_over_places, crate::specs::Value::value, crate::specs::Decoding::decoding, crate::specs::Fault::escaped, crate::specs::Padding::displayed, crate::specs::Case::other_case, crate::specs::Key::interval_ends))]
 
 ghost use Rattle.std.specs.Prelude.{◌≡◌, ◌^◌, ◌-◌, ◌++◌, [], ◌∷◌, replicate, codes, Ok, Err, Some, None};
+ghost use Rattle.std.specs.List.{range_with_len};
 ghost use Rattle.std.specs.declared.cmp.Ordering.TheVariants.{Less, Equal, Greater};
 ghost use Rattle.std.specs.declared.fmt.Alignment.TheVariants.{Left, Right, Center};
 ghost use Rattle.base62.specs.Alphabet.{IsAlphabet, standard, alternative};
@@ -47,6 +48,7 @@ pub fn decodings_by_example()
     ensures overflow_before_later_bad { decoding standard (codes "zzzzzzzzzz!00000000000") ≡ Err ArithmeticOverflow }
     ensures greatest_first_ten { decoding standard (codes "7n42DGM5Tf!00000000000") ≡ Err (InvalidBase62Byte 33 10) }
     ensures first_ten_one_more { decoding standard (codes "7n42DGM5Tg!00000000000") ≡ Err ArithmeticOverflow }
+    ensures overflow_shown_by_eleven { decoding standard (codes "7n42DGM5Tfm!0000000000") ≡ Err (InvalidBase62Byte 33 11) }
     ensures zero_bad_in_first_ten { decoding standard (codes "0zzzzzzzzz!000000000000") ≡ Err (InvalidBase62Byte 33 10) }
     ensures zero_overflow_first { decoding standard (codes "0zzzzzzzzzz!00000000000") ≡ Err ArithmeticOverflow }
     ensures last_bad { decoding standard (codes "7n42DGM5Tflk9n8mt7Fhc!") ≡ Err (InvalidBase62Byte 33 21) }
@@ -85,15 +87,23 @@ pub fn displays_by_example()
     ensures stands_centred { displayed None (Some 5) 32 2 (codes "LZ") ≡ Some (codes " LZ  ") }
     ensures stands_right { displayed None (Some 5) 32 3 (codes "LZ") ≡ Some (codes "   LZ") }
     ensures no_alignment { displayed None (Some 5) 32 0 (codes "LZ") ≡ Some (codes "LZ   ") }
+    ensures stands_left { displayed None (Some 5) 32 1 (codes "LZ") ≡ Some (codes "LZ   ") }
     ensures precision { displayed (Some 1) None 32 0 (codes "LZ") ≡ None }
 {}
 
-/// Another alphabet than the built-in ones: its zero letter is `a`, and `0` is the letter of digit 61.
+/// Other alphabets than the built-in ones: one whose zero letter is `a`, with `0` for digit 61; the bytes from
+/// 194 to 255, of which none is ASCII; and those from 33 to 94, which ascend.
 pub fn alphabets_by_example()
     ensures small_letters_first { IsAlphabet
         (codes "abcdefghijklmnopqrstuvwxyzABCDEFGHIJKLMNOPQRSTUVWXYZ1234567890") }
     ensures leading_zeros { decoding
         (codes "abcdefghijklmnopqrstuvwxyzABCDEFGHIJKLMNOPQRSTUVWXYZ1234567890") (codes "aa0") ≡ Ok 61 }
+    ensures above_ascii { IsAlphabet (range_with_len 194 62) }
+    ensures above_ascii_decoded { decoding (range_with_len 194 62) (194 ∷ 215 ∷ 229 ∷ []) ≡ Ok 1337 }
+    ensures above_ascii_refused { decoding (range_with_len 194 62) (codes "0") ≡ Err (InvalidBase62Byte 48 0) }
+    ensures from_33 { IsAlphabet (range_with_len 33 62) }
+    ensures from_33_ascends { Ascends (range_with_len 33 62) }
+    ensures from_33_decoded { decoding (range_with_len 33 62) (codes "!!6D") ≡ Ok 1337 }
 {}
 
 /// How some texts compare, and what does not ascend.

@@ -53,7 +53,7 @@ begins_with B ok front key n letters is inside =
     same_text B ok (take k key) front size (All-take P k key is.denotes.letters) letters same
 
 -- a front of a key is no longer than a key
-begins_short : (B front key : List ℕ) (n : ℕ) → IsKey B key n → BeginsWith front key → length front ≤ 22
+pub begins_short : (B front key : List ℕ) (n : ℕ) → IsKey B key n → BeginsWith front key → length front ≤ 22
 begins_short B front key n is begins =
     let size : min (length front) (length key) ≡ length front = sym (length-take (length front) key) ∙ ap length begins in
     omega (arith, size, is.size)

@@ -1,7 +1,6 @@
 -- Texts over an alphabet whose letters ascend compare as the numbers that they denote.
-use Rattle.std.proofs.Common.{Bool, true, ◌≡◌, ◌≢◌, ◌↔◌, ℕ, ◌+◌, ◌-◌, ◌*◌, ◌^◌, ◌<◌, ◌≤◌, ltb, List, [], ◌∷◌, length, get_or, Option, Some, Ordering, refl, sym, ◌∙◌, inl, inr, arith}
-use Rattle.std.specs.Cmp.Lexicographic.{slice_partial_cmp}
-use Rattle.std.specs.Ordering.{nat_cmp, is_le, ordering_then, partial_ordering_then, partial_le}
+use Rattle.std.proofs.Common.{Bool, true, ◌≡◌, ◌≢◌, ◌↔◌, ℕ, ◌+◌, ◌-◌, ◌*◌, ◌^◌, ◌<◌, ◌≤◌, ltb, List, [], ◌∷◌, length, get_or, refl, sym, ◌∙◌, inl, inr, arith}
+use Rattle.std.specs.Ordering.{nat_cmp, ordering_then}
 use Rattle.std.specs.Cmp.{nat_cmp_is}
 use Rattle.std.specs.declared.cmp.Ordering.TheVariants.{Less, Equal, Greater}
 use Rattle.std.proofs.Math.Nat.{mul-le-mul_right}
@@ -120,26 +119,3 @@ at_most_iff m n = elim (cases_lt n m) [
 -- one key is before another, or is the same, exactly where its number is at most the other's
 pub not_after_iff : (B : List ℕ) → IsAlphabet B → Ascends B → (a b : List ℕ) (m n : ℕ) → IsKey B a m → IsKey B b n → (IsNotAfter a b ↔ (m ≤ n))
 not_after_iff B ok up a b m n p q = rw (keys_compare B ok up a b m n p q) (at_most_iff m n)
-
--- ---- bytes compared by `<=`
-
-partial_then : (o p : Ordering) → partial_ordering_then (Some o) (Some p) ≡ Some (ordering_then o p)
-partial_then Less p = refl
-partial_then Equal p = refl
-partial_then Greater p = refl
-
-bytes_compared : (C : ℕ → ℕ → Option Ordering) → ((x y : ℕ) → C x y ≡ Some (nat_cmp x y)) → (a b : List ℕ) → slice_partial_cmp C a b ≡ Some (byte_order a b)
-bytes_compared C same [] [] = refl
-bytes_compared C same [] (y ∷ ys) = refl
-bytes_compared C same (x ∷ xs) [] = refl
-bytes_compared C same (x ∷ xs) (y ∷ ys) = rw (same x y, bytes_compared C same xs ys) (partial_then (nat_cmp x y) (byte_order xs ys))
-
-le_not_greater : (o : Ordering) → (is_le o ≡ true) ↔ (o ≢ Greater)
-le_not_greater Less = (λ t e. cc, λ f. refl)
-le_not_greater Equal = (λ t e. cc, λ f. refl)
-le_not_greater Greater = (λ t e. cc, λ f. absurd (f refl))
-
--- what `<=` answers of two texts, for the order of bytes
-pub le_iff_not_after : (C : ℕ → ℕ → Option Ordering) → ((x y : ℕ) → C x y ≡ Some (nat_cmp x y)) → (a b : List ℕ) (answer : Bool) → answer ≡ partial_le (slice_partial_cmp C) a b → (answer ≡ true) ↔ IsNotAfter a b
-le_iff_not_after C same a b answer is =
-    let told : answer ≡ is_le (byte_order a b) = is ∙ rw (bytes_compared C same a b) refl in rw told (le_not_greater (byte_order a b))

@@ -1,8 +1,10 @@
 //! What follows from the definitions alone. No call here takes part in a run.
 
-ghost use Rattle.std.specs.Prelude.{◌≡◌, ◌+◌, ◌*◌, ◌<◌, ◌≤◌, ◌^◌, ◌↔◌, ◌∷◌, ◌++◌, ℕ, List, length, true, Ok, Some, None};
+ghost use Rattle.std.specs.Prelude.{◌≡◌, ◌+◌, ◌-◌, ◌*◌, ◌<◌, ◌≤◌, ◌^◌, ◌↔◌, ◌∷◌, ◌++◌, ℕ, List, length, replicate, true, Ok, Some, None};
 ghost use Rattle.std.specs.Ordering.{nat_cmp};
+ghost use Rattle.std.specs.Str.{IsAscii};
 ghost use Rattle.std.specs.declared.cmp.Ordering.TheVariants.{Equal};
+ghost use Rattle.std.specs.declared.fmt.Alignment.TheVariants.{Right};
 ghost use Rattle.base62.specs.Alphabet.{IsAlphabet, AreLetters, zero_letter, standard, alternative};
 ghost use Rattle.base62.specs.Value.{value};
 ghost use Rattle.base62.specs.Canonical.{IsCanonical};
@@ -12,6 +14,7 @@ ghost use Rattle.base62.specs.Key.{IsKey, BeginsWith, IsInInterval, interval_end
 ghost use Rattle.base62.specs.Order.{byte_order, length_first_order, Ascends};
 ghost use Rattle.base62.specs.Laws.{HasNoNeedlessZero, AnswerTells, number_or_overflow, one_place_on};
 ghost use Rattle.base62.specs.Fault.{decode_error_order};
+ghost use Rattle.base62.specs.Padding.{padded_to};
 ghost use Rattle.base62.specs.declared.fault.DecodeError.{DecodeError};
 ghost use Rattle.base62.specs.declared.fault.EncodeError.{EncodeError};
 
@@ -109,10 +112,12 @@ pub fn order_of_texts()
         → IsCanonical B a m → IsCanonical B b n → length_first_order a b ≡ nat_cmp m n }
 {}
 
-/// Over any alphabet the key of a number below 2^128 begins with a front of at most 22 letters exactly where
-/// the number is in the front's interval. The numbers from the one end of an interval to the other are those in
+/// Over any alphabet a front of a key is at most 22 letters. The key of a number below 2^128 begins with a front of
+/// at most 22 letters exactly where the number is in the front's interval. The numbers from the one end of an interval to the other are those in
 /// it, so its ends are the least and the greatest of them, and there are none exactly where it is empty.
 pub fn fronts()
+    ensures letters { (B front key : List ℕ) (n : ℕ) → IsKey B key n → BeginsWith front key
+        → AreLetters B front × (length front ≤ 22) }
     ensures begins { (B : List ℕ) → IsAlphabet B → (front key : List ℕ) (n : ℕ) → n < 2 ^ 128
         → AreLetters B front → length front ≤ 22 → IsKey B key n
         → (BeginsWith front key ↔ IsInInterval B front n) }
@@ -121,6 +126,17 @@ pub fn fronts()
     ensures ends { (B : List ℕ) → IsAlphabet B → (front : List ℕ) (least greatest : ℕ) → AreLetters B front
         → interval_ends B front ≡ Some (least, greatest)
         → (least ≤ greatest) × ((n : ℕ) → (IsInInterval B front n ↔ ((least ≤ n) × (n ≤ greatest)))) }
+{}
+
+/// The built-in alphabets are ASCII, and over an alphabet that is, so is each text of letters. A text of ASCII that
+/// stands at the right of a wider column has as many fills in front, if they are ASCII, as it is short of bytes.
+#[tactic(auto, using(crate::proofs::AlphabetLemmas::standard_is_ascii, crate::proofs::AlphabetLemmas::alternative_is_ascii, crate::proofs::PaddingLemmas::padded_right))]
+pub fn texts_of_ascii()
+    ensures standard { IsAscii standard }
+    ensures alternative { IsAscii alternative }
+    ensures letters { (B text : List ℕ) → IsAscii B → AreLetters B text → IsAscii text }
+    ensures right { (width fill : ℕ) (text : List ℕ) → IsAscii text → fill < 128
+        → padded_to (Some width) fill Right text ≡ replicate (width - length text) fill ++ text }
 {}
 
 /// How faults of decoding compare: an overflow is least, then comes the empty input, and then bad

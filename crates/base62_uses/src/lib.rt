@@ -36,6 +36,8 @@ pub fn link_id(text: &[u8]) -> Option<u64>
 pub fn id_of_own_link(id: u64) -> Option<u64>
     ensures { result ≡ Some id }
 {
+    base62::laws::built_in_alphabets();
+    base62::laws::round_trip();
     let mut buf = [0u8; 22];
     link_id(link_text(id, &mut buf))
 }
@@ -59,6 +61,8 @@ pub fn token_number(text: &[u8]) -> Option<u128>
 pub fn links_differ(a: u64, b: u64) -> bool
     ensures { IsTrue result ↔ (a ≢ b) }
 {
+    base62::laws::built_in_alphabets();
+    base62::laws::one_text();
     let mut first = [0u8; 22];
     let mut second = [0u8; 22];
     link_text(a, &mut first) != link_text(b, &mut second)
@@ -127,12 +131,30 @@ pub fn link_address(alloc: Global, id: u64) -> Result<String, AllocError>
     Ok(address)
 }
 
+/// Appends the texts of two numbers with a `-` between them, both or neither. `Err` says that there was no memory
+/// for them.
+pub fn append_pair(text: &mut String, first: u128, second: u128) -> Result<(), AllocError>
+    ensures ok { OnOk result ((a b : List ℕ) × IsCanonical standard a first × IsCanonical standard b second
+        × (string_bytes text.new ≡ string_bytes text.old ++ (a ++ 45 ∷ b))) }
+    ensures err { OnErr result (string_bytes text.new ≡ string_bytes text.old) }
+{
+    base62::laws::built_in_alphabets();
+    base62::laws::one_text();
+    text.reserve(45)?;
+    // There is room for both now, and a text that is appended leaves the capacity at least as it was.
+    base62::encode_buf(first, text).unwrap();
+    text.push_str("-").unwrap();
+    base62::encode_buf(second, text).unwrap();
+    Ok(())
+}
+
 /// The text of a number in a column of 22 letters, with zeros in front. `Err` says that there was no memory
 /// for it.
 pub fn column_text(alloc: Global, number: u128) -> Result<String, AllocError>
     ensures { IfOk result (λ column. (text : List ℕ) × IsCanonical standard text number
         × (string_bytes column ≡ replicate (22 - length text) 48 ++ text)) }
 {
+    base62::laws::texts_of_ascii();
     format!(in alloc; "{:0>22}", base62::encode_fmt(number))
 }
 
@@ -151,12 +173,13 @@ pub fn is_scanned(front: &[u8], key: &[u8; 22]) -> bool
     ensures { (n : ℕ) → n < 2 ^ 128 → IsKey standard key.now n
         → (IsTrue result ↔ BeginsWith front.now key.now) }
 {
+    base62::laws::fronts();
     let Ok(Some((least, greatest))) = base62::key_range(front) else {
         return false;
     };
     let low = base62::encode_key(least);
     let high = base62::encode_key(greatest);
-    low <= *key && *key <= high
+    low.cmp(key).is_le() && key.cmp(&high).is_le()
 }
 
 /// An id of two parts: the number of a shard, and a row in it.

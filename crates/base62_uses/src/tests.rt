@@ -122,6 +122,14 @@ fn addresses_of_links(rt: HostRuntime) -> Result<(), Fail> {
 }
 
 #[test]
+fn pairs_behind_a_text(rt: HostRuntime) -> Result<(), Fail> {
+    let mut text = String::from_str(rt.alloc(), "from-to: ")?;
+    append_pair(&mut text, 1337, u128::MAX)?;
+    assert_eq!(rt; text.as_str(), "from-to: LZ-7n42DGM5Tflk9n8mt7Fhc7");
+    Ok(())
+}
+
+#[test]
 fn texts_in_a_column(rt: HostRuntime) -> Result<(), Fail> {
     let short = column_text(rt.alloc(), 1337)?;
     assert_eq!(rt; short.as_str(), "00000000000000000000LZ");

@@ -1,6 +1,5 @@
 use Rattle.std.proofs.Common.{Ok, ap}
 use Rattle.base62.specs.Alphabet.{standard}
-use Rattle.base62.specs.Key.{interval_ends, BeginsKeysOf}
 use Rattle.base62.proofs.AlphabetLemmas.{standard_is_alphabet}
 use Rattle.base62.proofs.FrontLemmas.{range_ends, range_scan}
 use Rattle.base62.proofs.OrderLemmas.{standard_ascends}

@@ -39,12 +39,7 @@ pub fn encode_bytes<T: Number>(num: T, buf: &mut [u8]) -> Result<usize, EncodeEr
     encode_over(&STANDARD, num.number(), buf)
 }
 
-/// Writes the alternative text of `num` to the front of `buf`, and answers its length, which is 1 to 22.
-///
-/// The text is the shortest nonempty one of the letters `0` to `9`, `a` to `z`, `A` to `Z`, in that order
-/// of their digits, that denotes the number. `Err(BufferTooSmall)` comes exactly where `buf` is shorter
-/// than that text, so never at 22 bytes or more, and leaves `buf` as it was. On `Ok` every byte after the
-/// text is as before. It takes no memory.
+/// As [`encode_bytes`], over the alternative alphabet: `0` to `9`, `a` to `z`, `A` to `Z`.
 ///
 /// ```rust
 /// let mut buf = [0u8; 22];
@@ -89,10 +84,7 @@ pub fn decode(input: &[u8]) -> Result<u128, DecodeError>
     decode_over(&STANDARD, input)
 }
 
-/// The number that the alternative text `input` denotes.
-///
-/// The cases are those of [`decode`], for the letters of [`encode_alternative_bytes`]: the leading zeros are
-/// the letters `0` here too. It takes no memory.
+/// As [`decode`], over the alternative alphabet, whose zero letter is `0` too.
 ///
 /// ```rust
 /// assert_eq!(rt; base62::decode_alternative(b"rustlang"), Ok(96813686712946));

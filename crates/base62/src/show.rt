@@ -41,8 +41,8 @@ impl fmt::Display for Fmt {
     }
 }
 
-/// A number that displays as its alternative text: what [`encode_fmt_alt`] answers. Contracts see it as that
-/// text.
+/// A number that displays as its alternative text, as [`Fmt`] does as its standard one: what [`encode_fmt_alt`]
+/// answers.
 #[derive(Drop)]
 pub struct FmtAlternative {
     text: Text,
@@ -83,9 +83,7 @@ pub fn encode_fmt<T: Number>(num: T) -> Fmt
     }
 }
 
-/// A value that displays as the alternative text of `num`, which has 1 to 22 letters.
-///
-/// It takes no memory and refuses nothing. A display pads the text to a width as [`FmtAlternative`] says.
+/// As [`encode_fmt`], over the alternative alphabet.
 ///
 /// ```rust
 /// println!(rt; "{}", base62::encode_fmt_alt(1337_u64))?;     // lz

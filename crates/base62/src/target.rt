@@ -28,18 +28,12 @@ pub fn encode<T: Number>(alloc: Global, num: T) -> Result<String, AllocError>
     String::from_str(alloc, Text::standard(num).as_str())
 }
 
-/// The alternative text of `num`, which has 1 to 22 letters and is the one that
-/// [`encode_alternative_bytes`] writes.
-///
-/// Memory for the text is requested once, and `Err` says that the request was refused. It takes no other
-/// memory.
+/// As [`encode`], over the alternative alphabet.
 ///
 /// ```rust
 /// let text = base62::encode_alternative(rt.alloc(), 1234567890_u64)?;
 /// assert_eq!(rt; text.as_str(), "1ly7vk");
 /// ```
-///
-/// [`encode_alternative_bytes`]: crate::encode_alternative_bytes
 pub fn encode_alternative<T: Number>(alloc: Global, num: T) -> Result<String, AllocError>
     ensures { IfOk result (λ text. IsCanonical alternative (string_bytes text) (T.meaning num)) }
 {
@@ -50,7 +44,7 @@ pub fn encode_alternative<T: Number>(alloc: Global, num: T) -> Result<String, Al
 ///
 /// `Err` says that memory was refused, and leaves `buf` as it was. Room for the whole text is requested once,
 /// before any of it is appended, unless `buf` has that much spare capacity: 22 spare bytes are always enough.
-/// It takes no other memory.
+/// The capacity never shrinks. It takes no other memory.
 ///
 /// ```rust
 /// let mut link = String::from_str(rt.alloc(), "https://example.org/")?;
@@ -64,11 +58,7 @@ pub fn encode_buf<T: Number>(num: T, buf: &mut String) -> Result<(), AllocError>
     append(&Text::standard(num), buf)
 }
 
-/// Appends the alternative text of `num`, which has 1 to 22 letters, to `buf`.
-///
-/// `Err` says that memory was refused, and leaves `buf` as it was. Room for the whole text is requested once,
-/// before any of it is appended, unless `buf` has that much spare capacity: 22 spare bytes are always enough.
-/// It takes no other memory.
+/// As [`encode_buf`], over the alternative alphabet.
 ///
 /// ```rust
 /// let mut link = String::from_str(rt.alloc(), "https://example.org/")?;
@@ -114,11 +104,7 @@ pub fn encode_io<T: Number, W: Write>(num: T, w: &mut W) -> io::Result<()>
     w.write_all(Text::standard(num).as_bytes())
 }
 
-/// Writes the alternative text of `num`, which has 1 to 22 letters, to `w`.
-///
-/// The text is handed to the writer whole, and the writer is not flushed. `Err` is the writer's own error, or
-/// says that it took nothing or was interrupted without end; how many bytes it had taken by then is not
-/// specified. It takes no memory of its own.
+/// As [`encode_io`], over the alternative alphabet.
 ///
 /// ```rust
 /// let mut out = Vec::new(rt.alloc());

@@ -1,5 +1,5 @@
 -- What decoding answers and how many steps it takes, by what is read of the bytes after the leading zeros.
-use Rattle.std.proofs.Common.{◌≡◌, ℕ, zero, suc, ◌+◌, ◌-◌, ◌*◌, ◌^◌, ◌<◌, ◌≤◌, ◌==◌, Bool, true, false, eqb, ltb, leb, List, length, get_or, take, drop, Result, Ok, Err, if◌then◌else◌, refl, sym, ap, ◌∙◌, arith, add-one, inl, inr}
+use Rattle.std.proofs.Common.{◌≡◌, ℕ, zero, suc, ◌+◌, ◌*◌, ◌^◌, ◌<◌, ◌≤◌, ◌==◌, Bool, true, false, eqb, ltb, leb, List, length, get_or, take, drop, Result, Ok, Err, if◌then◌else◌, refl, sym, ap, ◌∙◌, arith, add-one, inl, inr}
 use Rattle.std.specs.List.{prefix_len, list_all}
 use Rattle.std.proofs.Math.Nat.{pow-le-pow_right, mul-le-mul}
 use Rattle.std.proofs.lemmas.Bool.{cases_lt, eqb-true, ne_eqb, lt-ltb, le-ltb, lt-leb, le-leb, false≢true, eq-eqb, cases_eq}
@@ -199,6 +199,12 @@ module _ (B text : List ℕ) (ok : IsAlphabet B) (some : 0 < length text) (short
           most = omega (arith, read.steps, first);
         }
 
+    others : (r : Result ℕ DecodeError) → ReadsPart B later (leading_zeros B text + 10) mid new r → ReadsPart B (rest B text) (leading_zeros B text) old new (after number (length later) r)
+    others r read_later =
+        reads_cut B (rest B text) (first_ten B text) 10 (leading_zeros B text) old refl later mid new number (length later) r back size read read_later
+
+    pub decodes_short : (r : Result ℕ DecodeError) → length later ≤ 11 → ReadsPart B later (leading_zeros B text + 10) mid new r → DecodesCounted B text old new (after number (length later) r)
+    decodes_short r few read_later = decodes_21 (after number (length later) r) (omega (arith, size)) (others r read_later)
+
     pub decodes_later : (r : Result ℕ DecodeError) → number * 62 ^ length later < 2 ^ 128 → ReadsPart B later (leading_zeros B text + 10) mid new r → DecodesCounted B text old new (or_overflow (after number (length later) r))
-    decodes_later r small others =
-        decodes_rest (after number (length later) r) (not_shown small) (reads_cut B (rest B text) (first_ten B text) 10 (leading_zeros B text) old refl later mid new number (length later) r back size read others)
+    decodes_later r small read_later = decodes_rest (after number (length later) r) (not_shown small) (others r read_later)

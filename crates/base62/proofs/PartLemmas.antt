@@ -1,15 +1,14 @@
 -- Reading a part of a text: one byte, and one part after another.
-use Rattle.std.proofs.Common.{◌≡◌, ℕ, ◌+◌, ◌*◌, ◌^◌, ◌<◌, ◌≤◌, true, false, eqb, List, [], ◌∷◌, ◌++◌, length, get_or, take, drop, Result, Ok, Err, refl, sym, ap, ◌∙◌, subst, arith, add_assoc, add-zero}
+use Rattle.std.proofs.Common.{◌≡◌, ℕ, ◌+◌, ◌*◌, ◌^◌, ◌<◌, ◌≤◌, true, List, [], ◌∷◌, ◌++◌, length, get_or, take, drop, Result, Ok, Err, refl, sym, ap, ◌∙◌, subst, arith, add_assoc}
 use Rattle.std.specs.List.{prefix_len}
 use Rattle.std.proofs.lemmas.Bool.{eq-eqb, ne_eqb}
-use Rattle.std.proofs.lemmas.List.{take-append-drop, take_more, take_all, length-append, length-take-le, length-drop, get_or_append_left, get_or-append-add}
+use Rattle.std.proofs.lemmas.List.{take-append-drop, take_more, length-append, length-take-le, length-drop, get_or_append_left, get_or-append-add}
 use Rattle.std.proofs.lemmas.List.Elements.{All-nil, All-cons, All-append}
 use Rattle.std.proofs.lemmas.List.Folds.{prefix_len-append}
 use Rattle.std.proofs.lemmas.List.Sums.{prefix_len_is}
 use Rattle.base62.specs.declared.fault.DecodeError.{DecodeError}
 use Rattle.base62.specs.declared.fault.DecodeError.TheVariants.{InvalidBase62Byte}
 use Rattle.base62.specs.Alphabet.{IsAlphabet, AreLetters, is_letter}
-use Rattle.base62.specs.Value.{value}
 use Rattle.base62.specs.Table.{digit_or_none}
 use Rattle.base62.specs.Parts.{HasRead, HasRefused, ReadsPart}
 use Rattle.base62.proofs.ValueLemmas.{value-nil, value-one, value-append, value-lt_most}

@@ -69,7 +69,7 @@ pub(crate) struct Tables {
 
 impl Tables {
     // The digit of a byte, or 255 where it has none: one step.
-    #[inline(always)]
+    #[inline]
     pub(crate) fn digit(&self, byte: u8, work: &mut Work) -> u8
         requires { AreTables self.now }
         ensures digit { result ≡ digit_or_none self.now.letters byte }
@@ -80,7 +80,7 @@ impl Tables {
     }
 
     // Whether a byte is the zero letter.
-    #[inline(always)]
+    #[inline]
     pub(crate) fn is_zero(&self, byte: u8) -> bool
         ensures { result ≡ (byte == zero_letter self.now.letters) }
     {

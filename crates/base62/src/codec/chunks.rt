@@ -46,11 +46,10 @@ pub(crate) fn decode_over(
     if rest.len() > MAX_DIGITS {
         return Err(DecodeError::ArithmeticOverflow);
     }
-    if rest.len() <= 20 {
-        up_to_20(tables, rest, zeros, work)
-    } else {
-        above_20(tables, input, zeros, work)
+    if rest.len() <= 10 {
+        return Ok(chunk(tables, rest, zeros, work)? as u128);
     }
+    above_10(tables, input, zeros, work)
 }
 
 // How many zero letters a text begins with.
@@ -71,31 +70,10 @@ fn count_zeros(tables: &Tables, input: &[u8]) -> usize
     input.len()
 }
 
-// A part of at most 20 bytes, which can't overflow.
+// The decoder where 11 to 22 bytes follow the leading zeros. The first ten are weighed before a later one
+// is read.
 #[inline(always)]
-fn up_to_20(
-    tables: &Tables,
-    part: &[u8],
-    start: usize,
-    work: &mut Work,
-) -> Result<u128, DecodeError>
-    requires tables { AreTables tables.now }
-    requires short { length part.now ≤ 20 }
-    requires within { start + length part.now < 2 ^ 64 }
-    ensures { ReadsPart tables.now.letters part.now start work.old work.new result }
-{
-    if part.len() <= 10 {
-        return Ok(chunk(tables, part, start, work)? as u128);
-    }
-    let (first, later) = part.split_at(10);
-    let high = ten_digits(tables, first, start, work)?;
-    let low = chunk(tables, later, start + 10, work)?;
-    Ok(high as u128 * power(later.len()) as u128 + low as u128)
-}
-
-// The decoder where 21 or 22 bytes follow the leading zeros: the first ten are weighed before a later one is read.
-#[inline(always)]
-fn above_20(
+fn above_10(
     tables: &Tables,
     input: &[u8],
     zeros: usize,
@@ -103,24 +81,28 @@ fn above_20(
 ) -> Result<u128, DecodeError>
     requires tables { AreTables tables.now }
     requires zeros { zeros ≡ leading_zeros tables.now.letters input.now }
-    requires long { 20 < length (rest tables.now.letters input.now) }
+    requires long { 10 < length (rest tables.now.letters input.now) }
     requires short { length (rest tables.now.letters input.now) ≤ 22 }
     ensures { DecodesCounted tables.now.letters input.now work.old work.new result }
 {
     let (_, rest) = input.split_at(zeros);
     let (first, later) = rest.split_at(10);
     let high = ten_digits(tables, first, zeros, work)?;
+    if later.len() <= 10 {
+        let last = chunk(tables, later, zeros + 10, work)?;
+        return Ok(high as u128 * power(later.len()) as u128 + last as u128);
+    }
     let weight = power(later.len() - 10) as u128 * POWER_10 as u128;
     let Some(high) = (high as u128).checked_mul(weight) else {
         return Err(DecodeError::ArithmeticOverflow);
     };
-    let low = up_to_12(tables, later, zeros + 10, work)?;
+    let low = chunk_and_rest(tables, later, zeros + 10, work)?;
     high.checked_add(low).ok_or(DecodeError::ArithmeticOverflow)
 }
 
-// A part of 11 or 12 bytes.
+// A chunk of ten bytes, and the one or two that are left.
 #[inline(always)]
-fn up_to_12(
+fn chunk_and_rest(
     tables: &Tables,
     part: &[u8],
     start: usize,
@@ -133,7 +115,7 @@ fn up_to_12(
     ensures { ReadsPart tables.now.letters part.now start work.old work.new result }
 {
     let (first, later) = part.split_at(10);
-    let high = ten_digits(tables, first, start, work)?;
+    let high = chunk(tables, first, start, work)?;
     let low = read_on(tables, 0, later, 0, start + 10, work)?;
     Ok(high as u128 * power(later.len()) as u128 + low as u128)
 }
@@ -155,7 +137,8 @@ fn chunk(tables: &Tables, part: &[u8], start: usize, work: &mut Work) -> Result<
     read_on(tables, number, part, done, start, work)
 }
 
-// A part of at most ten bytes, of which the first `done` have been read as a number, and at most five are left.
+// A part of at most ten bytes, of which the first `done` have been read as a number and at most five are
+// left. The steps of those that have been read stand on the counter.
 #[inline(always)]
 fn read_on(
     tables: &Tables,
@@ -166,7 +149,8 @@ fn read_on(
     work: &mut Work,
 ) -> Result<u64, DecodeError>
     requires tables { AreTables tables.now }
-    requires done { ReadsPart tables.now.letters (take done part.now) start (work.old - done) work.old (Ok number) }
+    requires done { ReadsPart tables.now.letters (take done part.now) start
+        (work.old - done) work.old (Ok number) }
     requires inside { done ≤ length part.now }
     requires near { length part.now ≤ done + 5 }
     requires short { length part.now ≤ 10 }
@@ -179,7 +163,11 @@ fn read_on(
         if i >= part.len() {
             break;
         }
-        total = total * 62 + digit_at(tables, part, i, start, work)? as u64;
+        let digit = tables.digit(part[i], work);
+        if digit > 61 {
+            return Err(DecodeError::InvalidBase62Byte(part[i], start + i));
+        }
+        total = total * 62 + digit as u64;
     }
     Ok(total)
 }
@@ -236,7 +224,8 @@ fn digit_at(
     requires tables { AreTables tables.now }
     requires inside { i < length part.now }
     requires within { start + i < 2 ^ 64 }
-    ensures read { ReadsPart tables.now.letters (slice_index part.now i ∷ []) (start + i) work.old work.new result }
+    ensures read { ReadsPart tables.now.letters (slice_index part.now i ∷ []) (start + i)
+        work.old work.new result }
     ensures small { IfOk result (λ digit. digit < 62) }
 {
     let digit = tables.digit(part[i], work);

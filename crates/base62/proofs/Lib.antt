@@ -6,7 +6,6 @@ pub mod LengthLemmas
 pub mod DecodingLemmas
 pub mod FaultLemmas
 pub mod FixedLemmas
-pub mod RoundTripLemmas
 pub mod PaddingLemmas
 pub mod TextLemmas
 pub mod CaseLemmas

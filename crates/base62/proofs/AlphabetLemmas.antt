@@ -7,6 +7,7 @@ use Rattle.std.proofs.lemmas.List.FromFn.{get_or-map-range_with_len}
 use Rattle.std.proofs.lemmas.List.Quantifiers.{position-Some}
 use Rattle.std.proofs.lemmas.List.Sums.{position_or_len_is, AllPass-from_list_all}
 use Rattle.std.proofs.lemmas.List.Elements.{All-weaker}
+use Rattle.std.proofs.lemmas.Option.{same_Some}
 use Rattle.std.specs.Str.{IsAscii}
 use Rattle.std.proofs.lemmas.Str.Ascii.{IsAscii-from_all}
 use Rattle.base62.specs.Alphabet.{IsAlphabet, AreLetters, standard, alternative, digit_of, is_letter}
@@ -37,6 +38,7 @@ some_from_test (Some d) h = refl
 pub digit_of-is : (B : List ℕ) (b : ℕ) → is_letter B b ≡ true → digit_of B b ≡ Some (digit_or_zero B b)
 digit_of-is B b h = some_from_test (digit_of B b) h
 
+-- what each digit is below, the 0 in place of none is too
 bounded : (o : Option ℕ) → ((d : ℕ) → o ≡ Some d → d < 62) → unwrap_or o 0 < 62
 bounded None h = omega arith
 bounded (Some d) h = h d refl
@@ -58,18 +60,18 @@ same_letter B a b p q e =
     let bt = letter-digit_of B b _ (digit_of-is B b q) in
     sym at.1 ∙ ap (λ d. get_or B d 0) e ∙ bt.1
 
-some_injective : (i j : ℕ) → Some i ≡ Some j → i ≡ j
-some_injective i j e = cc
-
 -- a list in which each place is the first place of its byte has no byte twice
-pub distinct_from_places : (B : List ℕ) (n : ℕ) → map (digit_of B) B ≡ map (λ i. Some i) (range_with_len 0 n) → length B ≡ n → (i j : ℕ) → i < n → j < n → get_or B i 0 ≡ get_or B j 0 → i ≡ j
+pub distinct_from_places : (B : List ℕ) (n : ℕ) → map (digit_of B) B ≡ map (λ i. Some i) (range_with_len 0 n) → length B ≡ n
+    → (i j : ℕ) → i < n → j < n → get_or B i 0 ≡ get_or B j 0 → i ≡ j
 distinct_from_places B n e len i j p q same =
-    let first = λ (k : ℕ) (h : k < n). sym (get_or-map (digit_of B) B k 0 None (omega (arith, len))) ∙ ap (λ xs. get_or xs k None) e ∙ get_or-map-range_with_len (λ m. Some m) 0 n k k None h (omega arith) in
-    some_injective i j (sym (first i p) ∙ ap (digit_of B) same ∙ first j q)
+    let first = λ (k : ℕ) (h : k < n).
+    sym (get_or-map (digit_of B) B k 0 None (omega (arith, len))) ∙ ap (λ xs. get_or xs k None) e ∙ get_or-map-range_with_len (λ m. Some m) 0 n k k None h (omega arith) in
+    same_Some i j (sym (first i p) ∙ ap (digit_of B) same ∙ first j q)
 
 all_below : (k : ℕ) (B : List ℕ) → list_all (λ b. ltb b k) B ≡ true → All (λ b. b < k) B
 all_below k B h = All-weaker (λ b. ltb b k ≡ true) (λ b. b < k) (λ b below. ltb-true b k below) B (AllPass-from_list_all (λ b. ltb b k) B h)
 
+-- 62 bytes, each with its place as its digit, are an alphabet
 pub is_alphabet : (B : List ℕ) → length B ≡ 62 → list_all (λ b. ltb b 256) B ≡ true → map (digit_of B) B ≡ map (λ i. Some i) (range_with_len 0 62) → IsAlphabet B
 is_alphabet B size bytes places = record {
   size = size;

@@ -1,5 +1,6 @@
 -- What the answers of decoding tell of the text.
-use Rattle.std.proofs.Common.{◌≡◌, ℕ, ◌+◌, ◌-◌, ◌*◌, ◌^◌, ◌<◌, ◌≤◌, ◌↔◌, Bool, true, false, List, [], ◌∷◌, ◌++◌, length, get_or, take, drop, Result, Ok, Err, IsOk, refl, sym, ap, ◌∙◌, subst, arith, inl, inr}
+use Rattle.std.proofs.Common.{◌≡◌, ℕ, ◌+◌, ◌-◌, ◌*◌, ◌^◌, ◌<◌, ◌≤◌, ◌↔◌, Bool, true, false, List, [], ◌∷◌, ◌++◌, length, get_or, take, drop}
+use Rattle.std.proofs.Common.{Result, Ok, Err, IsOk, refl, sym, ap, ◌∙◌, subst, arith, inl, inr}
 use Rattle.std.specs.List.{prefix_len, list_all}
 use Rattle.std.proofs.lemmas.Bool.{cases_lt, cases_eq, cond_both, ltb-true, leb-true, leb-false, eqb-true, eqb-false, lt-ltb, le-ltb, not-true, not-false, and_parts, and_left, false≢true}
 use Rattle.std.proofs.lemmas.List.{take-append-drop, get_or-drop, length-append, length-drop, nil_from_length}
@@ -122,9 +123,10 @@ decoding-letters B text ok some letters =
     (λ byte index first. absurd (false≢true (sym first.no_letter ∙ ap (is_letter B) first.byte_is ∙ letters index 0 first.within)))
     (λ denotes small. rw (lt-ltb (value B text) (2 ^ 128) small))
 
--- letters that denote a number below 2^128 are accepted
-pub letters_accepted : (B text : List ℕ) → IsAlphabet B → 0 < length text → AreLetters B text → value B text < 2 ^ 128 → decoding B text ≡ Ok (value B text)
-letters_accepted B text ok some letters small = decoding-letters B text ok some letters ∙ rw (lt-ltb (value B text) (2 ^ 128) small)
+-- a text that denotes a number below 2^128 decodes to it
+pub decoding-denotes : (B : List ℕ) → IsAlphabet B → (n : ℕ) → n < 2 ^ 128 → (text : List ℕ) → Denotes B text n → decoding B text ≡ Ok n
+decoding-denotes B ok n small text d =
+    decoding-letters B text ok d.nonempty d.letters ∙ rw (d.value_is, lt-ltb n (2 ^ 128) small)
 
 -- one accepted text after another
 pub decoding-append : (B : List ℕ) → IsAlphabet B → (a b : List ℕ) (m n : ℕ) → decoding B a ≡ Ok m → decoding B b ≡ Ok n → decoding B (a ++ b) ≡ number_or_overflow (m * 62 ^ length b + n)
@@ -141,7 +143,8 @@ zero_canonical B text ok n denotes none =
     let P : ℕ → Type 0 = λ b. is_letter B b ≡ true in
     let zero_value : value B text ≡ 0 = value-rest B text ok ∙ ap (value B) (nil_from_length (rest B text) none) ∙ value-nil B in
     let same : value B (zero_letter B ∷ []) ≡ n = value-one B (zero_letter B) ∙ digit_or_zero-letter B ok 0 (omega arith) ∙ sym zero_value ∙ denotes.value_is in
-    canonical_is B ok (zero_letter B ∷ []) n (record { nonempty = omega arith; letters = All-cons P (zero_letter B) [] (is_letter-letter B ok 0 (omega arith)) (All-nil P); value_is = same }) (inl refl)
+    let letters : AreLetters B (zero_letter B ∷ []) = All-cons P (zero_letter B) [] (is_letter-letter B ok 0 (omega arith)) (All-nil P) in
+    canonical_is B ok (zero_letter B ∷ []) n (record { nonempty = omega arith; letters = letters; value_is = same }) (inl refl)
 
 -- what follows the leading zeros, if anything does, is canonical
 rest_canonical : (B text : List ℕ) → IsAlphabet B → (n : ℕ) → Denotes B text n → 0 < length (rest B text) → IsCanonical B (rest B text) n
@@ -152,6 +155,7 @@ rest_canonical B text ok n denotes some =
     let weighs = first_weighs B ok r some (letters 0 0 some) (rest_first B text some) in
     canonical_is B ok r n (record { nonempty = some; letters = letters; value_is = same }) (inr (rw same at weighs))
 
+-- a text without its needless zeros is canonical
 pub without_zeros_canonical : (B text : List ℕ) → IsAlphabet B → (n : ℕ) → Denotes B text n → IsCanonical B (without_zeros B text) n
 without_zeros_canonical B text ok n denotes = cond_both _ _ _ (λ xs. IsCanonical B xs n)
     (λ t. zero_canonical B text ok n denotes (eqb-true _ _ t))

@@ -7,7 +7,7 @@ use Rattle.std.proofs.lemmas.List.{length_push}
 use Rattle.std.proofs.lemmas.List.Elements.{All-nil, All-push}
 use Rattle.base62.specs.Alphabet.{IsAlphabet, AreLetters, is_letter}
 use Rattle.base62.specs.Value.{value}
-use Rattle.base62.specs.Canonical.{IsCanonical, HasLetters}
+use Rattle.base62.specs.Canonical.{Denotes, IsCanonical, HasLetters}
 use Rattle.base62.proofs.AlphabetLemmas.{is_letter-letter, digit_or_zero-letter}
 use Rattle.base62.proofs.ValueLemmas.{value-nil, value_push}
 use Rattle.base62.proofs.CanonicalLemmas.{canonical_is, one_canonical}
@@ -22,13 +22,14 @@ unfolding fixed
 length-fixed B zero n = refl
 length-fixed B (suc w) n = length_push (fixed B w (n / 62)) (slice_index B (n % 62)) ∙ omega (arith, length-fixed B w (n / 62))
 
-pub letters-fixed : (B : List ℕ) → IsAlphabet B → (w n : ℕ) → AreLetters B (fixed B w n)
+letters-fixed : (B : List ℕ) → IsAlphabet B → (w n : ℕ) → AreLetters B (fixed B w n)
 unfolding fixed
 letters-fixed B ok zero n = All-nil (λ b. is_letter B b ≡ true)
 letters-fixed B ok (suc w) n =
     All-push (λ b. is_letter B b ≡ true) (fixed B w (n / 62)) _ (letters-fixed B ok w (n / 62)) (is_letter-letter B ok (n % 62) (omega arith))
 
-pub value-fixed : (B : List ℕ) → IsAlphabet B → (w n : ℕ) → n < 62 ^ w → value B (fixed B w n) ≡ n
+-- it has the value n where w letters hold n
+value-fixed : (B : List ℕ) → IsAlphabet B → (w n : ℕ) → n < 62 ^ w → value B (fixed B w n) ≡ n
 unfolding fixed
 value-fixed B ok zero n h = value-nil B ∙ omega arith
 value-fixed B ok (suc w) n h =
@@ -36,12 +37,17 @@ value-fixed B ok (suc w) n h =
     let last = digit_or_zero-letter B ok (n % 62) (omega arith) in
     rw (value_push B (fixed B w (n / 62)) (slice_index B (n % 62)), front, last) (omega arith)
 
--- n in the least number of letters from 1 on that holds it
-pub canonical-fixed : (B : List ℕ) → IsAlphabet B → (w n : ℕ) → 0 < w → n < 62 ^ w → (w ≡ 1) ⊎ (62 ^ (w - 1) ≤ n) → IsCanonical B (fixed B w n) n
-canonical-fixed B ok w n some fits least =
-    let size = length-fixed B w n in
-    canonical_is B ok (fixed B w n) n (record { nonempty = omega arith; letters = letters-fixed B ok w n; value_is = value-fixed B ok w n fits }) (rw size least)
+-- a text of w letters denotes n where w letters hold it
+pub denotes-fixed : (B : List ℕ) → IsAlphabet B → (w n : ℕ) → 0 < w → n < 62 ^ w → Denotes B (fixed B w n) n
+denotes-fixed B ok w n some fits =
+    record { nonempty = omega (arith, length-fixed B w n); letters = letters-fixed B ok w n; value_is = value-fixed B ok w n fits }
 
+-- n in the least number of letters from 1 on that holds it
+canonical-fixed : (B : List ℕ) → IsAlphabet B → (w n : ℕ) → 0 < w → n < 62 ^ w → (w ≡ 1) ⊎ (62 ^ (w - 1) ≤ n) → IsCanonical B (fixed B w n) n
+canonical-fixed B ok w n some fits least =
+    let size = length-fixed B w n in canonical_is B ok (fixed B w n) n (denotes-fixed B ok w n some fits) (rw size least)
+
+-- so n has a canonical text of that many letters
 pub has_letters : (n w : ℕ) → 0 < w → n < 62 ^ w → (w ≡ 1) ⊎ (62 ^ (w - 1) ≤ n) → HasLetters n w
 has_letters n w some fits least = λ B ok. (fixed B w n, canonical-fixed B ok w n some fits least, length-fixed B w n)
 

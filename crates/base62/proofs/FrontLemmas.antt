@@ -2,11 +2,13 @@
 use Rattle.std.proofs.Common.{◌≡◌, ℕ, ◌+◌, ◌-◌, ◌*◌, ◌^◌, ◌<◌, ◌≤◌, ◌↔◌, true, false, List, length, get_or, take, drop, min, Option, Some, None, Result, Ok, Err, refl, sym, ap, ◌∙◌, subst, arith}
 use Rattle.std.specs.List.{prefix_len, list_all}
 use Rattle.std.proofs.Math.Nat.{one-le-pow, pow-le-pow_right, le-mul_of_pos_right}
-use Rattle.std.proofs.lemmas.Bool.{cond_both, false_from_ne_true, false≢true, ltb-true, ltb-false, leb-true, leb-false, lt-ltb, le-ltb, lt-leb, le-leb}
+use Rattle.std.proofs.lemmas.Bool.{cond_both, ltb-true, ltb-false, leb-true, leb-false, lt-ltb, le-ltb, lt-leb, le-leb}
 use Rattle.std.proofs.lemmas.List.{take-append-drop, length-take, length-take-le, length-drop, nil_from_length}
-use Rattle.std.proofs.lemmas.List.Sums.{prefix_len_is, AllPass-from_list_all, list_all-from_AllPass}
+use Rattle.std.proofs.lemmas.List.Sums.{prefix_len_is, list_all-from_AllPass}
 use Rattle.std.proofs.lemmas.List.Elements.{All-take}
+use Rattle.std.proofs.lemmas.List.Folds.{list_all_at}
 use Rattle.std.proofs.lemmas.Nat.{same_from_place}
+use Rattle.std.proofs.lemmas.Option.{same_Some}
 use Rattle.base62.specs.declared.fault.DecodeError.{DecodeError}
 use Rattle.base62.specs.declared.fault.DecodeError.TheVariants.{InvalidBase62Byte}
 use Rattle.base62.specs.Alphabet.{IsAlphabet, AreLetters, is_letter}
@@ -43,6 +45,7 @@ in_interval B ok front key n small short is begins =
     let sum : value B front * span front + value B (drop (length front) key) ≡ n = rw (← same) parts.0 in
     record { short = short; small = small; from = omega (arith, sum); below = omega (arith, sum, parts.1) }
 
+-- and any front of letters that has the number in its interval begins the key
 pub begins_with : (B : List ℕ) → IsAlphabet B → (front key : List ℕ) (n : ℕ) → AreLetters B front → IsKey B key n → IsInInterval B front n → BeginsWith front key
 begins_with B ok front key n letters is inside =
     let k = length front in
@@ -53,16 +56,10 @@ begins_with B ok front key n letters is inside =
     same_text B ok (take k key) front size (All-take P k key is.denotes.letters) letters same
 
 -- a front of a key is no longer than a key
-pub begins_short : (B front key : List ℕ) (n : ℕ) → IsKey B key n → BeginsWith front key → length front ≤ 22
+begins_short : (B front key : List ℕ) (n : ℕ) → IsKey B key n → BeginsWith front key → length front ≤ 22
 begins_short B front key n is begins =
     let size : min (length front) (length key) ≡ length front = sym (length-take (length front) key) ∙ ap length begins in
     omega (arith, size, is.size)
-
--- a front of a key is letters alone
-pub front_letters : (B front key : List ℕ) (n : ℕ) → IsKey B key n → BeginsWith front key → AreLetters B front
-front_letters B front key n is begins =
-    let P : ℕ → Type 0 = λ b. is_letter B b ≡ true in
-    subst (AreLetters B) begins (All-take P (length front) key is.denotes.letters)
 
 -- ---- the ends of an interval
 
@@ -123,18 +120,18 @@ least_and_greatest : (B front : List ℕ) → length front ≤ 22 → least_of B
 least_and_greatest B front short small =
     let some = span_some front in (
       omega arith,
-      λ n. (λ inside. (inside.from, omega (arith, inside.small, inside.below)), λ between. record { short = short; small = omega (arith, between.1); from = between.0; below = omega (arith, between.1) }),
+      λ n. (
+        λ inside. (inside.from, omega (arith, inside.small, inside.below)),
+        λ between. record { short = short; small = omega (arith, between.1); from = between.0; below = omega (arith, between.1) },
+      ),
     )
-
-some_pair : (p q : ℕ × ℕ) → Some p ≡ Some q → p ≡ q
-some_pair p q e = cc
 
 pub ends_are : (B front : List ℕ) (least greatest : ℕ) → interval_ends B front ≡ Some (least, greatest) → AreEnds B front least greatest
 ends_are B front least greatest = ends_cases B front (λ r. r ≡ Some (least, greatest) → AreEnds B front least greatest)
     (λ long e. cc)
     (λ big e. cc)
     (λ short small e.
-    let same = some_pair (least_of B front, greatest_of B front) (least, greatest) e in
+    let same = same_Some (least_of B front, greatest_of B front) (least, greatest) e in
     subst (λ p. AreEnds B front p.0 p.1) same (least_and_greatest B front short small))
 
 -- ---- the ends as the code computes them
@@ -165,7 +162,7 @@ pub range_of-bad : (B front : List ℕ) (byte index : ℕ) → IsFirstInvalid B 
 range_of-bad B front byte index first =
     let bad : is_letter B (get_or front index 0) ≡ false = ap (is_letter B) (sym first.byte_is) ∙ first.no_letter in
     let place : prefix_len (is_letter B) front ≡ index = prefix_len_is (is_letter B) front index 0 (omega (arith, first.within)) first.letters_before (λ _. bad) in
-    let some_bad : list_all (is_letter B) front ≡ false = false_from_ne_true _ (λ t. false≢true (sym bad ∙ AllPass-from_list_all (is_letter B) front t index 0 first.within)) in
+    let some_bad : list_all (is_letter B) front ≡ false = list_all_at (is_letter B) front index 0 first.within bad in
     rw (some_bad, place, first.byte_is)
 
 begins_no_key : (B : List ℕ) → IsAlphabet B → (front : List ℕ) → interval_ends B front ≡ None → BeginsNoKey B front

@@ -8,7 +8,6 @@ pub mod PartLemmas
 pub mod DecodingLemmas
 pub mod FaultLemmas
 pub mod FixedLemmas
-pub mod RoundTripLemmas
 pub mod PaddingLemmas
 pub mod TextLemmas
 pub mod CaseLemmas

@@ -50,7 +50,9 @@ same_text B ok (x ∷ xs) [] len p q e = cc
 same_text B ok (x ∷ xs) (y ∷ ys) len p q e =
     let P : ℕ → Type 0 = λ b. is_letter B b ≡ true in
     let tails : length xs ≡ length ys = omega arith in
-    let places = same_from_place (digit_or_zero B x) (value B xs) (digit_or_zero B y) (value B ys) (62 ^ length xs) (value-lt B ok xs) (rw tails (value-lt B ok ys)) (rw (value-cons B x xs, value-cons B y ys, ← tails) at e) in
+    let sums = rw (value-cons B x xs, value-cons B y ys, ← tails) at e in
+    let below : value B ys < 62 ^ length xs = rw tails (value-lt B ok ys) in
+    let places = same_from_place (digit_or_zero B x) (value B xs) (digit_or_zero B y) (value B ys) (62 ^ length xs) (value-lt B ok xs) below sums in
     let first = same_letter B x y (All-head P x xs p) (All-head P y ys q) places.0 in
     let later = same_text B ok xs ys tails (All-tail P x xs p) (All-tail P y ys q) places.1 in
     cc

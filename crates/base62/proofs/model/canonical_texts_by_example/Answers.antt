@@ -14,15 +14,6 @@ by_value : (B : List ℕ) → IsAlphabet B → (text : List ℕ) (n : ℕ) → 0
 by_value B ok text n some letters is least =
     canonical_is B ok text n (record { nonempty = some; letters = AllPass-from_list_all (is_letter B) text letters; value_is = is }) (inr least)
 
-pub returns-clause-zero : goal.returns-clause-zero
-unfolding standard digit_of sum_over_places value
-returns-clause-zero c =
-    canonical_is standard standard_is_alphabet (codes "0") 0 (record { nonempty = omega arith; letters = AllPass-from_list_all (is_letter standard) (codes "0") refl; value_is = refl }) (inl refl)
-
-pub returns-clause-one_letter : goal.returns-clause-one_letter
-unfolding standard alternative digit_of sum_over_places value
-returns-clause-one_letter c = by_value standard standard_is_alphabet (codes "z") 61 (omega arith) refl refl (lit≤ tt)
-
 pub returns-clause-two_letters : goal.returns-clause-two_letters
 unfolding standard alternative digit_of sum_over_places value
 returns-clause-two_letters c = by_value standard standard_is_alphabet (codes "10") 62 (omega arith) refl refl (lit≤ tt)

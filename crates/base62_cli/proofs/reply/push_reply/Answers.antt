@@ -34,7 +34,8 @@ returns-then-starts_with-4 c =
     let alt = sym c.starts_with-else-starts_with.ensures.value ∙ c.if-starts_with-2.false in
     let dec = sym c.starts_with-else-starts_with-2.ensures.value ∙ c.if-starts_with-3.false in
     let adc = sym c.starts_with-else-starts_with-3.ensures.value ∙ c.if-starts_with-4.true in
-    on_ok_weaker c.push_decoded-then-starts_with-4.result (λ h. (decode_reply alternative _, reply_to_adc line _ enc alt dec adc refl, h)) (rw (take_rest line 4) at c.push_decoded-then-starts_with-4.ensures)
+    on_ok_weaker c.push_decoded-then-starts_with-4.result (λ h. (decode_reply alternative _, reply_to_adc line _ enc alt dec adc refl, h))
+    (rw (take_rest line 4) at c.push_decoded-then-starts_with-4.ensures)
 
 pub returns-else-starts_with-4 : goal.returns-else-starts_with-4
 returns-else-starts_with-4 c =

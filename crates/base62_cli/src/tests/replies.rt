@@ -130,7 +130,7 @@ fn long_lines(rt: HostRuntime) -> Result<(), Fail> {
         (b"enc ", b'9', 200, "fault: not a number\n"),
         (b"dec ", b'0', 10_000, "0\n"),
         (b"dec ", b'0', 100_000, "0\n"),
-        (b"dec ", b'0', 1_000_001, "0\n"),
+        (b"dec ", b'0', 2_000_000, "0\n"),
     ];
     for (front, byte, count, output) in cases {
         let line = padded(rt.alloc(), front, byte, count)?;

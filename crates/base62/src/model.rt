@@ -4,8 +4,8 @@
 #![tactic(auto, unfolding(
 // letters and their digits
 crate::specs::Alphabet::standard, crate::specs::Alphabet::alternative, crate::specs::Alphabet::digit_of,
-// values and what decoding answers
-crate::specs::Places::sum_over_places, crate::specs::Value::value, crate::specs::Decoding::decoding,
+// values, what decoding answers, and its steps
+crate::specs::Places::sum_over_places, crate::specs::Value::value, crate::specs::Decoding::decoding, crate::specs::Steps::decoding_steps,
 // what is shown, the other case and the ends of an interval
 crate::specs::Fault::escaped, crate::specs::Padding::displayed, crate::specs::Case::other_case, crate::specs::Key::interval_ends))]
 

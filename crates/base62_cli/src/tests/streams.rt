@@ -1,5 +1,7 @@
 //! Readers and writers that move one byte a call, that fail, and that watch when they are called.
 
+ghost use Rattle.std.specs.Prelude.{◌≤◌, length};
+
 use super::{STORED_INPUT, STORED_OUTPUT, stored_inputs};
 use crate::fault::ToolFault;
 use crate::tool::run;
@@ -109,7 +111,7 @@ fn one_byte_a_call(rt: HostRuntime) -> Result<(), Fail> {
 fn failed_reads(rt: HostRuntime) {
     for input in stored_inputs() {
         // The last read is the one that meets the end.
-        for call in 1..=input.len() + 1 {
+        for call in 1..=input.len().saturating_add(1) {
             let mut reader = ByteReader {
                 rest: input.as_bytes(),
                 reads: Calls::failing_at(call),
@@ -163,8 +165,10 @@ fn failed_flush(rt: HostRuntime) {
     assert_eq!(rt; writer.flushes.made, 1, "flushes, of which the first fails");
 }
 
-// Reads a part into a buffer that is as long at least.
-fn read_part(part: &str, buf: &mut [u8]) -> usize {
+// Puts as much of a part into the buffer as there is room for.
+fn read_part(part: &str, buf: &mut [u8]) -> usize
+    ensures { result ≤ length buf.new }
+{
     let count = part.len().min(buf.len());
     buf[..count].copy_from_slice(&part.as_bytes()[..count]);
     count

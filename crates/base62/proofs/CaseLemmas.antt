@@ -50,6 +50,7 @@ none_above B ascii b h (Some d) e =
     let at = letter-digit_of B b d e in
     let below : b < 128 = subst (λ l. l < 128) at.1 (ascii d) in absurd (omega arith)
 
+-- a byte of ASCII has the digit of its other case in the other alphabet
 digits_below : (b : ℕ) → b < 128 → digit_of alternative b ≡ digit_of standard (other_case b)
 unfolding standard alternative digit_of other_case
 digits_below b h = same_on_range (digit_of alternative) (λ b. digit_of standard (other_case b)) 128 refl b h
@@ -91,6 +92,7 @@ module _ (A B : List ℕ) (same : Exchanges A B) where
   digits_exchanged [] = refl
   digits_exchanged (b ∷ text) = rw (digit_exchanged b, digits_exchanged text)
 
+  -- a text has the value of the exchanged one
   value_exchanged : (text : List ℕ) → value A text ≡ value B (exchange_case text)
   unfolding value
   value_exchanged text = ap (sum_over_places 62) (digits_exchanged text)
@@ -98,6 +100,7 @@ module _ (A B : List ℕ) (same : Exchanges A B) where
   all_exchanged : (text : List ℕ) → list_all (is_letter A) text ≡ list_all (is_letter B) (exchange_case text)
   all_exchanged text = list_all-changed (is_letter A) (is_letter B) other_case letter_exchanged text
 
+  -- letters are letters of the other alphabet, exchanged
   letters_exchanged : (text : List ℕ) → AreLetters A text → AreLetters B (exchange_case text)
   letters_exchanged text letters =
       AllPass-from_list_all (is_letter B) (exchange_case text) (sym (all_exchanged text) ∙ list_all-from_AllPass (is_letter A) text letters)
@@ -109,6 +112,7 @@ module _ (A B : List ℕ) (same : Exchanges A B) where
     value_is = sym (value_exchanged text) ∙ d.value_is;
   }
 
+-- so canonical texts are those of the other alphabet, exchanged
 canonical_exchanged : (A B : List ℕ) → Exchanges A B → Exchanges B A → (text : List ℕ) (n : ℕ) → IsCanonical A text n → IsCanonical B (exchange_case text) n
 canonical_exchanged A B same back text n canonical = record {
   denotes = denotes_exchanged A B same text n canonical.denotes;
@@ -131,6 +135,7 @@ same_zero : (b : ℕ) → (b == zero_letter alternative) ≡ (b == zero_letter s
 unfolding standard alternative
 same_zero b = refl
 
+-- so a byte is the zero letter where the exchanged one is
 zero_exchanged : (b : ℕ) → (b == zero_letter alternative) ≡ (other_case b == zero_letter standard)
 zero_exchanged b = elim (cases_lt b 128) [
   | inl less ↦ zero_below b less
@@ -172,6 +177,7 @@ bad_or_past text =
       | inr more ↦ ap (is_letter alternative) (get_or_past text i 0 more) ∙ no_letter_past
     ]
 
+-- so the first bad byte is the same
 first_invalid_exchanged : (text : List ℕ) → first_invalid alternative text ≡ first_invalid standard (exchange_case text)
 first_invalid_exchanged text =
     let i = prefix_len (is_letter alternative) text in

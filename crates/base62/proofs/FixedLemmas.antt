@@ -8,7 +8,7 @@ use Rattle.std.proofs.lemmas.List.Elements.{All-nil, All-push}
 use Rattle.base62.specs.Alphabet.{IsAlphabet, AreLetters, is_letter}
 use Rattle.base62.specs.Value.{value}
 use Rattle.base62.specs.Canonical.{Denotes, IsCanonical, HasLetters}
-use Rattle.base62.proofs.AlphabetLemmas.{is_letter-letter, digit_or_zero-letter}
+use Rattle.base62.proofs.AlphabetLemmas.{IsLetter, is_letter-letter, digit_or_zero-letter}
 use Rattle.base62.proofs.ValueLemmas.{value-nil, value_push}
 use Rattle.base62.proofs.CanonicalLemmas.{canonical_is, one_canonical}
 
@@ -24,9 +24,9 @@ length-fixed B (suc w) n = length_push (fixed B w (n / 62)) (slice_index B (n % 
 
 letters-fixed : (B : List ℕ) → IsAlphabet B → (w n : ℕ) → AreLetters B (fixed B w n)
 unfolding fixed
-letters-fixed B ok zero n = All-nil (λ b. is_letter B b ≡ true)
+letters-fixed B ok zero n = All-nil (IsLetter B)
 letters-fixed B ok (suc w) n =
-    All-push (λ b. is_letter B b ≡ true) (fixed B w (n / 62)) _ (letters-fixed B ok w (n / 62)) (is_letter-letter B ok (n % 62) (omega arith))
+    All-push (IsLetter B) (fixed B w (n / 62)) _ (letters-fixed B ok w (n / 62)) (is_letter-letter B ok (n % 62) (omega arith))
 
 -- it has the value n where w letters hold n
 value-fixed : (B : List ℕ) → IsAlphabet B → (w n : ℕ) → n < 62 ^ w → value B (fixed B w n) ≡ n

@@ -10,7 +10,7 @@ use Rattle.base62.specs.Value.{value}
 use Rattle.base62.specs.Canonical.{Denotes}
 use Rattle.base62.specs.Decoding.{decoding}
 use Rattle.base62.specs.Key.{IsKey}
-use Rattle.base62.proofs.AlphabetLemmas.{is_letter-letter, standard_is_alphabet}
+use Rattle.base62.proofs.AlphabetLemmas.{IsLetter, is_letter-letter, standard_is_alphabet}
 use Rattle.base62.proofs.ValueLemmas.{value-lt_most}
 use Rattle.base62.proofs.AnswerLemmas.{answer_cases, decoding_accepts, decoding-denotes}
 use Rattle.base62.proofs.ZeroLemmas.{value_front}
@@ -24,15 +24,14 @@ value-zeros B ok (suc k) text = value_front B (replicate k (zero_letter B) ++ te
 -- a text that denotes n is its key, once zero letters in front fill it up to 22
 padded_key : (B : List ℕ) → IsAlphabet B → (text : List ℕ) (n k : ℕ) → Denotes B text n → k + length text ≡ 22 → IsKey B (replicate k (zero_letter B) ++ text) n
 padded_key B ok text n k denotes full =
-    let P : ℕ → Type 0 = λ b. is_letter B b ≡ true in
-    let zeros : AreLetters B (replicate k (zero_letter B)) = All-replicate P k (zero_letter B) (is_letter-letter B ok 0 (omega arith)) in
+    let zeros : AreLetters B (replicate k (zero_letter B)) = All-replicate (IsLetter B) k (zero_letter B) (is_letter-letter B ok 0 (omega arith)) in
     let size : length (replicate k (zero_letter B) ++ text) ≡ 22 =
     length-append (replicate k (zero_letter B)) text ∙ ap (λ m. m + length text) (length-replicate k (zero_letter B)) ∙ full in
     record {
       size = size;
       denotes = record {
         nonempty = omega (arith, size);
-        letters = All-append P (replicate k (zero_letter B)) text zeros denotes.letters;
+        letters = All-append (IsLetter B) (replicate k (zero_letter B)) text zeros denotes.letters;
         value_is = value-zeros B ok k text ∙ denotes.value_is;
       };
     }
@@ -60,9 +59,8 @@ accepted_letter B b ok = answer_cases B (b ∷ []) ok (λ r. is_err r ≡ false 
 -- and refused exactly where it is none
 pub refused_letter : (B : List ℕ) (b : ℕ) → IsAlphabet B → is_err (decoding B (b ∷ [])) ≡ true → is_letter B b ≡ false
 refused_letter B b ok e = false_from_ne_true (is_letter B b) (λ letter.
-    let P : ℕ → Type 0 = λ b. is_letter B b ≡ true in
     let below = value-lt_most B ok (b ∷ []) 1 (omega arith) in
-    let denotes : Denotes B (b ∷ []) (value B (b ∷ [])) = record { nonempty = omega arith; letters = All-cons P b [] letter (All-nil P); value_is = refl } in
+    let denotes : Denotes B (b ∷ []) (value B (b ∷ [])) = record { nonempty = omega arith; letters = All-cons (IsLetter B) b [] letter (All-nil (IsLetter B)); value_is = refl } in
     let accepted = decoding-denotes B ok (value B (b ∷ [])) (omega arith) (b ∷ []) denotes in
     false≢true (sym (ap is_err accepted) ∙ e))
 

@@ -7,7 +7,7 @@ use Rattle.base62.specs.Alphabet.{IsAlphabet, AreLetters, is_letter, zero_letter
 use Rattle.base62.specs.Value.{value, digit_or_zero}
 use Rattle.base62.specs.Canonical.{IsCanonical}
 use Rattle.base62.specs.Laws.{HasNoNeedlessZero}
-use Rattle.base62.proofs.AlphabetLemmas.{is_letter-letter, digit_or_zero-letter, same_letter}
+use Rattle.base62.proofs.AlphabetLemmas.{IsLetter, is_letter-letter, digit_or_zero-letter, same_letter}
 use Rattle.base62.proofs.ValueLemmas.{value-cons}
 use Rattle.base62.proofs.CanonicalLemmas.{canonical_is}
 use Rattle.base62.proofs.FixedLemmas.{fixed, length-fixed, denotes-fixed}
@@ -15,10 +15,9 @@ use Rattle.base62.proofs.FixedLemmas.{fixed, length-fixed, denotes-fixed}
 -- a canonical text of two or more letters does not begin with the zero letter, since the others would do
 first_differs : (B : List ℕ) → IsAlphabet B → (b : ℕ) (text : List ℕ) (n : ℕ) → IsCanonical B (b ∷ text) n → 0 < length text → b ≢ zero_letter B
 first_differs B ok b text n canonical more e =
-    let P : ℕ → Type 0 = λ b. is_letter B b ≡ true in
     let digit : digit_or_zero B b ≡ 0 = ap (digit_or_zero B) e ∙ digit_or_zero-letter B ok 0 (omega arith) in
     let same : value B (b ∷ text) ≡ value B text = value-cons B b text ∙ rw digit (omega arith) in
-    let least = canonical.shortest text (record { nonempty = more; letters = All-tail P b text canonical.denotes.letters; value_is = sym same ∙ canonical.denotes.value_is }) in
+    let least = canonical.shortest text (record { nonempty = more; letters = All-tail (IsLetter B) b text canonical.denotes.letters; value_is = sym same ∙ canonical.denotes.value_is }) in
     omega (arith, least)
 
 -- a canonical text has no needless zero

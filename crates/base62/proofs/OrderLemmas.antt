@@ -13,7 +13,7 @@ use Rattle.base62.specs.Value.{value, digit_or_zero}
 use Rattle.base62.specs.Canonical.{IsCanonical}
 use Rattle.base62.specs.Key.{IsKey}
 use Rattle.base62.specs.Order.{byte_order, IsNotAfter, length_first_order, Ascends}
-use Rattle.base62.proofs.AlphabetLemmas.{letter-digit_of, digit_of-is, same_letter}
+use Rattle.base62.proofs.AlphabetLemmas.{IsLetter, letter-digit_of, digit_of-is, same_letter}
 use Rattle.base62.proofs.ValueLemmas.{value-cons, value-lt, value-lt_most}
 use Rattle.base62.proofs.LengthLemmas.{no_needless_zero, needs_each}
 
@@ -25,6 +25,7 @@ rises B d = ltb (get_or B d 0) (get_or B (d + 1) 0)
 pub ascends_by : (B : List ℕ) → agree_below (rises B) (λ d. true) 61 ≡ true → Ascends B
 ascends_by B all d h = ltb-true _ _ (agree_below_at (rises B) (λ d. true) 61 d all h)
 
+-- the standard letters ascend by byte
 pub standard_ascends : Ascends standard
 unfolding standard
 standard_ascends = ascends_by standard refl
@@ -77,10 +78,9 @@ texts_compare B ok up [] [] p q len = sym (compared (value B []) (value B []) Eq
 texts_compare B ok up [] (y ∷ ys) p q len = absurd (omega arith)
 texts_compare B ok up (x ∷ xs) [] p q len = absurd (omega arith)
 texts_compare B ok up (x ∷ xs) (y ∷ ys) p q len =
-    let P : ℕ → Type 0 = λ b. is_letter B b ≡ true in
     let tails : length xs ≡ length ys = omega arith in
-    let first = letters_compare B ok up x y (All-head P x xs p) (All-head P y ys q) in
-    let later = texts_compare B ok up xs ys (All-tail P x xs p) (All-tail P y ys q) tails in
+    let first = letters_compare B ok up x y (All-head (IsLetter B) x xs p) (All-head (IsLetter B) y ys q) in
+    let later = texts_compare B ok up xs ys (All-tail (IsLetter B) x xs p) (All-tail (IsLetter B) y ys q) tails in
     let places = place_compares (digit_or_zero B x) (value B xs) (digit_or_zero B y) (value B ys) (62 ^ length xs) (value-lt B ok xs) (rw tails (value-lt B ok ys)) in
     rw (value-cons B x xs, value-cons B y ys, ← tails, places, first, later)
 

@@ -57,6 +57,7 @@ module _ (fill : ℕ) (text : List ℕ) where
   around : (front padding : ℕ) → List ℕ
   around front padding = fills fill front ++ (text ++ fills fill (padding - front))
 
+  -- with what an alignment asks for in front, that is the aligned text
   aligned-around : (number padding : ℕ) → IfSome (alignment_of number) (λ a. around (in_front number padding) padding ≡ aligned a fill padding text)
   unfolding around
   aligned-around zero p = let all : p - 0 ≡ p = omega arith in rw all refl

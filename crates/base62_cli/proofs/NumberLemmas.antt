@@ -27,6 +27,7 @@ pub list_all-ascii_digits : (text : List ℕ) → list_all is_ascii_digit text �
 list_all-ascii_digits [] = refl
 list_all-ascii_digits (c ∷ cs) = ap (λ b. is_ascii_digit c && b) (list_all-ascii_digits cs)
 
+-- a text with another byte than a digit is no number
 pub not_number : (text : List ℕ) → all_ascii_digits text ≡ false → is_number text ≡ false
 unfolding is_number
 not_number text e = and_left _ _ (and_right _ _ e)

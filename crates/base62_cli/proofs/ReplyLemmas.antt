@@ -27,12 +27,14 @@ one_of_two false F G f g = g
 stated : (text : List ℕ) → ExactlyOne (λ x. x ≡ text)
 stated text = record { exists = (text, refl); only = λ a b p q. p ∙ sym q }
 
+-- a text that is a number has a value below 2^128
 number_small : (text : List ℕ) → is_number text ≡ true → decimal_value text < 2 ^ 128
 unfolding is_number
 number_small text e =
     let parts = and_parts (ltb 0 (length text) && all_ascii_digits text) (ltb (decimal_value text) (2 ^ 128)) e in
     ltb-true (decimal_value text) (2 ^ 128) parts.1
 
+-- a text to be encoded has one reply
 one_encode_reply : (B : List ℕ) → IsAlphabet B → (text : List ℕ) → ExactlyOne (IsEncodeReply B text)
 one_encode_reply B ok text =
     let n = decimal_value text in
@@ -44,6 +46,7 @@ one_encode_reply B ok text =
 abbrev pub begins : List ℕ → List ℕ → Bool
 begins line command = starts_with nat_eq line command
 
+-- so has each line
 one_reply : (line : List ℕ) → ExactlyOne (IsReply line)
 unfolding IsReply
 one_reply line =
@@ -53,6 +56,7 @@ one_reply line =
     (one_of_two (begins line (codes "dec ")) _ _ (λ _. stated (decode_reply standard text))
     (one_of_two (begins line (codes "adc ")) _ _ (λ _. stated (decode_reply alternative text)) (stated (codes "fault: unknown command")))))
 
+-- and so have the lines of an input, in order
 pub one_replies : (lines : List (List ℕ)) → ExactlyOne (AreReplies lines)
 unfolding AreReplies
 one_replies [] = stated []

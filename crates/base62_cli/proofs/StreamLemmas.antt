@@ -1,16 +1,9 @@
 -- What reads and writes do to known bytes, one after the other.
 use Rattle.std.proofs.Common.{◌≡◌, List, [], ◌++◌, ℕ, Option, Some, None, append_assoc, append-nil, IfSome, refl, sym, subst, ap, ◌∙◌}
-use Rattle.std.specs.Io.KnownBytes.{Appends, Keeps, Consumes, IsAtEnd}
+use Rattle.std.specs.Io.KnownBytes.{Appends, Consumes, IsAtEnd}
 use Rattle.base62_cli.specs.Output.{IsOutput, Leaves}
 use Rattle.base62_cli.proofs.LineLemmas.{leaves_then}
 use Rattle.std.proofs.lemmas.Option.{none-some, same_Some}
-
--- a write, and then a call that writes nothing
-pub appends_kept : (a b c : Option (List ℕ)) (bytes : List ℕ) → Appends a b bytes → Keeps b c → Appends a c bytes
-appends_kept None b c bytes p q = tt
-appends_kept (Some x) None c bytes p q = absurd p
-appends_kept (Some x) (Some y) None bytes p q = absurd q
-appends_kept (Some x) (Some y) (Some z) bytes p q = q ∙ p
 
 -- two writes, one after the other
 pub appends_both : (a b c : Option (List ℕ)) (xs ys : List ℕ) → Appends a b xs → Appends b c ys → Appends a c (xs ++ ys)

@@ -44,9 +44,7 @@ returns-clause-counted c =
     has_letters c.args.n l.count l.invariant.0 (fits l.left (62 ^ l.count) c.args.n l.invariant.2 c.loop-left-test.false) l.invariant.3
 
 pub returns-clause-exact : goal.returns-clause-exact
-returns-clause-exact c =
-    let l = c.loop-left in
-    letters_exact c.args.n l.count (has_letters c.args.n l.count l.invariant.0 (fits l.left (62 ^ l.count) c.args.n l.invariant.2 c.loop-left-test.false) l.invariant.3)
+returns-clause-exact c = letters_exact c.args.n c.loop-left.count (returns-clause-counted c)
 
 pub returns-clause-most : goal.returns-clause-most
 returns-clause-most c = at_most_22 c.loop-left.count c.args.n c.loop-left.invariant.3 c.ranges.n.fits

@@ -36,7 +36,7 @@ module _ (fill : ℕ) (text : List ℕ) where
   aligned-none Right = refl
   aligned-none Center = append-nil text
 
-  -- a width fills in what the text is short of it
+  -- a width asks for as many fills as the text is short of characters
   padded_to-some : (width : ℕ) (a : Alignment) → padded_to (Some width) fill a text ≡ aligned a fill (width - char_count text) text
   padded_to-some width a = elim (cases_lt (char_count text) width) [
     | inl less ↦ rw (lt-leb width (char_count text) less) refl
@@ -53,7 +53,7 @@ module _ (fill : ℕ) (text : List ℕ) where
     | inr some ↦ rw (ne_eqb width 0 some) (padded_to-some width a)
   ]
 
-  -- the text with so much of the padding in front, and the others behind
+  -- the text with so much of the padding in front of it, and what is left behind it
   around : (front padding : ℕ) → List ℕ
   around front padding = fills fill front ++ (text ++ fills fill (padding - front))
 
@@ -69,7 +69,7 @@ module _ (fill : ℕ) (text : List ℕ) where
       let n : ℕ = suc (suc (suc (suc k))) in
       rw (ne_eqb n 0 (λ e. omega arith), ne_eqb n 1 (λ e. omega arith), ne_eqb n 2 (λ e. omega arith), ne_eqb n 3 (λ e. omega arith)) tt
 
--- what equals each alignment's text equals that of the stated one, if one is stated
+-- a text that equals g of the stated alignment equals f of it, where f and g are one
 mapped : (o : Option Alignment) (f g : Alignment → List ℕ) (text : List ℕ) → ((a : Alignment) → f a ≡ g a) → IfSome o (λ a. text ≡ g a) → IfSome (option_map f o) (λ bs. text ≡ bs)
 mapped None f g text same h = tt
 mapped (Some a) f g text same h = h ∙ sym (same a)

@@ -1,11 +1,11 @@
 -- The value of a text, one letter or one part at a time.
-use Rattle.std.proofs.Common.{true, ◌≡◌, ℕ, ◌+◌, ◌*◌, ◌^◌, ◌<◌, List, [], ◌∷◌, ◌++◌, length, get_or, map, take, ◌≤◌, refl, ap, ◌∙◌, arith}
+use Rattle.std.proofs.Common.{◌≡◌, ℕ, ◌+◌, ◌*◌, ◌^◌, ◌<◌, List, [], ◌∷◌, ◌++◌, length, get_or, map, take, ◌≤◌, refl, ap, ◌∙◌, arith}
 use Rattle.std.specs.List.{All}
 use Rattle.std.proofs.Math.Nat.{pow-le-pow_right}
 use Rattle.std.proofs.lemmas.List.{length-map, map-append, take_more}
 use Rattle.std.proofs.lemmas.List.Elements.{All-nil, All-cons, All-head, All-tail}
 use Rattle.std.proofs.lemmas.Nat.{same_from_place}
-use Rattle.base62.specs.Alphabet.{IsAlphabet, AreLetters, is_letter}
+use Rattle.base62.specs.Alphabet.{IsAlphabet, AreLetters}
 use Rattle.base62.specs.Value.{value, digit_or_zero}
 use Rattle.base62.proofs.PlacesLemmas.{places-nil, places-cons, places-append, places_push, places-lt}
 use Rattle.base62.proofs.AlphabetLemmas.{IsLetter, digit_or_zero-lt, same_letter}

@@ -1,9 +1,9 @@
 //! The two alphabets, numbers with their texts, and a plain encoder to compare with.
 
 use base62::{
-    DecodeError, EncodeError, Number, decode, decode_alternative, encode, encode_alternative,
-    encode_alternative_buf, encode_alternative_bytes, encode_alternative_io, encode_buf,
-    encode_bytes, encode_fmt, encode_fmt_alt, encode_io,
+    DecodeError, EncodeError, Number, Work, decode, decode_alternative, decode_alternative_counted,
+    decode_counted, encode, encode_alternative, encode_alternative_buf, encode_alternative_bytes,
+    encode_alternative_io, encode_buf, encode_bytes, encode_fmt, encode_fmt_alt, encode_io,
 };
 use std::alloc::{AllocError, Global};
 use std::io::{self, Write};
@@ -47,6 +47,13 @@ impl Alphabet {
         match self {
             Alphabet::Standard => decode(text),
             Alphabet::Alternative => decode_alternative(text),
+        }
+    }
+
+    pub(crate) fn decode_counted(self, text: &[u8], work: &mut Work) -> Result<u128, DecodeError> {
+        match self {
+            Alphabet::Standard => decode_counted(text, work),
+            Alphabet::Alternative => decode_alternative_counted(text, work),
         }
     }
 

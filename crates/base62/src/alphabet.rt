@@ -13,7 +13,8 @@ use std::snapshot::Snapshot;
 ///
 /// It is for a caller that must bound its work, as a server that decodes what it is sent: the counted calls,
 /// as [`decode_counted`](crate::decode_counted), say how far they move it on. Contracts see it as the number of
-/// steps, which has no last value; when the program runs it takes no bytes and says nothing.
+/// steps, which has no bound, so there is no last value. When the program runs it takes no bytes, and nothing
+/// can be read from it.
 ///
 /// ```rust
 /// let mut work = base62::Work::new();

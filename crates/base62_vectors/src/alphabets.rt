@@ -1,9 +1,9 @@
 //! The two alphabets, and numbers with their texts.
 
 use base62::{
-    DecodeError, EncodeError, Number, decode, decode_alternative, encode, encode_alternative,
-    encode_alternative_buf, encode_alternative_bytes, encode_alternative_io, encode_buf,
-    encode_bytes, encode_fmt, encode_fmt_alt, encode_io,
+    DecodeError, EncodeError, Number, Work, decode, decode_alternative, decode_alternative_counted,
+    decode_counted, encode, encode_alternative, encode_alternative_buf, encode_alternative_bytes,
+    encode_alternative_io, encode_buf, encode_bytes, encode_fmt, encode_fmt_alt, encode_io,
 };
 use std::alloc::{AllocError, Global};
 use std::io::{self, Write};
@@ -48,6 +48,13 @@ impl BuiltIn {
         match self {
             BuiltIn::Standard => decode(text),
             BuiltIn::Alternative => decode_alternative(text),
+        }
+    }
+
+    pub(crate) fn decode_counted(self, text: &[u8], work: &mut Work) -> Result<u128, DecodeError> {
+        match self {
+            BuiltIn::Standard => decode_counted(text, work),
+            BuiltIn::Alternative => decode_alternative_counted(text, work),
         }
     }
 

@@ -3,7 +3,7 @@
 use crate::alphabets::{BOTH, BuiltIn, texts};
 use base62::DecodeError::{ArithmeticOverflow, EmptyInput, InvalidBase62Byte};
 use base62::EncodeError::BufferTooSmall;
-use base62::{DecodeError, Number, decode, decode_alternative};
+use base62::{DecodeError, Number, Work};
 use std::process::Abort;
 use std::test::Fail;
 
@@ -57,6 +57,26 @@ fn numbers_and_texts(rt: HostRuntime) -> Result<(), Fail> {
     Ok(())
 }
 
+// The decoder gives the answer, and so does the counted one.
+fn assert_decodes(
+    rt: &impl Abort,
+    alphabet: Alphabet,
+    text: &str,
+    answer: Result<u128, DecodeError>,
+) {
+    assert_eq!(rt;
+        alphabet.decode(text.as_bytes()),
+        answer,
+        "decoding {text:?}, {alphabet:?}"
+    );
+    let mut work = Work::new();
+    assert_eq!(rt;
+        alphabet.decode_counted(text.as_bytes(), &mut work),
+        answer,
+        "decoding {text:?}, counted, {alphabet:?}"
+    );
+}
+
 // Each text with what it denotes over the standard and over the alternative alphabet.
 #[test]
 fn decoded_texts(rt: HostRuntime) {
@@ -75,13 +95,8 @@ fn decoded_texts(rt: HostRuntime) {
         ("RUSTLANG", 96813686712946, 189876682536016),
     ];
     for (text, standard, alternative) in rows {
-        let bytes = text.as_bytes();
-        assert_eq!(rt; decode(bytes), Ok(standard), "decoding {text:?}");
-        assert_eq!(rt;
-            decode_alternative(bytes),
-            Ok(alternative),
-            "decoding {text:?}, alternative"
-        );
+        assert_decodes(&rt, Alphabet::Standard, text, Ok(standard));
+        assert_decodes(&rt, Alphabet::Alternative, text, Ok(alternative));
     }
     for alphabet in BOTH {
         assert_eq!(rt;
@@ -151,16 +166,8 @@ const REFUSED: [(&str, &str, DecodeError); 12] = [
 #[test]
 fn refused_texts(rt: HostRuntime) {
     for (standard, alternative, fault) in REFUSED {
-        assert_eq!(rt;
-            decode(standard.as_bytes()),
-            Err(fault),
-            "decoding {standard:?}"
-        );
-        assert_eq!(rt;
-            decode_alternative(alternative.as_bytes()),
-            Err(fault),
-            "decoding {alternative:?}, alternative"
-        );
+        assert_decodes(&rt, Alphabet::Standard, standard, Err(fault));
+        assert_decodes(&rt, Alphabet::Alternative, alternative, Err(fault));
     }
 }
 

@@ -1,9 +1,9 @@
 //! The decoder in chunks of ten bytes, over the tables of any alphabet.
 
-ghost use Rattle.std.specs.Prelude.{◌≡◌, ◌+◌, ◌-◌, ◌<◌, ◌≤◌, ◌^◌, ◌∷◌, [], length, take, slice_index, Ok, IfOk};
-ghost use Rattle.base62.specs.Decoding.{leading_zeros, rest};
+ghost use Rattle.std.specs.Prelude.{◌≡◌, ◌+◌, ◌-◌, ◌<◌, ◌≤◌, ◌^◌, ◌∷◌, [], ℕ, List, length, take, slice_index, Ok, IfOk};
+ghost use Rattle.base62.specs.Decoding.{leading_zeros};
 ghost use Rattle.base62.specs.Steps.{DecodesCounted};
-ghost use Rattle.base62.specs.Parts.{ReadsPart};
+ghost use Rattle.base62.specs.Parts.{IsAfterZeros, ReadsPart};
 ghost use Rattle.base62.specs.Tables.{AreTables};
 
 use super::MAX_DIGITS;
@@ -41,15 +41,26 @@ pub(crate) fn decode_over(
     if input.is_empty() {
         return Err(DecodeError::EmptyInput);
     }
-    let zeros = count_zeros(tables, input);
-    let (_, rest) = input.split_at(zeros);
+    let (start, rest) = after_zeros(tables, input);
     if rest.len() > MAX_DIGITS {
         return Err(DecodeError::ArithmeticOverflow);
     }
     if rest.len() <= 10 {
-        return Ok(chunk(tables, rest, zeros, work)? as u128);
+        return Ok(chunk(tables, rest, start, work)? as u128);
     }
-    above_10(tables, input, zeros, work)
+    above_10(tables, rest, start, work)
+}
+
+// The bytes after the leading zeros of a text, and where they begin.
+#[inline(always)]
+fn after_zeros<'a>(tables: &Tables, input: &'a [u8]) -> (usize, &'a [u8])
+    requires { 0 < length input.now }
+    ensures within { result.0 + length result.1.now ≡ length input.now }
+    ensures after { IsAfterZeros tables.now.letters input.now result.0 result.1.now }
+{
+    let zeros = count_zeros(tables, input);
+    let (_, rest) = input.split_at(zeros);
+    (zeros, rest)
 }
 
 // How many zero letters a text begins with.
@@ -70,33 +81,33 @@ fn count_zeros(tables: &Tables, input: &[u8]) -> usize
     input.len()
 }
 
-// The decoder where 11 to 22 bytes follow the leading zeros. The first ten are weighed before a later one
-// is read.
+// What decoding a text answers where 11 to 22 bytes follow its leading zeros. The first ten are weighed
+// before a later one is read.
 #[inline(always)]
 fn above_10(
     tables: &Tables,
-    input: &[u8],
-    zeros: usize,
+    rest: &[u8],
+    start: usize,
     work: &mut Work,
 ) -> Result<u128, DecodeError>
     requires tables { AreTables tables.now }
-    requires zeros { zeros ≡ leading_zeros tables.now.letters input.now }
-    requires long { 10 < length (rest tables.now.letters input.now) }
-    requires short { length (rest tables.now.letters input.now) ≤ 22 }
-    ensures { DecodesCounted tables.now.letters input.now work.old work.new result }
+    requires long { 10 < length rest.now }
+    requires short { length rest.now ≤ 22 }
+    requires within { start + length rest.now < 2 ^ 64 }
+    ensures { (text : List ℕ) → IsAfterZeros tables.now.letters text start rest.now
+        → DecodesCounted tables.now.letters text work.old work.new result }
 {
-    let (_, rest) = input.split_at(zeros);
     let (first, later) = rest.split_at(10);
-    let high = ten_digits(tables, first, zeros, work)?;
+    let high = ten_digits(tables, first, start, work)?;
     if later.len() <= 10 {
-        let last = chunk(tables, later, zeros + 10, work)?;
+        let last = chunk(tables, later, start + 10, work)?;
         return Ok(high as u128 * power(later.len()) as u128 + last as u128);
     }
     let weight = power(later.len() - 10) as u128 * POWER_10 as u128;
     let Some(high) = (high as u128).checked_mul(weight) else {
         return Err(DecodeError::ArithmeticOverflow);
     };
-    let low = chunk_and_rest(tables, later, zeros + 10, work)?;
+    let low = chunk_and_rest(tables, later, start + 10, work)?;
     high.checked_add(low).ok_or(DecodeError::ArithmeticOverflow)
 }
 

@@ -60,7 +60,7 @@ fn numbers_and_texts(rt: HostRuntime) -> Result<(), Fail> {
 // The decoder gives the answer, and so does the counted one.
 fn assert_decodes(
     rt: &impl Abort,
-    alphabet: Alphabet,
+    alphabet: BuiltIn,
     text: &str,
     answer: Result<u128, DecodeError>,
 ) {
@@ -95,8 +95,8 @@ fn decoded_texts(rt: HostRuntime) {
         ("RUSTLANG", 96813686712946, 189876682536016),
     ];
     for (text, standard, alternative) in rows {
-        assert_decodes(&rt, Alphabet::Standard, text, Ok(standard));
-        assert_decodes(&rt, Alphabet::Alternative, text, Ok(alternative));
+        assert_decodes(&rt, BuiltIn::Standard, text, Ok(standard));
+        assert_decodes(&rt, BuiltIn::Alternative, text, Ok(alternative));
     }
     for alphabet in BOTH {
         assert_eq!(rt;
@@ -166,8 +166,8 @@ const REFUSED: [(&str, &str, DecodeError); 12] = [
 #[test]
 fn refused_texts(rt: HostRuntime) {
     for (standard, alternative, fault) in REFUSED {
-        assert_decodes(&rt, Alphabet::Standard, standard, Err(fault));
-        assert_decodes(&rt, Alphabet::Alternative, alternative, Err(fault));
+        assert_decodes(&rt, BuiltIn::Standard, standard, Err(fault));
+        assert_decodes(&rt, BuiltIn::Alternative, alternative, Err(fault));
     }
 }
 

@@ -1,8 +1,10 @@
 pub mod PlacesLemmas
 pub mod AlphabetLemmas
+pub mod TableLemmas
 pub mod ValueLemmas
 pub mod CanonicalLemmas
 pub mod LengthLemmas
+pub mod PartLemmas
 pub mod DecodingLemmas
 pub mod FaultLemmas
 pub mod FixedLemmas

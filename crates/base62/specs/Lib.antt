@@ -1,8 +1,12 @@
 pub mod Alphabet
+pub mod Table
+pub mod Tables
 pub mod Places
 pub mod Value
 pub mod Canonical
 pub mod Decoding
+pub mod Steps
+pub mod Parts
 pub mod Encoding
 pub mod Fault
 pub mod Padding

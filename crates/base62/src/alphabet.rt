@@ -1,22 +1,156 @@
-//! The letters of the alphabets, and the digits of bytes.
+//! The letters of the alphabets, the digits of bytes, and the steps that reading these takes.
 
-ghost use Rattle.std.specs.Prelude.{◌≡◌};
-ghost use Rattle.base62.specs.Alphabet.{digit_of};
+ghost use Rattle.std.specs.Prelude.{◌≡◌, ◌+◌, ◌<◌, ◌==◌, slice_index};
+ghost use Rattle.base62.specs.Alphabet.{standard, alternative, zero_letter};
+ghost use Rattle.base62.specs.Table.{digit_or_none};
+ghost use Rattle.base62.specs.Tables.{AreTables};
 
-// The letters of an alphabet, the letter of digit d at place d.
-pub(crate) type Letters = [u8; 62];
+use std::marker::Model;
+use std::mem;
+use std::snapshot::Snapshot;
 
-pub(crate) static STANDARD: Letters =
-    *b"0123456789ABCDEFGHIJKLMNOPQRSTUVWXYZabcdefghijklmnopqrstuvwxyz";
+/// A counter of the steps that calls take: a step is one reading of a byte's digit.
+///
+/// It is for a caller that must bound its work, as a server that decodes what it is sent: the counted calls,
+/// as [`decode_counted`](crate::decode_counted), say how far they move it on. Contracts see it as the number of
+/// steps, which has no last value; when the program runs it takes no bytes and says nothing.
+///
+/// ```rust
+/// let mut work = base62::Work::new();
+/// assert_eq!(rt; base62::decode_counted(b"LZ", &mut work), Ok(1337));
+/// ```
+#[derive(Drop)]
+pub struct Work {
+    // None at the start, and after a step the counter as it was before.
+    before: Snapshot<Option<Work>>,
+}
 
-pub(crate) static ALTERNATIVE: Letters =
-    *b"0123456789abcdefghijklmnopqrstuvwxyzABCDEFGHIJKLMNOPQRSTUVWXYZ";
+impl Model for Work {
+    ghost use Rattle.std.specs.Prelude.{ℕ, ◌+◌};
+    ghost use Rattle.std.specs.Option.{option_map_or};
 
-// The digit of a byte, if it is a letter.
-#[inline]
-#[tactic(auto, unfolding(crate::specs::Alphabet::digit_of))]
-pub(crate) fn digit(letters: &Letters, byte: u8) -> Option<usize>
-    ensures { result ≡ digit_of letters.now byte }
+    ghost Value = { ℕ };
+
+    ghost view = { λ w. option_map_or (λ steps. steps + 1) w.before.value 0 };
+
+    ghost size = { λ steps. steps };
+}
+
+const _: () = prove!(size_of::<Work>() == 0);
+
+impl Work {
+    /// A counter that stands at no step.
+    #[inline(always)]
+    pub fn new() -> Work
+        ensures { result ≡ 0 }
+    {
+        Work {
+            before: Snapshot::of(&None),
+        }
+    }
+
+    // One step more.
+    #[inline(always)]
+    fn tick(&mut self)
+        ensures { self.new ≡ self.old + 1 }
+    {
+        let before = mem::replace(self, Work::new());
+        *self = Work {
+            before: Snapshot::of(&Some(before)),
+        };
+    }
+}
+
+// The letters of an alphabet, that of digit d at place d, and the digits of all bytes, 255 where a byte has none.
+pub(crate) struct Tables {
+    letters: [u8; 62],
+    table: [u8; 256],
+}
+
+impl Tables {
+    // The digit of a byte, or 255 where it has none: one step.
+    #[inline(always)]
+    pub(crate) fn digit(&self, byte: u8, work: &mut Work) -> u8
+        requires { AreTables self.now }
+        ensures digit { result ≡ digit_or_none self.now.letters byte }
+        ensures step { work.new ≡ work.old + 1 }
+    {
+        work.tick();
+        self.table[byte as usize]
+    }
+
+    // Whether a byte is the zero letter.
+    #[inline(always)]
+    pub(crate) fn is_zero(&self, byte: u8) -> bool
+        ensures { result ≡ (byte == zero_letter self.now.letters) }
+    {
+        byte == self.letters[0]
+    }
+
+    // The letter of a digit.
+    #[inline]
+    pub(crate) fn letter(&self, digit: u32) -> u8
+        requires { digit < 62 }
+        ensures { result ≡ slice_index self.now.letters digit }
+    {
+        self.letters[digit as usize]
+    }
+}
+
+static STANDARD: Tables = Tables {
+    letters: *b"0123456789ABCDEFGHIJKLMNOPQRSTUVWXYZabcdefghijklmnopqrstuvwxyz",
+    table: [
+        255, 255, 255, 255, 255, 255, 255, 255, 255, 255, 255, 255, 255, 255, 255, 255, 255, 255,
+        255, 255, 255, 255, 255, 255, 255, 255, 255, 255, 255, 255, 255, 255, 255, 255, 255, 255,
+        255, 255, 255, 255, 255, 255, 255, 255, 255, 255, 255, 255, 0, 1, 2, 3, 4, 5, 6, 7, 8, 9,
+        255, 255, 255, 255, 255, 255, 255, 10, 11, 12, 13, 14, 15, 16, 17, 18, 19, 20, 21, 22, 23,
+        24, 25, 26, 27, 28, 29, 30, 31, 32, 33, 34, 35, 255, 255, 255, 255, 255, 255, 36, 37, 38,
+        39, 40, 41, 42, 43, 44, 45, 46, 47, 48, 49, 50, 51, 52, 53, 54, 55, 56, 57, 58, 59, 60, 61,
+        255, 255, 255, 255, 255, 255, 255, 255, 255, 255, 255, 255, 255, 255, 255, 255, 255, 255,
+        255, 255, 255, 255, 255, 255, 255, 255, 255, 255, 255, 255, 255, 255, 255, 255, 255, 255,
+        255, 255, 255, 255, 255, 255, 255, 255, 255, 255, 255, 255, 255, 255, 255, 255, 255, 255,
+        255, 255, 255, 255, 255, 255, 255, 255, 255, 255, 255, 255, 255, 255, 255, 255, 255, 255,
+        255, 255, 255, 255, 255, 255, 255, 255, 255, 255, 255, 255, 255, 255, 255, 255, 255, 255,
+        255, 255, 255, 255, 255, 255, 255, 255, 255, 255, 255, 255, 255, 255, 255, 255, 255, 255,
+        255, 255, 255, 255, 255, 255, 255, 255, 255, 255, 255, 255, 255, 255, 255, 255, 255, 255,
+        255, 255, 255, 255, 255, 255, 255,
+    ],
+};
+
+static ALTERNATIVE: Tables = Tables {
+    letters: *b"0123456789abcdefghijklmnopqrstuvwxyzABCDEFGHIJKLMNOPQRSTUVWXYZ",
+    table: [
+        255, 255, 255, 255, 255, 255, 255, 255, 255, 255, 255, 255, 255, 255, 255, 255, 255, 255,
+        255, 255, 255, 255, 255, 255, 255, 255, 255, 255, 255, 255, 255, 255, 255, 255, 255, 255,
+        255, 255, 255, 255, 255, 255, 255, 255, 255, 255, 255, 255, 0, 1, 2, 3, 4, 5, 6, 7, 8, 9,
+        255, 255, 255, 255, 255, 255, 255, 36, 37, 38, 39, 40, 41, 42, 43, 44, 45, 46, 47, 48, 49,
+        50, 51, 52, 53, 54, 55, 56, 57, 58, 59, 60, 61, 255, 255, 255, 255, 255, 255, 10, 11, 12,
+        13, 14, 15, 16, 17, 18, 19, 20, 21, 22, 23, 24, 25, 26, 27, 28, 29, 30, 31, 32, 33, 34, 35,
+        255, 255, 255, 255, 255, 255, 255, 255, 255, 255, 255, 255, 255, 255, 255, 255, 255, 255,
+        255, 255, 255, 255, 255, 255, 255, 255, 255, 255, 255, 255, 255, 255, 255, 255, 255, 255,
+        255, 255, 255, 255, 255, 255, 255, 255, 255, 255, 255, 255, 255, 255, 255, 255, 255, 255,
+        255, 255, 255, 255, 255, 255, 255, 255, 255, 255, 255, 255, 255, 255, 255, 255, 255, 255,
+        255, 255, 255, 255, 255, 255, 255, 255, 255, 255, 255, 255, 255, 255, 255, 255, 255, 255,
+        255, 255, 255, 255, 255, 255, 255, 255, 255, 255, 255, 255, 255, 255, 255, 255, 255, 255,
+        255, 255, 255, 255, 255, 255, 255, 255, 255, 255, 255, 255, 255, 255, 255, 255, 255, 255,
+        255, 255, 255, 255, 255, 255, 255,
+    ],
+};
+
+// The tables of the standard alphabet.
+#[inline(always)]
+pub(crate) fn standard_tables() -> &'static Tables
+    ensures tables { AreTables result.now }
+    ensures letters { result.now.letters ≡ standard }
 {
-    letters.iter().position(|letter| *letter == byte)
+    &STANDARD
+}
+
+// The tables of the alternative alphabet.
+#[inline(always)]
+pub(crate) fn alternative_tables() -> &'static Tables
+    ensures tables { AreTables result.now }
+    ensures letters { result.now.letters ≡ alternative }
+{
+    &ALTERNATIVE
 }

@@ -1,24 +1,23 @@
 //! Encoding into a buffer, and decoding.
 
-ghost use Rattle.std.specs.Prelude.{◌≡◌, ◌+◌, ◌<◌, ◌≤◌, ◌^◌, length, drop, IfOk, IfErr, slice_index};
-ghost use Rattle.std.specs.List.{prefix_len};
-ghost use Rattle.base62.specs.Alphabet.{IsAlphabet, AreLetters, is_letter, standard, alternative};
-ghost use Rattle.base62.specs.Value.{value};
+ghost use Rattle.std.specs.Prelude.{◌≡◌, ◌<◌, drop};
+ghost use Rattle.base62.specs.Alphabet.{standard, alternative};
 ghost use Rattle.base62.specs.Canonical.{IsCanonical};
 ghost use Rattle.base62.specs.Encoding.{EncodesInto};
-ghost use Rattle.base62.specs.Decoding.{decoding, leading_zeros};
-ghost use Rattle.base62.specs.declared.fault.DecodeError.TheVariants.{InvalidBase62Byte};
+ghost use Rattle.base62.specs.Decoding.{decoding};
+ghost use Rattle.base62.specs.Steps.{DecodesCounted};
+ghost use Rattle.base62.specs.Tables.{AreTables};
 
-use crate::alphabet::{ALTERNATIVE, Letters, STANDARD, digit};
+mod chunks;
+
+use crate::alphabet::{Tables, Work, alternative_tables, standard_tables};
 use crate::count::digit_count;
 use crate::fault::{DecodeError, EncodeError};
 use crate::number::Number;
+use chunks::decode_over;
 
 // No number below 2^128 has a longer text.
 pub(crate) const MAX_DIGITS: usize = 22;
-
-// An overflow of this many digits, with zeros for the others, is found before a later byte is looked at.
-const FIRST_CHUNK: usize = 10;
 
 /// Writes the standard text of `num` to the front of `buf`, and answers its length, which is 1 to 22.
 ///
@@ -32,11 +31,10 @@ const FIRST_CHUNK: usize = 10;
 /// assert_eq!(rt; base62::encode_bytes(1337_u64, &mut buf), Ok(2));
 /// assert_eq!(rt; &buf[..2], b"LZ".as_slice());
 /// ```
-#[tactic(auto, using(crate::proofs::AlphabetLemmas::standard_is_alphabet), unfolding(crate::specs::Alphabet::standard))]
 pub fn encode_bytes<T: Number>(num: T, buf: &mut [u8]) -> Result<usize, EncodeError>
     ensures { EncodesInto standard (T.meaning num) buf.old buf.new result }
 {
-    encode_over(&STANDARD, num.number(), buf)
+    encode_over(standard_tables(), num.number(), buf)
 }
 
 /// As [`encode_bytes`], over the alternative alphabet: `0` to `9`, `a` to `z`, `A` to `Z`.
@@ -46,11 +44,10 @@ pub fn encode_bytes<T: Number>(num: T, buf: &mut [u8]) -> Result<usize, EncodeEr
 /// assert_eq!(rt; base62::encode_alternative_bytes(1337_u64, &mut buf), Ok(2));
 /// assert_eq!(rt; &buf[..2], b"lz".as_slice());
 /// ```
-#[tactic(auto, using(crate::proofs::AlphabetLemmas::alternative_is_alphabet), unfolding(crate::specs::Alphabet::alternative))]
 pub fn encode_alternative_bytes<T: Number>(num: T, buf: &mut [u8]) -> Result<usize, EncodeError>
     ensures { EncodesInto alternative (T.meaning num) buf.old buf.new result }
 {
-    encode_over(&ALTERNATIVE, num.number(), buf)
+    encode_over(alternative_tables(), num.number(), buf)
 }
 
 /// The number that the standard text `input` denotes.
@@ -77,11 +74,10 @@ pub fn encode_alternative_bytes<T: Number>(num: T, buf: &mut [u8]) -> Result<usi
 /// let refused = Err(base62::DecodeError::InvalidBase62Byte(b'-', 4));
 /// assert_eq!(rt; base62::decode(b"00LZ-"), refused);
 /// ```
-#[tactic(auto, using(crate::proofs::AlphabetLemmas::standard_is_alphabet), unfolding(crate::specs::Alphabet::standard))]
 pub fn decode(input: &[u8]) -> Result<u128, DecodeError>
     ensures { result ≡ decoding standard input.now }
 {
-    decode_over(&STANDARD, input)
+    decode_counted(input, &mut Work::new())
 }
 
 /// As [`decode`], over the alternative alphabet, whose zero letter is `0` too.
@@ -90,96 +86,69 @@ pub fn decode(input: &[u8]) -> Result<u128, DecodeError>
 /// assert_eq!(rt; base62::decode_alternative(b"rustlang"), Ok(96813686712946));
 /// assert_eq!(rt; base62::decode_alternative(b"lz"), Ok(1337));
 /// ```
-#[tactic(auto, using(crate::proofs::AlphabetLemmas::alternative_is_alphabet), unfolding(crate::specs::Alphabet::alternative))]
 pub fn decode_alternative(input: &[u8]) -> Result<u128, DecodeError>
     ensures { result ≡ decoding alternative input.now }
 {
-    decode_over(&ALTERNATIVE, input)
+    decode_alternative_counted(input, &mut Work::new())
+}
+
+/// The answer of [`decode`], with the steps of reading `input` counted.
+///
+/// A step is one reading of a byte's digit, and `work` goes on from where it stood. An empty text and one of
+/// more than 22 bytes after its leading zeros take none. An overflow that the first ten bytes after those
+/// show takes ten. Any other text takes one for each byte after its leading zeros, up to and with the first
+/// that is no letter. So no text takes more than 22.
+///
+/// ```rust
+/// let mut work = base62::Work::new();
+/// assert_eq!(rt; base62::decode_counted(b"00LZ", &mut work), Ok(1337));
+/// ```
+pub fn decode_counted(input: &[u8], work: &mut Work) -> Result<u128, DecodeError>
+    ensures { DecodesCounted standard input.now work.old work.new result }
+{
+    decode_over(standard_tables(), input, work)
+}
+
+/// As [`decode_counted`], over the alternative alphabet.
+///
+/// ```rust
+/// let mut work = base62::Work::new();
+/// assert_eq!(rt; base62::decode_alternative_counted(b"00lz", &mut work), Ok(1337));
+/// ```
+pub fn decode_alternative_counted(input: &[u8], work: &mut Work) -> Result<u128, DecodeError>
+    ensures { DecodesCounted alternative input.now work.old work.new result }
+{
+    decode_over(alternative_tables(), input, work)
 }
 
 // The encoder over any alphabet.
-fn encode_over(letters: &Letters, n: u128, buf: &mut [u8]) -> Result<usize, EncodeError>
-    requires { IsAlphabet letters.now }
-    ensures { EncodesInto letters.now n buf.old buf.new result }
+fn encode_over(tables: &Tables, n: u128, buf: &mut [u8]) -> Result<usize, EncodeError>
+    requires { AreTables tables.now }
+    ensures { EncodesInto tables.now.letters n buf.old buf.new result }
 {
     let count = digit_count(n);
     if buf.len() < count {
         return Err(EncodeError::BufferTooSmall);
     }
     let mut digits = [0u8; MAX_DIGITS];
-    let start = write_digits(letters, n, &mut digits);
+    let start = write_digits(tables, n, &mut digits);
     buf[..count].copy_from_slice(&digits[start..]);
     Ok(count)
 }
 
 // Writes the text of n to the end of `digits`, and answers where it starts.
-fn write_digits(letters: &Letters, n: u128, digits: &mut [u8; MAX_DIGITS]) -> usize
-    requires { IsAlphabet letters.now }
+fn write_digits(tables: &Tables, n: u128, digits: &mut [u8; MAX_DIGITS]) -> usize
+    requires { AreTables tables.now }
     ensures start { result < 22 }
-    ensures text { IsCanonical letters.now (drop result digits.new) n }
+    ensures text { IsCanonical tables.now.letters (drop result digits.new) n }
 {
     let mut at = MAX_DIGITS - 1;
-    digits[at] = letters[(n % 62) as usize];
+    digits[at] = tables.letter((n % 62) as u32);
     let mut left = n / 62;
     while left > 0 {
         at -= 1;
-        digits[at] = letters[(left % 62) as usize];
+        digits[at] = tables.letter((left % 62) as u32);
         left /= 62;
     }
     at
-}
-
-// The decoder over any alphabet.
-fn decode_over(letters: &Letters, input: &[u8]) -> Result<u128, DecodeError>
-    requires { IsAlphabet letters.now }
-    ensures { result ≡ decoding letters.now input.now }
-{
-    if input.is_empty() {
-        return Err(DecodeError::EmptyInput);
-    }
-    let zeros = count_zeros(letters, input);
-    let (_, rest) = input.split_at(zeros);
-    if rest.len() > MAX_DIGITS {
-        return Err(DecodeError::ArithmeticOverflow);
-    }
-    let (first, later) = rest.split_at(FIRST_CHUNK.min(rest.len()));
-    let high = value_of(letters, first, zeros)?;
-    let Some(high) = high.checked_mul(62u128.pow(later.len() as u32)) else {
-        return Err(DecodeError::ArithmeticOverflow);
-    };
-    let low = value_of(letters, later, zeros + first.len())?;
-    high.checked_add(low).ok_or(DecodeError::ArithmeticOverflow)
-}
-
-// How many zero letters the text begins with.
-fn count_zeros(letters: &Letters, input: &[u8]) -> usize
-    ensures within { result ≤ length input.now }
-    ensures zeros { result ≡ leading_zeros letters.now input.now }
-{
-    let zero = letters[0];
-    for (i, byte) in input.iter().enumerate() {
-        if *byte != zero {
-            return i;
-        }
-    }
-    input.len()
-}
-
-// The value of a part of a text that begins at index `start` of it, or the first byte that is no letter.
-fn value_of(letters: &Letters, part: &[u8], start: usize) -> Result<u128, DecodeError>
-    requires alphabet { IsAlphabet letters.now }
-    requires short { length part.now ≤ 12 }
-    requires within { start + length part.now < 2 ^ 64 }
-    ensures ok { IfOk result (λ v. AreLetters letters.now part.now × (v ≡ value letters.now part.now)) }
-    ensures err { IfErr result (λ e. let i = prefix_len (is_letter letters.now) part.now in
-        (i < length part.now) × (e ≡ InvalidBase62Byte (slice_index part.now i) (start + i))) }
-{
-    let mut total = 0;
-    for (i, byte) in part.iter().enumerate() {
-        let Some(digit) = digit(letters, *byte) else {
-            return Err(DecodeError::InvalidBase62Byte(*byte, start + i));
-        };
-        total = total * 62 + digit as u128;
-    }
-    Ok(total)
 }

@@ -18,7 +18,7 @@
 //! alphabet. [`encode_key`] makes texts of a fixed length, which sort as their numbers.
 #![tactic(auto)]
 
-mod alphabet;
+pub mod alphabet;
 pub mod codec;
 pub mod count;
 pub mod fault;
@@ -30,7 +30,11 @@ pub mod show;
 pub mod target;
 mod text;
 
-pub use codec::{decode, decode_alternative, encode_alternative_bytes, encode_bytes};
+pub use alphabet::Work;
+pub use codec::{
+    decode, decode_alternative, decode_alternative_counted, decode_counted,
+    encode_alternative_bytes, encode_bytes,
+};
 pub use count::digit_count;
 pub use fault::{DecodeError, EncodeError};
 pub use key::{encode_key, key_range};

@@ -1,6 +1,4 @@
-use Rattle.base62.specs.Alphabet.{standard}
 use Rattle.base62.proofs.codec.encode_bytes.Goals as goal
 
 pub returns : goal.returns
-unfolding standard
-returns g c = rw c.number.ensures at c.encode_over.ensures
+returns g c = rw (c.number.ensures, c.standard_tables.ensures.letters) at c.encode_over.ensures

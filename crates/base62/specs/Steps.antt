@@ -1,0 +1,28 @@
+-- How many steps decoding takes: a step is one reading of a byte's digit.
+use Rattle.std.specs.Prelude.{◌≡◌, ℕ, ◌+◌, ◌-◌, ◌≤◌, ◌==◌, nat_lt, not, if◌then◌else◌, List, length, take, Result}
+use Rattle.std.specs.List.{list_all}
+use Rattle.base62.specs.declared.fault.DecodeError.{DecodeError}
+use Rattle.base62.specs.Alphabet.{is_letter}
+use Rattle.base62.specs.Decoding.{decoding, leading_zeros, rest, first_ten, invalid_index, shows_overflow}
+
+-- one for each byte after the leading zeros, up to and with the first that is no letter
+abbrev pub steps_to_invalid : List ℕ → List ℕ → ℕ
+steps_to_invalid B text = invalid_index B text - leading_zeros B text + 1
+
+-- The steps of decoding, by its cases: none for an empty text, nor where more than 22 bytes follow the leading
+-- zeros; up to a bad byte among the first ten; ten, where those show an overflow; up to a later bad byte; and one
+-- for each byte after the leading zeros.
+unfoldable pub decoding_steps : List ℕ → List ℕ → ℕ
+decoding_steps B text =
+    if length text == 0 then 0
+    else if nat_lt 22 (length (rest B text)) then 0
+    else if not (list_all (is_letter B) (first_ten B text)) then steps_to_invalid B text
+    else if shows_overflow B text then 10
+    else if not (list_all (is_letter B) (rest B text)) then steps_to_invalid B text
+    else length (rest B text)
+
+-- a counted call answers as decoding does, and takes exactly its steps from wherever the counter stood
+pub record DecodesCounted (B text : List ℕ) (old new : ℕ) (result : Result ℕ DecodeError) : Type 0 where
+  pub answer : result ≡ decoding B text
+  pub steps : new ≡ old + decoding_steps B text
+  pub most : new ≤ old + 22

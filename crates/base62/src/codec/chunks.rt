@@ -1,0 +1,256 @@
+//! The decoder in chunks of ten bytes, over the tables of any alphabet.
+
+ghost use Rattle.std.specs.Prelude.{◌≡◌, ◌+◌, ◌-◌, ◌<◌, ◌≤◌, ◌^◌, ◌∷◌, [], length, take, slice_index, Ok, IfOk};
+ghost use Rattle.base62.specs.Decoding.{leading_zeros, rest};
+ghost use Rattle.base62.specs.Steps.{DecodesCounted};
+ghost use Rattle.base62.specs.Parts.{ReadsPart};
+ghost use Rattle.base62.specs.Tables.{AreTables};
+
+use super::MAX_DIGITS;
+use crate::alphabet::{Tables, Work};
+use crate::fault::DecodeError;
+
+const POWER_5: u64 = 916132832;
+
+const POWER_10: u64 = 839299365868340224;
+
+static POWERS: [u64; 11] = [
+    1,
+    62,
+    3844,
+    238328,
+    14776336,
+    POWER_5,
+    56800235584,
+    3521614606208,
+    218340105584896,
+    13537086546263552,
+    POWER_10,
+];
+
+// The decoder over any alphabet.
+#[inline(always)]
+pub(crate) fn decode_over(
+    tables: &Tables,
+    input: &[u8],
+    work: &mut Work,
+) -> Result<u128, DecodeError>
+    requires { AreTables tables.now }
+    ensures { DecodesCounted tables.now.letters input.now work.old work.new result }
+{
+    if input.is_empty() {
+        return Err(DecodeError::EmptyInput);
+    }
+    let zeros = count_zeros(tables, input);
+    let (_, rest) = input.split_at(zeros);
+    if rest.len() > MAX_DIGITS {
+        return Err(DecodeError::ArithmeticOverflow);
+    }
+    if rest.len() <= 20 {
+        up_to_20(tables, rest, zeros, work)
+    } else {
+        above_20(tables, input, zeros, work)
+    }
+}
+
+// How many zero letters a text begins with.
+#[inline(always)]
+fn count_zeros(tables: &Tables, input: &[u8]) -> usize
+    requires { 0 < length input.now }
+    ensures within { result ≤ length input.now }
+    ensures zeros { result ≡ leading_zeros tables.now.letters input.now }
+{
+    if !tables.is_zero(input[0]) {
+        return 0;
+    }
+    for (i, byte) in input.iter().enumerate() {
+        if !tables.is_zero(*byte) {
+            return i;
+        }
+    }
+    input.len()
+}
+
+// A part of at most 20 bytes, which can't overflow.
+#[inline(always)]
+fn up_to_20(
+    tables: &Tables,
+    part: &[u8],
+    start: usize,
+    work: &mut Work,
+) -> Result<u128, DecodeError>
+    requires tables { AreTables tables.now }
+    requires short { length part.now ≤ 20 }
+    requires within { start + length part.now < 2 ^ 64 }
+    ensures { ReadsPart tables.now.letters part.now start work.old work.new result }
+{
+    if part.len() <= 10 {
+        return Ok(chunk(tables, part, start, work)? as u128);
+    }
+    let (first, later) = part.split_at(10);
+    let high = ten_digits(tables, first, start, work)?;
+    let low = chunk(tables, later, start + 10, work)?;
+    Ok(high as u128 * power(later.len()) as u128 + low as u128)
+}
+
+// The decoder where 21 or 22 bytes follow the leading zeros: the first ten are weighed before a later one is read.
+#[inline(always)]
+fn above_20(
+    tables: &Tables,
+    input: &[u8],
+    zeros: usize,
+    work: &mut Work,
+) -> Result<u128, DecodeError>
+    requires tables { AreTables tables.now }
+    requires zeros { zeros ≡ leading_zeros tables.now.letters input.now }
+    requires long { 20 < length (rest tables.now.letters input.now) }
+    requires short { length (rest tables.now.letters input.now) ≤ 22 }
+    ensures { DecodesCounted tables.now.letters input.now work.old work.new result }
+{
+    let (_, rest) = input.split_at(zeros);
+    let (first, later) = rest.split_at(10);
+    let high = ten_digits(tables, first, zeros, work)?;
+    let weight = power(later.len() - 10) as u128 * POWER_10 as u128;
+    let Some(high) = (high as u128).checked_mul(weight) else {
+        return Err(DecodeError::ArithmeticOverflow);
+    };
+    let low = up_to_12(tables, later, zeros + 10, work)?;
+    high.checked_add(low).ok_or(DecodeError::ArithmeticOverflow)
+}
+
+// A part of 11 or 12 bytes.
+#[inline(always)]
+fn up_to_12(
+    tables: &Tables,
+    part: &[u8],
+    start: usize,
+    work: &mut Work,
+) -> Result<u128, DecodeError>
+    requires tables { AreTables tables.now }
+    requires long { 10 < length part.now }
+    requires short { length part.now ≤ 12 }
+    requires within { start + length part.now < 2 ^ 64 }
+    ensures { ReadsPart tables.now.letters part.now start work.old work.new result }
+{
+    let (first, later) = part.split_at(10);
+    let high = ten_digits(tables, first, start, work)?;
+    let low = read_on(tables, 0, later, 0, start + 10, work)?;
+    Ok(high as u128 * power(later.len()) as u128 + low as u128)
+}
+
+// A part of at most ten bytes.
+#[inline(always)]
+fn chunk(tables: &Tables, part: &[u8], start: usize, work: &mut Work) -> Result<u64, DecodeError>
+    requires tables { AreTables tables.now }
+    requires short { length part.now ≤ 10 }
+    requires within { start + length part.now < 2 ^ 64 }
+    ensures { ReadsPart tables.now.letters part.now start work.old work.new result }
+{
+    let mut number = 0;
+    let mut done = 0;
+    if part.len() >= 5 {
+        number = five_digits(tables, part, start, work)? as u64;
+        done = 5;
+    }
+    read_on(tables, number, part, done, start, work)
+}
+
+// A part of at most ten bytes, of which the first `done` have been read as a number, and at most five are left.
+#[inline(always)]
+fn read_on(
+    tables: &Tables,
+    number: u64,
+    part: &[u8],
+    done: usize,
+    start: usize,
+    work: &mut Work,
+) -> Result<u64, DecodeError>
+    requires tables { AreTables tables.now }
+    requires done { ReadsPart tables.now.letters (take done part.now) start (work.old - done) work.old (Ok number) }
+    requires inside { done ≤ length part.now }
+    requires near { length part.now ≤ done + 5 }
+    requires short { length part.now ≤ 10 }
+    requires within { start + length part.now < 2 ^ 64 }
+    ensures { ReadsPart tables.now.letters part.now start (work.old - done) work.new result }
+{
+    let mut total = number;
+    for k in 0..5 {
+        let i = done + k;
+        if i >= part.len() {
+            break;
+        }
+        total = total * 62 + digit_at(tables, part, i, start, work)? as u64;
+    }
+    Ok(total)
+}
+
+// A part of ten bytes, as two numbers of five digits.
+#[inline(always)]
+fn ten_digits(
+    tables: &Tables,
+    part: &[u8],
+    start: usize,
+    work: &mut Work,
+) -> Result<u64, DecodeError>
+    requires tables { AreTables tables.now }
+    requires ten { length part.now ≡ 10 }
+    requires within { start + 10 < 2 ^ 64 }
+    ensures { ReadsPart tables.now.letters part.now start work.old work.new result }
+{
+    let (_, later) = part.split_at(5);
+    let high = five_digits(tables, part, start, work)?;
+    let low = five_digits(tables, later, start + 5, work)?;
+    Ok(high as u64 * POWER_5 + low as u64)
+}
+
+// The first five bytes of a part.
+#[inline(always)]
+fn five_digits(
+    tables: &Tables,
+    part: &[u8],
+    start: usize,
+    work: &mut Work,
+) -> Result<u32, DecodeError>
+    requires tables { AreTables tables.now }
+    requires five { 5 ≤ length part.now }
+    requires within { start + 5 < 2 ^ 64 }
+    ensures { ReadsPart tables.now.letters (take 5 part.now) start work.old work.new result }
+{
+    let a = digit_at(tables, part, 0, start, work)?;
+    let b = digit_at(tables, part, 1, start, work)?;
+    let c = digit_at(tables, part, 2, start, work)?;
+    let d = digit_at(tables, part, 3, start, work)?;
+    let e = digit_at(tables, part, 4, start, work)?;
+    Ok(a * 14776336 + b * 238328 + c * 3844 + d * 62 + e)
+}
+
+// The byte at a place of a part.
+#[inline(always)]
+fn digit_at(
+    tables: &Tables,
+    part: &[u8],
+    i: usize,
+    start: usize,
+    work: &mut Work,
+) -> Result<u32, DecodeError>
+    requires tables { AreTables tables.now }
+    requires inside { i < length part.now }
+    requires within { start + i < 2 ^ 64 }
+    ensures read { ReadsPart tables.now.letters (slice_index part.now i ∷ []) (start + i) work.old work.new result }
+    ensures small { IfOk result (λ digit. digit < 62) }
+{
+    let digit = tables.digit(part[i], work);
+    if digit > 61 {
+        return Err(DecodeError::InvalidBase62Byte(part[i], start + i));
+    }
+    Ok(digit as u32)
+}
+
+// 62 to the k.
+#[inline(always)]
+fn power(k: usize) -> u64
+    requires { k ≤ 10 }
+    ensures { result ≡ 62 ^ k }
+{
+    POWERS[k]
+}

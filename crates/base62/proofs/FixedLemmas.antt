@@ -1,26 +1,44 @@
 -- Texts of a fixed number of letters, and which of them are canonical.
-use Rattle.std.proofs.Common.{◌≡◌, ℕ, zero, suc, ◌-◌, ◌/◌, ◌%◌, ◌^◌, ◌<◌, ◌≤◌, ◌⊎◌, List, [], ◌∷◌, ◌++◌, length, refl, ap, ◌∙◌, slice_index, inl, inr, arith}
-use Rattle.std.proofs.Math.Nat.{pow-suc, pow-le-pow_right}
+use Rattle.std.proofs.Common.{◌≡◌, ℕ, zero, suc, ◌+◌, ◌-◌, ◌*◌, ◌/◌, ◌%◌, ◌^◌, ◌<◌, ◌≤◌, ◌⊎◌, List, [], ◌∷◌, ◌++◌, length, refl, sym, ap, ◌∙◌, slice_index, inl, inr, arith, add-zero, add-suc, append_assoc}
+use Rattle.std.proofs.Math.Nat.{pow-suc, pow-succ', pow-le-pow_right, one-le-pow, div-one, div-div-eq-div-mul}
+use Rattle.std.proofs.Math.Arith.{mod-mul}
 use Rattle.std.proofs.lemmas.Bool.{cases_lt}
-use Rattle.std.proofs.lemmas.Nat.{div_below}
-use Rattle.std.proofs.lemmas.List.{length_push}
+use Rattle.std.proofs.lemmas.Nat.{div_below, div-mul-add, mod-mul-add}
+use Rattle.std.proofs.lemmas.List.{length_push, append-nil}
 use Rattle.std.proofs.lemmas.List.Elements.{All-nil, All-push}
 use Rattle.base62.specs.Alphabet.{IsAlphabet, AreLetters}
 use Rattle.base62.specs.Value.{value}
 use Rattle.base62.specs.Canonical.{Denotes, IsCanonical, HasLetters}
+use Rattle.base62.specs.Fixed.{fixed}
 use Rattle.base62.proofs.AlphabetLemmas.{IsLetter, is_letter-letter, digit_or_zero-letter}
-use Rattle.base62.proofs.ValueLemmas.{value-nil, value_push}
+use Rattle.base62.proofs.ValueLemmas.{value-nil, value_push, value-lt}
 use Rattle.base62.proofs.CanonicalLemmas.{canonical_is, one_canonical}
-
--- the text of exactly w letters for the last w digits of n
-unfoldable pub fixed : List ℕ → ℕ → ℕ → List ℕ
-fixed B zero n = []
-fixed B (suc w) n = fixed B w (n / 62) ++ slice_index B (n % 62) ∷ []
 
 pub length-fixed : (B : List ℕ) (w n : ℕ) → length (fixed B w n) ≡ w
 unfolding fixed
 length-fixed B zero n = refl
 length-fixed B (suc w) n = length_push (fixed B w (n / 62)) (slice_index B (n % 62)) ∙ omega (arith, length-fixed B w (n / 62))
+
+-- of n its last w digits alone count
+fixed-remainder : (B : List ℕ) (w n : ℕ) → fixed B w (n % 62 ^ w) ≡ fixed B w n
+unfolding fixed
+fixed-remainder B zero n = refl
+fixed-remainder B (suc w) n =
+    let front = n / 62 % 62 ^ w in
+    let cut : n % 62 ^ suc w ≡ front * 62 + n % 62 = rw pow-suc (mod-mul n (one-le-pow w 62 (omega arith)) (omega arith)) in
+    rw (cut, div-mul-add front 62 (n % 62) (omega arith), mod-mul-add front 62 (n % 62) (omega arith), fixed-remainder B w (n / 62)) refl
+
+fixed-cut : (B : List ℕ) (v w n : ℕ) → fixed B (v + w) n ≡ fixed B v (n / 62 ^ w) ++ fixed B w n
+unfolding fixed
+fixed-cut B v zero n = rw (add-zero, append-nil, div-one) refl
+fixed-cut B v (suc w) n =
+    let last = slice_index B (n % 62) ∷ [] in
+    let weight : n / 62 / 62 ^ w ≡ n / 62 ^ suc w = rw pow-succ' (div-div-eq-div-mul n 62 (62 ^ w)) in
+    rw (add-suc, ← weight, ← append_assoc) (ap (λ text. text ++ last) (fixed-cut B v w (n / 62)))
+
+-- a text of v + w letters is one of v and one of w
+pub fixed-join : (B : List ℕ) (v w n : ℕ) → fixed B (v + w) n ≡ fixed B v (n / 62 ^ w) ++ fixed B w (n % 62 ^ w)
+fixed-join B v w n = fixed-cut B v w n ∙ ap (λ text. fixed B v (n / 62 ^ w) ++ text) (sym (fixed-remainder B w n))
 
 letters-fixed : (B : List ℕ) → IsAlphabet B → (w n : ℕ) → AreLetters B (fixed B w n)
 unfolding fixed
@@ -51,19 +69,46 @@ canonical-fixed B ok w n some fits least =
 pub has_letters : (n w : ℕ) → 0 < w → n < 62 ^ w → (w ≡ 1) ⊎ (62 ^ (w - 1) ≤ n) → HasLetters n w
 has_letters n w some fits least = λ B ok. (fixed B w n, canonical-fixed B ok w n some fits least, length-fixed B w n)
 
+-- they hold n, and one letter less would not
+pub has_letters_fits : (B : List ℕ) → IsAlphabet B → (n w : ℕ) → HasLetters n w → n < 62 ^ w
+has_letters_fits B ok n w has =
+    let one = has B ok in
+    let below = value-lt B ok one.0 in
+    rw (one.1.denotes.value_is, one.2) at below
+
+pub has_letters_some : (B : List ℕ) → IsAlphabet B → (n w : ℕ) → HasLetters n w → 1 ≤ w
+has_letters_some B ok n w has = let one = has B ok in omega (arith, one.1.denotes.nonempty, one.2)
+
+pub has_letters_least : (B : List ℕ) → IsAlphabet B → (n w : ℕ) → HasLetters n w → (w ≡ 1) ⊎ (62 ^ (w - 1) ≤ n)
+has_letters_least B ok n w has = elim (cases_lt n (62 ^ (w - 1))) [
+  | inr more ↦ inr more
+  | inl less ↦ elim (cases_lt 1 w) [
+    | inr one ↦ inl (omega (arith, one, has_letters_some B ok n w has))
+    | inl two ↦
+        let one = has B ok in
+        let shorter = one.1.shortest (fixed B (w - 1) n) (record { nonempty = omega (arith, length-fixed B (w - 1) n); letters = letters-fixed B ok (w - 1) n; value_is = value-fixed B ok (w - 1) n less }) in
+        absurd (omega (arith, shorter, one.2, length-fixed B (w - 1) n))
+  ]
+]
+
+-- a number below 62^k takes at most k letters
+pub has_letters_most : (B : List ℕ) → IsAlphabet B → (k n w : ℕ) → 1 ≤ k → HasLetters n w → n < 62 ^ k → w ≤ k
+has_letters_most B ok k n w some has small = elim (has_letters_least B ok n w has) [
+  | inl one ↦ omega (arith, one)
+  | inr least ↦ elim (cases_lt k w) [
+    | inl more ↦ let grows : 62 ^ k ≤ 62 ^ (w - 1) = pow-le-pow_right {n = 62} (omega arith) {i = k} {j = w - 1} (omega arith) in absurd (omega arith)
+    | inr less ↦ less
+  ]
+]
+
+pub canonical_has : (B : List ℕ) → IsAlphabet B → (n w : ℕ) → HasLetters n w → IsCanonical B (fixed B w n) n
+canonical_has B ok n w has =
+    canonical-fixed B ok w n (has_letters_some B ok n w has) (has_letters_fits B ok n w has) (has_letters_least B ok n w has)
+
 -- each canonical text has as many letters
 pub letters_exact : (n w : ℕ) → HasLetters n w → (B text : List ℕ) → IsAlphabet B → IsCanonical B text n → length text ≡ w
 letters_exact n w has B text ok canonical =
     let one = has B ok in ap length (one_canonical B ok n text one.0 canonical one.1) ∙ one.2
-
--- a number below 2^128 takes at most 22 letters
-pub at_most_22 : (w n : ℕ) → (w ≡ 1) ⊎ (62 ^ (w - 1) ≤ n) → n < 2 ^ 128 → w ≤ 22
-at_most_22 w n (inl one) small = omega arith
-at_most_22 w n (inr least) small = elim (cases_lt 22 w) [
-  | inl more ↦
-      let grows : 62 ^ 22 ≤ 62 ^ (w - 1) = pow-le-pow_right {n = 62} (omega arith) {i = 22} {j = w - 1} (omega arith) in absurd (omega arith)
-  | inr less ↦ less
-]
 
 -- the least number of letters from 1 on that holds n
 some_width : (k n : ℕ) → n < 62 ^ suc k → (w : ℕ) × (0 < w) × (n < 62 ^ w) × ((w ≡ 1) ⊎ (62 ^ (w - 1) ≤ n))

@@ -18,7 +18,7 @@ use Rattle.base62.specs.Key.{IsKey, BeginsWith, BeginsNoKey, BeginsKeysOf, Begin
 use Rattle.base62.specs.Order.{Ascends}
 use Rattle.base62.proofs.AlphabetLemmas.{IsLetter}
 use Rattle.base62.proofs.ValueLemmas.{value-nil, value-append, value-lt, same_text}
-use Rattle.base62.proofs.FixedLemmas.{fixed}
+use Rattle.base62.specs.Fixed.{fixed}
 use Rattle.base62.proofs.KeyLemmas.{key-fixed}
 use Rattle.base62.proofs.OrderLemmas.{not_after_iff}
 

@@ -5,7 +5,8 @@ use Rattle.base62.specs.Decoding.{decoding}
 use Rattle.base62.specs.Key.{IsKey}
 use Rattle.base62.proofs.AnswerLemmas.{decoding-denotes}
 use Rattle.base62.proofs.ValueLemmas.{same_text}
-use Rattle.base62.proofs.FixedLemmas.{fixed, length-fixed, denotes-fixed}
+use Rattle.base62.specs.Fixed.{fixed}
+use Rattle.base62.proofs.FixedLemmas.{length-fixed, denotes-fixed}
 
 -- the text of exactly 22 letters for the last 22 digits of n is the key of n
 pub key-fixed : (B : List ℕ) → IsAlphabet B → (n : ℕ) → n < 62 ^ 22 → IsKey B (fixed B 22 n) n

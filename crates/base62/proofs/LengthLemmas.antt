@@ -10,7 +10,8 @@ use Rattle.base62.specs.Laws.{HasNoNeedlessZero}
 use Rattle.base62.proofs.AlphabetLemmas.{IsLetter, is_letter-letter, digit_or_zero-letter, same_letter}
 use Rattle.base62.proofs.ValueLemmas.{value-cons}
 use Rattle.base62.proofs.CanonicalLemmas.{canonical_is}
-use Rattle.base62.proofs.FixedLemmas.{fixed, length-fixed, denotes-fixed}
+use Rattle.base62.specs.Fixed.{fixed}
+use Rattle.base62.proofs.FixedLemmas.{length-fixed, denotes-fixed}
 
 -- a canonical text of two or more letters does not begin with the zero letter, since the others would do
 first_differs : (B : List ℕ) → IsAlphabet B → (b : ℕ) (text : List ℕ) (n : ℕ) → IsCanonical B (b ∷ text) n → 0 < length text → b ≢ zero_letter B

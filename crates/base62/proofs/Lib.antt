@@ -8,6 +8,11 @@ pub mod PartLemmas
 pub mod DecodingLemmas
 pub mod FaultLemmas
 pub mod FixedLemmas
+pub mod PowerLemmas
+pub mod CountLemmas
+pub mod KernelLemmas
+pub mod StepsLemmas
+pub mod EncodingLemmas
 pub mod PaddingLemmas
 pub mod TextLemmas
 pub mod CaseLemmas

@@ -4,10 +4,11 @@ pub mod Tables
 pub mod Places
 pub mod Value
 pub mod Canonical
+pub mod Fixed
 pub mod Decoding
-pub mod Steps
 pub mod Parts
 pub mod Encoding
+pub mod Steps
 pub mod Fault
 pub mod Padding
 pub mod Case

@@ -1,9 +1,11 @@
--- How many steps decoding takes: a step is one reading of a byte's digit.
-use Rattle.std.specs.Prelude.{◌≡◌, ℕ, ◌+◌, ◌-◌, ◌≤◌, ◌==◌, nat_lt, not, if◌then◌else◌, List, length, Result}
+-- How many steps calls take: a step is one reading of a byte's digit, of a digit's letter, or of two letters at once.
+use Rattle.std.specs.Prelude.{◌≡◌, ℕ, ◌+◌, ◌-◌, ◌≤◌, ◌==◌, nat_lt, not, if◌then◌else◌, List, [], ◌∷◌, length, slice_index, Result, MatchResult}
 use Rattle.std.specs.List.{list_all}
 use Rattle.base62.specs.declared.fault.DecodeError.{DecodeError}
+use Rattle.base62.specs.declared.fault.EncodeError.{EncodeError}
 use Rattle.base62.specs.Alphabet.{is_letter}
 use Rattle.base62.specs.Decoding.{decoding, leading_zeros, rest, first_ten, invalid_index, shows_overflow}
+use Rattle.base62.specs.Encoding.{EncodesInto}
 
 -- one for each byte after the leading zeros, up to and with the first that is no letter
 abbrev pub steps_to_invalid : List ℕ → List ℕ → ℕ
@@ -26,3 +28,14 @@ pub record DecodesCounted (B text : List ℕ) (old new : ℕ) (result : Result �
   pub answer : result ≡ decoding B text
   pub steps : new ≡ old + decoding_steps B text
   pub most : new ≤ old + 22
+
+-- the steps of encoding, by the number of letters, from 1 to 22
+unfoldable pub encoding_steps : ℕ → ℕ
+encoding_steps d = slice_index (1 ∷ 1 ∷ 2 ∷ 2 ∷ 3 ∷ 3 ∷ 4 ∷ 4 ∷ 5 ∷ 7 ∷ 7 ∷ 7 ∷ 8 ∷ 8 ∷ 9 ∷ 9 ∷ 10 ∷ 10 ∷ 11 ∷ 12 ∷ 13 ∷ 13 ∷ []) (d - 1)
+
+-- a counted call encodes into a buffer, and takes exactly the steps for the length that it answers, or none where it
+-- refuses
+pub record EncodesCounted (B : List ℕ) (n : ℕ) (old new : List ℕ) (before after : ℕ) (result : Result ℕ EncodeError) : Type 0 where
+  pub answer : EncodesInto B n old new result
+  pub steps : MatchResult result (λ len. after ≡ before + encoding_steps len) (λ _. after ≡ before)
+  pub most : after ≤ before + 13

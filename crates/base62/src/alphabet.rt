@@ -1,6 +1,6 @@
 //! The letters of the alphabets, the digits of bytes, and the steps that reading these takes.
 
-ghost use Rattle.std.specs.Prelude.{◌≡◌, ◌+◌, ◌<◌, ◌==◌, slice_index};
+ghost use Rattle.std.specs.Prelude.{◌≡◌, ◌+◌, ◌/◌, ◌%◌, ◌<◌, ◌==◌, slice_index};
 ghost use Rattle.base62.specs.Alphabet.{standard, alternative, zero_letter};
 ghost use Rattle.base62.specs.Table.{digit_or_none};
 ghost use Rattle.base62.specs.Tables.{AreTables};
@@ -9,7 +9,8 @@ use std::marker::Model;
 use std::mem;
 use std::snapshot::Snapshot;
 
-/// A counter of the steps that calls take: a step is one reading of a byte's digit.
+/// A counter of the steps that calls take: a step is one reading of a byte's digit, of a digit's letter, or of
+/// the letters of two digits at once.
 ///
 /// It is for a caller that must bound its work, as a server that decodes what it is sent: the counted calls,
 /// as [`decode_counted`](crate::decode_counted), say how far they move it on. Contracts see it as the number of
@@ -88,12 +89,31 @@ impl Tables {
         byte == self.letters[0]
     }
 
-    // The letter of a digit.
-    #[inline]
-    pub(crate) fn letter(&self, digit: u32) -> u8
-        requires { digit < 62 }
-        ensures { result ≡ slice_index self.now.letters digit }
+    // The letters of a number's two digits: one step.
+    #[inline(always)]
+    pub(crate) fn pair(&self, number: u32, work: &mut Work) -> (u8, u8)
+        requires { number < 3844 }
+        ensures first { result.0 ≡ slice_index self.now.letters (number / 62) }
+        ensures second { result.1 ≡ slice_index self.now.letters (number % 62) }
+        ensures step { work.new ≡ work.old + 1 }
     {
+        work.tick();
+        // The number stays as it is.
+        let number = number & 0xfff;
+        let quotient = number / 62;
+        let first = self.letters[quotient as usize];
+        let second = self.letters[(number - quotient * 62) as usize];
+        (first, second)
+    }
+
+    // The letter of a digit: one step.
+    #[inline(always)]
+    pub(crate) fn letter(&self, digit: u32, work: &mut Work) -> u8
+        requires { digit < 62 }
+        ensures letter { result ≡ slice_index self.now.letters digit }
+        ensures step { work.new ≡ work.old + 1 }
+    {
+        work.tick();
         self.letters[digit as usize]
     }
 }

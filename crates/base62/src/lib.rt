@@ -33,7 +33,7 @@ mod text;
 pub use alphabet::Work;
 pub use codec::{
     decode, decode_alternative, decode_alternative_counted, decode_counted,
-    encode_alternative_bytes, encode_bytes,
+    encode_alternative_bytes, encode_alternative_bytes_counted, encode_bytes, encode_bytes_counted,
 };
 pub use count::digit_count;
 pub use fault::{DecodeError, EncodeError};

@@ -1,4 +1,4 @@
-use Rattle.base62.proofs.codec.encode_alternative_bytes.Goals as goal
+use Rattle.base62.proofs.codec.encode_alternative_bytes_counted.Goals as goal
 
 pub returns : goal.returns
 returns g c = rw (c.number.ensures, c.alternative_tables.ensures.letters) at c.encode_over.ensures

@@ -1,0 +1,46 @@
+-- The answer of encoding into a buffer.
+use Rattle.std.proofs.Common.{◌≡◌, ℕ, ◌+◌, ◌<◌, ◌≤◌, List, length, take, Ok, Err, refl, arith}
+use Rattle.std.proofs.lemmas.Bool.{false≢true}
+use Rattle.base62.specs.declared.fault.EncodeError.TheVariants.{BufferTooSmall}
+use Rattle.base62.specs.Alphabet.{IsAlphabet}
+use Rattle.base62.specs.Canonical.{IsCanonical, HasLetters}
+use Rattle.base62.specs.Fixed.{fixed, WritesFixed}
+use Rattle.base62.specs.Steps.{EncodesCounted, encoding_steps}
+use Rattle.base62.proofs.FixedLemmas.{length-fixed, letters_exact, canonical_has}
+use Rattle.base62.proofs.KernelLemmas.{written_front, written_rest, written_length}
+use Rattle.base62.proofs.StepsLemmas.{most_steps}
+
+-- a number of so many letters
+module _ (B : List ℕ) (ok : IsAlphabet B) (n count : ℕ) (has : HasLetters n count) (some : 1 ≤ count) (few : count ≤ 22) where
+  -- where they fit, they are written
+  pub encodes : (old new : List ℕ) (before after : ℕ) → count ≤ length old → WritesFixed B count n old new → after ≡ before + encoding_steps count → EncodesCounted B n old new before after (Ok count)
+  encodes old new before after room writes steps =
+      let text : take count new ≡ fixed B count n = written_front B count n old new writes in
+      let canonical : IsCanonical B (fixed B count n) n = canonical_has B ok n count has in
+      record {
+        answer = record {
+          fits = (λ _. (fixed B count n, canonical, omega (arith, length-fixed B count n)), λ _. refl);
+          text = (omega (arith, written_length B count n old new room writes), rw text canonical);
+          others = written_rest B count n old new writes;
+          short = (some, few);
+          refused = tt;
+          roomy = λ _. refl;
+        };
+        steps = steps;
+        most = omega (arith, most_steps count few);
+      }
+
+  -- where they do not, nothing is
+  pub encodes_none : (old : List ℕ) (before : ℕ) → length old < count → EncodesCounted B n old old before before (Err BufferTooSmall)
+  encodes_none old before short = record {
+    answer = record {
+      fits = (λ e. absurd (false≢true e), λ fits. absurd (omega (arith, letters_exact n count has B fits.0 ok fits.1, fits.2)));
+      text = tt;
+      others = tt;
+      short = tt;
+      refused = refl;
+      roomy = λ wide. absurd (omega arith);
+    };
+    steps = refl;
+    most = omega arith;
+  }

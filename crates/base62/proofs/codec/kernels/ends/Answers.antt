@@ -1,0 +1,10 @@
+use Rattle.base62.proofs.PowerLemmas.{fits_more}
+use Rattle.base62.proofs.KernelLemmas.{ends_written}
+use Rattle.base62.proofs.codec.kernels.ends.Goals as goal
+
+pub pair-first-requires : goal.pair-first-requires
+pair-first-requires c = fits_more c.args.x c.args.places 2 c.requires.fits c.requires.most
+
+pub returns-clause-written : goal.returns-clause-written
+returns-clause-written c =
+    ends_written c.args.tables.now.letters c.args.buf.now c.args.places c.args.x _ _ c.requires.least c.requires.most c.requires.room c.requires.fits c.pair-first.ensures.first c.pair-first.ensures.second

@@ -1,0 +1,10 @@
+use Rattle.std.proofs.Common.{◌+◌, ◌*◌, ◌^◌, refl, sym}
+use Rattle.std.proofs.lemmas.Nat.{div-mul-add, mod-mul-add}
+use Rattle.base62.proofs.KernelLemmas.{written_on}
+use Rattle.base62.proofs.codec.kernels.twenty.Goals as goal
+
+pub returns-clause-written : goal.returns-clause-written
+returns-clause-written c =
+    let high = c.args.high in
+    let low = c.args.low in
+    written_on c.args.tables.now.letters 10 10 20 (high * 62 ^ 10 + low) refl high low c.args.buf.now c.ten.new.buf c.ten-2.new.buf c.requires.room (sym (div-mul-add high (62 ^ 10) low c.requires.low)) (sym (mod-mul-add high (62 ^ 10) low c.requires.low)) c.ten.ensures.written c.ten-2.ensures.written

@@ -1,0 +1,17 @@
+use Rattle.std.proofs.Common.{◌^◌, inl, refl, arith}
+use Rattle.base62.proofs.FixedLemmas.{has_letters}
+use Rattle.base62.proofs.CountLemmas.{greatest_narrow_is, estimate_right, estimate_short}
+use Rattle.base62.proofs.count.narrow_count.Goals as goal
+
+pub returns-then-n-eq0 : goal.returns-then-n-eq0
+returns-then-n-eq0 c = has_letters c.args.n 1 (omega arith) (omega (arith, c.if-n-eq0.true)) (inl refl)
+
+pub returns-then-n-estimate : goal.returns-then-n-estimate
+returns-then-n-estimate c =
+    let bit = c.ilog2-highest in
+    estimate_short c.args.n bit.result (2 ^ 64) _ (omega (arith, bit.ensures.bound)) bit.ensures.power_le bit.ensures.next_power_gt c.ranges.n.fits (greatest_narrow_is _ (omega (arith, bit.ensures.bound))) c.if-n-estimate.true
+
+pub returns-else-n-estimate : goal.returns-else-n-estimate
+returns-else-n-estimate c =
+    let bit = c.ilog2-highest in
+    estimate_right c.args.n bit.result (2 ^ 64) _ (omega (arith, bit.ensures.bound)) bit.ensures.power_le bit.ensures.next_power_gt c.ranges.n.fits (greatest_narrow_is _ (omega (arith, bit.ensures.bound))) c.if-n-estimate.false

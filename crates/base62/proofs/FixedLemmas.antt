@@ -1,5 +1,6 @@
 -- Texts of a fixed number of letters, and which of them are canonical.
-use Rattle.std.proofs.Common.{true, ◌≡◌, ℕ, zero, suc, ◌+◌, ◌-◌, ◌*◌, ◌/◌, ◌%◌, ◌^◌, ◌<◌, ◌≤◌, ◌⊎◌, List, [], ◌∷◌, ◌++◌, length, refl, sym, ap, ◌∙◌, slice_index, inl, inr, arith, add-zero, add-suc, append_assoc}
+use Rattle.std.proofs.Common.{true, ◌≡◌, ℕ, zero, suc, ◌+◌, ◌-◌, ◌*◌, ◌/◌, ◌%◌, ◌^◌, ◌<◌, ◌≤◌, ◌⊎◌}
+use Rattle.std.proofs.Common.{List, [], ◌∷◌, ◌++◌, length, refl, sym, ap, ◌∙◌, slice_index, inl, inr, arith, add-zero, add-suc, append_assoc}
 use Rattle.std.proofs.Math.Nat.{pow-suc, pow-succ', pow-le-pow_right, one-le-pow, div-one, div-div-eq-div-mul}
 use Rattle.std.proofs.Math.Arith.{mod-mul}
 use Rattle.std.proofs.lemmas.Bool.{cases_lt}
@@ -8,7 +9,7 @@ use Rattle.std.proofs.lemmas.List.{length_push, append-nil}
 use Rattle.std.proofs.lemmas.List.Elements.{All-nil, All-push}
 use Rattle.base62.specs.Alphabet.{IsAlphabet, AreLetters, is_letter}
 use Rattle.base62.specs.Value.{value}
-use Rattle.base62.specs.Canonical.{IsCanonical, HasLetters}
+use Rattle.base62.specs.Canonical.{Denotes, IsCanonical, HasLetters}
 use Rattle.base62.specs.Fixed.{fixed}
 use Rattle.base62.proofs.AlphabetLemmas.{is_letter-letter, digit_or_zero-letter}
 use Rattle.base62.proofs.ValueLemmas.{value-nil, value_push, value-lt}
@@ -80,8 +81,9 @@ has_letters_least B ok n w has = elim (cases_lt n (62 ^ (w - 1))) [
     | inr one ↦ inl (omega (arith, one, has_letters_some B ok n w has))
     | inl two ↦
         let one = has B ok in
-        let shorter = one.1.shortest (fixed B (w - 1) n) (record { nonempty = omega (arith, length-fixed B (w - 1) n); letters = letters-fixed B ok (w - 1) n; value_is = value-fixed B ok (w - 1) n less }) in
-        absurd (omega (arith, shorter, one.2, length-fixed B (w - 1) n))
+        let size = length-fixed B (w - 1) n in
+        let other : Denotes B (fixed B (w - 1) n) n = record { nonempty = omega (arith, size); letters = letters-fixed B ok (w - 1) n; value_is = value-fixed B ok (w - 1) n less } in
+        absurd (omega (arith, one.1.shortest (fixed B (w - 1) n) other, one.2, size))
   ]
 ]
 

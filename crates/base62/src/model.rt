@@ -1,7 +1,7 @@
 //! The definitions that the contracts cite, which stand in `specs/`, computed on examples.
 //!
 //! No call here takes part in a run: each states facts about the definitions alone.
-#![tactic(auto, unfolding(crate::specs::Alphabet::standard, crate::specs::Alphabet::alternative, crate::specs::Alphabet::digit_of, crate::specs::Places::sum_over_places, crate::specs::Value::value, crate::specs::Decoding::decoding, crate::specs::Fault::escaped, crate::specs::Padding::displayed, crate::specs::Case::other_case, crate::specs::Key::interval_ends))]
+#![tactic(auto, unfolding(crate::specs::Alphabet::standard, crate::specs::Alphabet::alternative, crate::specs::Alphabet::digit_of, crate::specs::Places::sum_over_places, crate::specs::Value::value, crate::specs::Decoding::decoding, crate::specs::Steps::encoding_steps, crate::specs::Fault::escaped, crate::specs::Padding::displayed, crate::specs::Case::other_case, crate::specs::Key::interval_ends))]
 
 ghost use Rattle.std.specs.Prelude.{◌≡◌, ◌^◌, ◌-◌, ◌++◌, [], ◌∷◌, replicate, codes, Ok, Err, Some, None};
 ghost use Rattle.std.specs.List.{range_with_len};
@@ -11,6 +11,7 @@ ghost use Rattle.base62.specs.Alphabet.{IsAlphabet, standard, alternative};
 ghost use Rattle.base62.specs.Value.{value};
 ghost use Rattle.base62.specs.Canonical.{IsCanonical};
 ghost use Rattle.base62.specs.Decoding.{decoding};
+ghost use Rattle.base62.specs.Steps.{encoding_steps};
 ghost use Rattle.base62.specs.Fault.{escaped};
 ghost use Rattle.base62.specs.Case.{exchange_case};
 ghost use Rattle.base62.specs.Laws.{without_zeros, AgreesAtLetters};
@@ -55,6 +56,20 @@ pub fn decodings_by_example()
     ensures greatest { decoding standard (codes "7n42DGM5Tflk9n8mt7Fhc7") ≡ Ok (2 ^ 128 - 1) }
     ensures greatest_one_more { decoding standard (codes "7n42DGM5Tflk9n8mt7Fhc8") ≡ Err ArithmeticOverflow }
     ensures other_alphabet { decoding alternative (codes "lz") ≡ Ok 1337 }
+{}
+
+/// The steps of encoding, by the number of letters.
+pub fn encoding_steps_by_example()
+    ensures of_1 { encoding_steps 1 ≡ 1 }
+    ensures of_2 { encoding_steps 2 ≡ 1 }
+    ensures of_3 { encoding_steps 3 ≡ 2 }
+    ensures of_9 { encoding_steps 9 ≡ 5 }
+    ensures of_10 { encoding_steps 10 ≡ 7 }
+    ensures of_12 { encoding_steps 12 ≡ 7 }
+    ensures of_13 { encoding_steps 13 ≡ 8 }
+    ensures of_19 { encoding_steps 19 ≡ 11 }
+    ensures of_20 { encoding_steps 20 ≡ 12 }
+    ensures of_22 { encoding_steps 22 ≡ 13 }
 {}
 
 /// How some bytes are shown.

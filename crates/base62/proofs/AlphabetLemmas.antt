@@ -7,10 +7,14 @@ use Rattle.std.proofs.lemmas.List.FromFn.{get_or-map-range_with_len}
 use Rattle.std.proofs.lemmas.List.Quantifiers.{position-Some}
 use Rattle.std.proofs.lemmas.List.Sums.{position_or_len_is, AllPass-from_list_all}
 use Rattle.std.proofs.lemmas.List.Elements.{All-weaker}
+use Rattle.std.proofs.lemmas.Option.{same_Some}
 use Rattle.std.specs.Str.{IsAscii}
 use Rattle.std.proofs.lemmas.Str.Ascii.{IsAscii-from_all}
 use Rattle.base62.specs.Alphabet.{IsAlphabet, AreLetters, standard, alternative, digit_of, is_letter}
 use Rattle.base62.specs.Value.{digit_or_zero}
+
+abbrev pub IsLetter : List ℕ → ℕ → Type 0
+IsLetter B b = is_letter B b ≡ true
 
 -- the letter at place d has digit d
 pub digit_of-letter : (B : List ℕ) → IsAlphabet B → (d : ℕ) → d < 62 → digit_of B (get_or B d 0) ≡ Some d
@@ -29,6 +33,7 @@ unfolding digit_of
 letter-digit_of B b d e =
     let at = position-Some (λ l. eqb l b) B d 0 e in (at.0, eqb-true _ _ at.1)
 
+-- an option that holds a digit is a `Some` of it
 some_from_test : (o : Option ℕ) → is_some o ≡ true → o ≡ Some (unwrap_or o 0)
 some_from_test None h = cc
 some_from_test (Some d) h = refl
@@ -37,10 +42,12 @@ some_from_test (Some d) h = refl
 pub digit_of-is : (B : List ℕ) (b : ℕ) → is_letter B b ≡ true → digit_of B b ≡ Some (digit_or_zero B b)
 digit_of-is B b h = some_from_test (digit_of B b) h
 
+-- what each digit is below, the 0 in place of none is too
 bounded : (o : Option ℕ) → ((d : ℕ) → o ≡ Some d → d < 62) → unwrap_or o 0 < 62
 bounded None h = omega arith
 bounded (Some d) h = h d refl
 
+-- a digit is below 62
 pub digit_or_zero-lt : (B : List ℕ) → IsAlphabet B → (b : ℕ) → digit_or_zero B b < 62
 digit_or_zero-lt B ok b = bounded (digit_of B b) (λ d e. let at = letter-digit_of B b d e in omega (arith, at.0, ok.size))
 
@@ -58,18 +65,19 @@ same_letter B a b p q e =
     let bt = letter-digit_of B b _ (digit_of-is B b q) in
     sym at.1 ∙ ap (λ d. get_or B d 0) e ∙ bt.1
 
-some_injective : (i j : ℕ) → Some i ≡ Some j → i ≡ j
-some_injective i j e = cc
-
 -- a list in which each place is the first place of its byte has no byte twice
-pub distinct_from_places : (B : List ℕ) (n : ℕ) → map (digit_of B) B ≡ map (λ i. Some i) (range_with_len 0 n) → length B ≡ n → (i j : ℕ) → i < n → j < n → get_or B i 0 ≡ get_or B j 0 → i ≡ j
+pub distinct_from_places : (B : List ℕ) (n : ℕ) → map (digit_of B) B ≡ map (λ i. Some i) (range_with_len 0 n) → length B ≡ n
+    → (i j : ℕ) → i < n → j < n → get_or B i 0 ≡ get_or B j 0 → i ≡ j
 distinct_from_places B n e len i j p q same =
-    let first = λ (k : ℕ) (h : k < n). sym (get_or-map (digit_of B) B k 0 None (omega (arith, len))) ∙ ap (λ xs. get_or xs k None) e ∙ get_or-map-range_with_len (λ m. Some m) 0 n k k None h (omega arith) in
-    some_injective i j (sym (first i p) ∙ ap (digit_of B) same ∙ first j q)
+    let first = λ (k : ℕ) (h : k < n).
+    sym (get_or-map (digit_of B) B k 0 None (omega (arith, len))) ∙ ap (λ xs. get_or xs k None) e ∙ get_or-map-range_with_len (λ m. Some m) 0 n k k None h (omega arith) in
+    same_Some i j (sym (first i p) ∙ ap (digit_of B) same ∙ first j q)
 
+-- the test that each byte is below k, as a fact
 all_below : (k : ℕ) (B : List ℕ) → list_all (λ b. ltb b k) B ≡ true → All (λ b. b < k) B
 all_below k B h = All-weaker (λ b. ltb b k ≡ true) (λ b. b < k) (λ b below. ltb-true b k below) B (AllPass-from_list_all (λ b. ltb b k) B h)
 
+-- 62 bytes, each with its place as its digit, are an alphabet
 pub is_alphabet : (B : List ℕ) → length B ≡ 62 → list_all (λ b. ltb b 256) B ≡ true → map (digit_of B) B ≡ map (λ i. Some i) (range_with_len 0 62) → IsAlphabet B
 is_alphabet B size bytes places = record {
   size = size;
@@ -99,4 +107,4 @@ pub letters_ascii : (B : List ℕ) → IsAscii B → (text : List ℕ) → AreLe
 letters_ascii B ascii text letters =
     let below = λ (b : ℕ) (h : is_letter B b ≡ true).
     let at = letter-digit_of B b _ (digit_of-is B b h) in subst (λ l. l < 128) at.1 (ascii (digit_or_zero B b)) in
-    IsAscii-from_all text (All-weaker (λ b. is_letter B b ≡ true) (λ b. b < 128) below text letters)
+    IsAscii-from_all text (All-weaker (IsLetter B) (λ b. b < 128) below text letters)

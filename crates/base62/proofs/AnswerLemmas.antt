@@ -1,5 +1,6 @@
 -- What the answers of decoding tell of the text.
-use Rattle.std.proofs.Common.{◌≡◌, ℕ, ◌+◌, ◌-◌, ◌*◌, ◌^◌, ◌<◌, ◌≤◌, ◌↔◌, Bool, true, false, List, [], ◌∷◌, ◌++◌, length, get_or, take, drop, Result, Ok, Err, IsOk, refl, sym, ap, ◌∙◌, subst, arith, inl, inr}
+use Rattle.std.proofs.Common.{◌≡◌, ℕ, ◌+◌, ◌-◌, ◌*◌, ◌^◌, ◌<◌, ◌≤◌, ◌↔◌, Bool, true, false, List, [], ◌∷◌, ◌++◌, length, get_or, take, drop}
+use Rattle.std.proofs.Common.{Result, Ok, Err, IsOk, refl, sym, ap, ◌∙◌, subst, arith, inl, inr}
 use Rattle.std.specs.List.{prefix_len, list_all}
 use Rattle.std.proofs.lemmas.Bool.{cases_lt, cases_eq, cond_both, ltb-true, leb-true, leb-false, eqb-true, eqb-false, lt-ltb, le-ltb, not-true, not-false, and_parts, and_left, false≢true}
 use Rattle.std.proofs.lemmas.List.{take-append-drop, get_or-drop, length-append, length-drop, nil_from_length}
@@ -13,7 +14,7 @@ use Rattle.base62.specs.Value.{value}
 use Rattle.base62.specs.Canonical.{Denotes, IsCanonical}
 use Rattle.base62.specs.Decoding.{decoding, leading_zeros, rest, first_invalid, IsFirstInvalid}
 use Rattle.base62.specs.Laws.{AgreesAtLetters, AnswerTells, number_or_overflow, without_zeros}
-use Rattle.base62.proofs.AlphabetLemmas.{is_letter-letter, digit_or_zero-letter}
+use Rattle.base62.proofs.AlphabetLemmas.{IsLetter, is_letter-letter, digit_or_zero-letter}
 use Rattle.base62.proofs.ValueLemmas.{value-nil, value-append, value-one}
 use Rattle.base62.proofs.DecodingLemmas.{letter_before, value-rest}
 use Rattle.base62.proofs.CanonicalLemmas.{canonical_is}
@@ -49,14 +50,13 @@ decoding_cases B text P empty long bad first_over over fine =
 -- a text with a bad byte has a first one
 first_invalid_is : (B text : List ℕ) (k : ℕ) → list_all (is_letter B) (drop k text) ≡ false → IsFirstInvalid B text (get_or text (prefix_len (is_letter B) text) 0) (prefix_len (is_letter B) text)
 first_invalid_is B text k bad =
-    let P : ℕ → Type 0 = λ b. is_letter B b ≡ true in
     let index = prefix_len (is_letter B) text in
     let before : (i : ℕ) → i < index → is_letter B (get_or text i 0) ≡ true = λ i h. prefix_len_passes (is_letter B) text i 0 h in
     let inside : index < length text = elim (cases_lt index (length text)) [
       | inl less ↦ less
       | inr all ↦
-          let letters : AreLetters B text = All-from_get_or P text 0 (λ i h. before i (omega arith)) in
-          absurd (false≢true (sym bad ∙ list_all-from_AllPass (is_letter B) (drop k text) (All-drop P k text letters)))
+          let letters : AreLetters B text = All-from_get_or (IsLetter B) text 0 (λ i h. before i (omega arith)) in
+          absurd (false≢true (sym bad ∙ list_all-from_AllPass (is_letter B) (drop k text) (All-drop (IsLetter B) k text letters)))
     ] in record {
       within = inside;
       byte_is = refl;
@@ -68,7 +68,7 @@ first_invalid_is B text k bad =
 letters_from_rest : (B text : List ℕ) → IsAlphabet B → AreLetters B (rest B text) → AreLetters B text
 letters_from_rest B text ok letters =
     let z = leading_zeros B text in
-    All-from_get_or (λ b. is_letter B b ≡ true) text 0 (λ i h. elim (cases_lt i z) [
+    All-from_get_or (IsLetter B) text 0 (λ i h. elim (cases_lt i z) [
       | inl early ↦ letter_before B text ok i early
       | inr late ↦
           let back : z + (i - z) ≡ i = omega arith in
@@ -114,7 +114,7 @@ decoding_accepts B text ok = answer_cases B text ok (λ r. (n : ℕ) → r ≡ O
 -- a nonempty text of letters is accepted where its value is below 2^128, and else overflows
 pub decoding-letters : (B text : List ℕ) → IsAlphabet B → 0 < length text → AreLetters B text → decoding B text ≡ number_or_overflow (value B text)
 decoding-letters B text ok some letters =
-    let others : AreLetters B (rest B text) = All-drop (λ b. is_letter B b ≡ true) (leading_zeros B text) text letters in
+    let others : AreLetters B (rest B text) = All-drop (IsLetter B) (leading_zeros B text) text letters in
     let itself : AgreesAtLetters B text text = record { size = refl; letters = letters; agrees = λ i h p. refl } in
     answer_cases B text ok (λ r. r ≡ number_or_overflow (value B text))
     (λ e. absurd (omega arith))
@@ -122,36 +122,38 @@ decoding-letters B text ok some letters =
     (λ byte index first. absurd (false≢true (sym first.no_letter ∙ ap (is_letter B) first.byte_is ∙ letters index 0 first.within)))
     (λ denotes small. rw (lt-ltb (value B text) (2 ^ 128) small))
 
--- letters that denote a number below 2^128 are accepted
-pub letters_accepted : (B text : List ℕ) → IsAlphabet B → 0 < length text → AreLetters B text → value B text < 2 ^ 128 → decoding B text ≡ Ok (value B text)
-letters_accepted B text ok some letters small = decoding-letters B text ok some letters ∙ rw (lt-ltb (value B text) (2 ^ 128) small)
+-- a text that denotes a number below 2^128 decodes to it
+pub decoding-denotes : (B : List ℕ) → IsAlphabet B → (n : ℕ) → n < 2 ^ 128 → (text : List ℕ) → Denotes B text n → decoding B text ≡ Ok n
+decoding-denotes B ok n small text d =
+    decoding-letters B text ok d.nonempty d.letters ∙ rw (d.value_is, lt-ltb n (2 ^ 128) small)
 
 -- one accepted text after another
 pub decoding-append : (B : List ℕ) → IsAlphabet B → (a b : List ℕ) (m n : ℕ) → decoding B a ≡ Ok m → decoding B b ≡ Ok n → decoding B (a ++ b) ≡ number_or_overflow (m * 62 ^ length b + n)
 decoding-append B ok a b m n p q =
     let front = (decoding_accepts B a ok m p).0 in
     let back = (decoding_accepts B b ok n q).0 in
-    let letters : AreLetters B (a ++ b) = All-append (λ c. is_letter B c ≡ true) a b front.letters back.letters in
+    let letters : AreLetters B (a ++ b) = All-append (IsLetter B) a b front.letters back.letters in
     let sum : value B (a ++ b) ≡ m * 62 ^ length b + n = rw (value-append B a b, front.value_is, back.value_is) in
     decoding-letters B (a ++ b) ok (omega (arith, length-append a b, front.nonempty)) letters ∙ ap number_or_overflow sum
 
 -- the one zero letter that stands for a text of zeros alone is canonical
 zero_canonical : (B text : List ℕ) → IsAlphabet B → (n : ℕ) → Denotes B text n → length (rest B text) ≡ 0 → IsCanonical B (zero_letter B ∷ []) n
 zero_canonical B text ok n denotes none =
-    let P : ℕ → Type 0 = λ b. is_letter B b ≡ true in
     let zero_value : value B text ≡ 0 = value-rest B text ok ∙ ap (value B) (nil_from_length (rest B text) none) ∙ value-nil B in
     let same : value B (zero_letter B ∷ []) ≡ n = value-one B (zero_letter B) ∙ digit_or_zero-letter B ok 0 (omega arith) ∙ sym zero_value ∙ denotes.value_is in
-    canonical_is B ok (zero_letter B ∷ []) n (record { nonempty = omega arith; letters = All-cons P (zero_letter B) [] (is_letter-letter B ok 0 (omega arith)) (All-nil P); value_is = same }) (inl refl)
+    let letters : AreLetters B (zero_letter B ∷ []) = All-cons (IsLetter B) (zero_letter B) [] (is_letter-letter B ok 0 (omega arith)) (All-nil (IsLetter B)) in
+    canonical_is B ok (zero_letter B ∷ []) n (record { nonempty = omega arith; letters = letters; value_is = same }) (inl refl)
 
 -- what follows the leading zeros, if anything does, is canonical
 rest_canonical : (B text : List ℕ) → IsAlphabet B → (n : ℕ) → Denotes B text n → 0 < length (rest B text) → IsCanonical B (rest B text) n
 rest_canonical B text ok n denotes some =
     let r : List ℕ = rest B text in
-    let letters : AreLetters B r = All-drop (λ b. is_letter B b ≡ true) (leading_zeros B text) text denotes.letters in
+    let letters : AreLetters B r = All-drop (IsLetter B) (leading_zeros B text) text denotes.letters in
     let same : value B r ≡ n = sym (value-rest B text ok) ∙ denotes.value_is in
     let weighs = first_weighs B ok r some (letters 0 0 some) (rest_first B text some) in
     canonical_is B ok r n (record { nonempty = some; letters = letters; value_is = same }) (inr (rw same at weighs))
 
+-- a text without its needless zeros is canonical
 pub without_zeros_canonical : (B text : List ℕ) → IsAlphabet B → (n : ℕ) → Denotes B text n → IsCanonical B (without_zeros B text) n
 without_zeros_canonical B text ok n denotes = cond_both _ _ _ (λ xs. IsCanonical B xs n)
     (λ t. zero_canonical B text ok n denotes (eqb-true _ _ t))
@@ -175,6 +177,7 @@ first_invalid_named B text byte index b i is first =
     let index_same : index ≡ i = cc in
     subst (λ x. IsFirstInvalid B text x i) byte_same (subst (IsFirstInvalid B text byte) index_same first)
 
+-- all that an answer tells
 pub answer_tells : (B : List ℕ) → IsAlphabet B → (text : List ℕ) → AnswerTells B text
 answer_tells B ok text = record {
   accepted = decoding_accepts_iff B text ok;

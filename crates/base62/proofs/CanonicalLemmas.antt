@@ -6,6 +6,7 @@ use Rattle.base62.specs.Alphabet.{IsAlphabet}
 use Rattle.base62.specs.Canonical.{Denotes, IsCanonical}
 use Rattle.base62.proofs.ValueLemmas.{value-lt, same_text}
 
+-- a shorter text cannot denote n, where one letter less cannot hold it
 too_short : (B : List ℕ) → IsAlphabet B → (k n : ℕ) → (k ≡ 1) ⊎ (62 ^ (k - 1) ≤ n) → (other : List ℕ) → Denotes B other n → length other < k → ⊥
 too_short B ok k n (inl one) other d less = omega (arith, d.nonempty)
 too_short B ok k n (inr big) other d less =

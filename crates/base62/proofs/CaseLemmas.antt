@@ -1,7 +1,9 @@
 -- Exchange of case turns the alternative alphabet into the standard one.
-use Rattle.std.proofs.Common.{◌≡◌, ℕ, ◌<◌, ◌≤◌, ◌==◌, ◌&&◌, ◌||◌, Bool, true, false, leb, ltb, List, [], ◌∷◌, length, get_or, map, take, drop, Option, Some, None, is_some, unwrap_or, refl, sym, ap, ◌∙◌, inl, inr, arith}
+use Rattle.std.proofs.Common.{◌≡◌, ℕ, ◌<◌, ◌≤◌, ◌==◌, ◌&&◌, ◌||◌, Bool, true, false, leb, List, [], ◌∷◌, length, get_or, map, take, drop}
+use Rattle.std.proofs.Common.{Option, Some, None, is_some, unwrap_or, refl, sym, ap, ◌∙◌, subst, inl, inr, arith}
 use Rattle.std.specs.List.{range_with_len, prefix_len, list_all}
-use Rattle.std.proofs.lemmas.Bool.{agree_below_at, cases_lt, lt-leb, and_right, eqb-true, ltb-true}
+use Rattle.std.specs.Str.{IsAscii}
+use Rattle.std.proofs.lemmas.Bool.{agree_below_at, cases_lt, lt-leb, and_right, eqb-true}
 use Rattle.std.proofs.Math.ListN.{get_or-map}
 use Rattle.std.proofs.lemmas.List.{length-map, take-map, drop-map, get_or_past}
 use Rattle.std.proofs.lemmas.List.FromFn.{get_or-map-range_with_len}
@@ -12,7 +14,7 @@ use Rattle.base62.specs.Value.{value, digit_or_zero}
 use Rattle.base62.specs.Canonical.{Denotes, IsCanonical}
 use Rattle.base62.specs.Decoding.{decoding, leading_zeros, rest, first_invalid}
 use Rattle.base62.specs.Case.{other_case, exchange_case}
-use Rattle.base62.proofs.AlphabetLemmas.{letter-digit_of}
+use Rattle.base62.proofs.AlphabetLemmas.{letter-digit_of, standard_is_ascii, alternative_is_ascii}
 
 -- two functions that give one list over the numbers below n agree there
 same_on_range : {Y : Type 0} (f g : ℕ → Y) (n : ℕ) → map f (range_with_len 0 n) ≡ map g (range_with_len 0 n) → (b : ℕ) → b < n → f b ≡ g b
@@ -41,34 +43,32 @@ exchange_case_twice : (text : List ℕ) → exchange_case (exchange_case text) �
 exchange_case_twice [] = refl
 exchange_case_twice (b ∷ text) = rw (other_case_twice b, exchange_case_twice text)
 
--- a byte above each letter has no digit
-none_above : (B : List ℕ) → list_all (λ l. ltb l 128) B ≡ true → (b : ℕ) → 128 ≤ b → (o : Option ℕ) → digit_of B b ≡ o → o ≡ None
-none_above B low b h None e = refl
-none_above B low b h (Some d) e =
+-- over an alphabet of ASCII bytes another byte has no digit
+none_above : (B : List ℕ) → IsAscii B → (b : ℕ) → 128 ≤ b → (o : Option ℕ) → digit_of B b ≡ o → o ≡ None
+none_above B ascii b h None e = refl
+none_above B ascii b h (Some d) e =
     let at = letter-digit_of B b d e in
-    let below = ltb-true (get_or B d 0) 128 (AllPass-from_list_all (λ l. ltb l 128) B low d 0 at.0) in
-    absurd (omega (arith, at.1))
+    let below : b < 128 = subst (λ l. l < 128) at.1 (ascii d) in absurd (omega arith)
 
-standard-above : (b : ℕ) → 128 ≤ b → digit_of standard b ≡ None
-unfolding standard
-standard-above b h = none_above standard refl b h (digit_of standard b) refl
-
-alternative-above : (b : ℕ) → 128 ≤ b → digit_of alternative b ≡ None
-unfolding alternative
-alternative-above b h = none_above alternative refl b h (digit_of alternative b) refl
-
+-- a byte of ASCII has the digit of its other case in the other alphabet
 digits_below : (b : ℕ) → b < 128 → digit_of alternative b ≡ digit_of standard (other_case b)
 unfolding standard alternative digit_of other_case
 digits_below b h = same_on_range (digit_of alternative) (λ b. digit_of standard (other_case b)) 128 refl b h
 
--- a byte has the digit in one alphabet that it has in the other with its case exchanged
-digit_in_standard : (b : ℕ) → digit_of alternative b ≡ digit_of standard (other_case b)
+-- a byte has the digit in A that it has in B with its case exchanged
+abbrev pub Exchanges : List ℕ → List ℕ → Type 0
+Exchanges A B = (b : ℕ) → digit_of A b ≡ digit_of B (other_case b)
+
+digit_in_standard : Exchanges alternative standard
 digit_in_standard b = elim (cases_lt b 128) [
   | inl less ↦ digits_below b less
-  | inr more ↦ alternative-above b more ∙ sym (ap (digit_of standard) (other_case-past b more) ∙ standard-above b more)
+  | inr more ↦
+      let none = none_above standard standard_is_ascii b more (digit_of standard b) refl in
+      none_above alternative alternative_is_ascii b more (digit_of alternative b) refl
+      ∙ sym (ap (digit_of standard) (other_case-past b more) ∙ none)
 ]
 
-digit_in_alternative : (b : ℕ) → digit_of standard b ≡ digit_of alternative (other_case b)
+digit_in_alternative : Exchanges standard alternative
 digit_in_alternative b = sym (digit_in_standard (other_case b) ∙ ap (digit_of standard) (other_case_twice b))
 
 -- a test of each byte, before and after a change of the bytes
@@ -81,8 +81,7 @@ module _ {X Y : Type 0} (p : X → Bool) (q : Y → Bool) (f : X → Y) (same : 
   prefix_len-changed [] = refl
   prefix_len-changed (x ∷ xs) = rw (same x, prefix_len-changed xs)
 
--- two alphabets of which one has the letters of the other with their case exchanged
-module _ (A B : List ℕ) (same : (b : ℕ) → digit_of A b ≡ digit_of B (other_case b)) where
+module _ (A B : List ℕ) (same : Exchanges A B) where
   digit_exchanged : (b : ℕ) → digit_or_zero A b ≡ digit_or_zero B (other_case b)
   digit_exchanged b = ap (λ o. unwrap_or o 0) (same b)
 
@@ -93,6 +92,7 @@ module _ (A B : List ℕ) (same : (b : ℕ) → digit_of A b ≡ digit_of B (oth
   digits_exchanged [] = refl
   digits_exchanged (b ∷ text) = rw (digit_exchanged b, digits_exchanged text)
 
+  -- a text has the value of the exchanged one
   value_exchanged : (text : List ℕ) → value A text ≡ value B (exchange_case text)
   unfolding value
   value_exchanged text = ap (sum_over_places 62) (digits_exchanged text)
@@ -100,6 +100,7 @@ module _ (A B : List ℕ) (same : (b : ℕ) → digit_of A b ≡ digit_of B (oth
   all_exchanged : (text : List ℕ) → list_all (is_letter A) text ≡ list_all (is_letter B) (exchange_case text)
   all_exchanged text = list_all-changed (is_letter A) (is_letter B) other_case letter_exchanged text
 
+  -- letters are letters of the other alphabet, exchanged
   letters_exchanged : (text : List ℕ) → AreLetters A text → AreLetters B (exchange_case text)
   letters_exchanged text letters =
       AllPass-from_list_all (is_letter B) (exchange_case text) (sym (all_exchanged text) ∙ list_all-from_AllPass (is_letter A) text letters)
@@ -111,7 +112,8 @@ module _ (A B : List ℕ) (same : (b : ℕ) → digit_of A b ≡ digit_of B (oth
     value_is = sym (value_exchanged text) ∙ d.value_is;
   }
 
-canonical_exchanged : (A B : List ℕ) → ((b : ℕ) → digit_of A b ≡ digit_of B (other_case b)) → ((b : ℕ) → digit_of B b ≡ digit_of A (other_case b)) → (text : List ℕ) (n : ℕ) → IsCanonical A text n → IsCanonical B (exchange_case text) n
+-- so canonical texts are those of the other alphabet, exchanged
+canonical_exchanged : (A B : List ℕ) → Exchanges A B → Exchanges B A → (text : List ℕ) (n : ℕ) → IsCanonical A text n → IsCanonical B (exchange_case text) n
 canonical_exchanged A B same back text n canonical = record {
   denotes = denotes_exchanged A B same text n canonical.denotes;
   shortest = λ other d. rw length-map (rw length-map at (canonical.shortest (exchange_case other) (denotes_exchanged B A back other n d)));
@@ -133,6 +135,7 @@ same_zero : (b : ℕ) → (b == zero_letter alternative) ≡ (b == zero_letter s
 unfolding standard alternative
 same_zero b = refl
 
+-- so a byte is the zero letter where the exchanged one is
 zero_exchanged : (b : ℕ) → (b == zero_letter alternative) ≡ (other_case b == zero_letter standard)
 zero_exchanged b = elim (cases_lt b 128) [
   | inl less ↦ zero_below b less
@@ -174,6 +177,7 @@ bad_or_past text =
       | inr more ↦ ap (is_letter alternative) (get_or_past text i 0 more) ∙ no_letter_past
     ]
 
+-- so the first bad byte is the same
 first_invalid_exchanged : (text : List ℕ) → first_invalid alternative text ≡ first_invalid standard (exchange_case text)
 first_invalid_exchanged text =
     let i = prefix_len (is_letter alternative) text in
@@ -189,4 +193,5 @@ decoding_exchanged text =
     let r : List ℕ = rest alternative text in
     let values = value_exchanged alternative standard digit_in_standard in
     let all = all_exchanged alternative standard digit_in_standard in
-    rw (← rest_exchanged text, length-map text other_case, length-map r other_case, take-map other_case 10 r, ← all (take 10 r), ← all r, ← values (take 10 r), ← values r, ← values text, ← first_invalid_exchanged text)
+    rw (← rest_exchanged text, length-map text other_case, length-map r other_case, take-map other_case 10 r)
+    (rw (← all (take 10 r), ← all r, ← values (take 10 r), ← values r, ← values text, ← first_invalid_exchanged text))

@@ -1,5 +1,5 @@
 -- What decoding answers and how many steps it takes, by what is read of the bytes after the leading zeros.
-use Rattle.std.proofs.Common.{◌≡◌, ℕ, zero, suc, ◌+◌, ◌-◌, ◌*◌, ◌^◌, ◌<◌, ◌≤◌, ◌==◌, Bool, true, false, eqb, ltb, leb, List, length, get_or, take, drop, Result, Ok, Err, if◌then◌else◌, refl, sym, ap, ◌∙◌, arith, add-one, inl, inr}
+use Rattle.std.proofs.Common.{◌≡◌, ℕ, zero, suc, ◌+◌, ◌*◌, ◌^◌, ◌<◌, ◌≤◌, ◌==◌, Bool, true, false, eqb, ltb, leb, List, length, get_or, take, drop, Result, Ok, Err, if◌then◌else◌, refl, sym, ap, ◌∙◌, arith, add-one, inl, inr}
 use Rattle.std.specs.List.{prefix_len, list_all}
 use Rattle.std.proofs.Math.Nat.{pow-le-pow_right, mul-le-mul}
 use Rattle.std.proofs.lemmas.Bool.{cases_lt, eqb-true, ne_eqb, lt-ltb, le-ltb, lt-leb, le-leb, false≢true, eq-eqb, cases_eq}
@@ -13,11 +13,11 @@ use Rattle.base62.specs.Alphabet.{IsAlphabet, AreLetters, is_letter, zero_letter
 use Rattle.base62.specs.Value.{value, digit_or_zero}
 use Rattle.base62.specs.Decoding.{decoding, leading_zeros, rest, first_ten, shows_overflow, invalid_index, first_invalid}
 use Rattle.base62.specs.Steps.{decoding_steps, DecodesCounted}
-use Rattle.base62.specs.Parts.{HasRead, HasRefused, ReadsPart}
+use Rattle.base62.specs.Parts.{HasRead, HasRefused, ReadsPart, IsAfterZeros}
 use Rattle.base62.specs.Laws.{number_or_overflow}
 use Rattle.base62.proofs.AlphabetLemmas.{is_letter-letter, digit_or_zero-letter}
 use Rattle.base62.proofs.ValueLemmas.{value-nil, value-append, value_more}
-use Rattle.base62.proofs.PartLemmas.{prefix_len-letters, read_below, refuses_cut, reads_cut, after}
+use Rattle.base62.proofs.PartLemmas.{prefix_len-letters, read_below, refuses_cut, reads_cut, after_number}
 
 -- each byte of the leading zeros is the zero letter
 zero_before : (B text : List ℕ) (k : ℕ) → k < leading_zeros B text → get_or text k 0 ≡ zero_letter B
@@ -47,7 +47,7 @@ value-rest B text ok =
     let none = zeros_value B text ok z (omega arith) in
     ap (value B) (sym (take-append-drop z text)) ∙ parts ∙ rw none (omega arith)
 
--- so are the letters that they are
+-- leading zeros are letters
 zeros_letters : (B text : List ℕ) → IsAlphabet B → AreLetters B (take (leading_zeros B text) text)
 zeros_letters B text ok =
     let z = leading_zeros B text in
@@ -84,9 +84,9 @@ pub decodes_empty : (B text : List ℕ) (old : ℕ) → length text ≡ 0 → De
 unfolding decoding decoding_steps
 decodes_empty B text old h = record { answer = rw h refl; steps = rw h (omega arith); most = omega arith }
 
-pub decodes_long : (B text : List ℕ) (old : ℕ) → 0 < length text → 22 < length (rest B text) → DecodesCounted B text old old (Err ArithmeticOverflow)
+long_answer : (B text : List ℕ) (old : ℕ) → 0 < length text → 22 < length (rest B text) → DecodesCounted B text old old (Err ArithmeticOverflow)
 unfolding decoding decoding_steps
-decodes_long B text old some long =
+long_answer B text old some long =
     let above = lt-ltb 22 (length (rest B text)) long in
     record { answer = rw (not_empty text some, above) refl; steps = rw (not_empty text some, above) (omega arith); most = omega arith }
 
@@ -119,8 +119,8 @@ module _ (B text : List ℕ) (ok : IsAlphabet B) (some : 0 < length text) (short
       }
 
   -- a bad byte among the first ten
-  pub decodes_first_refused : (fault : DecodeError) → HasRefused B (first_ten B text) (leading_zeros B text) old new fault → DecodesCounted B text old new (Err fault)
-  decodes_first_refused fault refused =
+  first_refused_answer : (fault : DecodeError) → HasRefused B (first_ten B text) (leading_zeros B text) old new fault → DecodesCounted B text old new (Err fault)
+  first_refused_answer fault refused =
       let z = leading_zeros B text in
       refused_answer fault _ (refuses_cut B (rest B text) (first_ten B text) 10 z old refl new fault refused) refl (λ e. absurd (false≢true (sym (not_all B (first_ten B text) z old new fault _ refused refl) ∙ e)))
 
@@ -137,9 +137,9 @@ module _ (B text : List ℕ) (ok : IsAlphabet B) (some : 0 < length text) (short
       }
 
   -- what was read of the bytes after the leading zeros, of which the first ten show no overflow
-  decodes_rest : (r : Result ℕ DecodeError) → shows_overflow B text ≡ false → ReadsPart B (rest B text) (leading_zeros B text) old new r → DecodesCounted B text old new (or_overflow r)
-  decodes_rest (Err fault) fits refused = refused_answer fault _ refused refl (λ _. fits)
-  decodes_rest (Ok number) fits read = elim (cases_lt number (2 ^ 128)) [
+  rest_answer : (r : Result ℕ DecodeError) → shows_overflow B text ≡ false → ReadsPart B (rest B text) (leading_zeros B text) old new r → DecodesCounted B text old new (or_overflow r)
+  rest_answer (Err fault) fits refused = refused_answer fault _ refused refl (λ _. fits)
+  rest_answer (Ok number) fits read = elim (cases_lt number (2 ^ 128)) [
     | inl less ↦ rw (lt-ltb number (2 ^ 128) less) (read_answer number fits read false (lt-leb _ _ (rw read.value_is at less)))
     | inr more ↦ rw (le-ltb number (2 ^ 128) more) (read_answer number fits read true (le-leb _ _ (rw read.value_is at more)))
   ]
@@ -149,12 +149,12 @@ module _ (B text : List ℕ) (ok : IsAlphabet B) (some : 0 < length text) (short
   none_shown less = rw (ne_eqb (length (rest B text)) 22 (λ e. omega arith)) refl
 
   -- at most 21 bytes after the leading zeros never overflow
-  pub decodes_21 : (r : Result ℕ DecodeError) → length (rest B text) ≤ 21 → ReadsPart B (rest B text) (leading_zeros B text) old new r → DecodesCounted B text old new r
-  decodes_21 (Err fault) less refused = decodes_rest (Err fault) (none_shown (omega arith)) refused
-  decodes_21 (Ok number) less read =
+  answer_21 : (r : Result ℕ DecodeError) → length (rest B text) ≤ 21 → ReadsPart B (rest B text) (leading_zeros B text) old new r → DecodesCounted B text old new r
+  answer_21 (Err fault) less refused = rest_answer (Err fault) (none_shown (omega arith)) refused
+  answer_21 (Ok number) less read =
       let below = read_below B (rest B text) old new number 21 ok read less in
       let small : ltb number (2 ^ 128) ≡ true = lt-ltb number (2 ^ 128) (omega arith) in
-      rw small at (decodes_rest (Ok number) (none_shown (omega arith)) read)
+      rw small at (rest_answer (Ok number) (none_shown (omega arith)) read)
 
   -- the first ten are read, and later bytes follow
   module _ (later : List ℕ) (mid number : ℕ) (ten : 10 ≤ length (rest B text)) (back : later ≡ drop 10 (rest B text)) (read : HasRead B (first_ten B text) old mid number) where
@@ -162,8 +162,8 @@ module _ (B text : List ℕ) (ok : IsAlphabet B) (some : 0 < length text) (short
     size = omega (arith, ap length back, length-drop 10 (rest B text))
 
     -- their weighted number reaches 2^128 only where 22 bytes are left
-    full : 2 ^ 128 ≤ number * 62 ^ length later → length later ≡ 12
-    full big = elim (cases_lt (length later) 12) [
+    weighed_full : 2 ^ 128 ≤ number * 62 ^ length later → length later ≡ 12
+    weighed_full big = elim (cases_lt (length later) 12) [
       | inl less ↦
           let below = read_below B (first_ten B text) old mid number 10 ok read (omega (arith, length-take-le 10 (rest B text) ten)) in
           let weight : 62 ^ length later ≤ 62 ^ 11 = pow-le-pow_right {n = 62} (omega arith) {i = length later} {j = 11} (omega arith) in
@@ -173,15 +173,15 @@ module _ (B text : List ℕ) (ok : IsAlphabet B) (some : 0 < length text) (short
     ]
 
     -- it does so exactly where they show an overflow
-    shown : 2 ^ 128 ≤ number * 62 ^ length later → shows_overflow B text ≡ true
-    shown big =
-        let twelve = full big in
+    weighed_overflows : 2 ^ 128 ≤ number * 62 ^ length later → shows_overflow B text ≡ true
+    weighed_overflows big =
+        let twelve = weighed_full big in
         let left : length (rest B text) ≡ 22 = omega (arith, size) in
         let over : leb (2 ^ 128) (value B (first_ten B text) * 62 ^ 12) ≡ true = le-leb _ _ (rw (twelve, read.value_is) at big) in
         rw (left, over) refl
 
-    not_shown : number * 62 ^ length later < 2 ^ 128 → shows_overflow B text ≡ false
-    not_shown small = elim (cases_eq (length (rest B text)) 22) [
+    weighed_fits : number * 62 ^ length later < 2 ^ 128 → shows_overflow B text ≡ false
+    weighed_fits small = elim (cases_eq (length (rest B text)) 22) [
       | inl left ↦
           let twelve : length later ≡ 12 = omega (arith, size) in
           let under : leb (2 ^ 128) (value B (first_ten B text) * 62 ^ 12) ≡ false = lt-leb _ _ (rw (twelve, read.value_is) at small) in
@@ -189,16 +189,68 @@ module _ (B text : List ℕ) (ok : IsAlphabet B) (some : 0 < length text) (short
       | inr other ↦ rw (ne_eqb (length (rest B text)) 22 other) refl
     ]
 
-    pub decodes_shown : 2 ^ 128 ≤ number * 62 ^ length later → DecodesCounted B text old mid (Err ArithmeticOverflow)
+    shown_answer : 2 ^ 128 ≤ number * 62 ^ length later → DecodesCounted B text old mid (Err ArithmeticOverflow)
     unfolding decoding decoding_steps
-    decodes_shown big =
+    shown_answer big =
         let letters = list_all-from_AllPass (is_letter B) (first_ten B text) read.letters in
         let first = length-take-le 10 (rest B text) ten in record {
-          answer = rw (not_empty text some, not_above, letters, shown big) refl;
-          steps = rw (not_empty text some, not_above, letters, shown big) (omega (arith, read.steps, first));
+          answer = rw (not_empty text some, not_above, letters, weighed_overflows big) refl;
+          steps = rw (not_empty text some, not_above, letters, weighed_overflows big) (omega (arith, read.steps, first));
           most = omega (arith, read.steps, first);
         }
 
-    pub decodes_later : (r : Result ℕ DecodeError) → number * 62 ^ length later < 2 ^ 128 → ReadsPart B later (leading_zeros B text + 10) mid new r → DecodesCounted B text old new (or_overflow (after number (length later) r))
-    decodes_later r small others =
-        decodes_rest (after number (length later) r) (not_shown small) (reads_cut B (rest B text) (first_ten B text) 10 (leading_zeros B text) old refl later mid new number (length later) r back size read others)
+    others : (r : Result ℕ DecodeError) → ReadsPart B later (leading_zeros B text + 10) mid new r → ReadsPart B (rest B text) (leading_zeros B text) old new (after_number number (length later) r)
+    others r read_later =
+        reads_cut B (rest B text) (first_ten B text) 10 (leading_zeros B text) old refl later mid new number (length later) r back size read read_later
+
+    short_answer : (r : Result ℕ DecodeError) → length later ≤ 11 → ReadsPart B later (leading_zeros B text + 10) mid new r → DecodesCounted B text old new (after_number number (length later) r)
+    short_answer r few read_later = answer_21 (after_number number (length later) r) (omega (arith, size)) (others r read_later)
+
+    later_answer : (r : Result ℕ DecodeError) → number * 62 ^ length later < 2 ^ 128 → ReadsPart B later (leading_zeros B text + 10) mid new r → DecodesCounted B text old new (or_overflow (after_number number (length later) r))
+    later_answer r small read_later = rest_answer (after_number number (length later) r) (weighed_fits small) (others r read_later)
+
+-- ---- as the code cuts a text
+
+some_text : (B text after : List ℕ) (start : ℕ) → IsAfterZeros B text start after → 10 < length after → 0 < length text
+some_text B text after start at long = omega (arith, long, ap length at.bytes_are, length-drop (leading_zeros B text) text)
+
+pub decodes_long : {B text after : List ℕ} {start : ℕ} (old : ℕ) → IsAfterZeros B text start after → 22 < length after → DecodesCounted B text old old (Err ArithmeticOverflow)
+decodes_long {B = B} {text = text} {after = after} {start = start} old at long = long_answer B text old (some_text B text after start at (omega arith)) (rw at.bytes_are at long)
+
+-- at most 21 bytes after the leading zeros
+pub decodes_few : {B text after : List ℕ} {start old new : ℕ} → IsAlphabet B → IsAfterZeros B text start after → 0 < length text → length after ≤ 21 → (r : Result ℕ DecodeError) → ReadsPart B after start old new r → DecodesCounted B text old new r
+decodes_few {B = B} {text = text} {old = old} {new = new} ok at some few r read =
+    let less = rw at.bytes_are at few in
+    answer_21 B text ok some (omega arith) old new r less (rw (at.bytes_are, at.start_is) at read)
+
+-- the first ten bytes after the leading zeros, where more follow
+module _ {B text after first : List ℕ} {start : ℕ} (ok : IsAlphabet B) (at : IsAfterZeros B text start after) (long : 10 < length after) (short : length after ≤ 22) (front : first ≡ take 10 after) where
+  first_is : first ≡ first_ten B text
+  first_is = front ∙ ap (take 10) at.bytes_are
+
+  -- a bad byte is among them
+  pub decodes_first_refused : {old mid : ℕ} {fault : DecodeError} → HasRefused B first start old mid fault → DecodesCounted B text old mid (Err fault)
+  decodes_first_refused {old = old} {mid = mid} {fault = fault} refused =
+      first_refused_answer B text ok (some_text B text after start at long) (rw at.bytes_are at short) old mid fault (rw (first_is, at.start_is) at refused)
+
+  later_is : {later : List ℕ} → later ≡ drop 10 after → later ≡ drop 10 (rest B text)
+  later_is back = back ∙ ap (drop 10) at.bytes_are
+
+  more : 10 ≤ length (rest B text)
+  more = let l = rw at.bytes_are at long in omega arith
+
+  module _ {later : List ℕ} {old mid number : ℕ} (back : later ≡ drop 10 after) (read : HasRead B first old mid number) where
+    -- they show an overflow
+    pub decodes_shown : 2 ^ 128 ≤ number * 62 ^ length later → DecodesCounted B text old mid (Err ArithmeticOverflow)
+    decodes_shown big =
+        shown_answer B text ok (some_text B text after start at long) (rw at.bytes_are at short) old mid later mid number more (later_is back) (rw first_is at read) big
+
+    -- at most eleven follow
+    pub decodes_short : {new : ℕ} (r : Result ℕ DecodeError) → length later ≤ 11 → ReadsPart B later (start + 10) mid new r → DecodesCounted B text old new (after_number number (length later) r)
+    decodes_short {new = new} r few read_later =
+        short_answer B text ok (some_text B text after start at long) (rw at.bytes_are at short) old new later mid number more (later_is back) (rw first_is at read) r few (rw at.start_is at read_later)
+
+    -- they show none
+    pub decodes_later : {new : ℕ} (r : Result ℕ DecodeError) → number * 62 ^ length later < 2 ^ 128 → ReadsPart B later (start + 10) mid new r → DecodesCounted B text old new (or_overflow (after_number number (length later) r))
+    decodes_later {new = new} r small read_later =
+        later_answer B text ok (some_text B text after start at long) (rw at.bytes_are at short) old new later mid number more (later_is back) (rw first_is at read) r small (rw at.start_is at read_later)

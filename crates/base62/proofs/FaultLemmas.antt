@@ -12,10 +12,14 @@ module _ {W : Type 0} (took : W → List ℕ → W → Type 0) where
   pub put_two_styled : (f g h : Formatter W) (a b all : List ℕ) → HasWrittenStyled took f a g → HasWrittenStyled took g b h → a ++ b ≡ all → HasWrittenStyled took f all h
   put_two_styled f g h a b all p q is = has_written_styled_of_eq took _ _ all _ is (has_written_styled_append took _ _ _ _ _ p q)
 
-  pub put_three_styled : (f g h i : Formatter W) (a b c all : List ℕ) → HasWrittenStyled took f a g → HasWrittenStyled took g b h → HasWrittenStyled took h c i → a ++ (b ++ c) ≡ all → HasWrittenStyled took f all i
+  pub put_three_styled : (f g h i : Formatter W) (a b c all : List ℕ)
+      → HasWrittenStyled took f a g → HasWrittenStyled took g b h → HasWrittenStyled took h c i
+      → a ++ (b ++ c) ≡ all → HasWrittenStyled took f all i
   put_three_styled f g h i a b c all p q r is = put_two_styled f g i a (b ++ c) all p (has_written_styled_append took _ _ _ _ _ q r) is
 
-  pub put_four_styled : (f g h i j : Formatter W) (a b c d all : List ℕ) → HasWrittenStyled took f a g → HasWrittenStyled took g b h → HasWrittenStyled took h c i → HasWrittenStyled took i d j → a ++ (b ++ (c ++ d)) ≡ all → HasWrittenStyled took f all j
+  pub put_four_styled : (f g h i j : Formatter W) (a b c d all : List ℕ)
+      → HasWrittenStyled took f a g → HasWrittenStyled took g b h → HasWrittenStyled took h c i → HasWrittenStyled took i d j
+      → a ++ (b ++ (c ++ d)) ≡ all → HasWrittenStyled took f all j
   put_four_styled f g h i j a b c d all p q r s is = put_three_styled f g h j a b (c ++ d) all p q (has_written_styled_append took _ _ _ _ _ r s) is
 
 pub ruleset styled_writes = (append_assoc, encode_ascii, put_three_styled, put_four_styled)

@@ -1,17 +1,17 @@
 -- Texts of a fixed number of letters, and which of them are canonical.
-use Rattle.std.proofs.Common.{true, ◌≡◌, ℕ, zero, suc, ◌+◌, ◌-◌, ◌*◌, ◌/◌, ◌%◌, ◌^◌, ◌<◌, ◌≤◌, ◌⊎◌}
+use Rattle.std.proofs.Common.{◌≡◌, ℕ, zero, suc, ◌+◌, ◌-◌, ◌*◌, ◌/◌, ◌%◌, ◌^◌, ◌<◌, ◌≤◌, ◌⊎◌}
 use Rattle.std.proofs.Common.{List, [], ◌∷◌, ◌++◌, length, refl, sym, ap, ◌∙◌, slice_index, inl, inr, arith, add-zero, add-suc, append_assoc}
-use Rattle.std.proofs.Math.Nat.{pow-suc, pow-succ', pow-le-pow_right, one-le-pow, div-one, div-div-eq-div-mul}
+use Rattle.std.proofs.Math.Nat.{pow-suc, pow-succ', one-le-pow, div-one, div-div-eq-div-mul}
 use Rattle.std.proofs.Math.Arith.{mod-mul}
 use Rattle.std.proofs.lemmas.Bool.{cases_lt}
 use Rattle.std.proofs.lemmas.Nat.{div_below, div-mul-add, mod-mul-add}
 use Rattle.std.proofs.lemmas.List.{length_push, append-nil}
 use Rattle.std.proofs.lemmas.List.Elements.{All-nil, All-push}
-use Rattle.base62.specs.Alphabet.{IsAlphabet, AreLetters, is_letter}
+use Rattle.base62.specs.Alphabet.{IsAlphabet, AreLetters}
 use Rattle.base62.specs.Value.{value}
 use Rattle.base62.specs.Canonical.{Denotes, IsCanonical, HasLetters}
 use Rattle.base62.specs.Fixed.{fixed}
-use Rattle.base62.proofs.AlphabetLemmas.{is_letter-letter, digit_or_zero-letter}
+use Rattle.base62.proofs.AlphabetLemmas.{IsLetter, is_letter-letter, digit_or_zero-letter}
 use Rattle.base62.proofs.ValueLemmas.{value-nil, value_push, value-lt}
 use Rattle.base62.proofs.CanonicalLemmas.{canonical_is, one_canonical}
 
@@ -41,13 +41,14 @@ fixed-cut B v (suc w) n =
 pub fixed-join : (B : List ℕ) (v w n : ℕ) → fixed B (v + w) n ≡ fixed B v (n / 62 ^ w) ++ fixed B w (n % 62 ^ w)
 fixed-join B v w n = fixed-cut B v w n ∙ ap (λ text. fixed B v (n / 62 ^ w) ++ text) (sym (fixed-remainder B w n))
 
-pub letters-fixed : (B : List ℕ) → IsAlphabet B → (w n : ℕ) → AreLetters B (fixed B w n)
+letters-fixed : (B : List ℕ) → IsAlphabet B → (w n : ℕ) → AreLetters B (fixed B w n)
 unfolding fixed
-letters-fixed B ok zero n = All-nil (λ b. is_letter B b ≡ true)
+letters-fixed B ok zero n = All-nil (IsLetter B)
 letters-fixed B ok (suc w) n =
-    All-push (λ b. is_letter B b ≡ true) (fixed B w (n / 62)) _ (letters-fixed B ok w (n / 62)) (is_letter-letter B ok (n % 62) (omega arith))
+    All-push (IsLetter B) (fixed B w (n / 62)) _ (letters-fixed B ok w (n / 62)) (is_letter-letter B ok (n % 62) (omega arith))
 
-pub value-fixed : (B : List ℕ) → IsAlphabet B → (w n : ℕ) → n < 62 ^ w → value B (fixed B w n) ≡ n
+-- it has the value n where w letters hold n
+value-fixed : (B : List ℕ) → IsAlphabet B → (w n : ℕ) → n < 62 ^ w → value B (fixed B w n) ≡ n
 unfolding fixed
 value-fixed B ok zero n h = value-nil B ∙ omega arith
 value-fixed B ok (suc w) n h =
@@ -55,16 +56,21 @@ value-fixed B ok (suc w) n h =
     let last = digit_or_zero-letter B ok (n % 62) (omega arith) in
     rw (value_push B (fixed B w (n / 62)) (slice_index B (n % 62)), front, last) (omega arith)
 
--- n in the least number of letters from 1 on that holds it
-pub canonical-fixed : (B : List ℕ) → IsAlphabet B → (w n : ℕ) → 0 < w → n < 62 ^ w → (w ≡ 1) ⊎ (62 ^ (w - 1) ≤ n) → IsCanonical B (fixed B w n) n
-canonical-fixed B ok w n some fits least =
-    let size = length-fixed B w n in
-    canonical_is B ok (fixed B w n) n (record { nonempty = omega arith; letters = letters-fixed B ok w n; value_is = value-fixed B ok w n fits }) (rw size least)
+-- a text of w letters denotes n where w letters hold it
+pub denotes-fixed : (B : List ℕ) → IsAlphabet B → (w n : ℕ) → 0 < w → n < 62 ^ w → Denotes B (fixed B w n) n
+denotes-fixed B ok w n some fits =
+    record { nonempty = omega (arith, length-fixed B w n); letters = letters-fixed B ok w n; value_is = value-fixed B ok w n fits }
 
+-- n in the least number of letters from 1 on that holds it
+canonical-fixed : (B : List ℕ) → IsAlphabet B → (w n : ℕ) → 0 < w → n < 62 ^ w → (w ≡ 1) ⊎ (62 ^ (w - 1) ≤ n) → IsCanonical B (fixed B w n) n
+canonical-fixed B ok w n some fits least =
+    let size = length-fixed B w n in canonical_is B ok (fixed B w n) n (denotes-fixed B ok w n some fits) (rw size least)
+
+-- so n has a canonical text of that many letters
 pub has_letters : (n w : ℕ) → 0 < w → n < 62 ^ w → (w ≡ 1) ⊎ (62 ^ (w - 1) ≤ n) → HasLetters n w
 has_letters n w some fits least = λ B ok. (fixed B w n, canonical-fixed B ok w n some fits least, length-fixed B w n)
 
--- they hold n, and one letter less would not
+-- those hold n
 pub has_letters_fits : (B : List ℕ) → IsAlphabet B → (n w : ℕ) → HasLetters n w → n < 62 ^ w
 has_letters_fits B ok n w has =
     let one = has B ok in
@@ -74,29 +80,22 @@ has_letters_fits B ok n w has =
 pub has_letters_some : (B : List ℕ) → IsAlphabet B → (n w : ℕ) → HasLetters n w → 1 ≤ w
 has_letters_some B ok n w has = let one = has B ok in omega (arith, one.1.denotes.nonempty, one.2)
 
-pub has_letters_least : (B : List ℕ) → IsAlphabet B → (n w : ℕ) → HasLetters n w → (w ≡ 1) ⊎ (62 ^ (w - 1) ≤ n)
+-- a number below 62^k takes at most k letters
+pub has_letters_most : (B : List ℕ) → IsAlphabet B → (k n w : ℕ) → 1 ≤ k → HasLetters n w → n < 62 ^ k → w ≤ k
+has_letters_most B ok k n w some has small =
+    let one = has B ok in omega (arith, one.1.shortest (fixed B k n) (denotes-fixed B ok k n some small), one.2, length-fixed B k n)
+
+-- and one letter less would not
+has_letters_least : (B : List ℕ) → IsAlphabet B → (n w : ℕ) → HasLetters n w → (w ≡ 1) ⊎ (62 ^ (w - 1) ≤ n)
 has_letters_least B ok n w has = elim (cases_lt n (62 ^ (w - 1))) [
   | inr more ↦ inr more
   | inl less ↦ elim (cases_lt 1 w) [
     | inr one ↦ inl (omega (arith, one, has_letters_some B ok n w has))
-    | inl two ↦
-        let one = has B ok in
-        let size = length-fixed B (w - 1) n in
-        let other : Denotes B (fixed B (w - 1) n) n = record { nonempty = omega (arith, size); letters = letters-fixed B ok (w - 1) n; value_is = value-fixed B ok (w - 1) n less } in
-        absurd (omega (arith, one.1.shortest (fixed B (w - 1) n) other, one.2, size))
+    | inl two ↦ absurd (omega (arith, two, has_letters_most B ok (w - 1) n w (omega arith) has less))
   ]
 ]
 
--- a number below 62^k takes at most k letters
-pub has_letters_most : (B : List ℕ) → IsAlphabet B → (k n w : ℕ) → 1 ≤ k → HasLetters n w → n < 62 ^ k → w ≤ k
-has_letters_most B ok k n w some has small = elim (has_letters_least B ok n w has) [
-  | inl one ↦ omega (arith, one)
-  | inr least ↦ elim (cases_lt k w) [
-    | inl more ↦ let grows : 62 ^ k ≤ 62 ^ (w - 1) = pow-le-pow_right {n = 62} (omega arith) {i = k} {j = w - 1} (omega arith) in absurd (omega arith)
-    | inr less ↦ less
-  ]
-]
-
+-- the canonical text is the one of that many letters
 pub canonical_has : (B : List ℕ) → IsAlphabet B → (n w : ℕ) → HasLetters n w → IsCanonical B (fixed B w n) n
 canonical_has B ok n w has =
     canonical-fixed B ok w n (has_letters_some B ok n w has) (has_letters_fits B ok n w has) (has_letters_least B ok n w has)

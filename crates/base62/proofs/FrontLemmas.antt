@@ -1,12 +1,14 @@
 -- Which keys begin with a front, and the ends of its interval.
-use Rattle.std.proofs.Common.{◌≡◌, ℕ, ◌+◌, ◌-◌, ◌*◌, ◌^◌, ◌<◌, ◌≤◌, ◌↔◌, true, false, List, length, get_or, take, drop, min, Option, Some, None, Result, Ok, Err, refl, sym, ap, ◌∙◌, subst, arith}
+use Rattle.std.proofs.Common.{◌≡◌, ℕ, ◌+◌, ◌-◌, ◌*◌, ◌^◌, ◌<◌, ◌≤◌, ◌↔◌, false, List, length, get_or, take, drop, min, Option, Some, None, Result, Ok, Err, refl, sym, ap, ◌∙◌, subst, arith}
 use Rattle.std.specs.List.{prefix_len, list_all}
 use Rattle.std.proofs.Math.Nat.{one-le-pow, pow-le-pow_right, le-mul_of_pos_right}
-use Rattle.std.proofs.lemmas.Bool.{cond_both, false_from_ne_true, false≢true, ltb-true, ltb-false, leb-true, leb-false, lt-ltb, le-ltb, lt-leb, le-leb}
+use Rattle.std.proofs.lemmas.Bool.{cond_both, ltb-true, ltb-false, leb-true, leb-false, lt-ltb, le-ltb, lt-leb, le-leb}
 use Rattle.std.proofs.lemmas.List.{take-append-drop, length-take, length-take-le, length-drop, nil_from_length}
-use Rattle.std.proofs.lemmas.List.Sums.{prefix_len_is, AllPass-from_list_all, list_all-from_AllPass}
+use Rattle.std.proofs.lemmas.List.Sums.{prefix_len_is, list_all-from_AllPass}
 use Rattle.std.proofs.lemmas.List.Elements.{All-take}
+use Rattle.std.proofs.lemmas.List.Folds.{list_all_at}
 use Rattle.std.proofs.lemmas.Nat.{same_from_place}
+use Rattle.std.proofs.lemmas.Option.{same_Some}
 use Rattle.base62.specs.declared.fault.DecodeError.{DecodeError}
 use Rattle.base62.specs.declared.fault.DecodeError.TheVariants.{InvalidBase62Byte}
 use Rattle.base62.specs.Alphabet.{IsAlphabet, AreLetters, is_letter}
@@ -14,6 +16,7 @@ use Rattle.base62.specs.Value.{value}
 use Rattle.base62.specs.Decoding.{IsFirstInvalid}
 use Rattle.base62.specs.Key.{IsKey, BeginsWith, BeginsNoKey, BeginsKeysOf, BeginsKeysBetween, IsInInterval, span, interval_ends, range_of}
 use Rattle.base62.specs.Order.{Ascends}
+use Rattle.base62.proofs.AlphabetLemmas.{IsLetter}
 use Rattle.base62.proofs.ValueLemmas.{value-nil, value-append, value-lt, same_text}
 use Rattle.base62.specs.Fixed.{fixed}
 use Rattle.base62.proofs.KeyLemmas.{key-fixed}
@@ -43,26 +46,20 @@ in_interval B ok front key n small short is begins =
     let sum : value B front * span front + value B (drop (length front) key) ≡ n = rw (← same) parts.0 in
     record { short = short; small = small; from = omega (arith, sum); below = omega (arith, sum, parts.1) }
 
+-- and any front of letters that has the number in its interval begins the key
 pub begins_with : (B : List ℕ) → IsAlphabet B → (front key : List ℕ) (n : ℕ) → AreLetters B front → IsKey B key n → IsInInterval B front n → BeginsWith front key
 begins_with B ok front key n letters is inside =
     let k = length front in
-    let P : ℕ → Type 0 = λ b. is_letter B b ≡ true in
     let parts = key_parts B ok key n k is in
     let same : value B (take k key) ≡ value B front = same_span (value B front) _ _ _ n parts.0 parts.1 inside.from inside.below in
     let size : length (take k key) ≡ k = length-take-le k key (omega (arith, inside.short, is.size)) in
-    same_text B ok (take k key) front size (All-take P k key is.denotes.letters) letters same
+    same_text B ok (take k key) front size (All-take (IsLetter B) k key is.denotes.letters) letters same
 
 -- a front of a key is no longer than a key
-pub begins_short : (B front key : List ℕ) (n : ℕ) → IsKey B key n → BeginsWith front key → length front ≤ 22
+begins_short : (B front key : List ℕ) (n : ℕ) → IsKey B key n → BeginsWith front key → length front ≤ 22
 begins_short B front key n is begins =
     let size : min (length front) (length key) ≡ length front = sym (length-take (length front) key) ∙ ap length begins in
     omega (arith, size, is.size)
-
--- a front of a key is letters alone
-pub front_letters : (B front key : List ℕ) (n : ℕ) → IsKey B key n → BeginsWith front key → AreLetters B front
-front_letters B front key n is begins =
-    let P : ℕ → Type 0 = λ b. is_letter B b ≡ true in
-    subst (AreLetters B) begins (All-take P (length front) key is.denotes.letters)
 
 -- ---- the ends of an interval
 
@@ -75,10 +72,12 @@ span_fits front some =
     let grows : span front ≤ 62 ^ 21 = pow-le-pow_right {n = 62} (omega arith) {i = 22 - length front} {j = 21} (omega arith) in
     omega arith
 
+-- a front longer than a key has no ends
 pub ends_long : (B front : List ℕ) → 22 < length front → interval_ends B front ≡ None
 unfolding interval_ends
 ends_long B front long = rw (lt-ltb 22 (length front) long)
 
+-- nor has one whose interval begins at 2^128 or above
 pub ends_above : (B front : List ℕ) → length front ≤ 22 → 2 ^ 128 ≤ value B front * span front → interval_ends B front ≡ None
 unfolding interval_ends
 ends_above B front short big = rw (le-ltb 22 (length front) short, le-leb (2 ^ 128) (value B front * span front) big)
@@ -109,6 +108,7 @@ none_inside B front = ends_cases B front (λ r. r ≡ None → (n : ℕ) → IsI
     (λ big e n inside. omega (arith, inside.small, inside.from))
     (λ short some e n inside. cc)
 
+-- and none are there where no number is in it
 pub no_ends : (B front : List ℕ) → ((n : ℕ) → IsInInterval B front n → ⊥) → interval_ends B front ≡ None
 no_ends B front h = ends_cases B front (λ r. r ≡ None)
     (λ long. refl)
@@ -119,22 +119,24 @@ no_ends B front h = ends_cases B front (λ r. r ≡ None)
 abbrev pub AreEnds : List ℕ → List ℕ → ℕ → ℕ → Type 0
 AreEnds B front least greatest = (least ≤ greatest) × ((n : ℕ) → (IsInInterval B front n ↔ ((least ≤ n) × (n ≤ greatest))))
 
+-- where the interval begins below 2^128, they are
 least_and_greatest : (B front : List ℕ) → length front ≤ 22 → least_of B front < 2 ^ 128 → AreEnds B front (least_of B front) (greatest_of B front)
 least_and_greatest B front short small =
     let some = span_some front in (
       omega arith,
-      λ n. (λ inside. (inside.from, omega (arith, inside.small, inside.below)), λ between. record { short = short; small = omega (arith, between.1); from = between.0; below = omega (arith, between.1) }),
+      λ n. (
+        λ inside. (inside.from, omega (arith, inside.small, inside.below)),
+        λ between. record { short = short; small = omega (arith, between.1); from = between.0; below = omega (arith, between.1) },
+      ),
     )
 
-some_pair : (p q : ℕ × ℕ) → Some p ≡ Some q → p ≡ q
-some_pair p q e = cc
-
+-- and so are those that a front has
 pub ends_are : (B front : List ℕ) (least greatest : ℕ) → interval_ends B front ≡ Some (least, greatest) → AreEnds B front least greatest
 ends_are B front least greatest = ends_cases B front (λ r. r ≡ Some (least, greatest) → AreEnds B front least greatest)
     (λ long e. cc)
     (λ big e. cc)
     (λ short small e.
-    let same = some_pair (least_of B front, greatest_of B front) (least, greatest) e in
+    let same = same_Some (least_of B front, greatest_of B front) (least, greatest) e in
     subst (λ p. AreEnds B front p.0 p.1) same (least_and_greatest B front short small))
 
 -- ---- the ends as the code computes them
@@ -148,6 +150,7 @@ ends_empty B front none = rw (nil_from_length front none, value-nil B)
 pub ends_over : (B front : List ℕ) → length front ≤ 22 → 2 ^ 128 ≤ value B front → interval_ends B front ≡ None
 ends_over B front short big = ends_above B front short (omega (arith, big, le-mul_of_pos_right (value B front) (span_some front)))
 
+-- the ends by the last number of the interval, or by 2^128 - 1
 pub ends_some : (B front : List ℕ) (least greatest : ℕ) → length front ≤ 22 → least_of B front < 2 ^ 128
     → least ≡ least_of B front → greatest ≡ min (least + (span front - 1)) (2 ^ 128 - 1) → interval_ends B front ≡ Some (least, greatest)
 unfolding interval_ends
@@ -157,6 +160,7 @@ ends_some B front least greatest short small low high =
 
 -- ---- the range of a front
 
+-- the range of letters is their ends
 pub range_of-letters : (B front : List ℕ) → AreLetters B front → range_of B front ≡ Ok (interval_ends B front)
 range_of-letters B front letters = rw (list_all-from_AllPass (is_letter B) front letters)
 
@@ -165,13 +169,15 @@ pub range_of-bad : (B front : List ℕ) (byte index : ℕ) → IsFirstInvalid B 
 range_of-bad B front byte index first =
     let bad : is_letter B (get_or front index 0) ≡ false = ap (is_letter B) (sym first.byte_is) ∙ first.no_letter in
     let place : prefix_len (is_letter B) front ≡ index = prefix_len_is (is_letter B) front index 0 (omega (arith, first.within)) first.letters_before (λ _. bad) in
-    let some_bad : list_all (is_letter B) front ≡ false = false_from_ne_true _ (λ t. false≢true (sym bad ∙ AllPass-from_list_all (is_letter B) front t index 0 first.within)) in
+    let some_bad : list_all (is_letter B) front ≡ false = list_all_at (is_letter B) front index 0 first.within bad in
     rw (some_bad, place, first.byte_is)
 
+-- where a front has no ends, it begins no key
 begins_no_key : (B : List ℕ) → IsAlphabet B → (front : List ℕ) → interval_ends B front ≡ None → BeginsNoKey B front
 begins_no_key B ok front none = λ n key small is begins.
     none_inside B front none n (in_interval B ok front key n small (begins_short B front key n is begins) is begins)
 
+-- and the other way round
 no_ends_of : (B : List ℕ) → IsAlphabet B → (front : List ℕ) → AreLetters B front → BeginsNoKey B front → interval_ends B front ≡ None
 no_ends_of B ok front letters h = no_ends B front (λ n inside.
     let is = key-fixed B ok n (omega (arith, inside.small)) in

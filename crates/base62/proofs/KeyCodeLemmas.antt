@@ -10,9 +10,9 @@ use Rattle.base62.specs.Value.{value}
 use Rattle.base62.specs.Canonical.{Denotes}
 use Rattle.base62.specs.Decoding.{decoding}
 use Rattle.base62.specs.Key.{IsKey}
-use Rattle.base62.proofs.AlphabetLemmas.{is_letter-letter, standard_is_alphabet}
+use Rattle.base62.proofs.AlphabetLemmas.{IsLetter, is_letter-letter, standard_is_alphabet}
 use Rattle.base62.proofs.ValueLemmas.{value-lt_most}
-use Rattle.base62.proofs.AnswerLemmas.{answer_cases, decoding_accepts, letters_accepted}
+use Rattle.base62.proofs.AnswerLemmas.{answer_cases, decoding_accepts, decoding-denotes}
 use Rattle.base62.proofs.ZeroLemmas.{value_front}
 use Rattle.base62.proofs.FrontLemmas.{span_some, span_fits, ends_empty, ends_long, ends_over, ends_above, ends_some, range_of-letters, range_of-bad, range_none, range_ends}
 
@@ -24,20 +24,21 @@ value-zeros B ok (suc k) text = value_front B (replicate k (zero_letter B) ++ te
 -- a text that denotes n is its key, once zero letters in front fill it up to 22
 padded_key : (B : List ℕ) → IsAlphabet B → (text : List ℕ) (n k : ℕ) → Denotes B text n → k + length text ≡ 22 → IsKey B (replicate k (zero_letter B) ++ text) n
 padded_key B ok text n k denotes full =
-    let P : ℕ → Type 0 = λ b. is_letter B b ≡ true in
-    let zeros : AreLetters B (replicate k (zero_letter B)) = All-replicate P k (zero_letter B) (is_letter-letter B ok 0 (omega arith)) in
-    let size : length (replicate k (zero_letter B) ++ text) ≡ 22 = length-append (replicate k (zero_letter B)) text ∙ ap (λ m. m + length text) (length-replicate k (zero_letter B)) ∙ full in
+    let zeros : AreLetters B (replicate k (zero_letter B)) = All-replicate (IsLetter B) k (zero_letter B) (is_letter-letter B ok 0 (omega arith)) in
+    let size : length (replicate k (zero_letter B) ++ text) ≡ 22 =
+    length-append (replicate k (zero_letter B)) text ∙ ap (λ m. m + length text) (length-replicate k (zero_letter B)) ∙ full in
     record {
       size = size;
       denotes = record {
         nonempty = omega (arith, size);
-        letters = All-append P (replicate k (zero_letter B)) text zeros denotes.letters;
+        letters = All-append (IsLetter B) (replicate k (zero_letter B)) text zeros denotes.letters;
         value_is = value-zeros B ok k text ∙ denotes.value_is;
       };
     }
 
 -- a buffer of 22 bytes with a text in front of zero letters, after the text has been moved behind them
-pub moved_key : (B : List ℕ) → IsAlphabet B → (buf key : List ℕ) (n len : ℕ) → length buf ≡ 22 → len ≤ length buf → Denotes B (take len buf) n
+pub moved_key : (B : List ℕ) → IsAlphabet B → (buf key : List ℕ) (n len : ℕ) → length buf ≡ 22 → len ≤ length buf
+    → Denotes B (take len buf) n
     → drop len buf ≡ drop len (replicate 22 (zero_letter B))
     → key ≡ drop (length buf - (22 - len)) buf ++ take (length buf - (22 - len)) buf → IsKey B key n
 moved_key B ok buf key n len size within denotes others after =
@@ -55,11 +56,12 @@ accepted_letter B b ok = answer_cases B (b ∷ []) ok (λ r. is_err r ≡ false 
     (λ byte index first e. cc)
     (λ denotes small e. denotes.letters 0 0 (omega arith))
 
+-- and refused exactly where it is none
 pub refused_letter : (B : List ℕ) (b : ℕ) → IsAlphabet B → is_err (decoding B (b ∷ [])) ≡ true → is_letter B b ≡ false
 refused_letter B b ok e = false_from_ne_true (is_letter B b) (λ letter.
-    let P : ℕ → Type 0 = λ b. is_letter B b ≡ true in
     let below = value-lt_most B ok (b ∷ []) 1 (omega arith) in
-    let accepted = letters_accepted B (b ∷ []) ok (omega arith) (All-cons P b [] letter (All-nil P)) (omega arith) in
+    let denotes : Denotes B (b ∷ []) (value B (b ∷ [])) = record { nonempty = omega arith; letters = All-cons (IsLetter B) b [] letter (All-nil (IsLetter B)); value_is = refl } in
+    let accepted = decoding-denotes B ok (value B (b ∷ [])) (omega arith) (b ∷ []) denotes in
     false≢true (sym (ap is_err accepted) ∙ e))
 
 -- each byte of a front, decoded alone
@@ -72,7 +74,8 @@ accepted_value B text ok n is = (decoding_accepts B text ok n is).0.value_is
 -- letters that are refused denote 2^128 or more
 pub refused_value : (B text : List ℕ) → IsAlphabet B → 0 < length text → AreLetters B text → (e : DecodeError) → decoding B text ≡ Err e → 2 ^ 128 ≤ value B text
 refused_value B text ok some letters e refused = elim (cases_lt (value B text) (2 ^ 128)) [
-  | inl less ↦ let accepted = letters_accepted B text ok some letters less in absurd (cc)
+  | inl less ↦
+      let accepted = decoding-denotes B ok (value B text) less text (record { nonempty = some; letters = letters; value_is = refl }) in absurd (cc)
   | inr more ↦ more
 ]
 

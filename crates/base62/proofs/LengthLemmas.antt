@@ -7,21 +7,21 @@ use Rattle.base62.specs.Alphabet.{IsAlphabet, AreLetters, is_letter, zero_letter
 use Rattle.base62.specs.Value.{value, digit_or_zero}
 use Rattle.base62.specs.Canonical.{IsCanonical}
 use Rattle.base62.specs.Laws.{HasNoNeedlessZero}
-use Rattle.base62.proofs.AlphabetLemmas.{is_letter-letter, digit_or_zero-letter, same_letter}
+use Rattle.base62.proofs.AlphabetLemmas.{IsLetter, is_letter-letter, digit_or_zero-letter, same_letter}
 use Rattle.base62.proofs.ValueLemmas.{value-cons}
 use Rattle.base62.proofs.CanonicalLemmas.{canonical_is}
 use Rattle.base62.specs.Fixed.{fixed}
-use Rattle.base62.proofs.FixedLemmas.{length-fixed, letters-fixed, value-fixed}
+use Rattle.base62.proofs.FixedLemmas.{length-fixed, denotes-fixed}
 
 -- a canonical text of two or more letters does not begin with the zero letter, since the others would do
 first_differs : (B : List ℕ) → IsAlphabet B → (b : ℕ) (text : List ℕ) (n : ℕ) → IsCanonical B (b ∷ text) n → 0 < length text → b ≢ zero_letter B
 first_differs B ok b text n canonical more e =
-    let P : ℕ → Type 0 = λ b. is_letter B b ≡ true in
     let digit : digit_or_zero B b ≡ 0 = ap (digit_or_zero B) e ∙ digit_or_zero-letter B ok 0 (omega arith) in
     let same : value B (b ∷ text) ≡ value B text = value-cons B b text ∙ rw digit (omega arith) in
-    let least = canonical.shortest text (record { nonempty = more; letters = All-tail P b text canonical.denotes.letters; value_is = sym same ∙ canonical.denotes.value_is }) in
+    let least = canonical.shortest text (record { nonempty = more; letters = All-tail (IsLetter B) b text canonical.denotes.letters; value_is = sym same ∙ canonical.denotes.value_is }) in
     omega (arith, least)
 
+-- a canonical text has no needless zero
 pub no_needless_zero : (B : List ℕ) → IsAlphabet B → (text : List ℕ) (n : ℕ) → IsCanonical B text n → HasNoNeedlessZero B text
 no_needless_zero B ok [] n canonical = absurd (omega (arith, canonical.denotes.nonempty))
 no_needless_zero B ok (b ∷ []) n canonical = (omega arith, inl refl)
@@ -49,6 +49,7 @@ needs_each B ok text letters has = elim has.1 [
   | inr differs ↦ inr (first_weighs B ok text has.0 (letters 0 0 has.0) differs)
 ]
 
+-- a text of letters with no needless zero is canonical for its value
 pub canonical_of_value : (B : List ℕ) → IsAlphabet B → (text : List ℕ) → AreLetters B text → HasNoNeedlessZero B text → IsCanonical B text (value B text)
 canonical_of_value B ok text letters has =
     canonical_is B ok text (value B text) (record { nonempty = has.0; letters = letters; value_is = refl }) (needs_each B ok text letters has)
@@ -57,5 +58,5 @@ canonical_of_value B ok text letters has =
 pub canonical_short : (B text : List ℕ) → IsAlphabet B → (n : ℕ) → n < 2 ^ 128 → IsCanonical B text n → length text ≤ 22
 canonical_short B text ok n small canonical =
     let size = length-fixed B 22 n in
-    let le = canonical.shortest (fixed B 22 n) (record { nonempty = omega (arith, size); letters = letters-fixed B ok 22 n; value_is = value-fixed B ok 22 n (omega arith) }) in
+    let le = canonical.shortest (fixed B 22 n) (denotes-fixed B ok 22 n (omega arith) (omega arith)) in
     omega (arith, size, le)

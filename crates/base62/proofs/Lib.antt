@@ -13,7 +13,6 @@ pub mod CountLemmas
 pub mod KernelLemmas
 pub mod StepsLemmas
 pub mod EncodingLemmas
-pub mod RoundTripLemmas
 pub mod PaddingLemmas
 pub mod TextLemmas
 pub mod CaseLemmas

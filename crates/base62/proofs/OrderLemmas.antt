@@ -1,6 +1,6 @@
 -- Texts over an alphabet whose letters ascend compare as the numbers that they denote.
-use Rattle.std.proofs.Common.{Bool, true, ◌≡◌, ◌≢◌, ◌↔◌, ℕ, ◌+◌, ◌-◌, ◌*◌, ◌^◌, ◌<◌, ◌≤◌, ltb, List, [], ◌∷◌, length, get_or, refl, sym, ◌∙◌, inl, inr, arith}
-use Rattle.std.specs.Ordering.{nat_cmp, ordering_then}
+use Rattle.std.proofs.Common.{Bool, true, Ordering, ◌≡◌, ◌≢◌, ◌↔◌, ℕ, ◌+◌, ◌-◌, ◌*◌, ◌^◌, ◌<◌, ◌≤◌, ltb, List, [], ◌∷◌, length, get_or, refl, sym, ◌∙◌, inl, inr, arith}
+use Rattle.std.specs.Ordering.{nat_cmp, ordering_then, MatchOrdering}
 use Rattle.std.specs.Cmp.{nat_cmp_is}
 use Rattle.std.specs.declared.cmp.Ordering.TheVariants.{Less, Equal, Greater}
 use Rattle.std.proofs.Math.Nat.{mul-le-mul_right}
@@ -13,7 +13,7 @@ use Rattle.base62.specs.Value.{value, digit_or_zero}
 use Rattle.base62.specs.Canonical.{IsCanonical}
 use Rattle.base62.specs.Key.{IsKey}
 use Rattle.base62.specs.Order.{byte_order, IsNotAfter, length_first_order, Ascends}
-use Rattle.base62.proofs.AlphabetLemmas.{letter-digit_of, digit_of-is, same_letter}
+use Rattle.base62.proofs.AlphabetLemmas.{IsLetter, letter-digit_of, digit_of-is, same_letter}
 use Rattle.base62.proofs.ValueLemmas.{value-cons, value-lt, value-lt_most}
 use Rattle.base62.proofs.LengthLemmas.{no_needless_zero, needs_each}
 
@@ -21,29 +21,25 @@ use Rattle.base62.proofs.LengthLemmas.{no_needless_zero, needs_each}
 abbrev pub rises : List ℕ → ℕ → Bool
 rises B d = ltb (get_or B d 0) (get_or B (d + 1) 0)
 
+-- an alphabet ascends where that holds at each place but the last
 pub ascends_by : (B : List ℕ) → agree_below (rises B) (λ d. true) 61 ≡ true → Ascends B
 ascends_by B all d h = ltb-true _ _ (agree_below_at (rises B) (λ d. true) 61 d all h)
 
+-- the standard letters ascend by byte
 pub standard_ascends : Ascends standard
 unfolding standard
 standard_ascends = ascends_by standard refl
 
 -- what a comparison of two numbers answers
-less_is : (m n : ℕ) → m < n → nat_cmp m n ≡ Less
-less_is m n h = sym (nat_cmp_is m n Less h)
-
-equal_is : (m n : ℕ) → m ≡ n → nat_cmp m n ≡ Equal
-equal_is m n h = sym (nat_cmp_is m n Equal h)
-
-greater_is : (m n : ℕ) → n < m → nat_cmp m n ≡ Greater
-greater_is m n h = sym (nat_cmp_is m n Greater h)
+compared : (m n : ℕ) (answer : Ordering) → MatchOrdering answer (m < n) (m ≡ n) (n < m) → nat_cmp m n ≡ answer
+compared m n answer h = sym (nat_cmp_is m n answer h)
 
 -- two numbers compare as two others that stand as they do
 compared_alike : (x y m n : ℕ) → (x < y → m < n) → (x ≡ y → m ≡ n) → (y < x → n < m) → nat_cmp m n ≡ nat_cmp x y
 compared_alike x y m n less equal greater = elim (cases_order x y) [
-  | inl e ↦ equal_is m n (equal e) ∙ sym (equal_is x y e)
-  | inr (inl h) ↦ less_is m n (less h) ∙ sym (less_is x y h)
-  | inr (inr h) ↦ greater_is m n (greater h) ∙ sym (greater_is x y h)
+  | inl e ↦ compared m n Equal (equal e) ∙ sym (compared x y Equal e)
+  | inr (inl h) ↦ compared m n Less (less h) ∙ sym (compared x y Less h)
+  | inr (inr h) ↦ compared m n Greater (greater h) ∙ sym (compared x y Greater h)
 ]
 
 -- one more at a first place outweighs all that can come after it
@@ -53,9 +49,9 @@ place-lt x u y v w more below = let weighs : (x + 1) * w ≤ y * w = mul-le-mul_
 -- first places decide, and where they are one, what comes after them
 place_compares : (x u y v w : ℕ) → u < w → v < w → nat_cmp (x * w + u) (y * w + v) ≡ ordering_then (nat_cmp x y) (nat_cmp u v)
 place_compares x u y v w p q = elim (cases_order x y) [
-  | inl e ↦ rw (equal_is x y e, e) (compared_alike u v (y * w + u) (y * w + v) (λ h. omega arith) (λ h. omega arith) (λ h. omega arith))
-  | inr (inl h) ↦ rw (less_is x y h) (less_is _ _ (place-lt x u y v w h p))
-  | inr (inr h) ↦ rw (greater_is x y h) (greater_is _ _ (place-lt y v x u w h q))
+  | inl e ↦ rw (compared x y Equal e, e) (compared_alike u v (y * w + u) (y * w + v) (λ h. omega arith) (λ h. omega arith) (λ h. omega arith))
+  | inr (inl h) ↦ rw (compared x y Less h) (compared _ _ Less (place-lt x u y v w h p))
+  | inr (inr h) ↦ rw (compared x y Greater h) (compared _ _ Greater (place-lt y v x u w h q))
 ]
 
 -- a later letter of an alphabet that ascends is a greater byte
@@ -78,14 +74,13 @@ letters_compare B ok up x y p q =
 
 -- texts of one length compare by their bytes as their values
 pub texts_compare : (B : List ℕ) → IsAlphabet B → Ascends B → (a b : List ℕ) → AreLetters B a → AreLetters B b → length a ≡ length b → byte_order a b ≡ nat_cmp (value B a) (value B b)
-texts_compare B ok up [] [] p q len = sym (equal_is (value B []) (value B []) refl)
+texts_compare B ok up [] [] p q len = sym (compared (value B []) (value B []) Equal refl)
 texts_compare B ok up [] (y ∷ ys) p q len = absurd (omega arith)
 texts_compare B ok up (x ∷ xs) [] p q len = absurd (omega arith)
 texts_compare B ok up (x ∷ xs) (y ∷ ys) p q len =
-    let P : ℕ → Type 0 = λ b. is_letter B b ≡ true in
     let tails : length xs ≡ length ys = omega arith in
-    let first = letters_compare B ok up x y (All-head P x xs p) (All-head P y ys q) in
-    let later = texts_compare B ok up xs ys (All-tail P x xs p) (All-tail P y ys q) tails in
+    let first = letters_compare B ok up x y (All-head (IsLetter B) x xs p) (All-head (IsLetter B) y ys q) in
+    let later = texts_compare B ok up xs ys (All-tail (IsLetter B) x xs p) (All-tail (IsLetter B) y ys q) tails in
     let places = place_compares (digit_or_zero B x) (value B xs) (digit_or_zero B y) (value B ys) (62 ^ length xs) (value-lt B ok xs) (rw tails (value-lt B ok ys)) in
     rw (value-cons B x xs, value-cons B y ys, ← tails, places, first, later)
 
@@ -104,15 +99,15 @@ shorter-lt B ok a b m n p q less = elim (needs_each B ok b q.denotes.letters (no
 -- canonical texts compare as their numbers where the shorter comes first
 pub canonical_compare : (B : List ℕ) → IsAlphabet B → Ascends B → (a b : List ℕ) (m n : ℕ) → IsCanonical B a m → IsCanonical B b n → length_first_order a b ≡ nat_cmp m n
 canonical_compare B ok up a b m n p q = elim (cases_order (length a) (length b)) [
-  | inl e ↦ rw (equal_is (length a) (length b) e) (rw (p.denotes.value_is, q.denotes.value_is) at (texts_compare B ok up a b p.denotes.letters q.denotes.letters e))
-  | inr (inl h) ↦ rw (less_is (length a) (length b) h) (sym (less_is m n (shorter-lt B ok a b m n p q h)))
-  | inr (inr h) ↦ rw (greater_is (length a) (length b) h) (sym (greater_is m n (shorter-lt B ok b a n m q p h)))
+  | inl e ↦ rw (compared (length a) (length b) Equal e) (rw (p.denotes.value_is, q.denotes.value_is) at (texts_compare B ok up a b p.denotes.letters q.denotes.letters e))
+  | inr (inl h) ↦ rw (compared (length a) (length b) Less h) (sym (compared m n Less (shorter-lt B ok a b m n p q h)))
+  | inr (inr h) ↦ rw (compared (length a) (length b) Greater h) (sym (compared m n Greater (shorter-lt B ok b a n m q p h)))
 ]
 
 -- one number is at most another exactly where they do not compare as greater
 at_most_iff : (m n : ℕ) → ((nat_cmp m n ≢ Greater) ↔ (m ≤ n))
 at_most_iff m n = elim (cases_lt n m) [
-  | inl more ↦ (λ h. absurd (h (greater_is m n more)), λ h. absurd (omega arith))
+  | inl more ↦ (λ h. absurd (h (compared m n Greater more)), λ h. absurd (omega arith))
   | inr less ↦ (λ h. less, λ h e. let more : n < m = ranked m n Greater (sym e) in absurd (omega arith))
 ]
 

@@ -9,6 +9,7 @@ use Rattle.base62.specs.Alphabet.{IsAlphabet, AreLetters, is_letter, zero_letter
 use Rattle.base62.specs.Value.{value}
 use Rattle.base62.specs.Decoding.{leading_zeros, rest}
 use Rattle.base62.specs.Laws.{AgreesAtLetters}
+use Rattle.base62.proofs.AlphabetLemmas.{IsLetter}
 use Rattle.base62.proofs.ValueLemmas.{value-append}
 use Rattle.base62.proofs.LengthLemmas.{first_weighs}
 
@@ -27,19 +28,21 @@ value-drop-le B text k =
     let whole = ap (value B) (take-append-drop k text) in
     omega arith
 
+-- texts that agree at letters do so from any place on
 agrees-drop : (B text other : List ℕ) (k : ℕ) → AgreesAtLetters B text other → AgreesAtLetters B (drop k text) (drop k other)
 agrees-drop B text other k a = record {
   size = length-drop k other ∙ ap (λ n. n - k) a.size ∙ sym (length-drop k text);
-  letters = All-drop (λ b. is_letter B b ≡ true) k other a.letters;
+  letters = All-drop (IsLetter B) k other a.letters;
   agrees = λ i h p.
       let same = get_or-drop k text i 0 in
       get_or-drop k other i 0 ∙ a.agrees (k + i) (omega (arith, length-drop k text)) (ap (is_letter B) (sym same) ∙ p) ∙ sym same;
 }
 
+-- and up to any place
 agrees-take : (B text other : List ℕ) (k : ℕ) → AgreesAtLetters B text other → AgreesAtLetters B (take k text) (take k other)
 agrees-take B text other k a = record {
   size = length-take k other ∙ ap (min k) a.size ∙ sym (length-take k text);
-  letters = All-take (λ b. is_letter B b ≡ true) k other a.letters;
+  letters = All-take (IsLetter B) k other a.letters;
   agrees = λ i h p.
       let within : i < k = omega (arith, length-take k text) in
       let same = get_or-take k text i 0 within in

@@ -1,15 +1,14 @@
 -- Reading a part of a text: one byte, and one part after another.
-use Rattle.std.proofs.Common.{◌≡◌, ℕ, ◌+◌, ◌*◌, ◌^◌, ◌<◌, ◌≤◌, true, false, eqb, List, [], ◌∷◌, ◌++◌, length, get_or, take, drop, Result, Ok, Err, refl, sym, ap, ◌∙◌, subst, arith, add_assoc, add-zero}
+use Rattle.std.proofs.Common.{◌≡◌, ℕ, ◌+◌, ◌*◌, ◌^◌, ◌<◌, ◌≤◌, true, List, [], ◌∷◌, ◌++◌, length, get_or, take, drop, Result, Ok, Err, refl, sym, ap, ◌∙◌, subst, arith, add_assoc}
 use Rattle.std.specs.List.{prefix_len}
 use Rattle.std.proofs.lemmas.Bool.{eq-eqb, ne_eqb}
-use Rattle.std.proofs.lemmas.List.{take-append-drop, take_more, take_all, length-append, length-take-le, length-drop, get_or_append_left, get_or-append-add}
+use Rattle.std.proofs.lemmas.List.{take-append-drop, take_more, length-append, length-take-le, length-drop, get_or_append_left, get_or-append-add}
 use Rattle.std.proofs.lemmas.List.Elements.{All-nil, All-cons, All-append}
 use Rattle.std.proofs.lemmas.List.Folds.{prefix_len-append}
 use Rattle.std.proofs.lemmas.List.Sums.{prefix_len_is}
 use Rattle.base62.specs.declared.fault.DecodeError.{DecodeError}
 use Rattle.base62.specs.declared.fault.DecodeError.TheVariants.{InvalidBase62Byte}
 use Rattle.base62.specs.Alphabet.{IsAlphabet, AreLetters, is_letter}
-use Rattle.base62.specs.Value.{value}
 use Rattle.base62.specs.Table.{digit_or_none}
 use Rattle.base62.specs.Parts.{HasRead, HasRefused, ReadsPart}
 use Rattle.base62.proofs.ValueLemmas.{value-nil, value-one, value-append, value-lt_most}
@@ -42,12 +41,12 @@ refused_one B ok b start old new high step =
     }
 
 -- what reading a part answers, after a number that stands n bytes before its end
-abbrev pub after : ℕ → ℕ → Result ℕ DecodeError → Result ℕ DecodeError
-after number n (Ok m) = Ok (number * 62 ^ n + m)
-after number n (Err fault) = Err fault
+abbrev pub after_number : ℕ → ℕ → Result ℕ DecodeError → Result ℕ DecodeError
+after_number number n (Ok m) = Ok (number * 62 ^ n + m)
+after_number number n (Err fault) = Err fault
 
 -- a part is read by reading its front and then the bytes after that
-pub reads_on : (B a b : List ℕ) (start old mid new number : ℕ) (r : Result ℕ DecodeError) → HasRead B a old mid number → ReadsPart B b (start + length a) mid new r → ReadsPart B (a ++ b) start old new (after number (length b) r)
+pub reads_on : (B a b : List ℕ) (start old mid new number : ℕ) (r : Result ℕ DecodeError) → HasRead B a old mid number → ReadsPart B b (start + length a) mid new r → ReadsPart B (a ++ b) start old new (after_number number (length b) r)
 reads_on B a b start old mid new number (Ok m) front back = record {
   letters = All-append (λ x. is_letter B x ≡ true) a b front.letters back.letters;
   value_is = rw (value-append B a b, front.value_is, back.value_is) refl;
@@ -83,7 +82,7 @@ pub read_none : (B part : List ℕ) (old : ℕ) → HasRead B (take 0 part) old 
 read_none B part old = record { letters = All-nil (λ x. is_letter B x ≡ true); value_is = sym (value-nil B); steps = omega arith }
 
 -- one byte more of a part
-pub reads_more : (B part : List ℕ) (k start old mid new number : ℕ) (r : Result ℕ DecodeError) → k < length part → HasRead B (take k part) old mid number → ReadsPart B (get_or part k 0 ∷ []) (start + k) mid new r → ReadsPart B (take (k + 1) part) start old new (after number 1 r)
+pub reads_more : (B part : List ℕ) (k start old mid new number : ℕ) (r : Result ℕ DecodeError) → k < length part → HasRead B (take k part) old mid number → ReadsPart B (get_or part k 0 ∷ []) (start + k) mid new r → ReadsPart B (take (k + 1) part) start old new (after_number number 1 r)
 reads_more B part k start old mid new number r inside front back =
     let size : length (take k part) ≡ k = length-take-le k part (omega arith) in
     let one = reads_on B (take k part) (get_or part k 0 ∷ []) start old mid new number r front (rw size back) in
@@ -96,10 +95,10 @@ module _ (B part a : List ℕ) (k start old : ℕ) (front : a ≡ take k part) w
       subst (λ xs. HasRefused B xs start old new fault) (ap (λ xs. xs ++ drop k part) front ∙ take-append-drop k part) (refuses_before B a (drop k part) start old new fault refused)
 
   -- n bytes are behind the cut
-  pub reads_cut : (b : List ℕ) (mid new number n : ℕ) (r : Result ℕ DecodeError) → b ≡ drop k part → k + n ≡ length part → HasRead B a old mid number → ReadsPart B b (start + k) mid new r → ReadsPart B part start old new (after number n r)
+  pub reads_cut : (b : List ℕ) (mid new number n : ℕ) (r : Result ℕ DecodeError) → b ≡ drop k part → k + n ≡ length part → HasRead B a old mid number → ReadsPart B b (start + k) mid new r → ReadsPart B part start old new (after_number number n r)
   reads_cut b mid new number n r back size read later =
       let first : length a ≡ k = ap length front ∙ length-take-le k part (omega arith) in
       let second : length b ≡ n = ap length back ∙ length-drop k part ∙ omega arith in
       let whole : a ++ b ≡ part = rw (front, back) (take-append-drop k part) in
       let both = reads_on B a b start old mid new number r read (rw first later) in
-      subst (λ xs. ReadsPart B xs start old new (after number n r)) whole (rw second at both)
+      subst (λ xs. ReadsPart B xs start old new (after_number number n r)) whole (rw second at both)

@@ -16,21 +16,25 @@ at_place_later : (base d : ℕ) (ds : List ℕ) (i : ℕ) → at_place base (d �
 at_place_later base d ds i =
     let e : suc (length ds) - 1 - suc i ≡ length ds - 1 - i = omega arith in rw (add-one i, e)
 
+-- nor does the sum of their weights change
 sum_by_later : (base d : ℕ) (ds : List ℕ) (m a : ℕ) → sum_by (at_place base (d ∷ ds)) (range_with_len (a + 1) m) ≡ sum_by (at_place base ds) (range_with_len a m)
 sum_by_later base d ds zero a = refl
 sum_by_later base d ds (suc m) a =
-    rw (sum_by-cons (at_place base (d ∷ ds)) (a + 1) (range_with_len (a + 1 + 1) m), sum_by-cons (at_place base ds) a (range_with_len (a + 1) m), at_place_later base d ds a, sum_by_later base d ds m (a + 1))
+    rw (sum_by-cons (at_place base (d ∷ ds)) (a + 1) (range_with_len (a + 1 + 1) m), sum_by-cons (at_place base ds) a (range_with_len (a + 1) m))
+    (rw (at_place_later base d ds a, sum_by_later base d ds m (a + 1)))
 
 pub places-nil : (base : ℕ) → sum_over_places base [] ≡ 0
 unfolding sum_over_places
 places-nil base = refl
 
+-- a digit in front adds its place
 pub places-cons : (base d : ℕ) (ds : List ℕ) → sum_over_places base (d ∷ ds) ≡ d * base ^ length ds + sum_over_places base ds
 unfolding sum_over_places
 places-cons base d ds =
     let e : suc (length ds) - 1 - 0 ≡ length ds = omega arith in
     rw (sum_by-cons (at_place base (d ∷ ds)) 0 (range_with_len (0 + 1) (length ds)), e, sum_by_later base d ds (length ds) 0)
 
+-- digits in front are worth their sum at the place where the others begin
 pub places-append : (base : ℕ) (xs ys : List ℕ) → sum_over_places base (xs ++ ys) ≡ sum_over_places base xs * base ^ length ys + sum_over_places base ys
 places-append base [] ys = rw (places-nil base) (omega arith)
 places-append base (d ∷ ds) ys =
@@ -40,12 +44,14 @@ places-append base (d ∷ ds) ys =
     let weight : base ^ length (ds ++ ys) ≡ base ^ length ds * base ^ length ys = rw (length-append ds ys, pow-add base (length ds) (length ys)) in
     rw (front, ih, back, weight) (omega arith)
 
+-- one digit behind moves each other one place on
 pub places_push : (base : ℕ) (ds : List ℕ) (d : ℕ) → sum_over_places base (ds ++ d ∷ []) ≡ sum_over_places base ds * base + d
 places_push base ds d =
     let shift : base ^ length (d ∷ []) ≡ base = pow_one base in
     let unit : base ^ length {A = ℕ} [] ≡ 1 = pow-zero base in
     rw (places-append base ds (d ∷ []), places-cons base d [], places-nil base, shift, unit) (omega arith)
 
+-- k digits add up to less than base^k
 pub places-lt : (base : ℕ) (ds : List ℕ) → All (λ d. d < base) ds → sum_over_places base ds < base ^ length ds
 places-lt base [] h = let unit : base ^ length {A = ℕ} [] ≡ 1 = pow-zero base in rw (places-nil base, unit) (omega arith)
 places-lt base (d ∷ ds) h =

@@ -1,5 +1,5 @@
 -- The entries of the table of an alphabet.
-use Rattle.std.proofs.Common.{◌≡◌, ℕ, ◌<◌, ◌≤◌, List, get_or, Option, Some, None, is_some, unwrap_or, true, false, refl, sym, ap, ◌∙◌, arith}
+use Rattle.std.proofs.Common.{◌≡◌, ℕ, ◌<◌, ◌≤◌, List, get_or, Option, Some, None, is_some, unwrap_or, true, false, refl, arith}
 use Rattle.std.proofs.lemmas.List.FromFn.{get_or-map-range_with_len}
 use Rattle.base62.specs.Alphabet.{IsAlphabet, digit_of, is_letter}
 use Rattle.base62.specs.Value.{digit_or_zero}

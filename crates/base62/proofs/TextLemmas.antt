@@ -5,6 +5,7 @@ use Rattle.std.specs.Str.{IsAscii}
 use Rattle.base62.specs.Canonical.{IsCanonical, CanonicalFits}
 use Rattle.base62.proofs.AlphabetLemmas.{standard_is_ascii, alternative_is_ascii, letters_ascii}
 
+-- over an alphabet of ASCII a canonical text is ASCII
 pub canonical_is_ascii : (B : List ℕ) → IsAscii B → (text : List ℕ) (n : ℕ) → IsCanonical B text n → IsAscii text
 canonical_is_ascii B ascii text n canonical = letters_ascii B ascii text canonical.denotes.letters
 

@@ -1,36 +1,40 @@
 -- The value of a text, one letter or one part at a time.
-use Rattle.std.proofs.Common.{true, ◌≡◌, ℕ, ◌+◌, ◌*◌, ◌^◌, ◌<◌, List, [], ◌∷◌, ◌++◌, length, get_or, map, take, ◌≤◌, refl, ap, ◌∙◌, arith}
+use Rattle.std.proofs.Common.{◌≡◌, ℕ, ◌+◌, ◌*◌, ◌^◌, ◌<◌, List, [], ◌∷◌, ◌++◌, length, get_or, map, take, ◌≤◌, refl, ap, ◌∙◌, arith}
 use Rattle.std.specs.List.{All}
 use Rattle.std.proofs.Math.Nat.{pow-le-pow_right}
 use Rattle.std.proofs.lemmas.List.{length-map, map-append, take_more}
 use Rattle.std.proofs.lemmas.List.Elements.{All-nil, All-cons, All-head, All-tail}
 use Rattle.std.proofs.lemmas.Nat.{same_from_place}
-use Rattle.base62.specs.Alphabet.{IsAlphabet, AreLetters, is_letter}
+use Rattle.base62.specs.Alphabet.{IsAlphabet, AreLetters}
 use Rattle.base62.specs.Value.{value, digit_or_zero}
 use Rattle.base62.proofs.PlacesLemmas.{places-nil, places-cons, places-append, places_push, places-lt}
-use Rattle.base62.proofs.AlphabetLemmas.{digit_or_zero-lt, same_letter}
+use Rattle.base62.proofs.AlphabetLemmas.{IsLetter, digit_or_zero-lt, same_letter}
 
 pub value-nil : (B : List ℕ) → value B [] ≡ 0
 unfolding value
 value-nil B = places-nil 62
 
+-- a letter in front adds its digit at its place
 pub value-cons : (B : List ℕ) (b : ℕ) (text : List ℕ) → value B (b ∷ text) ≡ digit_or_zero B b * 62 ^ length text + value B text
 unfolding value
 value-cons B b text =
     places-cons 62 (digit_or_zero B b) (map (digit_or_zero B) text)
     ∙ ap (λ k. digit_or_zero B b * 62 ^ k + value B text) (length-map text (digit_or_zero B))
 
+-- a text in front is worth its value at the place where the other begins
 pub value-append : (B a b : List ℕ) → value B (a ++ b) ≡ value B a * 62 ^ length b + value B b
 unfolding value
 value-append B a b =
     let f : ℕ → ℕ = digit_or_zero B in
     rw (map-append f a b, places-append 62 (map f a) (map f b), length-map b f)
 
+-- one letter behind moves each other one place on
 pub value_push : (B text : List ℕ) (b : ℕ) → value B (text ++ b ∷ []) ≡ value B text * 62 + digit_or_zero B b
 unfolding value
 value_push B text b =
     let f : ℕ → ℕ = digit_or_zero B in rw (map-append f text (b ∷ []), places_push 62 (map f text) (f b))
 
+-- the digits of a text are below 62
 digits_below : (B : List ℕ) → IsAlphabet B → (text : List ℕ) → All (λ d. d < 62) (map (digit_or_zero B) text)
 digits_below B ok [] = All-nil (λ d. d < 62)
 digits_below B ok (b ∷ text) = All-cons (λ d. d < 62) _ _ (digit_or_zero-lt B ok b) (digits_below B ok text)
@@ -48,11 +52,12 @@ same_text B ok [] [] len p q e = refl
 same_text B ok [] (y ∷ ys) len p q e = cc
 same_text B ok (x ∷ xs) [] len p q e = cc
 same_text B ok (x ∷ xs) (y ∷ ys) len p q e =
-    let P : ℕ → Type 0 = λ b. is_letter B b ≡ true in
     let tails : length xs ≡ length ys = omega arith in
-    let places = same_from_place (digit_or_zero B x) (value B xs) (digit_or_zero B y) (value B ys) (62 ^ length xs) (value-lt B ok xs) (rw tails (value-lt B ok ys)) (rw (value-cons B x xs, value-cons B y ys, ← tails) at e) in
-    let first = same_letter B x y (All-head P x xs p) (All-head P y ys q) places.0 in
-    let later = same_text B ok xs ys tails (All-tail P x xs p) (All-tail P y ys q) places.1 in
+    let sums = rw (value-cons B x xs, value-cons B y ys, ← tails) at e in
+    let below : value B ys < 62 ^ length xs = rw tails (value-lt B ok ys) in
+    let places = same_from_place (digit_or_zero B x) (value B xs) (digit_or_zero B y) (value B ys) (62 ^ length xs) (value-lt B ok xs) below sums in
+    let first = same_letter B x y (All-head (IsLetter B) x xs p) (All-head (IsLetter B) y ys q) places.0 in
+    let later = same_text B ok xs ys tails (All-tail (IsLetter B) x xs p) (All-tail (IsLetter B) y ys q) places.1 in
     cc
 
 pub value-one : (B : List ℕ) (b : ℕ) → value B (b ∷ []) ≡ digit_or_zero B b

@@ -26,6 +26,7 @@ first_invalid_front B text ok =
     let more : suc index ≡ index + 1 = omega arith in
     ap (λ k. InvalidBase62Byte (get_or (zero_letter B ∷ text) k 0) k) place ∙ ap (InvalidBase62Byte (get_or text index 0)) more
 
+-- a zero letter in front adds nothing
 pub value_front : (B text : List ℕ) → IsAlphabet B → value B (zero_letter B ∷ text) ≡ value B text
 value_front B text ok = rw (value-cons B (zero_letter B) text, digit_or_zero-letter B ok 0 (omega arith)) (omega arith)
 
@@ -34,6 +35,7 @@ one_place_on-if : (b : Bool) (x y : Result ℕ DecodeError) → one_place_on (if
 one_place_on-if true x y = refl
 one_place_on-if false x y = refl
 
+-- a zero letter in front of a text moves a bad byte one place on, and changes no other answer
 pub decoding-zero_front : (B : List ℕ) → IsAlphabet B → (text : List ℕ) → 0 < length text → decoding B (zero_letter B ∷ text) ≡ one_place_on (decoding B text)
 unfolding decoding
 decoding-zero_front B ok text some =

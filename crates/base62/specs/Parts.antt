@@ -5,6 +5,7 @@ use Rattle.base62.specs.declared.fault.DecodeError.{DecodeError}
 use Rattle.base62.specs.declared.fault.DecodeError.TheVariants.{InvalidBase62Byte}
 use Rattle.base62.specs.Alphabet.{AreLetters, is_letter}
 use Rattle.base62.specs.Value.{value}
+use Rattle.base62.specs.Decoding.{leading_zeros, rest}
 
 -- the part is letters alone and has this value, and each took a step
 pub record HasRead (B part : List ℕ) (old new number : ℕ) : Type 0 where
@@ -23,3 +24,8 @@ pub record HasRefused (B part : List ℕ) (start old new : ℕ) (fault : DecodeE
 abbrev pub ReadsPart : List ℕ → List ℕ → ℕ → ℕ → ℕ → Result ℕ DecodeError → Type 0
 ReadsPart B part start old new (Ok number) = HasRead B part old new number
 ReadsPart B part start old new (Err fault) = HasRefused B part start old new fault
+
+-- the bytes after the leading zeros of a text, and where they begin in it
+pub record IsAfterZeros (B text : List ℕ) (start : ℕ) (bytes : List ℕ) : Type 0 where
+  pub start_is : start ≡ leading_zeros B text
+  pub bytes_are : bytes ≡ rest B text

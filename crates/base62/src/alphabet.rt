@@ -14,7 +14,8 @@ use std::snapshot::Snapshot;
 ///
 /// It is for a caller that must bound its work, as a server that decodes what it is sent: the counted calls,
 /// as [`decode_counted`](crate::decode_counted), say how far they move it on. Contracts see it as the number of
-/// steps, which has no last value; when the program runs it takes no bytes and says nothing.
+/// steps, which has no bound, so there is no last value. When the program runs it takes no bytes, and nothing
+/// can be read from it.
 ///
 /// ```rust
 /// let mut work = base62::Work::new();
@@ -70,7 +71,7 @@ pub(crate) struct Tables {
 
 impl Tables {
     // The digit of a byte, or 255 where it has none: one step.
-    #[inline(always)]
+    #[inline]
     pub(crate) fn digit(&self, byte: u8, work: &mut Work) -> u8
         requires { AreTables self.now }
         ensures digit { result ≡ digit_or_none self.now.letters byte }
@@ -81,7 +82,7 @@ impl Tables {
     }
 
     // Whether a byte is the zero letter.
-    #[inline(always)]
+    #[inline]
     pub(crate) fn is_zero(&self, byte: u8) -> bool
         ensures { result ≡ (byte == zero_letter self.now.letters) }
     {

@@ -1,7 +1,15 @@
 //! The definitions that the contracts cite, which stand in `specs/`, computed on examples.
 //!
 //! No call here takes part in a run: each states facts about the definitions alone.
-#![tactic(auto, unfolding(crate::specs::Alphabet::standard, crate::specs::Alphabet::alternative, crate::specs::Alphabet::digit_of, crate::specs::Places::sum_over_places, crate::specs::Value::value, crate::specs::Decoding::decoding, crate::specs::Steps::encoding_steps, crate::specs::Fault::escaped, crate::specs::Padding::displayed, crate::specs::Case::other_case, crate::specs::Key::interval_ends))]
+#![tactic(auto, unfolding(
+// letters and their digits
+crate::specs::Alphabet::standard, crate::specs::Alphabet::alternative, crate::specs::Alphabet::digit_of,
+// values, what decoding answers, and its steps
+crate::specs::Places::sum_over_places, crate::specs::Value::value, crate::specs::Decoding::decoding, crate::specs::Steps::decoding_steps,
+// the steps of encoding
+crate::specs::Steps::encoding_steps,
+// what is shown, the other case and the ends of an interval
+crate::specs::Fault::escaped, crate::specs::Padding::displayed, crate::specs::Case::other_case, crate::specs::Key::interval_ends))]
 
 ghost use Rattle.std.specs.Prelude.{◌≡◌, ◌^◌, ◌-◌, ◌++◌, [], ◌∷◌, replicate, codes, Ok, Err, Some, None};
 ghost use Rattle.std.specs.List.{range_with_len};
@@ -11,7 +19,7 @@ ghost use Rattle.base62.specs.Alphabet.{IsAlphabet, standard, alternative};
 ghost use Rattle.base62.specs.Value.{value};
 ghost use Rattle.base62.specs.Canonical.{IsCanonical};
 ghost use Rattle.base62.specs.Decoding.{decoding};
-ghost use Rattle.base62.specs.Steps.{encoding_steps};
+ghost use Rattle.base62.specs.Steps.{decoding_steps, encoding_steps};
 ghost use Rattle.base62.specs.Fault.{escaped};
 ghost use Rattle.base62.specs.Case.{exchange_case};
 ghost use Rattle.base62.specs.Laws.{without_zeros, AgreesAtLetters};
@@ -56,6 +64,25 @@ pub fn decodings_by_example()
     ensures greatest { decoding standard (codes "7n42DGM5Tflk9n8mt7Fhc7") ≡ Ok (2 ^ 128 - 1) }
     ensures greatest_one_more { decoding standard (codes "7n42DGM5Tflk9n8mt7Fhc8") ≡ Err ArithmeticOverflow }
     ensures other_alphabet { decoding alternative (codes "lz") ≡ Ok 1337 }
+{}
+
+/// How many steps decoding takes for some texts, by the cases of its answer; 49 is `1`, and 33 is `!`, which
+/// is no letter.
+pub fn steps_by_example()
+    ensures empty { decoding_steps standard [] ≡ 0 }
+    ensures zeros_alone { decoding_steps standard (codes "000") ≡ 0 }
+    ensures long { decoding_steps standard (replicate 23 49) ≡ 0 }
+    ensures long_before_bad { decoding_steps standard (33 ∷ replicate 22 48) ≡ 0 }
+    ensures bad_after_zeros { decoding_steps standard (codes "0!") ≡ 1 }
+    ensures bad_tenth { decoding_steps standard (codes "zzzzzzzzz!000000000000") ≡ 10 }
+    ensures overflow_first { decoding_steps standard (codes "zzzzzzzzzz!00000000000") ≡ 10 }
+    ensures greatest_first_ten { decoding_steps standard (codes "7n42DGM5Tf!00000000000") ≡ 11 }
+    ensures zero_before_later_bad { decoding_steps standard (codes "07n42DGM5Tf!00000000000") ≡ 11 }
+    ensures last_bad { decoding_steps standard (codes "7n42DGM5Tflk9n8mt7Fhc!") ≡ 22 }
+    ensures overflow { decoding_steps standard (codes "7n42DGM5Tflk9n8mt7Fhc8") ≡ 22 }
+    ensures value { decoding_steps standard (codes "LygHa16AHYG") ≡ 11 }
+    ensures value_after_zeros { decoding_steps standard (codes "00LZ") ≡ 2 }
+    ensures other_alphabet { decoding_steps alternative (codes "ZZZZZZZZZZ!00000000000") ≡ 10 }
 {}
 
 /// The steps of encoding, by the number of letters.

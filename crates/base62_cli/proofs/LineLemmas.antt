@@ -15,6 +15,7 @@ lines-ended (b ∷ line) bytes unended =
     let other = ne_eqb b 10 (All-head (λ c. c ≢ 10) b line unended) in
     rw (other, lines-ended line bytes (All-tail (λ c. c ≢ 10) b line unended)) refl
 
+-- an empty input has no line
 pub lines-nil : lines_of [] ≡ []
 unfolding lines_of
 lines-nil = refl
@@ -28,20 +29,22 @@ lines-open b (c ∷ line) unended =
     rw (ne_eqb b 10 (All-head (λ d. d ≢ 10) b (c ∷ line) unended)) (ap (onto_first_line b) rest)
 
 -- one reply more
-pub leaves_more : (all replies line bytes reply rest : List ℕ) → All (λ b. b ≢ 10) line → IsReply line reply → bytes ≡ line ++ 10 ∷ rest → Leaves all replies bytes → Leaves all (replies ++ (reply ++ 10 ∷ [])) rest
+pub leaves_more : (all replies line bytes reply rest : List ℕ)
+    → All (λ b. b ≢ 10) line → IsReply line reply → bytes ≡ line ++ 10 ∷ rest
+    → Leaves all replies bytes → Leaves all (replies ++ (reply ++ 10 ∷ [])) rest
 unfolding AreReplies
 leaves_more all replies line bytes reply rest unended is split leaves later h =
     let lines : lines_of bytes ≡ line ∷ lines_of rest = ap lines_of split ∙ lines-ended line rest unended in
     let one : IsOutput bytes (reply ++ 10 ∷ later) = rw lines (reply, later, is, h, refl) in
-    let group : replies ++ (reply ++ 10 ∷ []) ++ later ≡ replies ++ (reply ++ 10 ∷ later) = append_assoc replies (reply ++ 10 ∷ []) later ∙ ap (λ xs. replies ++ xs) (append_assoc reply (10 ∷ []) later) in
+    let group : replies ++ (reply ++ 10 ∷ []) ++ later ≡ replies ++ (reply ++ 10 ∷ later) =
+    append_assoc replies (reply ++ 10 ∷ []) later ∙ ap (λ xs. replies ++ xs) (append_assoc reply (10 ∷ []) later) in
     rw group (leaves (reply ++ 10 ∷ later) one)
 
-pub leaves_none : (all : List ℕ) → Leaves all [] all
-leaves_none all later h = h
-
+-- replies, and then others for what they left
 pub leaves_then : (all replies left others rest : List ℕ) → Leaves all replies left → Leaves left others rest → Leaves all (replies ++ others) rest
 leaves_then all replies left others rest p q later h = rw append_assoc (p (others ++ later) (q later h))
 
+-- an empty input has an empty output
 pub output-nil : IsOutput [] []
 unfolding AreReplies lines_of
 output-nil = refl

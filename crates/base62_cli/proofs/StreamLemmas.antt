@@ -1,25 +1,16 @@
 -- What reads and writes do to known bytes, one after the other.
 use Rattle.std.proofs.Common.{◌≡◌, List, [], ◌++◌, ℕ, Option, Some, None, append_assoc, append-nil, IfSome, refl, sym, subst, ap, ◌∙◌}
-use Rattle.std.specs.Io.KnownBytes.{Appends, Keeps, Consumes, IsAtEnd}
+use Rattle.std.specs.Io.KnownBytes.{Appends, Consumes, IsAtEnd}
 use Rattle.base62_cli.specs.Output.{IsOutput, Leaves}
-use Rattle.base62_cli.proofs.LineLemmas.{leaves_none, leaves_then}
+use Rattle.base62_cli.proofs.LineLemmas.{leaves_then}
 use Rattle.std.proofs.lemmas.Option.{none-some, same_Some}
 
-pub appends_kept : (a b c : Option (List ℕ)) (bytes : List ℕ) → Appends a b bytes → Keeps b c → Appends a c bytes
-appends_kept None b c bytes p q = tt
-appends_kept (Some x) None c bytes p q = absurd p
-appends_kept (Some x) (Some y) None bytes p q = absurd q
-appends_kept (Some x) (Some y) (Some z) bytes p q = q ∙ p
-
+-- two writes, one after the other
 pub appends_both : (a b c : Option (List ℕ)) (xs ys : List ℕ) → Appends a b xs → Appends b c ys → Appends a c (xs ++ ys)
 appends_both None b c xs ys p q = tt
 appends_both (Some x) None c xs ys p q = absurd p
 appends_both (Some x) (Some y) None xs ys p q = absurd q
 appends_both (Some x) (Some y) (Some z) xs ys p q = q ∙ ap (λ w. w ++ ys) p ∙ append_assoc x xs ys
-
-pub appends_none : (a : Option (List ℕ)) → Appends a a []
-appends_none None = tt
-appends_none (Some x) = sym (append-nil x)
 
 -- what a read leaves of known bytes
 pub read_more : (old new : Option (List ℕ)) (left bytes : List ℕ) → old ≡ Some left → Consumes old new bytes → (after : List ℕ) × (new ≡ Some after) × (left ≡ bytes ++ after)
@@ -32,12 +23,11 @@ abbrev pub Progress : Option (List ℕ) → Option (List ℕ) → Option (List �
 Progress input reader before after line =
     IfSome input (λ bytes. (left : List ℕ) × (reader ≡ Some left) × (written : List ℕ) × Appends before after written × Leaves bytes written (line ++ left))
 
-pub progress_none : (input before : Option (List ℕ)) → Progress input input before before []
-progress_none None before = tt
-progress_none (Some bytes) before = (bytes, refl, [], appends_none before, leaves_none bytes)
-
 -- one read answered
-pub progress_more : (input reader next before middle after : Option (List ℕ)) (line rest chunk replies : List ℕ) → Progress input reader before middle line → Consumes reader next chunk → ((more : List ℕ) → Leaves (line ++ (chunk ++ more)) replies (rest ++ more)) → Appends middle after replies → Progress input next before after rest
+pub progress_more : (input reader next before middle after : Option (List ℕ)) (line rest chunk replies : List ℕ)
+    → Progress input reader before middle line → Consumes reader next chunk
+    → ((more : List ℕ) → Leaves (line ++ (chunk ++ more)) replies (rest ++ more)) → Appends middle after replies
+    → Progress input next before after rest
 progress_more None reader next before middle after line rest chunk replies p read answered wrote = tt
 progress_more (Some bytes) reader next before middle after line rest chunk replies p read answered wrote =
     let more = read_more reader next p.0 chunk p.1 read in
@@ -50,7 +40,10 @@ progress_more (Some bytes) reader next before middle after line rest chunk repli
     )
 
 -- a read that gave nothing, and the last line answered
-pub progress_end : (input reader next before middle after : Option (List ℕ)) (line output : List ℕ) → Progress input reader before middle line → Consumes reader next [] → IsAtEnd next → IsOutput line output → Appends middle after output → IfSome input (λ bytes. (next ≡ Some []) × (all : List ℕ) × IsOutput bytes all × Appends before after all)
+pub progress_end : (input reader next before middle after : Option (List ℕ)) (line output : List ℕ)
+    → Progress input reader before middle line → Consumes reader next [] → IsAtEnd next
+    → IsOutput line output → Appends middle after output
+    → IfSome input (λ bytes. (next ≡ Some []) × (all : List ℕ) × IsOutput bytes all × Appends before after all)
 progress_end None reader next before middle after line output p read end last wrote = tt
 progress_end (Some bytes) reader next before middle after line output p read end last wrote =
     let more = read_more reader next p.0 [] p.1 read in

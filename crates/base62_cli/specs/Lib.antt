@@ -1,5 +1,5 @@
 pub mod Fault
-pub mod Letters
+pub mod BuiltIn
 pub mod Lines
 pub mod Reply
 pub mod Output

@@ -4,7 +4,7 @@ ghost use Rattle.std.specs.Prelude.{◌≡◌, ◌≤◌, ℕ, ◌∷◌, [], �
 ghost use Rattle.std.specs.Str.{all_ascii_digits};
 ghost use Rattle.base62.specs.Canonical.{IsCanonical};
 ghost use Rattle.base62.specs.Decoding.{decoding};
-ghost use Rattle.base62_cli.specs.Letters.{alphabet_of};
+ghost use Rattle.base62_cli.specs.BuiltIn.{alphabet_of};
 ghost use Rattle.base62_cli.specs.Reply.{IsReply, IsEncodeReply, decode_reply, decimal_value, is_number};
 
 use base62::DecodeError;
@@ -12,9 +12,9 @@ use std::alloc::AllocError;
 use std::io::Write;
 use std::str;
 
-// The letters that a command speaks of.
+// The built-in alphabet that a command speaks of.
 #[derive(Clone, Copy)]
-pub(crate) enum Letters {
+pub(crate) enum BuiltIn {
     Standard,
     Alternative,
 }
@@ -25,59 +25,59 @@ pub fn push_reply(line: &[u8], out: &mut Vec<u8>) -> Result<(), AllocError>
         × (out.new.items ≡ out.old.items ++ (reply ++ 10 ∷ []))) }
 {
     if line.starts_with(b"enc ") {
-        push_encoded(Letters::Standard, &line[4..], out)
+        push_encoded(BuiltIn::Standard, &line[4..], out)
     } else if line.starts_with(b"alt ") {
-        push_encoded(Letters::Alternative, &line[4..], out)
+        push_encoded(BuiltIn::Alternative, &line[4..], out)
     } else if line.starts_with(b"dec ") {
-        push_decoded(Letters::Standard, &line[4..], out)
+        push_decoded(BuiltIn::Standard, &line[4..], out)
     } else if line.starts_with(b"adc ") {
-        push_decoded(Letters::Alternative, &line[4..], out)
+        push_decoded(BuiltIn::Alternative, &line[4..], out)
     } else {
         out.extend_from_slice(b"fault: unknown command\n")
     }
 }
 
-fn push_encoded(letters: Letters, text: &[u8], out: &mut Vec<u8>) -> Result<(), AllocError>
-    ensures { OnOk result ((reply : List ℕ) × IsEncodeReply (alphabet_of letters) text.now reply
+fn push_encoded(alphabet: BuiltIn, text: &[u8], out: &mut Vec<u8>) -> Result<(), AllocError>
+    ensures { OnOk result ((reply : List ℕ) × IsEncodeReply (alphabet_of alphabet) text.now reply
         × (out.new.items ≡ out.old.items ++ (reply ++ 10 ∷ []))) }
 {
     let Some(number) = number_of(text) else {
         return out.extend_from_slice(b"fault: not a number\n");
     };
     let mut buf = [0u8; 22];
-    let len = encode(letters, number, &mut buf);
+    let len = encode(alphabet, number, &mut buf);
     out.extend_from_slice(&buf[..len])?;
     out.push(b'\n')?;
     Ok(())
 }
 
-fn encode(letters: Letters, number: u128, buf: &mut [u8; 22]) -> usize
+fn encode(alphabet: BuiltIn, number: u128, buf: &mut [u8; 22]) -> usize
     ensures within { result ≤ 22 }
-    ensures text { IsCanonical (alphabet_of letters) (take result buf.new) number }
+    ensures text { IsCanonical (alphabet_of alphabet) (take result buf.new) number }
 {
-    match letters {
-        Letters::Standard => base62::encode_bytes(number, buf).unwrap(),
-        Letters::Alternative => base62::encode_alternative_bytes(number, buf).unwrap(),
+    match alphabet {
+        BuiltIn::Standard => base62::encode_bytes(number, buf).unwrap(),
+        BuiltIn::Alternative => base62::encode_alternative_bytes(number, buf).unwrap(),
     }
 }
 
-fn push_decoded(letters: Letters, text: &[u8], out: &mut Vec<u8>) -> Result<(), AllocError>
+fn push_decoded(alphabet: BuiltIn, text: &[u8], out: &mut Vec<u8>) -> Result<(), AllocError>
     ensures { OnOk result (out.new.items
-        ≡ out.old.items ++ (decode_reply (alphabet_of letters) text.now ++ 10 ∷ [])) }
+        ≡ out.old.items ++ (decode_reply (alphabet_of alphabet) text.now ++ 10 ∷ [])) }
 {
-    let written = match decode(letters, text) {
+    let written = match decode(alphabet, text) {
         Ok(number) => writeln!(out, "{number}"),
         Err(fault) => writeln!(out, "fault: {fault}"),
     };
     written.map_err(|_| AllocError)
 }
 
-fn decode(letters: Letters, text: &[u8]) -> Result<u128, DecodeError>
-    ensures { result ≡ decoding (alphabet_of letters) text.now }
+fn decode(alphabet: BuiltIn, text: &[u8]) -> Result<u128, DecodeError>
+    ensures { result ≡ decoding (alphabet_of alphabet) text.now }
 {
-    match letters {
-        Letters::Standard => base62::decode(text),
-        Letters::Alternative => base62::decode_alternative(text),
+    match alphabet {
+        BuiltIn::Standard => base62::decode(text),
+        BuiltIn::Alternative => base62::decode_alternative(text),
     }
 }
 

@@ -15,3 +15,8 @@ const STORED_OUTPUT: &str = "LZ\n\
     fault: Encoded input is an empty string\n\
     fault: not a number\n\
     fault: unknown command\n";
+
+// The stored run, and the same where no line end follows the last line.
+fn stored_inputs() -> [&'static str; 2] {
+    [STORED_INPUT, STORED_INPUT.trim_end_matches('\n')]
+}

@@ -1,7 +1,8 @@
 //! Uses of `base62`, as a caller writes them.
 #![tactic(auto)]
 
-ghost use Rattle.std.specs.Prelude.{◌≡◌, ◌≢◌, ◌<◌, ◌≤◌, ◌+◌, ◌-◌, ◌*◌, ◌^◌, ◌↔◌, ◌∷◌, ◌++◌, [], ℕ, List, take, drop, length, replicate, codes, IsTrue, IsOk, IfOk, OnOk, OnErr};
+ghost use Rattle.std.specs.Prelude.{◌≡◌, ◌≢◌, ◌<◌, ◌≤◌, ◌+◌, ◌-◌, ◌*◌, ◌^◌, ◌↔◌, ◌∷◌, ◌++◌, [], ℕ, List, take, drop, length, replicate, codes, IsTrue, count_by, IsOk, IfOk, OnOk, OnErr};
+ghost use Rattle.std.specs.Result.{is_ok};
 ghost use Rattle.std.specs.String.{string_bytes};
 ghost use Rattle.std.specs.Io.KnownBytes.{Appends};
 ghost use Rattle.std.specs.Bool.{OnTrue, OnFalse};
@@ -10,7 +11,7 @@ ghost use Rattle.base62.specs.Canonical.{IsCanonical, CanonicalFits};
 ghost use Rattle.base62.specs.Decoding.{decoding};
 ghost use Rattle.base62.specs.Key.{IsKey, BeginsWith};
 
-use base62::{DecodeError, Number};
+use base62::{DecodeError, Number, Work};
 use std::alloc::{AllocError, Global};
 use std::io::{self, Write};
 
@@ -108,6 +109,21 @@ pub fn status_of(text: &[u8]) -> u16
         Err(DecodeError::EmptyInput) => 411,
         Err(DecodeError::ArithmeticOverflow) => 413,
     }
+}
+
+/// How many of the texts of a request name an id, for a server that must bound its work: each text takes at
+/// most 22 steps, whatever a client sent.
+pub fn count_ids(texts: &[&[u8]], work: &mut Work) -> usize
+    ensures ids { result ≡ count_by (λ text. is_ok (decoding standard text.now)) texts.now }
+    ensures bounded { work.new ≤ work.old + 22 * length texts.now }
+{
+    let mut count = 0;
+    for text in texts {
+        if base62::decode_counted(text, work).is_ok() {
+            count += 1;
+        }
+    }
+    count
 }
 
 /// Appends the text of a number of any type to a line, whole or not at all.

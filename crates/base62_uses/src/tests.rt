@@ -166,3 +166,16 @@ fn scans_of_a_table(rt: HostRuntime) {
         assert!(rt; !is_scanned(b"!", key), "no key begins so");
     }
 }
+
+#[test]
+fn ids_of_a_request(rt: HostRuntime) {
+    let texts = [
+        b"LZ".as_slice(),
+        b"",
+        b"00",
+        b"not an id",
+        b"zzzzzzzzzzzzzzzzzzzzzz",
+    ];
+    assert_eq!(rt; count_ids(&texts, &mut Work::new()), 2);
+    assert_eq!(rt; count_ids(&[], &mut Work::new()), 0);
+}

@@ -1,4 +1,5 @@
-//! Tests of `base62` by topic, against values from outside.
+//! Tests of `base62` by topic, against values from outside, and two counted calls whose contracts state the
+//! answer and the steps.
 #![tactic(auto)]
 
 #[cfg(test)]
@@ -19,6 +20,7 @@ mod memory;
 mod number;
 #[cfg(test)]
 mod show;
+pub mod steps;
 #[cfg(test)]
 mod target;
 #[cfg(test)]

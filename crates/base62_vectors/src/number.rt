@@ -2,10 +2,9 @@
 
 ghost use Rattle.std.specs.Prelude.{◌+◌, ◌*◌, ◌^◌};
 
-use crate::alphabets::Alphabet;
-use crate::codec::{FILLER, assert_encodes};
-use base62::EncodeError::BufferTooSmall;
-use base62::{Number, encode_bytes};
+use crate::alphabets::BuiltIn;
+use crate::codec::assert_encodes;
+use base62::Number;
 use std::process::Abort;
 
 // A caller's own type of two halves, which means high * 2^64 + low.
@@ -39,7 +38,7 @@ fn a_value_means_itself(rt: HostRuntime) {
 }
 
 fn assert_standard<T: Number + Copy>(rt: &impl Abort, number: T, text: &str) {
-    assert_encodes(rt, Alphabet::Standard, number, text.as_bytes());
+    assert_encodes(rt, BuiltIn::Standard, number, text.as_bytes());
 }
 
 #[test]
@@ -67,17 +66,4 @@ fn values_of_a_callers_own_type(rt: HostRuntime) {
     for (high, low, text) in cases {
         assert_standard(&rt, Pair { high, low }, text);
     }
-}
-
-#[test]
-fn buffers_of_other_lengths(rt: HostRuntime) {
-    let mut longer = [FILLER; 5];
-    assert_eq!(rt; encode_bytes(1337_u32, &mut longer), Ok(2));
-    assert_eq!(rt; longer, [b'L', b'Z', FILLER, FILLER, FILLER]);
-
-    assert_eq!(rt;
-        encode_bytes(0_u8, &mut []),
-        Err(BufferTooSmall),
-        "even 0 has a letter"
-    );
 }

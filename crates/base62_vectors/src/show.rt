@@ -1,19 +1,15 @@
 //! Numbers that display as their texts.
 
-use crate::alphabets::NUMBERS;
-use base62::{decode, decode_alternative, encode_fmt, encode_fmt_alt};
+use crate::alphabets::texts;
+use base62::{encode_fmt, encode_fmt_alt};
 use std::fmt::{self, Write};
 use std::test::Fail;
 
 #[test]
 fn numbers_and_texts(rt: HostRuntime) -> Result<(), Fail> {
-    for (number, standard, alternative) in NUMBERS {
-        let shown = format!(in rt.alloc(); "{}", encode_fmt(number))?;
-        assert_eq!(rt; shown.as_str(), standard);
-        assert_eq!(rt; decode(shown.as_bytes()), Ok(number));
-        let shown = format!(in rt.alloc(); "{}", encode_fmt_alt(number))?;
-        assert_eq!(rt; shown.as_str(), alternative);
-        assert_eq!(rt; decode_alternative(shown.as_bytes()), Ok(number));
+    for (alphabet, number, text) in &texts(&rt)? {
+        let shown = alphabet.shown(rt.alloc(), *number)?;
+        assert_eq!(rt; shown.as_str(), text.as_str(), "{alphabet:?}");
     }
     Ok(())
 }

@@ -1,9 +1,9 @@
 //! The decoder in chunks of ten bytes, over the tables of any alphabet.
 
-ghost use Rattle.std.specs.Prelude.{◌≡◌, ◌+◌, ◌-◌, ◌<◌, ◌≤◌, ◌^◌, ◌∷◌, [], length, take, slice_index, Ok, IfOk};
-ghost use Rattle.base62.specs.Decoding.{leading_zeros, rest};
+ghost use Rattle.std.specs.Prelude.{◌≡◌, ◌+◌, ◌-◌, ◌<◌, ◌≤◌, ◌^◌, ◌∷◌, [], ℕ, List, length, take, slice_index, Ok, IfOk};
+ghost use Rattle.base62.specs.Decoding.{leading_zeros};
 ghost use Rattle.base62.specs.Steps.{DecodesCounted};
-ghost use Rattle.base62.specs.Parts.{ReadsPart};
+ghost use Rattle.base62.specs.Parts.{IsAfterZeros, ReadsPart};
 ghost use Rattle.base62.specs.Tables.{AreTables};
 
 use super::MAX_DIGITS;
@@ -41,16 +41,26 @@ pub(crate) fn decode_over(
     if input.is_empty() {
         return Err(DecodeError::EmptyInput);
     }
-    let zeros = count_zeros(tables, input);
-    let (_, rest) = input.split_at(zeros);
+    let (start, rest) = after_zeros(tables, input);
     if rest.len() > MAX_DIGITS {
         return Err(DecodeError::ArithmeticOverflow);
     }
-    if rest.len() <= 20 {
-        up_to_20(tables, rest, zeros, work)
-    } else {
-        above_20(tables, input, zeros, work)
+    if rest.len() <= 10 {
+        return Ok(chunk(tables, rest, start, work)? as u128);
     }
+    above_10(tables, rest, start, work)
+}
+
+// The bytes after the leading zeros of a text, and where they begin.
+#[inline(always)]
+fn after_zeros<'a>(tables: &Tables, input: &'a [u8]) -> (usize, &'a [u8])
+    requires { 0 < length input.now }
+    ensures within { result.0 + length result.1.now ≡ length input.now }
+    ensures after { IsAfterZeros tables.now.letters input.now result.0 result.1.now }
+{
+    let zeros = count_zeros(tables, input);
+    let (_, rest) = input.split_at(zeros);
+    (zeros, rest)
 }
 
 // How many zero letters a text begins with.
@@ -71,56 +81,39 @@ fn count_zeros(tables: &Tables, input: &[u8]) -> usize
     input.len()
 }
 
-// A part of at most 20 bytes, which can't overflow.
+// What decoding a text answers where 11 to 22 bytes follow its leading zeros. The first ten are weighed
+// before a later one is read.
 #[inline(always)]
-fn up_to_20(
+fn above_10(
     tables: &Tables,
-    part: &[u8],
+    rest: &[u8],
     start: usize,
     work: &mut Work,
 ) -> Result<u128, DecodeError>
     requires tables { AreTables tables.now }
-    requires short { length part.now ≤ 20 }
-    requires within { start + length part.now < 2 ^ 64 }
-    ensures { ReadsPart tables.now.letters part.now start work.old work.new result }
+    requires long { 10 < length rest.now }
+    requires short { length rest.now ≤ 22 }
+    requires within { start + length rest.now < 2 ^ 64 }
+    ensures { (text : List ℕ) → IsAfterZeros tables.now.letters text start rest.now
+        → DecodesCounted tables.now.letters text work.old work.new result }
 {
-    if part.len() <= 10 {
-        return Ok(chunk(tables, part, start, work)? as u128);
-    }
-    let (first, later) = part.split_at(10);
-    let high = ten_digits(tables, first, start, work)?;
-    let low = chunk(tables, later, start + 10, work)?;
-    Ok(high as u128 * power(later.len()) as u128 + low as u128)
-}
-
-// The decoder where 21 or 22 bytes follow the leading zeros: the first ten are weighed before a later one is read.
-#[inline(always)]
-fn above_20(
-    tables: &Tables,
-    input: &[u8],
-    zeros: usize,
-    work: &mut Work,
-) -> Result<u128, DecodeError>
-    requires tables { AreTables tables.now }
-    requires zeros { zeros ≡ leading_zeros tables.now.letters input.now }
-    requires long { 20 < length (rest tables.now.letters input.now) }
-    requires short { length (rest tables.now.letters input.now) ≤ 22 }
-    ensures { DecodesCounted tables.now.letters input.now work.old work.new result }
-{
-    let (_, rest) = input.split_at(zeros);
     let (first, later) = rest.split_at(10);
-    let high = ten_digits(tables, first, zeros, work)?;
+    let high = ten_digits(tables, first, start, work)?;
+    if later.len() <= 10 {
+        let last = chunk(tables, later, start + 10, work)?;
+        return Ok(high as u128 * power(later.len()) as u128 + last as u128);
+    }
     let weight = power(later.len() - 10) as u128 * POWER_10 as u128;
     let Some(high) = (high as u128).checked_mul(weight) else {
         return Err(DecodeError::ArithmeticOverflow);
     };
-    let low = up_to_12(tables, later, zeros + 10, work)?;
+    let low = chunk_and_rest(tables, later, start + 10, work)?;
     high.checked_add(low).ok_or(DecodeError::ArithmeticOverflow)
 }
 
-// A part of 11 or 12 bytes.
+// A chunk of ten bytes, and the one or two that are left.
 #[inline(always)]
-fn up_to_12(
+fn chunk_and_rest(
     tables: &Tables,
     part: &[u8],
     start: usize,
@@ -133,7 +126,7 @@ fn up_to_12(
     ensures { ReadsPart tables.now.letters part.now start work.old work.new result }
 {
     let (first, later) = part.split_at(10);
-    let high = ten_digits(tables, first, start, work)?;
+    let high = chunk(tables, first, start, work)?;
     let low = read_on(tables, 0, later, 0, start + 10, work)?;
     Ok(high as u128 * power(later.len()) as u128 + low as u128)
 }
@@ -155,7 +148,8 @@ fn chunk(tables: &Tables, part: &[u8], start: usize, work: &mut Work) -> Result<
     read_on(tables, number, part, done, start, work)
 }
 
-// A part of at most ten bytes, of which the first `done` have been read as a number, and at most five are left.
+// A part of at most ten bytes, of which the first `done` have been read as a number and at most five are
+// left. The steps of those that have been read stand on the counter.
 #[inline(always)]
 fn read_on(
     tables: &Tables,
@@ -166,7 +160,8 @@ fn read_on(
     work: &mut Work,
 ) -> Result<u64, DecodeError>
     requires tables { AreTables tables.now }
-    requires done { ReadsPart tables.now.letters (take done part.now) start (work.old - done) work.old (Ok number) }
+    requires done { ReadsPart tables.now.letters (take done part.now) start
+        (work.old - done) work.old (Ok number) }
     requires inside { done ≤ length part.now }
     requires near { length part.now ≤ done + 5 }
     requires short { length part.now ≤ 10 }
@@ -179,7 +174,11 @@ fn read_on(
         if i >= part.len() {
             break;
         }
-        total = total * 62 + digit_at(tables, part, i, start, work)? as u64;
+        let digit = tables.digit(part[i], work);
+        if digit > 61 {
+            return Err(DecodeError::InvalidBase62Byte(part[i], start + i));
+        }
+        total = total * 62 + digit as u64;
     }
     Ok(total)
 }
@@ -236,7 +235,8 @@ fn digit_at(
     requires tables { AreTables tables.now }
     requires inside { i < length part.now }
     requires within { start + i < 2 ^ 64 }
-    ensures read { ReadsPart tables.now.letters (slice_index part.now i ∷ []) (start + i) work.old work.new result }
+    ensures read { ReadsPart tables.now.letters (slice_index part.now i ∷ []) (start + i)
+        work.old work.new result }
     ensures small { IfOk result (λ digit. digit < 62) }
 {
     let digit = tables.digit(part[i], work);

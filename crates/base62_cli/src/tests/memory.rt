@@ -9,10 +9,11 @@ use std::test::Fail;
 const ROOM: usize = 128;
 
 // The input and the output stand in fixed arrays, so that each request for memory is the run's.
-fn is_refused(rt: &(impl Abort + AllocGlobal), input: &str, output: &str) -> bool {
+fn is_refused(rt: &(impl Abort + AllocGlobal), input: &[u8], output: &str) -> bool {
     let mut room = [0u8; ROOM];
     let mut writer = room.as_mut_slice();
-    let outcome = run(rt.alloc(), &mut input.as_bytes(), &mut writer);
+    let mut reader = input;
+    let outcome = run(rt.alloc(), &mut reader, &mut writer);
     let left = writer.len();
     assert!(rt; left <= ROOM);
     let written = &room[..ROOM - left];
@@ -29,19 +30,30 @@ fn is_refused(rt: &(impl Abort + AllocGlobal), input: &str, output: &str) -> boo
     outcome.is_err()
 }
 
-// Says what was refused memory, for `.ci/refused-memory`, which has each request refused in turn. The last
-// step is there for it to see that the runs made no further request.
+// Says which run was refused memory, for `.ci/refused-memory`, which has each request refused in turn and
+// wants as many of each run as are told here. The last step is there for it to see that the runs made no
+// further request.
 #[test]
 fn refused_memory(rt: HostRuntime) -> Result<(), Fail> {
-    let cases = [
-        ("enc 1337\n", "LZ\n"),
-        // The reply to a line without an end is made elsewhere.
-        ("enc 62", "10\n"),
-        (STORED_INPUT, STORED_OUTPUT),
+    let mut long_line = [b'0'; 10_000];
+    long_line[..4].copy_from_slice(b"dec ");
+    let cases: [(&str, &[u8], &str); 6] = [
+        // None: there is no line.
+        ("empty", b"", ""),
+        // One for the gathered replies. The gathered line is empty.
+        ("empty_line", b"\n", "fault: unknown command\n"),
+        // One for the line and one for the replies, also where no line end follows the line.
+        ("line", b"enc 1337\n", "LZ\n"),
+        ("open_line", b"enc 62", "10\n"),
+        // One for what each of two reads gives of the line, and one for the replies.
+        ("long_line", &long_line, "0\n"),
+        // Two for the lines, of 8 and then of 12 bytes, and five for the replies, which grow to 120 bytes: room
+        // is for 8 bytes first, and at least doubles then.
+        ("stored_run", STORED_INPUT.as_bytes(), STORED_OUTPUT),
     ];
-    for (input, output) in cases {
+    for (name, input, output) in cases {
         if is_refused(&rt, input, output) {
-            println!(rt; "refused: run")?;
+            println!(rt; "refused: {name}")?;
         }
     }
     if Vec::<u8>::with_capacity(rt.alloc(), 1).is_err() {

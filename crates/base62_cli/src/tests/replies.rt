@@ -126,10 +126,11 @@ fn each_line(rt: HostRuntime) -> Result<(), Fail> {
 
 #[test]
 fn long_lines(rt: HostRuntime) -> Result<(), Fail> {
-    let cases: [(&[u8], u8, u32, &str); 3] = [
+    let cases: [(&[u8], u8, u32, &str); 4] = [
         (b"enc ", b'9', 200, "fault: not a number\n"),
         (b"dec ", b'0', 10_000, "0\n"),
         (b"dec ", b'0', 100_000, "0\n"),
+        (b"dec ", b'0', 2_000_000, "0\n"),
     ];
     for (front, byte, count, output) in cases {
         let line = padded(rt.alloc(), front, byte, count)?;

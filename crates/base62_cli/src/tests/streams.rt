@@ -1,6 +1,8 @@
 //! Readers and writers that move one byte a call, that fail, and that watch when they are called.
 
-use super::{STORED_INPUT, STORED_OUTPUT};
+ghost use Rattle.std.specs.Prelude.{◌≤◌, length};
+
+use super::{STORED_INPUT, STORED_OUTPUT, stored_inputs};
 use crate::fault::ToolFault;
 use crate::tool::run;
 use std::alloc::Global;
@@ -106,35 +108,42 @@ fn one_byte_a_call(rt: HostRuntime) -> Result<(), Fail> {
 }
 
 #[test]
-fn failed_reads(rt: HostRuntime) -> Result<(), Fail> {
-    // The last read is the one that meets the end.
-    for call in 1..=STORED_INPUT.len() + 1 {
-        let mut reader = ByteReader {
-            rest: STORED_INPUT.as_bytes(),
-            reads: Calls::failing_at(call),
-        };
-        let mut written = Vec::new(rt.alloc());
-        let outcome = run(rt.alloc(), &mut reader, &mut written);
-        assert_eq!(rt; outcome, Err(ToolFault::Read), "at read {call}");
-        assert!(rt;
-            STORED_OUTPUT.as_bytes().starts_with(written.as_slice()),
-            "at read {call}"
-        );
+fn failed_reads(rt: HostRuntime) {
+    for input in stored_inputs() {
+        // The last read is the one that meets the end.
+        for call in 1..=input.len().saturating_add(1) {
+            let mut reader = ByteReader {
+                rest: input.as_bytes(),
+                reads: Calls::failing_at(call),
+            };
+            let mut writer = ByteWriter::new(rt.alloc(), Calls::default(), Calls::default());
+            let outcome = run(rt.alloc(), &mut reader, &mut writer);
+            assert_eq!(rt; outcome, Err(ToolFault::Read), "at read {call}");
+            assert_eq!(rt; reader.reads.made, call, "reads, of which {call} fails");
+            assert!(rt;
+                STORED_OUTPUT
+                    .as_bytes()
+                    .starts_with(writer.written.as_slice()),
+                "at read {call}"
+            );
+            assert_eq!(rt; writer.flushes.made, 0, "flushes after read {call} failed");
+        }
     }
-    Ok(())
 }
 
 #[test]
-fn failed_writes(rt: HostRuntime) -> Result<(), Fail> {
-    for call in 1..=STORED_OUTPUT.len() {
-        let mut writer = ByteWriter::new(rt.alloc(), Calls::failing_at(call), Calls::default());
-        let outcome = run(rt.alloc(), &mut STORED_INPUT.as_bytes(), &mut writer);
-        assert_eq!(rt; outcome, Err(ToolFault::Write), "at write {call}");
-        let before = STORED_OUTPUT.as_bytes().get(..call - 1);
-        assert_eq!(rt; Some(writer.written.as_slice()), before, "at write {call}");
-        assert!(rt; writer.flushed_at.is_empty(), "at write {call}");
+fn failed_writes(rt: HostRuntime) {
+    for input in stored_inputs() {
+        for call in 1..=STORED_OUTPUT.len() {
+            let mut writer = ByteWriter::new(rt.alloc(), Calls::failing_at(call), Calls::default());
+            let outcome = run(rt.alloc(), &mut input.as_bytes(), &mut writer);
+            assert_eq!(rt; outcome, Err(ToolFault::Write), "at write {call}");
+            let before = STORED_OUTPUT.as_bytes().get(..call - 1);
+            assert_eq!(rt; Some(writer.written.as_slice()), before, "at write {call}");
+            assert_eq!(rt; writer.writes.made, call, "writes, of which {call} fails");
+            assert_eq!(rt; writer.flushes.made, 0, "flushes after write {call} failed");
+        }
     }
-    Ok(())
 }
 
 #[test]
@@ -148,11 +157,60 @@ fn full_writer(rt: HostRuntime) {
 }
 
 #[test]
-fn failed_flush(rt: HostRuntime) -> Result<(), Fail> {
+fn failed_flush(rt: HostRuntime) {
     let mut writer = ByteWriter::new(rt.alloc(), Calls::default(), Calls::failing_at(1));
     let outcome = run(rt.alloc(), &mut STORED_INPUT.as_bytes(), &mut writer);
     assert_eq!(rt; outcome, Err(ToolFault::Write));
     assert_eq!(rt; writer.written.as_slice(), STORED_OUTPUT.as_bytes());
+    assert_eq!(rt; writer.flushes.made, 1, "flushes, of which the first fails");
+}
+
+// Puts as much of a part into the buffer as there is room for.
+fn read_part(part: &str, buf: &mut [u8]) -> usize
+    ensures { result ≤ length buf.new }
+{
+    let count = part.len().min(buf.len());
+    buf[..count].copy_from_slice(&part.as_bytes()[..count]);
+    count
+}
+
+// Gives one part a read, and still has parts to give behind an empty one, which is an end.
+#[derive(Drop)]
+struct PartReader<'a> {
+    parts: Iter<'a, &'static str>,
+}
+
+impl Read for PartReader<'_> {
+    fn read(&mut self, buf: &mut [u8]) -> io::Result<usize> {
+        let Some(part) = self.parts.next() else {
+            return Ok(0);
+        };
+        Ok(read_part(part, buf))
+    }
+}
+
+// Each row has the parts of an input, how many are behind its end, and the output.
+#[test]
+fn no_read_after_the_end(rt: HostRuntime) -> Result<(), Fail> {
+    let rows = [
+        (["", "foo\n", "foo\n", "foo\n"], 3, ""),
+        (["enc 1337\n", "", "foo\n", "foo\n"], 2, "LZ\n"),
+        // The end is met within a line.
+        (["enc 13", "37", "", "0\n"], 1, "LZ\n"),
+    ];
+    for (parts, behind, output) in rows {
+        let mut reader = PartReader {
+            parts: parts.iter(),
+        };
+        let mut written = Vec::new(rt.alloc());
+        run(rt.alloc(), &mut reader, &mut written)?;
+        assert_eq!(rt; reader.parts.len(), behind, "left of {parts:?}");
+        assert_eq!(rt;
+            written.as_slice(),
+            output.as_bytes(),
+            "answering {parts:?}"
+        );
+    }
     Ok(())
 }
 
@@ -172,10 +230,8 @@ impl Read for Asker<'_> {
         let Some((line, reply)) = self.exchanges.next() else {
             return Ok(0);
         };
-        let count = line.len().min(buf.len());
-        buf[..count].copy_from_slice(&line.as_bytes()[..count]);
         self.owed = self.owed.saturating_add(reply.len());
-        Ok(count)
+        Ok(read_part(line, buf))
     }
 }
 

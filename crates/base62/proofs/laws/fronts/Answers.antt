@@ -1,8 +1,5 @@
-use Rattle.base62.proofs.FrontLemmas.{front_letters, begins_short, in_interval, begins_with, none_inside, no_ends, ends_are}
+use Rattle.base62.proofs.FrontLemmas.{in_interval, begins_with, none_inside, no_ends, ends_are}
 use Rattle.base62.proofs.laws.fronts.Goals as goal
-
-pub returns-clause-letters : goal.returns-clause-letters
-returns-clause-letters c = λ B front key n is begins. (front_letters B front key n is begins, begins_short B front key n is begins)
 
 pub returns-clause-begins : goal.returns-clause-begins
 returns-clause-begins c = λ B ok front key n small letters short is. (in_interval B ok front key n small short is, begins_with B ok front key n letters is)

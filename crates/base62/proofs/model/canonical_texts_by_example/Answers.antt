@@ -1,4 +1,4 @@
-use Rattle.std.proofs.Common.{◌≡◌, ℕ, ◌<◌, ◌≤◌, ◌-◌, ◌^◌, true, List, codes, length, refl, inl, inr, lit≤, arith}
+use Rattle.std.proofs.Common.{◌≡◌, ℕ, ◌<◌, ◌≤◌, ◌-◌, ◌^◌, true, List, codes, length, refl, inr, lit≤, arith}
 use Rattle.std.specs.List.{list_all}
 use Rattle.std.proofs.lemmas.List.Sums.{AllPass-from_list_all}
 use Rattle.base62.specs.Alphabet.{IsAlphabet, standard, alternative, digit_of, is_letter}
@@ -13,15 +13,6 @@ use Rattle.base62.proofs.model.canonical_texts_by_example.Goals as goal
 by_value : (B : List ℕ) → IsAlphabet B → (text : List ℕ) (n : ℕ) → 0 < length text → list_all (is_letter B) text ≡ true → value B text ≡ n → 62 ^ (length text - 1) ≤ n → IsCanonical B text n
 by_value B ok text n some letters is least =
     canonical_is B ok text n (record { nonempty = some; letters = AllPass-from_list_all (is_letter B) text letters; value_is = is }) (inr least)
-
-pub returns-clause-zero : goal.returns-clause-zero
-unfolding standard digit_of sum_over_places value
-returns-clause-zero c =
-    canonical_is standard standard_is_alphabet (codes "0") 0 (record { nonempty = omega arith; letters = AllPass-from_list_all (is_letter standard) (codes "0") refl; value_is = refl }) (inl refl)
-
-pub returns-clause-one_letter : goal.returns-clause-one_letter
-unfolding standard alternative digit_of sum_over_places value
-returns-clause-one_letter c = by_value standard standard_is_alphabet (codes "z") 61 (omega arith) refl refl (lit≤ tt)
 
 pub returns-clause-two_letters : goal.returns-clause-two_letters
 unfolding standard alternative digit_of sum_over_places value

@@ -22,5 +22,6 @@ loop-end-preserved c =
       rw none (All-nil (λ b. b ≢ 10)),
       l.invariant.1 ++ (reply.0 ++ 10 ∷ []),
       reply.2 ∙ ap (λ out. out ++ (reply.0 ++ 10 ∷ [])) l.invariant.2 ∙ append_assoc _ l.invariant.1 _,
-      λ more. rw none (leaves_more _ l.invariant.1 (line ++ end) (line ++ (l.rest.now ++ more)) reply.0 (after ++ more) unended is (line_cut line l.rest.now end after more cut.1) (l.invariant.3 more)),
+      λ more. rw none (leaves_more _ l.invariant.1 (line ++ end) (line ++ (l.rest.now ++ more)) reply.0 (after ++ more)
+          unended is (line_cut line l.rest.now end after more cut.1) (l.invariant.3 more)),
     )

@@ -1,4 +1,4 @@
-use Rattle.std.proofs.Common.{◌≡◌, ◌-◌, take, Ok, arith}
+use Rattle.std.proofs.Common.{◌≡◌, ◌-◌, arith}
 use Rattle.std.proofs.lemmas.List.{length-take-le}
 use Rattle.base62.proofs.PartLemmas.{read_none}
 use Rattle.base62.proofs.codec.chunks.chunk.Goals as goal

@@ -1,5 +1,4 @@
 use Rattle.std.proofs.Common.{◌==◌, sym, ◌∙◌, eq-eqb, arith}
-use Rattle.std.proofs.lemmas.Bool.{ne_eqb}
 use Rattle.std.proofs.lemmas.List.Sums.{prefix_len_is}
 use Rattle.base62.specs.Alphabet.{zero_letter}
 use Rattle.base62.proofs.codec.chunks.count_zeros.Goals as goal

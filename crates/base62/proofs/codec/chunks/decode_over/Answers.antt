@@ -1,7 +1,7 @@
-use Rattle.std.proofs.Common.{◌≡◌, ◌<◌, ℕ, false, eqb, List, length, drop, sym, ap, ◌∙◌, arith}
+use Rattle.std.proofs.Common.{◌≡◌, ◌<◌, ℕ, false, eqb, List, length, Ok, Err, sym, ◌∙◌, arith}
 use Rattle.std.proofs.lemmas.Bool.{eqb-true, eqb-false}
-use Rattle.base62.specs.Decoding.{leading_zeros, rest}
-use Rattle.base62.proofs.DecodingLemmas.{decodes_empty, decodes_long, decodes_21}
+use Rattle.std.proofs.lemmas.Result.{err_from_is_err_and}
+use Rattle.base62.proofs.DecodingLemmas.{decodes_empty, decodes_long, decodes_few}
 use Rattle.base62.proofs.codec.chunks.decode_over.Goals as goal
 
 pub returns-then-is_empty : goal.returns-then-is_empty
@@ -11,19 +11,16 @@ returns-then-is_empty c =
 nonempty : (text : List ℕ) → eqb (length text) 0 ≡ false → 0 < length text
 nonempty text e = let some = eqb-false (length text) 0 e in omega arith
 
--- the bytes after the leading zeros
-rest_is : (B text after : List ℕ) (zeros : ℕ) → zeros ≡ leading_zeros B text → after ≡ drop zeros text → after ≡ rest B text
-rest_is B text after zeros count back = back ∙ ap (λ z. drop z text) count
-
 pub returns-then-rest-gt-MAX_DIGITS : goal.returns-then-rest-gt-MAX_DIGITS
-returns-then-rest-gt-MAX_DIGITS c =
-    let after = rest_is c.args.tables.now.letters c.args.input.now _ _ c.count_zeros-zeros.ensures.zeros c.split_at.ensures.back in
-    let some = nonempty c.args.input.now (sym c.is_empty.ensures ∙ c.if-is_empty.false) in
-    decodes_long c.args.tables.now.letters c.args.input.now c.args.work.now some (rw after at c.if-rest-gt-MAX_DIGITS.true)
+returns-then-rest-gt-MAX_DIGITS c = decodes_long c.args.work.now c.after_zeros-start.ensures.after c.if-rest-gt-MAX_DIGITS.true
 
-pub returns-then-rest-le20 : goal.returns-then-rest-le20
-returns-then-rest-le20 c =
-    let after = rest_is c.args.tables.now.letters c.args.input.now _ _ c.count_zeros-zeros.ensures.zeros c.split_at.ensures.back in
+pub returns-in_err-chunk : goal.returns-in_err-chunk
+returns-in_err-chunk c =
     let some = nonempty c.args.input.now (sym c.is_empty.ensures ∙ c.if-is_empty.false) in
-    let short = rw after at c.if-rest-le20.true in
-    decodes_21 c.args.tables.now.letters c.args.input.now c.requires.alphabet some (omega arith) c.args.work.now c.up_to_20.new.work c.up_to_20.result (omega arith) (rw (after, c.count_zeros-zeros.ensures.zeros) at c.up_to_20.ensures)
+    let p = err_from_is_err_and c.from_residual.result c.from_residual.ensures.1 in
+    rw (p.1, p.2) (decodes_few c.requires.alphabet c.after_zeros-start.ensures.after some (omega (arith, c.if-rest-le10.true)) (Err c.in_err-chunk.field-0.0) c.in_err-chunk.ensures)
+
+pub returns-then-rest-le10 : goal.returns-then-rest-le10
+returns-then-rest-le10 c =
+    let some = nonempty c.args.input.now (sym c.is_empty.ensures ∙ c.if-is_empty.false) in
+    decodes_few c.requires.alphabet c.after_zeros-start.ensures.after some (omega (arith, c.if-rest-le10.true)) (Ok c.in_ok-chunk.field-0) c.in_ok-chunk.ensures

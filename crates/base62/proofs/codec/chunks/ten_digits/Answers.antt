@@ -1,4 +1,4 @@
-use Rattle.std.proofs.Common.{◌≡◌, take, Ok, refl, ◌∙◌, arith}
+use Rattle.std.proofs.Common.{◌≡◌, take, Ok, refl, arith}
 use Rattle.std.proofs.lemmas.List.{take_all}
 use Rattle.base62.proofs.PartLemmas.{reads_cut}
 use Rattle.base62.proofs.codec.chunks.ten_digits.Goals as goal

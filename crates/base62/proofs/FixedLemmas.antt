@@ -1,6 +1,7 @@
 -- Texts of a fixed number of letters, and which of them are canonical.
-use Rattle.std.proofs.Common.{◌≡◌, ℕ, zero, suc, ◌+◌, ◌-◌, ◌*◌, ◌/◌, ◌%◌, ◌^◌, ◌<◌, ◌≤◌, ◌⊎◌, List, [], ◌∷◌, ◌++◌, length, refl, sym, ap, ◌∙◌, slice_index, inl, inr, arith, add-zero, add-suc, append_assoc}
-use Rattle.std.proofs.Math.Nat.{pow-suc, pow-succ', pow-le-pow_right, one-le-pow, div-one, div-div-eq-div-mul}
+use Rattle.std.proofs.Common.{◌≡◌, ℕ, zero, suc, ◌+◌, ◌-◌, ◌*◌, ◌/◌, ◌%◌, ◌^◌, ◌<◌, ◌≤◌, ◌⊎◌}
+use Rattle.std.proofs.Common.{List, [], ◌∷◌, ◌++◌, length, refl, sym, ap, ◌∙◌, slice_index, inl, inr, arith, add-zero, add-suc, append_assoc}
+use Rattle.std.proofs.Math.Nat.{pow-suc, pow-succ', one-le-pow, div-one, div-div-eq-div-mul}
 use Rattle.std.proofs.Math.Arith.{mod-mul}
 use Rattle.std.proofs.lemmas.Bool.{cases_lt}
 use Rattle.std.proofs.lemmas.Nat.{div_below, div-mul-add, mod-mul-add}
@@ -69,7 +70,7 @@ canonical-fixed B ok w n some fits least =
 pub has_letters : (n w : ℕ) → 0 < w → n < 62 ^ w → (w ≡ 1) ⊎ (62 ^ (w - 1) ≤ n) → HasLetters n w
 has_letters n w some fits least = λ B ok. (fixed B w n, canonical-fixed B ok w n some fits least, length-fixed B w n)
 
--- they hold n, and one letter less would not
+-- those hold n
 pub has_letters_fits : (B : List ℕ) → IsAlphabet B → (n w : ℕ) → HasLetters n w → n < 62 ^ w
 has_letters_fits B ok n w has =
     let one = has B ok in
@@ -79,28 +80,22 @@ has_letters_fits B ok n w has =
 pub has_letters_some : (B : List ℕ) → IsAlphabet B → (n w : ℕ) → HasLetters n w → 1 ≤ w
 has_letters_some B ok n w has = let one = has B ok in omega (arith, one.1.denotes.nonempty, one.2)
 
-pub has_letters_least : (B : List ℕ) → IsAlphabet B → (n w : ℕ) → HasLetters n w → (w ≡ 1) ⊎ (62 ^ (w - 1) ≤ n)
+-- a number below 62^k takes at most k letters
+pub has_letters_most : (B : List ℕ) → IsAlphabet B → (k n w : ℕ) → 1 ≤ k → HasLetters n w → n < 62 ^ k → w ≤ k
+has_letters_most B ok k n w some has small =
+    let one = has B ok in omega (arith, one.1.shortest (fixed B k n) (denotes-fixed B ok k n some small), one.2, length-fixed B k n)
+
+-- and one letter less would not
+has_letters_least : (B : List ℕ) → IsAlphabet B → (n w : ℕ) → HasLetters n w → (w ≡ 1) ⊎ (62 ^ (w - 1) ≤ n)
 has_letters_least B ok n w has = elim (cases_lt n (62 ^ (w - 1))) [
   | inr more ↦ inr more
   | inl less ↦ elim (cases_lt 1 w) [
     | inr one ↦ inl (omega (arith, one, has_letters_some B ok n w has))
-    | inl two ↦
-        let one = has B ok in
-        let shorter = one.1.shortest (fixed B (w - 1) n) (record { nonempty = omega (arith, length-fixed B (w - 1) n); letters = letters-fixed B ok (w - 1) n; value_is = value-fixed B ok (w - 1) n less }) in
-        absurd (omega (arith, shorter, one.2, length-fixed B (w - 1) n))
+    | inl two ↦ absurd (omega (arith, two, has_letters_most B ok (w - 1) n w (omega arith) has less))
   ]
 ]
 
--- a number below 62^k takes at most k letters
-pub has_letters_most : (B : List ℕ) → IsAlphabet B → (k n w : ℕ) → 1 ≤ k → HasLetters n w → n < 62 ^ k → w ≤ k
-has_letters_most B ok k n w some has small = elim (has_letters_least B ok n w has) [
-  | inl one ↦ omega (arith, one)
-  | inr least ↦ elim (cases_lt k w) [
-    | inl more ↦ let grows : 62 ^ k ≤ 62 ^ (w - 1) = pow-le-pow_right {n = 62} (omega arith) {i = k} {j = w - 1} (omega arith) in absurd (omega arith)
-    | inr less ↦ less
-  ]
-]
-
+-- the canonical text is the one of that many letters
 pub canonical_has : (B : List ℕ) → IsAlphabet B → (n w : ℕ) → HasLetters n w → IsCanonical B (fixed B w n) n
 canonical_has B ok n w has =
     canonical-fixed B ok w n (has_letters_some B ok n w has) (has_letters_fits B ok n w has) (has_letters_least B ok n w has)

@@ -1,24 +1,33 @@
 -- Writing a text of a fixed number of letters: one or two at once, and one part after another.
-use Rattle.std.proofs.Common.{◌≡◌, ℕ, zero, suc, ◌+◌, ◌-◌, ◌/◌, ◌%◌, ◌^◌, ◌<◌, ◌≤◌, List, [], ◌∷◌, ◌++◌, length, get_or, set, take, drop, refl, sym, ap, ◌∙◌, arith, append_assoc}
+use Rattle.std.proofs.Common.{◌≡◌, ℕ, zero, suc, ◌+◌, ◌-◌, ◌/◌, ◌%◌, ◌^◌, ◌<◌, ◌≤◌, List, [], ◌∷◌, ◌++◌}
+use Rattle.std.proofs.Common.{length, get_or, set, take, drop, refl, sym, ap, ◌∙◌, arith, append_assoc}
 use Rattle.std.proofs.lemmas.List.{append-nil, take_all, drop_all, drop-drop, length-take-le, length-drop, length-append, take_at, drop_at}
 use borrow.Rule.Slice.PartMut.{put_mid, mid_of, post_of}
 use Rattle.base62.specs.Fixed.{fixed, WritesFixed}
 use Rattle.base62.proofs.FixedLemmas.{length-fixed, fixed-join}
 
--- a write to the places from v on
-part_written : (B : List ℕ) (v w m : ℕ) (old part : List ℕ) → v + w ≤ length old → WritesFixed B w m (mid_of v (length old - v) old) part → put_mid v (length old - v) old part ≡ take v old ++ (fixed B w m ++ drop (v + w) old)
-part_written B v w m old part room writes =
-    let behind : length (drop v old) ≤ length old - v = omega (arith, length-drop v old) in
-    let rest : mid_of v (length old - v) old ≡ drop v old = take_all (length old - v) (drop v old) behind in
-    let none : post_of v (length old - v) old ≡ [] = drop_all (length old - v) (drop v old) behind in
-    rw (none, append-nil, writes, rest, drop-drop w v old) refl
+-- the places from v on, and a buffer with those written
+abbrev pub places_from : ℕ → List ℕ → List ℕ
+places_from v old = mid_of v (length old - v) old
 
--- it keeps the length
-pub part_length : (B : List ℕ) (v w m : ℕ) (old part : List ℕ) → v + w ≤ length old → WritesFixed B w m (mid_of v (length old - v) old) part → length (put_mid v (length old - v) old part) ≡ length old
-part_length B v w m old part room writes =
-    ap length (part_written B v w m old part room writes)
-    ∙ length-append (take v old) (fixed B w m ++ drop (v + w) old)
-    ∙ omega (arith, room, length-take-le v old (omega (arith, room)), length-append (fixed B w m) (drop (v + w) old), length-fixed B w m, length-drop (v + w) old)
+abbrev pub put_from : ℕ → List ℕ → List ℕ → List ℕ
+put_from v old part = put_mid v (length old - v) old part
+
+module _ (B : List ℕ) (v w m : ℕ) (old part : List ℕ) (room : v + w ≤ length old) (writes : WritesFixed B w m (places_from v old) part) where
+  part_written : put_from v old part ≡ take v old ++ (fixed B w m ++ drop (v + w) old)
+  part_written =
+      let behind : length (drop v old) ≤ length old - v = omega (arith, length-drop v old) in
+      let rest : places_from v old ≡ drop v old = take_all (length old - v) (drop v old) behind in
+      let none : post_of v (length old - v) old ≡ [] = drop_all (length old - v) (drop v old) behind in
+      rw (none, append-nil, writes, rest, drop-drop w v old) refl
+
+  pub part_length : length (put_from v old part) ≡ length old
+  part_length =
+      let front = length-take-le v old (omega (arith, room)) in
+      let back = length-append (fixed B w m) (drop (v + w) old) in
+      ap length part_written
+      ∙ length-append (take v old) (fixed B w m ++ drop (v + w) old)
+      ∙ omega (arith, room, front, back, length-fixed B w m, length-drop (v + w) old)
 
 -- what is written at the front stands there, and nothing after it changes
 pub written_front : (B : List ℕ) (v n : ℕ) (old new : List ℕ) → WritesFixed B v n old new → take v new ≡ fixed B v n
@@ -28,55 +37,65 @@ pub written_rest : (B : List ℕ) (v n : ℕ) (old new : List ℕ) → WritesFix
 written_rest B v n old new writes = ap (drop v) writes ∙ drop_at (fixed B v n) (drop v old) v (length-fixed B v n)
 
 pub written_length : (B : List ℕ) (v n : ℕ) (old new : List ℕ) → v ≤ length old → WritesFixed B v n old new → length new ≡ length old
-written_length B v n old new room writes = ap length writes ∙ length-append (fixed B v n) (drop v old) ∙ omega (arith, room, length-fixed B v n, length-drop v old)
+written_length B v n old new room writes =
+    ap length writes ∙ length-append (fixed B v n) (drop v old) ∙ omega (arith, room, length-fixed B v n, length-drop v old)
 
--- a text of t letters is written in two parts, of v and of w letters
-module _ (B : List ℕ) (v w t n : ℕ) (both : v + w ≡ t) where
-  joined : (old : List ℕ) → fixed B v (n / 62 ^ w) ++ (fixed B w (n % 62 ^ w) ++ drop (v + w) old) ≡ fixed B t n ++ drop t old
-  joined old = rw (← both, fixed-join B v w n) (sym (append_assoc (fixed B v (n / 62 ^ w)) (fixed B w (n % 62 ^ w)) (drop (v + w) old)))
+-- a text of t letters is written in two parts, of v and of w letters, from the quotient q and the remainder m
+module _ (B : List ℕ) (v w t n q m : ℕ) (both : v + w ≡ t) (quotient : q ≡ n / 62 ^ w) (remainder : m ≡ n % 62 ^ w) where
+  joined : (old : List ℕ) → fixed B v q ++ (fixed B w m ++ drop (v + w) old) ≡ fixed B t n ++ drop t old
+  joined old =
+      rw (quotient, remainder, ← both, fixed-join B v w n)
+      (sym (append_assoc (fixed B v (n / 62 ^ w)) (fixed B w (n % 62 ^ w)) (drop (v + w) old)))
 
-  -- the front first
-  pub front_first : (m : ℕ) (old mid part : List ℕ) → t ≤ length mid → m ≡ n % 62 ^ w → take v mid ≡ fixed B v (n / 62 ^ w) → drop t mid ≡ drop t old → WritesFixed B w m (mid_of v (length mid - v) mid) part → WritesFixed B t n old (put_mid v (length mid - v) mid part)
-  front_first m old mid part room remainder front others back =
-      let others_v : drop (v + w) mid ≡ drop (v + w) old = rw both others in
-      part_written B v w m mid part (omega (arith, room, both)) back ∙ rw (front, remainder, others_v) (joined old)
+  module _ (old mid part : List ℕ) (room : t ≤ length old) (back : WritesFixed B w m (places_from v mid) part) where
+    -- the front first, of which the back may write over what it has beyond v letters
+    pub front_first : length mid ≡ length old → take v mid ≡ fixed B v q → drop t mid ≡ drop t old → WritesFixed B t n old (put_from v mid part)
+    front_first same front others =
+        let behind : drop (v + w) mid ≡ drop (v + w) old = rw both others in
+        part_written B v w m mid part (omega (arith, room, both, same)) back ∙ rw (front, behind) (joined old)
+
+    pub written_on : WritesFixed B v q old mid → WritesFixed B t n old (put_from v mid part)
+    written_on front =
+        let same = written_length B v q old mid (omega (arith, room, both)) front in
+        let behind = sym (drop-drop w v mid) ∙ ap (drop w) (written_rest B v q old mid front) ∙ drop-drop w v old in
+        let others : drop t mid ≡ drop t old = rw (← both) behind in
+        front_first same (written_front B v q old mid front) others
 
   -- the back first
-  pub back_first : (q m : ℕ) (old part new : List ℕ) → t ≤ length old → q ≡ n / 62 ^ w → m ≡ n % 62 ^ w → WritesFixed B w m (mid_of v (length old - v) old) part → WritesFixed B v q (put_mid v (length old - v) old part) new → WritesFixed B t n old new
-  back_first q m old part new room quotient remainder back front =
+  pub back_first : (old part new : List ℕ) → t ≤ length old → WritesFixed B w m (places_from v old) part → WritesFixed B v q (put_from v old part) new → WritesFixed B t n old new
+  back_first old part new room back front =
       let size : length (take v old) ≡ v = length-take-le v old (omega (arith, room, both)) in
-      let rest : drop v (put_mid v (length old - v) old part) ≡ fixed B w m ++ drop (v + w) old =
-      ap (drop v) (part_written B v w m old part (omega (arith, room, both)) back) ∙ drop_at (take v old) _ v size in
-      front ∙ rw (rest, quotient, remainder) (joined old)
-
-  pub written_on : (q m : ℕ) (old mid part : List ℕ) → t ≤ length old → q ≡ n / 62 ^ w → m ≡ n % 62 ^ w → WritesFixed B v q old mid → WritesFixed B w m (mid_of v (length mid - v) mid) part → WritesFixed B t n old (put_mid v (length mid - v) mid part)
-  written_on q m old mid part room quotient remainder front back =
-      let same = written_length B v q old mid (omega (arith, room, both)) front in
-      let others : drop t mid ≡ drop t old = rw (← both) (sym (drop-drop w v mid) ∙ ap (drop w) (written_rest B v q old mid front) ∙ drop-drop w v old) in
-      front_first m old mid part (omega (arith, room, same)) remainder (written_front B v q old mid front ∙ ap (fixed B v) quotient) others back
+      let written = part_written B v w m old part (omega (arith, room, both)) back in
+      let rest : drop v (put_from v old part) ≡ fixed B w m ++ drop (v + w) old = ap (drop v) written ∙ drop_at (take v old) _ v size in
+      front ∙ rw rest (joined old)
 
 -- a letter
-pub letter_written : (B old : List ℕ) (x letter : ℕ) → 1 ≤ length old → x < 62 → letter ≡ get_or B x 0 → WritesFixed B 1 x old (set old 0 letter)
+pub letter_written : (B old : List ℕ) (x letter : ℕ) → 1 ≤ length old → x < 62 → letter ≡ get_or B x 0
+    → WritesFixed B 1 x old (set old 0 letter)
 unfolding fixed
 letter_written B [] x letter room small is = absurd (omega arith)
 letter_written B (_ ∷ old) x letter room small is = let same : x % 62 ≡ x = omega arith in rw (is, same) refl
 
 -- a letter that is written over, where no place is left for it
-pub letter_front : (B old : List ℕ) (v x letter : ℕ) → 1 ≤ length old → v ≤ 1 → x < 62 → letter ≡ get_or B x 0 → take v (set old 0 letter) ≡ fixed B v x
+pub letter_front : (B old : List ℕ) (v x letter : ℕ) → 1 ≤ length old → v ≤ 1 → x < 62 → letter ≡ get_or B x 0
+    → take v (set old 0 letter) ≡ fixed B v x
 unfolding fixed
 letter_front B old zero x letter room few small is = refl
-letter_front B old (suc zero) x letter room few small is = written_front B 1 x old (set old 0 letter) (letter_written B old x letter room small is)
+letter_front B old (suc zero) x letter room few small is =
+    written_front B 1 x old (set old 0 letter) (letter_written B old x letter room small is)
 letter_front B old (suc (suc v)) x letter room few small is = absurd (omega arith)
 
 -- two letters
-pub pair_written : (B old : List ℕ) (x first second : ℕ) → 2 ≤ length old → x < 62 ^ 2 → first ≡ get_or B (x / 62) 0 → second ≡ get_or B (x % 62) 0 → WritesFixed B 2 x old (set (set old 0 first) 1 second)
+pub pair_written : (B old : List ℕ) (x first second : ℕ) → 2 ≤ length old → x < 62 ^ 2
+    → first ≡ get_or B (x / 62) 0 → second ≡ get_or B (x % 62) 0 → WritesFixed B 2 x old (set (set old 0 first) 1 second)
 unfolding fixed
 pair_written B [] x first second room small one two = absurd (omega arith)
 pair_written B (_ ∷ []) x first second room small one two = absurd (omega arith)
 pair_written B (_ ∷ _ ∷ old) x first second room small one two = let same : x / 62 % 62 ≡ x / 62 = omega arith in rw (one, two, same) refl
 
 -- two letters, of which the second is written over the first where there is one place alone
-pub ends_written : (B old : List ℕ) (places x first second : ℕ) → 1 ≤ places → places ≤ 2 → places ≤ length old → x < 62 ^ places → first ≡ get_or B (x / 62) 0 → second ≡ get_or B (x % 62) 0 → WritesFixed B places x old (set (set old 0 first) (places - 1) second)
+pub ends_written : (B old : List ℕ) (places x first second : ℕ) → 1 ≤ places → places ≤ 2 → places ≤ length old → x < 62 ^ places
+    → first ≡ get_or B (x / 62) 0 → second ≡ get_or B (x % 62) 0 → WritesFixed B places x old (set (set old 0 first) (places - 1) second)
 unfolding fixed
 ends_written B old zero x first second some few room small one two = absurd (omega arith)
 ends_written B [] (suc zero) x first second some few room small one two = absurd (omega arith)

@@ -6,6 +6,8 @@
 crate::specs::Alphabet::standard, crate::specs::Alphabet::alternative, crate::specs::Alphabet::digit_of,
 // values, what decoding answers, and its steps
 crate::specs::Places::sum_over_places, crate::specs::Value::value, crate::specs::Decoding::decoding, crate::specs::Steps::decoding_steps,
+// the steps of encoding
+crate::specs::Steps::encoding_steps,
 // what is shown, the other case and the ends of an interval
 crate::specs::Fault::escaped, crate::specs::Padding::displayed, crate::specs::Case::other_case, crate::specs::Key::interval_ends))]
 
@@ -17,7 +19,7 @@ ghost use Rattle.base62.specs.Alphabet.{IsAlphabet, standard, alternative};
 ghost use Rattle.base62.specs.Value.{value};
 ghost use Rattle.base62.specs.Canonical.{IsCanonical};
 ghost use Rattle.base62.specs.Decoding.{decoding};
-ghost use Rattle.base62.specs.Steps.{decoding_steps};
+ghost use Rattle.base62.specs.Steps.{decoding_steps, encoding_steps};
 ghost use Rattle.base62.specs.Fault.{escaped};
 ghost use Rattle.base62.specs.Case.{exchange_case};
 ghost use Rattle.base62.specs.Laws.{without_zeros, AgreesAtLetters};
@@ -81,6 +83,20 @@ pub fn steps_by_example()
     ensures value { decoding_steps standard (codes "LygHa16AHYG") ≡ 11 }
     ensures value_after_zeros { decoding_steps standard (codes "00LZ") ≡ 2 }
     ensures other_alphabet { decoding_steps alternative (codes "ZZZZZZZZZZ!00000000000") ≡ 10 }
+{}
+
+/// The steps of encoding, by the number of letters.
+pub fn encoding_steps_by_example()
+    ensures of_1 { encoding_steps 1 ≡ 1 }
+    ensures of_2 { encoding_steps 2 ≡ 1 }
+    ensures of_3 { encoding_steps 3 ≡ 2 }
+    ensures of_9 { encoding_steps 9 ≡ 5 }
+    ensures of_10 { encoding_steps 10 ≡ 7 }
+    ensures of_12 { encoding_steps 12 ≡ 7 }
+    ensures of_13 { encoding_steps 13 ≡ 8 }
+    ensures of_19 { encoding_steps 19 ≡ 11 }
+    ensures of_20 { encoding_steps 20 ≡ 12 }
+    ensures of_22 { encoding_steps 22 ≡ 13 }
 {}
 
 /// How some bytes are shown.

@@ -1,4 +1,4 @@
-use Rattle.std.proofs.Common.{◌^◌, inl, refl, arith}
+use Rattle.std.proofs.Common.{◌^◌, ◌<◌, inl, refl, arith}
 use Rattle.base62.proofs.FixedLemmas.{has_letters}
 use Rattle.base62.proofs.CountLemmas.{greatest_narrow_is, estimate_right, estimate_short}
 use Rattle.base62.proofs.count.narrow_count.Goals as goal
@@ -8,10 +8,14 @@ returns-then-n-eq0 c = has_letters c.args.n 1 (omega arith) (omega (arith, c.if-
 
 pub returns-then-n-estimate : goal.returns-then-n-estimate
 returns-then-n-estimate c =
-    let bit = c.ilog2-highest in
-    estimate_short c.args.n bit.result (2 ^ 64) _ (omega (arith, bit.ensures.bound)) bit.ensures.power_le bit.ensures.next_power_gt c.ranges.n.fits (greatest_narrow_is _ (omega (arith, bit.ensures.bound))) c.if-n-estimate.true
+    let bit = c.ilog2-highest.ensures in
+    let few : c.ilog2-highest.result < 128 = omega (arith, bit.bound) in
+    let short = estimate_short c.args.n _ (2 ^ 64) _ few bit.power_le bit.next_power_gt c.ranges.n.fits in
+    short (greatest_narrow_is _ (omega (arith, bit.bound))) c.if-n-estimate.true
 
 pub returns-else-n-estimate : goal.returns-else-n-estimate
 returns-else-n-estimate c =
-    let bit = c.ilog2-highest in
-    estimate_right c.args.n bit.result (2 ^ 64) _ (omega (arith, bit.ensures.bound)) bit.ensures.power_le bit.ensures.next_power_gt c.ranges.n.fits (greatest_narrow_is _ (omega (arith, bit.ensures.bound))) c.if-n-estimate.false
+    let bit = c.ilog2-highest.ensures in
+    let few : c.ilog2-highest.result < 128 = omega (arith, bit.bound) in
+    let right = estimate_right c.args.n _ (2 ^ 64) _ few bit.power_le bit.next_power_gt c.ranges.n.fits in
+    right (greatest_narrow_is _ (omega (arith, bit.bound))) c.if-n-estimate.false

@@ -7,4 +7,6 @@ pair-first-requires c = fits_more c.args.x c.args.places 2 c.requires.fits c.req
 
 pub returns-clause-written : goal.returns-clause-written
 returns-clause-written c =
-    ends_written c.args.tables.now.letters c.args.buf.now c.args.places c.args.x _ _ c.requires.least c.requires.most c.requires.room c.requires.fits c.pair-first.ensures.first c.pair-first.ensures.second
+    let h = c.requires in
+    let pair = c.pair-first.ensures in
+    ends_written c.args.tables.now.letters c.args.buf.now c.args.places c.args.x _ _ h.least h.most h.room h.fits pair.first pair.second

@@ -6,4 +6,5 @@ use Rattle.base62.proofs.codec.kernels.four.Goals as goal
 pub returns-clause-written : goal.returns-clause-written
 returns-clause-written c =
     let x = c.args.x in
-    back_first c.args.tables.now.letters 2 2 4 x refl (x / 3844) _ c.args.buf.now c.two.new.buf _ c.requires.room refl (remainder_is x 3844) c.two.ensures.written c.two-2.ensures.written
+    let join = back_first c.args.tables.now.letters 2 2 4 x (x / 3844) _ refl refl (remainder_is x 3844) in
+    join c.args.buf.now c.two.new.buf _ c.requires.room c.two.ensures.written c.two-2.ensures.written

@@ -1,4 +1,4 @@
-use Rattle.std.proofs.Common.{◌-◌, ◌/◌, ◌^◌, ◌<◌, set, arith}
+use Rattle.std.proofs.Common.{◌-◌, ◌/◌, ◌^◌, ◌<◌, ◌≤◌, set, refl, arith}
 use Rattle.std.proofs.lemmas.List.{length-set, drop-set-lt}
 use Rattle.base62.proofs.PowerLemmas.{fits_more, remainder_is}
 use Rattle.base62.proofs.KernelLemmas.{front_first, letter_front}
@@ -17,8 +17,13 @@ returns-else-count-lt10-clause-written c =
     let B = c.args.tables.now.letters in
     let n = c.args.n in
     let old = c.args.buf.now in
-    let v = c.args.count - 10 in
-    let mid = set old 0 c.letter.result in
-    let few : n < 62 ^ 11 = fits_more n c.args.count 11 c.requires.fits c.requires.most in
-    let front = letter_front B old v (n / 839299365868340224) c.letter.result (omega (arith, c.requires.room)) (omega (arith, c.requires.most)) (omega (arith, few)) c.letter.ensures.letter in
-    front_first B v 10 c.args.count n (omega arith) _ old mid c.ten.new.buf (omega (arith, c.requires.room, length-set old 0 c.letter.result)) (remainder_is n 839299365868340224) front (drop-set-lt c.args.count old 0 c.letter.result (omega arith)) c.ten.ensures.written
+    let count = c.args.count in
+    let letter = c.letter.result in
+    let q = n / 839299365868340224 in
+    let few : n < 62 ^ 11 = fits_more n count 11 c.requires.fits c.requires.most in
+    let small : q < 62 = omega (arith, few) in
+    let one : count - 10 ≤ 1 = omega (arith, c.requires.most) in
+    let front = letter_front B old (count - 10) q letter (omega (arith, c.requires.room)) one small c.letter.ensures.letter in
+    let others = drop-set-lt count old 0 letter (omega arith) in
+    let join = front_first B (count - 10) 10 count n q _ (omega arith) refl (remainder_is n 839299365868340224) in
+    join old (set old 0 letter) c.ten.new.buf c.requires.room c.ten.ensures.written (length-set old 0 letter) front others

@@ -20,4 +20,6 @@ pub returns-then-places-gt4-clause-written : goal.returns-then-places-gt4-clause
 returns-then-places-gt4-clause-written c =
     let n = c.args.n in
     let places = c.args.places in
-    back_first c.args.tables.now.letters (places - 4) 4 places n (omega arith) (n / 14776336) _ c.args.buf.now c.four.new.buf _ c.requires.room refl (remainder_is n 14776336) c.four.ensures.written c.shorter.ensures.written
+    let remainder = remainder_is n 14776336 in
+    let join = back_first c.args.tables.now.letters (places - 4) 4 places n (n / 14776336) _ (omega arith) refl remainder in
+    join c.args.buf.now c.four.new.buf _ c.requires.room c.four.ensures.written c.shorter.ensures.written

@@ -6,4 +6,5 @@ use Rattle.base62.proofs.codec.kernels.ten.Goals as goal
 pub returns-clause-written : goal.returns-clause-written
 returns-clause-written c =
     let n = c.args.n in
-    written_on c.args.tables.now.letters 5 5 10 n refl (n / 916132832) _ c.args.buf.now c.five.new.buf c.five-2.new.buf c.requires.room refl (remainder_is n 916132832) c.five.ensures.written c.five-2.ensures.written
+    let join = written_on c.args.tables.now.letters 5 5 10 n (n / 916132832) _ refl refl (remainder_is n 916132832) in
+    join c.args.buf.now c.five.new.buf c.five-2.new.buf c.requires.room c.five-2.ensures.written c.five.ensures.written

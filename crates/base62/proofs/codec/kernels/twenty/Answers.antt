@@ -7,4 +7,7 @@ pub returns-clause-written : goal.returns-clause-written
 returns-clause-written c =
     let high = c.args.high in
     let low = c.args.low in
-    written_on c.args.tables.now.letters 10 10 20 (high * 62 ^ 10 + low) refl high low c.args.buf.now c.ten.new.buf c.ten-2.new.buf c.requires.room (sym (div-mul-add high (62 ^ 10) low c.requires.low)) (sym (mod-mul-add high (62 ^ 10) low c.requires.low)) c.ten.ensures.written c.ten-2.ensures.written
+    let quotient = sym (div-mul-add high (62 ^ 10) low c.requires.low) in
+    let remainder = sym (mod-mul-add high (62 ^ 10) low c.requires.low) in
+    let join = written_on c.args.tables.now.letters 10 10 20 (high * 62 ^ 10 + low) high low refl quotient remainder in
+    join c.args.buf.now c.ten.new.buf c.ten-2.new.buf c.requires.room c.ten-2.ensures.written c.ten.ensures.written

@@ -23,7 +23,9 @@ pub returns-then-count-lt20-clause-written : goal.returns-then-count-lt20-clause
 returns-then-count-lt20-clause-written c =
     let n = c.args.n in
     let count = c.args.count in
-    written_on c.args.tables.now.letters (count - 10) 10 count n (omega (arith, c.requires.least)) (n / 62 ^ 10) _ c.args.buf.now c.short.new.buf c.ten.new.buf c.requires.room refl (remainder_is n (62 ^ 10)) c.short.ensures.written c.ten.ensures.written
+    let both : count - 10 + 10 ≡ count = omega (arith, c.requires.least) in
+    let join = written_on c.args.tables.now.letters (count - 10) 10 count n (n / 62 ^ 10) _ both refl (remainder_is n (62 ^ 10)) in
+    join c.args.buf.now c.short.new.buf c.ten.new.buf c.requires.room c.ten.ensures.written c.short.ensures.written
 
 pub returns-then-count-lt20-clause-steps : goal.returns-then-count-lt20-clause-steps
 returns-then-count-lt20-clause-steps c = rw (ten_steps c.args.count c.requires.least (omega arith)) (omega (arith, c.short.ensures.steps, c.ten.ensures.steps))
@@ -39,8 +41,10 @@ returns-else-count-eq20-clause-written c =
     let middle = n / 62 ^ 10 - n / 62 ^ 10 / 62 ^ 10 * 62 ^ 10 in
     let low = n - n / 62 ^ 10 * 62 ^ 10 in
     let remainder : middle * 62 ^ 10 + low ≡ n % 62 ^ 20 =
-    rw (remainder_is (n / 62 ^ 10) (62 ^ 10), remainder_is n (62 ^ 10)) (sym (mod-mul n {m = 62 ^ 10} {c = 62 ^ 10} (omega arith) (omega arith))) in
-    written_on c.args.tables.now.letters (count - 20) 20 count n (omega arith) _ _ c.args.buf.now c.ends.new.buf _ c.requires.room quotient remainder c.ends.ensures.written c.twenty-else-count-eq20.ensures.written
+    rw (remainder_is (n / 62 ^ 10) (62 ^ 10), remainder_is n (62 ^ 10))
+    (sym (mod-mul n {m = 62 ^ 10} {c = 62 ^ 10} (omega arith) (omega arith))) in
+    let join = written_on c.args.tables.now.letters (count - 20) 20 count n _ _ (omega arith) quotient remainder in
+    join c.args.buf.now c.ends.new.buf _ c.requires.room c.twenty-else-count-eq20.ensures.written c.ends.ensures.written
 
 pub returns-else-count-eq20-clause-steps : goal.returns-else-count-eq20-clause-steps
 returns-else-count-eq20-clause-steps c =

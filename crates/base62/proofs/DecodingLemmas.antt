@@ -1,5 +1,6 @@
 -- What decoding answers and how many steps it takes, by what is read of the bytes after the leading zeros.
-use Rattle.std.proofs.Common.{◌≡◌, ℕ, zero, suc, ◌+◌, ◌*◌, ◌^◌, ◌<◌, ◌≤◌, ◌==◌, Bool, true, false, eqb, ltb, leb, List, length, get_or, take, drop, Result, Ok, Err, if◌then◌else◌, refl, sym, ap, ◌∙◌, arith, add-one, inl, inr}
+use Rattle.std.proofs.Common.{◌≡◌, ◌+◌, ◌*◌, ◌^◌, ◌<◌, ◌≤◌, ◌==◌, ◌∙◌}
+use Rattle.std.proofs.Common.{ℕ, zero, suc, Bool, true, false, eqb, ltb, leb, List, length, get_or, take, drop, Result, Ok, Err, if◌then◌else◌, refl, sym, ap, arith, add-one, inl, inr}
 use Rattle.std.specs.List.{prefix_len, list_all}
 use Rattle.std.proofs.Math.Nat.{pow-le-pow_right, mul-le-mul}
 use Rattle.std.proofs.lemmas.Bool.{cases_lt, eqb-true, ne_eqb, lt-ltb, le-ltb, lt-leb, le-leb, false≢true, eq-eqb, cases_eq}
@@ -61,9 +62,11 @@ invalid_index-rest B text ok =
     let z = leading_zeros B text in
     let front = prefix_len-letters B (take z text) (zeros_letters B text ok) in
     let size = length-take-le z text (zeros_within B text) in
-    ap (prefix_len (is_letter B)) (sym (take-append-drop z text)) ∙ prefix_len-append (is_letter B) (take z text) (rest B text) ∙ rw (eq-eqb (prefix_len (is_letter B) (take z text)) (length (take z text)) front, size) refl
+    ap (prefix_len (is_letter B)) (sym (take-append-drop z text)) ∙ prefix_len-append (is_letter B) (take z text) (rest B text) ∙ rw
+    (eq-eqb (prefix_len (is_letter B) (take z text)) (length (take z text)) front, size) refl
 
-first_invalid-rest : (B text : List ℕ) → IsAlphabet B → first_invalid B text ≡ InvalidBase62Byte (get_or (rest B text) (invalid_index B (rest B text)) 0) (leading_zeros B text + invalid_index B (rest B text))
+first_invalid-rest : (B text : List ℕ) → IsAlphabet B
+    → first_invalid B text ≡ InvalidBase62Byte (get_or (rest B text) (invalid_index B (rest B text)) 0) (leading_zeros B text + invalid_index B (rest B text))
 first_invalid-rest B text ok =
     let z = leading_zeros B text in
     let i = invalid_index B (rest B text) in
@@ -100,7 +103,8 @@ module _ (B text : List ℕ) (ok : IsAlphabet B) (some : 0 < length text) (short
   not_above = le-ltb 22 (length (rest B text)) short
 
   -- a bad byte, where letters alone among the first ten show no overflow
-  refused_answer : (fault : DecodeError) (first : Bool) → HasRefused B (rest B text) (leading_zeros B text) old new fault → list_all (is_letter B) (first_ten B text) ≡ first → (first ≡ true → shows_overflow B text ≡ false) → DecodesCounted B text old new (Err fault)
+  refused_answer : (fault : DecodeError) (first : Bool) → HasRefused B (rest B text) (leading_zeros B text) old new fault
+      → list_all (is_letter B) (first_ten B text) ≡ first → (first ≡ true → shows_overflow B text ≡ false) → DecodesCounted B text old new (Err fault)
   unfolding decoding decoding_steps
   refused_answer fault true refused test fits =
       let all = not_all B (rest B text) (leading_zeros B text) old new fault _ refused refl in
@@ -122,10 +126,12 @@ module _ (B text : List ℕ) (ok : IsAlphabet B) (some : 0 < length text) (short
   first_refused_answer : (fault : DecodeError) → HasRefused B (first_ten B text) (leading_zeros B text) old new fault → DecodesCounted B text old new (Err fault)
   first_refused_answer fault refused =
       let z = leading_zeros B text in
-      refused_answer fault _ (refuses_cut B (rest B text) (first_ten B text) 10 z old refl new fault refused) refl (λ e. absurd (false≢true (sym (not_all B (first_ten B text) z old new fault _ refused refl) ∙ e)))
+      refused_answer fault _ (refuses_cut B (rest B text) (first_ten B text) 10 z old refl new fault refused) refl
+      (λ e. absurd (false≢true (sym (not_all B (first_ten B text) z old new fault _ refused refl) ∙ e)))
 
   -- letters alone, of which the first ten show no overflow
-  read_answer : (number : ℕ) → shows_overflow B text ≡ false → HasRead B (rest B text) old new number → (over : Bool) → leb (2 ^ 128) (value B (rest B text)) ≡ over → DecodesCounted B text old new (if over then Err ArithmeticOverflow else Ok number)
+  read_answer : (number : ℕ) → shows_overflow B text ≡ false → HasRead B (rest B text) old new number → (over : Bool)
+      → leb (2 ^ 128) (value B (rest B text)) ≡ over → DecodesCounted B text old new (if over then Err ArithmeticOverflow else Ok number)
   unfolding decoding decoding_steps
   read_answer number fits read over test =
       let all = list_all-from_AllPass (is_letter B) (rest B text) read.letters in
@@ -206,7 +212,8 @@ module _ (B text : List ℕ) (ok : IsAlphabet B) (some : 0 < length text) (short
     short_answer : (r : Result ℕ DecodeError) → length later ≤ 11 → ReadsPart B later (leading_zeros B text + 10) mid new r → DecodesCounted B text old new (after_number number (length later) r)
     short_answer r few read_later = answer_21 (after_number number (length later) r) (omega (arith, size)) (others r read_later)
 
-    later_answer : (r : Result ℕ DecodeError) → number * 62 ^ length later < 2 ^ 128 → ReadsPart B later (leading_zeros B text + 10) mid new r → DecodesCounted B text old new (or_overflow (after_number number (length later) r))
+    later_answer : (r : Result ℕ DecodeError) → number * 62 ^ length later < 2 ^ 128 → ReadsPart B later (leading_zeros B text + 10) mid new r
+        → DecodesCounted B text old new (or_overflow (after_number number (length later) r))
     later_answer r small read_later = rest_answer (after_number number (length later) r) (weighed_fits small) (others r read_later)
 
 -- ---- as the code cuts a text
@@ -218,13 +225,15 @@ pub decodes_long : {B text after : List ℕ} {start : ℕ} (old : ℕ) → IsAft
 decodes_long {B = B} {text = text} {after = after} {start = start} old at long = long_answer B text old (some_text B text after start at (omega arith)) (rw at.bytes_are at long)
 
 -- at most 21 bytes after the leading zeros
-pub decodes_few : {B text after : List ℕ} {start old new : ℕ} → IsAlphabet B → IsAfterZeros B text start after → 0 < length text → length after ≤ 21 → (r : Result ℕ DecodeError) → ReadsPart B after start old new r → DecodesCounted B text old new r
+pub decodes_few : {B text after : List ℕ} {start old new : ℕ} → IsAlphabet B → IsAfterZeros B text start after → 0 < length text → length after ≤ 21
+    → (r : Result ℕ DecodeError) → ReadsPart B after start old new r → DecodesCounted B text old new r
 decodes_few {B = B} {text = text} {old = old} {new = new} ok at some few r read =
     let less = rw at.bytes_are at few in
     answer_21 B text ok some (omega arith) old new r less (rw (at.bytes_are, at.start_is) at read)
 
 -- the first ten bytes after the leading zeros, where more follow
-module _ {B text after first : List ℕ} {start : ℕ} (ok : IsAlphabet B) (at : IsAfterZeros B text start after) (long : 10 < length after) (short : length after ≤ 22) (front : first ≡ take 10 after) where
+module _ {B text after first : List ℕ} {start : ℕ} (ok : IsAlphabet B) (at : IsAfterZeros B text start after) (long : 10 < length after) (short : length after ≤ 22)
+    (front : first ≡ take 10 after) where
   first_is : first ≡ first_ten B text
   first_is = front ∙ ap (take 10) at.bytes_are
 
@@ -248,9 +257,12 @@ module _ {B text after first : List ℕ} {start : ℕ} (ok : IsAlphabet B) (at :
     -- at most eleven follow
     pub decodes_short : {new : ℕ} (r : Result ℕ DecodeError) → length later ≤ 11 → ReadsPart B later (start + 10) mid new r → DecodesCounted B text old new (after_number number (length later) r)
     decodes_short {new = new} r few read_later =
-        short_answer B text ok (some_text B text after start at long) (rw at.bytes_are at short) old new later mid number more (later_is back) (rw first_is at read) r few (rw at.start_is at read_later)
+        short_answer B text ok (some_text B text after start at long) (rw at.bytes_are at short) old new later mid number more (later_is back) (rw first_is at read)
+        r few (rw at.start_is at read_later)
 
     -- they show none
-    pub decodes_later : {new : ℕ} (r : Result ℕ DecodeError) → number * 62 ^ length later < 2 ^ 128 → ReadsPart B later (start + 10) mid new r → DecodesCounted B text old new (or_overflow (after_number number (length later) r))
+    pub decodes_later : {new : ℕ} (r : Result ℕ DecodeError) → number * 62 ^ length later < 2 ^ 128 → ReadsPart B later (start + 10) mid new r
+        → DecodesCounted B text old new (or_overflow (after_number number (length later) r))
     decodes_later {new = new} r small read_later =
-        later_answer B text ok (some_text B text after start at long) (rw at.bytes_are at short) old new later mid number more (later_is back) (rw first_is at read) r small (rw at.start_is at read_later)
+        later_answer B text ok (some_text B text after start at long) (rw at.bytes_are at short) old new later mid number more (later_is back) (rw first_is at read)
+        r small (rw at.start_is at read_later)

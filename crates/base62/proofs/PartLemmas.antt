@@ -46,7 +46,8 @@ after_number number n (Ok m) = Ok (number * 62 ^ n + m)
 after_number number n (Err fault) = Err fault
 
 -- a part is read by reading its front and then the bytes after that
-pub reads_on : (B a b : List ℕ) (start old mid new number : ℕ) (r : Result ℕ DecodeError) → HasRead B a old mid number → ReadsPart B b (start + length a) mid new r → ReadsPart B (a ++ b) start old new (after_number number (length b) r)
+pub reads_on : (B a b : List ℕ) (start old mid new number : ℕ) (r : Result ℕ DecodeError) → HasRead B a old mid number
+    → ReadsPart B b (start + length a) mid new r → ReadsPart B (a ++ b) start old new (after_number number (length b) r)
 reads_on B a b start old mid new number (Ok m) front back = record {
   letters = All-append (λ x. is_letter B x ≡ true) a b front.letters back.letters;
   value_is = rw (value-append B a b, front.value_is, back.value_is) refl;
@@ -82,7 +83,8 @@ pub read_none : (B part : List ℕ) (old : ℕ) → HasRead B (take 0 part) old 
 read_none B part old = record { letters = All-nil (λ x. is_letter B x ≡ true); value_is = sym (value-nil B); steps = omega arith }
 
 -- one byte more of a part
-pub reads_more : (B part : List ℕ) (k start old mid new number : ℕ) (r : Result ℕ DecodeError) → k < length part → HasRead B (take k part) old mid number → ReadsPart B (get_or part k 0 ∷ []) (start + k) mid new r → ReadsPart B (take (k + 1) part) start old new (after_number number 1 r)
+pub reads_more : (B part : List ℕ) (k start old mid new number : ℕ) (r : Result ℕ DecodeError) → k < length part → HasRead B (take k part) old mid number
+    → ReadsPart B (get_or part k 0 ∷ []) (start + k) mid new r → ReadsPart B (take (k + 1) part) start old new (after_number number 1 r)
 reads_more B part k start old mid new number r inside front back =
     let size : length (take k part) ≡ k = length-take-le k part (omega arith) in
     let one = reads_on B (take k part) (get_or part k 0 ∷ []) start old mid new number r front (rw size back) in
@@ -95,7 +97,8 @@ module _ (B part a : List ℕ) (k start old : ℕ) (front : a ≡ take k part) w
       subst (λ xs. HasRefused B xs start old new fault) (ap (λ xs. xs ++ drop k part) front ∙ take-append-drop k part) (refuses_before B a (drop k part) start old new fault refused)
 
   -- n bytes are behind the cut
-  pub reads_cut : (b : List ℕ) (mid new number n : ℕ) (r : Result ℕ DecodeError) → b ≡ drop k part → k + n ≡ length part → HasRead B a old mid number → ReadsPart B b (start + k) mid new r → ReadsPart B part start old new (after_number number n r)
+  pub reads_cut : (b : List ℕ) (mid new number n : ℕ) (r : Result ℕ DecodeError) → b ≡ drop k part → k + n ≡ length part → HasRead B a old mid number
+      → ReadsPart B b (start + k) mid new r → ReadsPart B part start old new (after_number number n r)
   reads_cut b mid new number n r back size read later =
       let first : length a ≡ k = ap length front ∙ length-take-le k part (omega arith) in
       let second : length b ≡ n = ap length back ∙ length-drop k part ∙ omega arith in

@@ -16,11 +16,13 @@ returns-in_err-high c = λ text at.
 pub returns-in_err-last : goal.returns-in_err-last
 returns-in_err-last c = λ text at.
     let p = err_from_is_err_and c.from_residual-in_err-last.result c.from_residual-in_err-last.ensures.1 in
-    rw (p.1, p.2) (decodes_short c.requires.tables.alphabet at c.requires.long c.requires.short c.split_at.ensures.front c.split_at.ensures.back c.in_ok-high.ensures (Err c.in_err-last.field-0.0) (omega (arith, c.if-later-le10.true)) c.in_err-last.ensures)
+    rw (p.1, p.2) (decodes_short c.requires.tables.alphabet at c.requires.long c.requires.short c.split_at.ensures.front c.split_at.ensures.back
+    c.in_ok-high.ensures (Err c.in_err-last.field-0.0) (omega (arith, c.if-later-le10.true)) c.in_err-last.ensures)
 
 pub returns-then-later-le10 : goal.returns-then-later-le10
 returns-then-later-le10 c = λ text at.
-    rw c.power.ensures (decodes_short c.requires.tables.alphabet at c.requires.long c.requires.short c.split_at.ensures.front c.split_at.ensures.back c.in_ok-high.ensures (Ok c.in_ok-last.last) (omega (arith, c.if-later-le10.true)) c.in_ok-last.ensures)
+    rw c.power.ensures (decodes_short c.requires.tables.alphabet at c.requires.long c.requires.short c.split_at.ensures.front c.split_at.ensures.back
+    c.in_ok-high.ensures (Ok c.in_ok-last.last) (omega (arith, c.if-later-le10.true)) c.in_ok-last.ensures)
 
 -- what the first ten bytes are weighed with
 weight_is : (n : ℕ) → 10 ≤ n → 62 ^ (n - 10) * 62 ^ 10 ≡ 62 ^ n
@@ -33,13 +35,15 @@ too_large n h = elim (cases_lt n (2 ^ 128)) [ inl less ↦ absurd (h less) | inr
 pub returns-in_default : goal.returns-in_default
 returns-in_default c = λ text at.
     let weight = weight_is (length c.split_at.result.1.now) (omega (arith, c.if-later-le10.false)) in
-    decodes_shown c.requires.tables.alphabet at c.requires.long c.requires.short c.split_at.ensures.front c.split_at.ensures.back c.in_ok-high.ensures (rw (c.power-2.ensures, weight) at (too_large _ c.in_default.ensures))
+    decodes_shown c.requires.tables.alphabet at c.requires.long c.requires.short c.split_at.ensures.front c.split_at.ensures.back c.in_ok-high.ensures
+    (rw (c.power-2.ensures, weight) at (too_large _ c.in_default.ensures))
 
 pub returns-in_err-low : goal.returns-in_err-low
 returns-in_err-low c = λ text at.
     let weight = weight_is (length c.split_at.result.1.now) (omega (arith, c.if-later-le10.false)) in
     let p = err_from_is_err_and c.from_residual-in_err-low.result c.from_residual-in_err-low.ensures.1 in
-    rw (p.1, p.2) (decodes_later c.requires.tables.alphabet at c.requires.long c.requires.short c.split_at.ensures.front c.split_at.ensures.back c.in_ok-high.ensures (Err c.in_err-low.field-0.0) (rw (c.power-2.ensures, weight) at c.in-Some.ensures.0) c.in_err-low.ensures)
+    rw (p.1, p.2) (decodes_later c.requires.tables.alphabet at c.requires.long c.requires.short c.split_at.ensures.front c.split_at.ensures.back
+    c.in_ok-high.ensures (Err c.in_err-low.field-0.0) (rw (c.power-2.ensures, weight) at c.in-Some.ensures.0) c.in_err-low.ensures)
 
 -- the sum where it fits, and else the overflow
 sum_or_overflow : (o : Option ℕ) (sum : ℕ) → SomeIff o (sum < 2 ^ 128) sum → ok_or o ArithmeticOverflow ≡ number_or_overflow sum
@@ -49,4 +53,6 @@ sum_or_overflow (Some n) sum h = rw (lt-ltb sum (2 ^ 128) h.0) (ap Ok h.1)
 pub returns : goal.returns
 returns c = λ text at.
     let weight = weight_is (length c.split_at.result.1.now) (omega (arith, c.if-later-le10.false)) in
-    rw (c.ok_or.ensures.value, sum_or_overflow c.checked_add.result _ c.checked_add.ensures, c.in-Some.ensures.1, c.power-2.ensures, weight) (decodes_later c.requires.tables.alphabet at c.requires.long c.requires.short c.split_at.ensures.front c.split_at.ensures.back c.in_ok-high.ensures (Ok c.in_ok-low.low) (rw (c.power-2.ensures, weight) at c.in-Some.ensures.0) c.in_ok-low.ensures)
+    rw (c.ok_or.ensures.value, sum_or_overflow c.checked_add.result _ c.checked_add.ensures, c.in-Some.ensures.1, c.power-2.ensures, weight)
+    (decodes_later c.requires.tables.alphabet at c.requires.long c.requires.short c.split_at.ensures.front c.split_at.ensures.back c.in_ok-high.ensures
+    (Ok c.in_ok-low.low) (rw (c.power-2.ensures, weight) at c.in-Some.ensures.0) c.in_ok-low.ensures)

@@ -13,10 +13,14 @@ returns-in_err-low c =
     let later = c.split_at.result.1.now in
     let same : c.chunk.new.work - 0 ≡ c.chunk.new.work = omega arith in
     let p = err_from_is_err_and c.from_residual-in_err-low.result c.from_residual-in_err-low.ensures.1 in
-    rw (p.1, p.2) (reads_cut c.args.tables.now.letters c.args.part.now c.split_at.result.0.now 10 c.args.start c.args.work.now c.split_at.ensures.front later _ _ c.in_ok-high.high (length later) (Err c.in_err-low.field-0.0) c.split_at.ensures.back (omega (arith, c.split_at.ensures.back_len)) c.in_ok-high.ensures (rw same at c.in_err-low.ensures))
+    rw (p.1, p.2) (reads_cut c.args.tables.now.letters c.args.part.now c.split_at.result.0.now 10 c.args.start c.args.work.now c.split_at.ensures.front later _ _
+    c.in_ok-high.high (length later) (Err c.in_err-low.field-0.0) c.split_at.ensures.back (omega (arith, c.split_at.ensures.back_len)) c.in_ok-high.ensures
+    (rw same at c.in_err-low.ensures))
 
 pub returns : goal.returns
 returns c =
     let later = c.split_at.result.1.now in
     let same : c.chunk.new.work - 0 ≡ c.chunk.new.work = omega arith in
-    rw c.power.ensures (reads_cut c.args.tables.now.letters c.args.part.now c.split_at.result.0.now 10 c.args.start c.args.work.now c.split_at.ensures.front later _ _ c.in_ok-high.high (length later) (Ok c.in_ok-low.low) c.split_at.ensures.back (omega (arith, c.split_at.ensures.back_len)) c.in_ok-high.ensures (rw same at c.in_ok-low.ensures))
+    rw c.power.ensures (reads_cut c.args.tables.now.letters c.args.part.now c.split_at.result.0.now 10 c.args.start c.args.work.now c.split_at.ensures.front later _
+    _ c.in_ok-high.high (length later) (Ok c.in_ok-low.low) c.split_at.ensures.back (omega (arith, c.split_at.ensures.back_len)) c.in_ok-high.ensures
+    (rw same at c.in_ok-low.ensures))

@@ -5,7 +5,8 @@ use Rattle.base62.proofs.codec.chunks.digit_at.Goals as goal
 pub returns-then-digit-gt61-clause-read : goal.returns-then-digit-gt61-clause-read
 returns-then-digit-gt61-clause-read c =
     let b = get_or c.args.part.now c.args.i 0 in
-    refused_one c.args.tables.now.letters c.requires.tables.alphabet b (c.args.start + c.args.i) c.args.work.now c.digit-digit.new.work (rw c.digit-digit.ensures.digit at c.if-digit-gt61.true) c.digit-digit.ensures.step
+    refused_one c.args.tables.now.letters c.requires.tables.alphabet b (c.args.start + c.args.i) c.args.work.now c.digit-digit.new.work
+    (rw c.digit-digit.ensures.digit at c.if-digit-gt61.true) c.digit-digit.ensures.step
 
 pub returns-clause-read : goal.returns-clause-read
 returns-clause-read c =

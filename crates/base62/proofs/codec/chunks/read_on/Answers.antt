@@ -9,7 +9,8 @@ pub loop-k-init : goal.loop-k-init
 loop-k-init c = rw add-zero (c.requires.inside, c.requires.done)
 
 -- the number after one more letter
-more : (c : goal.Else-digit-gt61) → HasRead c.args.tables.now.letters (take (c.args.done + c.loop-k.k + 1) c.args.part.now) (c.args.work.now - c.args.done) c.digit-digit.new.work (c.loop-k.total * 62 + c.digit-digit.result)
+more : (c : goal.Else-digit-gt61) → HasRead c.args.tables.now.letters (take (c.args.done + c.loop-k.k + 1) c.args.part.now) (c.args.work.now - c.args.done)
+    c.digit-digit.new.work (c.loop-k.total * 62 + c.digit-digit.result)
 more c =
     let B = c.args.tables.now.letters in
     let b = get_or c.args.part.now (c.args.done + c.loop-k.k) 0 in
@@ -25,7 +26,8 @@ overflow_mul-total c =
 pub overflow_add-total : goal.overflow_add-total
 overflow_add-total c =
     let size = length-take-le (c.args.done + c.loop-k.k + 1) c.args.part.now (omega arith) in
-    let below = read_below c.args.tables.now.letters (take (c.args.done + c.loop-k.k + 1) c.args.part.now) _ _ (c.loop-k.total * 62 + c.digit-digit.result) 10 c.requires.tables.alphabet (more c) (omega arith) in
+    let below = read_below c.args.tables.now.letters (take (c.args.done + c.loop-k.k + 1) c.args.part.now) _ _ (c.loop-k.total * 62 + c.digit-digit.result) 10
+    c.requires.tables.alphabet (more c) (omega arith) in
     omega (arith, below)
 
 pub loop-k-preserved : goal.loop-k-preserved

@@ -12,10 +12,9 @@ use std::snapshot::Snapshot;
 /// A counter of the steps that calls take: a step is one reading of a byte's digit, of a digit's letter, or of
 /// the letters of two digits at once.
 ///
-/// It is for a caller that must bound its work, as a server that decodes what it is sent: the counted calls,
-/// as [`decode_counted`](crate::decode_counted), say how far they move it on. Contracts see it as the number of
-/// steps, which has no bound, so there is no last value. When the program runs it takes no bytes, and nothing
-/// can be read from it.
+/// It is for a caller that must bound its work, such as a server that decodes what it is sent: counted calls such as
+/// [`decode_counted`](crate::decode_counted) say how far they move it on. Contracts see it as the number of steps,
+/// which has no bound. When the program runs it takes no bytes, and nothing can be read from it.
 ///
 /// ```rust
 /// let mut work = base62::Work::new();
@@ -98,7 +97,7 @@ impl Tables {
         ensures step { work.new ≡ work.old + 1 }
     {
         work.tick();
-        // The number stays as it is.
+        // The mask changes nothing: it shows that both places are within the letters.
         let number = number & 0xfff;
         let quotient = number / 62;
         let first = self.letters[quotient as usize];

@@ -38,7 +38,7 @@ pub fn encode_bytes<T: Number>(num: T, buf: &mut [u8]) -> Result<usize, EncodeEr
     encode_bytes_counted(num, buf, &mut Work::new())
 }
 
-/// As [`encode_bytes`], over the alternative alphabet: `0` to `9`, `a` to `z`, `A` to `Z`.
+/// As [`encode_bytes`], over the alternative alphabet.
 ///
 /// ```rust
 /// let mut buf = [0u8; 22];
@@ -53,8 +53,8 @@ pub fn encode_alternative_bytes<T: Number>(num: T, buf: &mut [u8]) -> Result<usi
 
 /// The answer of [`encode_bytes`], with the steps of writing the text counted.
 ///
-/// A step is one reading of a letter, or of two at once, and `work` goes on from where it stood. A text of 1 or
-/// 2 letters takes one, of 10 to 12 seven, and of 22 thirteen, which is the most; a refused call takes none.
+/// `work` goes on from where it stood. A text of 1 or 2 letters takes one step, of 10 to 12 seven, and of 21 or 22
+/// thirteen, which is the most. A refused call takes none.
 ///
 /// ```rust
 /// let mut work = base62::Work::new();
@@ -132,10 +132,9 @@ pub fn decode_alternative(input: &[u8]) -> Result<u128, DecodeError>
 
 /// The answer of [`decode`], with the steps of reading `input` counted.
 ///
-/// A step is one reading of a byte's digit, and `work` goes on from where it stood. An empty text and one of
-/// more than 22 bytes after its leading zeros take none. An overflow that the first ten bytes after those
-/// show takes ten. Any other text takes one for each byte after its leading zeros, up to and with the first
-/// that is no letter. So no text takes more than 22.
+/// `work` goes on from where it stood. An empty text and one of more than 22 bytes after its leading zeros take no
+/// step. An overflow that the first ten bytes after those show takes ten. Any other text takes one step for each
+/// byte after its leading zeros, up to and with the first that is no letter. So no text takes more than 22.
 ///
 /// ```rust
 /// let mut work = base62::Work::new();

@@ -70,7 +70,7 @@ pub fn digit_count(n: u128) -> usize
     }
 }
 
-// The highest bit tells the number of letters but for one more, since a digit is six bits and a little less.
+// A letter holds a little less than six bits, so the highest bit tells the number of letters, or one too few.
 #[inline(always)]
 fn narrow_count(n: u64) -> usize
     ensures { HasLetters n result }

@@ -72,8 +72,7 @@ impl fmt::Display for EncodeError {
 
 impl error::Error for EncodeError {}
 
-// Writes the byte as the definition shows it. Plain writes, here and in what follows, for `write!` promises
-// nothing of a formatter that has a width.
+// Writes the byte as the definition shows it, by plain writes, as all that follows.
 #[tactic(auto, unfolding(crate::specs::Fault::escaped))]
 fn write_escaped<W: fmt::Write>(byte: u8, f: &mut fmt::Formatter<W>) -> fmt::Result
     ensures writes { WritesOnOk W.write_str_gives f.old result (escaped byte) f.new }

@@ -28,8 +28,7 @@ pub fn built_in_alphabets()
     ensures alternative { IsAlphabet alternative }
 {}
 
-/// Over any alphabet each number below 2^128 has a canonical text, which is a shortest nonempty text of
-/// letters that denotes it, and has only one, of 1 to 22 letters. A text of letters is the canonical text
+/// Over any alphabet each number below 2^128 has a canonical text, and only one, of 1 to 22 letters. A text of letters is the canonical text
 /// of its value exactly where it has one letter, or more of which the first is not the zero letter.
 pub fn one_text()
     ensures exists { (B : List ℕ) → IsAlphabet B → (n : ℕ) → n < 2 ^ 128
@@ -85,8 +84,8 @@ pub fn exchange_of_case()
         → decoding alternative text ≡ decoding standard (exchange_case text) }
 {}
 
-/// Over any alphabet each number below 62^22 has a key, which is a text of exactly 22 letters that denotes it,
-/// and has only one. Decoding gives back the number below 2^128 of its key.
+/// Over any alphabet each number below 62^22 has a key, and only one. Decoding gives back the number below 2^128
+/// of its key.
 #[tactic(auto, using(crate::proofs::KeyLemmas::some_key, crate::proofs::KeyLemmas::one_key, crate::proofs::KeyLemmas::key_decodes))]
 pub fn keys()
     ensures exists { (B : List ℕ) → IsAlphabet B → (n : ℕ) → n < 62 ^ 22
@@ -113,8 +112,8 @@ pub fn order_of_texts()
 {}
 
 /// Over any alphabet a front of a key is at most 22 letters. The key of a number below 2^128 begins with a front of
-/// at most 22 letters exactly where the number is in the front's interval. The numbers from the one end of an interval to the other are those in
-/// it, so its ends are the least and the greatest of them, and there are none exactly where it is empty.
+/// at most 22 letters exactly where the number is in the front's interval. The numbers from the one end of an
+/// interval to the other are those in it, and there are no ends exactly where it is empty.
 pub fn fronts()
     ensures letters { (B front key : List ℕ) (n : ℕ) → IsKey B key n → BeginsWith front key
         → AreLetters B front × (length front ≤ 22) }

@@ -8,14 +8,15 @@
 //!
 //! ```rust
 //! let mut buf = [0u8; 22];
-//! assert_eq!(rt; base62::encode_bytes(1337_u64, &mut buf), Ok(2));
-//! assert_eq!(rt; &buf[..2], b"LZ".as_slice());
-//! assert_eq!(rt; base62::decode(b"LZ"), Ok(1337));
+//! let len = base62::encode_bytes(1337_u64, &mut buf).unwrap();
+//! assert_eq!(rt; base62::decode(&buf[..len]), Ok(1337));
 //! ```
 //!
 //! The text goes into a buffer ([`encode_bytes`]), a `String` ([`encode`], [`encode_buf`]), a writer
-//! ([`encode_io`]) or a format string ([`encode_fmt`]), and each of these has a twin over the alternative
-//! alphabet. [`encode_key`] makes texts of a fixed length, which sort as their numbers.
+//! ([`encode_io`]) or a format string ([`encode_fmt`]). Each of these, and [`decode`], has a twin over the
+//! alternative alphabet. [`encode_key`] makes texts of a fixed length, which sort as their numbers.
+//! [`encode_bytes_counted`] and [`decode_counted`] count their steps on a [`Work`], for a caller that must bound
+//! them.
 #![tactic(auto)]
 
 pub mod alphabet;

@@ -70,6 +70,7 @@ fn count_zeros(tables: &Tables, input: &[u8]) -> usize
     ensures within { result ≤ length input.now }
     ensures zeros { result ≡ leading_zeros tables.now.letters input.now }
 {
+    // Most texts have none, and need no loop to tell.
     if !tables.is_zero(input[0]) {
         return 0;
     }
@@ -100,8 +101,9 @@ fn above_10(
     let (first, later) = rest.split_at(10);
     let high = ten_digits(tables, first, start, work)?;
     if later.len() <= 10 {
+        let high = high as u128 * power(later.len()) as u128;
         let last = chunk(tables, later, start + 10, work)?;
-        return Ok(high as u128 * power(later.len()) as u128 + last as u128);
+        return Ok(high + last as u128);
     }
     let weight = power(later.len() - 10) as u128 * POWER_10 as u128;
     let Some(high) = (high as u128).checked_mul(weight) else {

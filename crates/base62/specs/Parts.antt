@@ -1,10 +1,10 @@
 -- What reading a part of a text answers: its value, or its first byte that is no letter.
 use Rattle.std.specs.Prelude.{◌≡◌, ℕ, ◌+◌, ◌<◌, List, length, slice_index, Result, Ok, Err}
-use Rattle.std.specs.List.{prefix_len}
 use Rattle.base62.specs.declared.fault.DecodeError.{DecodeError}
 use Rattle.base62.specs.declared.fault.DecodeError.TheVariants.{InvalidBase62Byte}
-use Rattle.base62.specs.Alphabet.{AreLetters, is_letter}
+use Rattle.base62.specs.Alphabet.{AreLetters}
 use Rattle.base62.specs.Value.{value}
+use Rattle.base62.specs.Decoding.{invalid_index}
 use Rattle.base62.specs.Decoding.{leading_zeros, rest}
 
 -- the part is letters alone and has this value, and each took a step
@@ -16,9 +16,9 @@ pub record HasRead (B part : List ℕ) (old new number : ℕ) : Type 0 where
 -- the fault names the first byte of the part that is no letter, with its index in the text, where the part begins
 -- at start; that byte and each before it took a step
 pub record HasRefused (B part : List ℕ) (start old new : ℕ) (fault : DecodeError) : Type 0 where
-  pub within : prefix_len (is_letter B) part < length part
-  pub names : fault ≡ InvalidBase62Byte (slice_index part (prefix_len (is_letter B) part)) (start + prefix_len (is_letter B) part)
-  pub steps : new ≡ old + prefix_len (is_letter B) part + 1
+  pub within : invalid_index B part < length part
+  pub names : fault ≡ InvalidBase62Byte (slice_index part (invalid_index B part)) (start + invalid_index B part)
+  pub steps : new ≡ old + invalid_index B part + 1
 
 -- one of the two, while the counter grows from old to new
 abbrev pub ReadsPart : List ℕ → List ℕ → ℕ → ℕ → ℕ → Result ℕ DecodeError → Type 0

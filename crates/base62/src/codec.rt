@@ -20,6 +20,10 @@ use kernels::write_text;
 // No number below 2^128 has a longer text.
 pub(crate) const MAX_DIGITS: usize = 22;
 
+const POWER_5: u64 = 916132832;
+
+const POWER_10: u64 = 839299365868340224;
+
 /// Writes the standard text of `num` to the front of `buf`, and answers its length, which is 1 to 22.
 ///
 /// The text is the shortest nonempty one of the letters `0` to `9`, `A` to `Z`, `a` to `z`, in that order

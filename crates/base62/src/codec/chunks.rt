@@ -6,13 +6,9 @@ ghost use Rattle.base62.specs.Steps.{DecodesCounted};
 ghost use Rattle.base62.specs.Parts.{IsAfterZeros, ReadsPart};
 ghost use Rattle.base62.specs.Tables.{AreTables};
 
-use super::MAX_DIGITS;
+use super::{MAX_DIGITS, POWER_5, POWER_10};
 use crate::alphabet::{Tables, Work};
 use crate::fault::DecodeError;
-
-const POWER_5: u64 = 916132832;
-
-const POWER_10: u64 = 839299365868340224;
 
 static POWERS: [u64; 11] = [
     1,

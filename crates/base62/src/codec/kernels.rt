@@ -9,15 +9,12 @@ ghost use Rattle.base62.specs.Fixed.{WritesFixed};
 ghost use Rattle.base62.specs.Steps.{encoding_steps};
 ghost use Rattle.base62.specs.Tables.{AreTables};
 
+use super::{POWER_5, POWER_10};
 use crate::alphabet::{Tables, Work};
 
 const POWER_2: u32 = 3844;
 
 const POWER_4: u32 = 14776336;
-
-const POWER_5: u64 = 916132832;
-
-const POWER_10: u64 = 839299365868340224;
 
 // The text of a number, of which the number of letters is given.
 #[inline(always)]

@@ -1,6 +1,6 @@
 //! Numbers and their texts over both alphabets, both ways, and the inputs that are refused.
 
-use crate::alphabets::{BOTH, BuiltIn, texts};
+use crate::alphabets::{BOTH, BuiltIn, plain_letters, texts};
 use base62::DecodeError::{ArithmeticOverflow, EmptyInput, InvalidBase62Byte};
 use base62::EncodeError::BufferTooSmall;
 use base62::{DecodeError, Number, Work};
@@ -41,6 +41,22 @@ pub(crate) fn assert_encodes<T: Number + Copy>(
             "encoding to {text:?} in {length} bytes, {alphabet:?}"
         );
     }
+}
+
+// The table of texts is that of a plain digit loop, but for the zeros that this has in front.
+#[test]
+fn texts_by_division(rt: HostRuntime) -> Result<(), Fail> {
+    for (alphabet, number, text) in &texts(&rt)? {
+        let letters = plain_letters(*alphabet, *number);
+        let zeros = "0".repeat(rt.alloc(), 22_usize.saturating_sub(text.len()))?;
+        let wanted = format!(in rt.alloc(); "{zeros}{text}")?;
+        assert_eq!(rt;
+            letters.as_slice(),
+            wanted.as_bytes(),
+            "{number}, {alphabet:?}"
+        );
+    }
+    Ok(())
 }
 
 // A number below 2^64 is encoded as each of the two types.

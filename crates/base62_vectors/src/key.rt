@@ -1,24 +1,12 @@
 //! Keys, which sort as their numbers, and the ranges of the keys that begin alike.
 
-use crate::alphabets::BuiltIn;
+use crate::alphabets::{BuiltIn, plain_letters};
 use base62::DecodeError::InvalidBase62Byte;
 use base62::{decode, encode_key, key_range};
 use std::alloc::{AllocError, Global};
 use std::cmp::Ordering;
 use std::process::Abort;
 use std::test::Fail;
-
-// The key of a number by repeated division: 22 digits, the last one first.
-fn plain_key(number: u128) -> [u8; 22] {
-    let letters = BuiltIn::Standard.letters();
-    let mut key = [b'0'; 22];
-    let mut left = number;
-    for place in 1..=22 {
-        key[22 - place] = letters[(left % 62) as usize];
-        left /= 62;
-    }
-    key
-}
 
 // Keys go by the first byte in which they differ.
 fn plain_order(one: &[u8; 22], other: &[u8; 22]) -> Ordering {
@@ -120,7 +108,7 @@ fn keys_of_numbers(rt: HostRuntime) {
 #[test]
 fn keys_by_division(rt: HostRuntime) -> Result<(), Fail> {
     for number in &numbers(&rt, 3000)? {
-        let key = plain_key(*number);
+        let key = plain_letters(BuiltIn::Standard, *number);
         assert_eq!(rt; encode_key(*number), key, "the key of {number}");
         assert_eq!(rt; decode(&key), Ok(*number), "decoding the key of {number}");
         if let Ok(small) = u64::try_from(*number) {
@@ -192,7 +180,9 @@ fn ranges_of_fronts(rt: HostRuntime) {
 
 fn assert_begins(rt: &impl Abort, number: u128, front: &[u8], begins: bool) {
     assert_eq!(rt;
-        plain_key(number).as_slice().starts_with(front),
+        plain_letters(BuiltIn::Standard, number)
+            .as_slice()
+            .starts_with(front),
         begins,
         "does the key of {number} begin with {front:?}"
     );
@@ -230,7 +220,7 @@ fn assert_range(rt: &impl Abort, front: &[u8], number: u128) {
 fn ranges_by_plain_keys(rt: HostRuntime) -> Result<(), Fail> {
     for number in &numbers(&rt, 60)? {
         let mut letters = [b'0'; 24];
-        letters[..22].copy_from_slice(&plain_key(*number));
+        letters[..22].copy_from_slice(&plain_letters(BuiltIn::Standard, *number));
         for length in 0..=24_usize {
             assert_range(&rt, &letters[..length], *number);
             let Some(last) = length.checked_sub(1) else {

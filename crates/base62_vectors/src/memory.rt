@@ -11,11 +11,15 @@ const STANDARD: &str = "7n42DGM5Tflk9n8mt7Fhc7";
 
 const EARLIER: &str = "Base62: ";
 
+// Room is asked for a text and no more, though a string that grows may double.
+const MOST_ROOM: usize = 44;
+
 fn is_text_refused(rt: &(impl Abort + AllocGlobal), alphabet: BuiltIn, wanted: &str) -> bool {
     let Ok(text) = alphabet.text(rt.alloc(), u128::MAX) else {
         return true;
     };
     assert_eq!(rt; text.as_str(), wanted, "{alphabet:?}");
+    assert!(rt; text.capacity() <= MOST_ROOM, "{alphabet:?}");
     false
 }
 
@@ -36,6 +40,7 @@ fn is_append_refused(rt: &impl Abort, alphabet: BuiltIn, number: u64, text: &mut
         return true;
     }
     assert_eq!(rt; added, "Base62", "{alphabet:?}");
+    assert!(rt; text.capacity() <= MOST_ROOM, "{alphabet:?}");
     false
 }
 

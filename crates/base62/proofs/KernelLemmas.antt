@@ -86,7 +86,7 @@ letter_front B old (suc zero) x letter room few small is =
 letter_front B old (suc (suc v)) x letter room few small is = absurd (omega arith)
 
 -- two letters
-pub pair_written : (B old : List ℕ) (x first second : ℕ) → 2 ≤ length old → x < 62 ^ 2
+pair_written : (B old : List ℕ) (x first second : ℕ) → 2 ≤ length old → x < 62 ^ 2
     → first ≡ get_or B (x / 62) 0 → second ≡ get_or B (x % 62) 0 → WritesFixed B 2 x old (set (set old 0 first) 1 second)
 unfolding fixed
 pair_written B [] x first second room small one two = absurd (omega arith)

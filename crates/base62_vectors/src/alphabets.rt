@@ -3,7 +3,8 @@
 use base62::{
     DecodeError, EncodeError, Number, Work, decode, decode_alternative, decode_alternative_counted,
     decode_counted, encode, encode_alternative, encode_alternative_buf, encode_alternative_bytes,
-    encode_alternative_io, encode_buf, encode_bytes, encode_fmt, encode_fmt_alt, encode_io,
+    encode_alternative_bytes_counted, encode_alternative_io, encode_buf, encode_bytes,
+    encode_bytes_counted, encode_fmt, encode_fmt_alt, encode_io,
 };
 use std::alloc::{AllocError, Global};
 use std::io::{self, Write};
@@ -41,6 +42,18 @@ impl BuiltIn {
         match self {
             BuiltIn::Standard => encode_bytes(number, buffer),
             BuiltIn::Alternative => encode_alternative_bytes(number, buffer),
+        }
+    }
+
+    pub(crate) fn encode_counted<T: Number>(
+        self,
+        number: T,
+        buffer: &mut [u8],
+        work: &mut Work,
+    ) -> Result<usize, EncodeError> {
+        match self {
+            BuiltIn::Standard => encode_bytes_counted(number, buffer, work),
+            BuiltIn::Alternative => encode_alternative_bytes_counted(number, buffer, work),
         }
     }
 
@@ -96,7 +109,7 @@ pub(crate) fn in_both<T>(standard: T, alternative: T) -> [(BuiltIn, T); 2] {
 }
 
 // Each number with its standard and its alternative text.
-const NUMBERS: [(u128, &str, &str); 17] = [
+const NUMBERS: [(u128, &str, &str); 19] = [
     (0, "0", "0"),
     (1, "1", "1"),
     (2, "2", "2"),
@@ -108,7 +121,9 @@ const NUMBERS: [(u128, &str, &str); 17] = [
     (18446744073709551615, "LygHa16AHYF", "lYGhA16ahyf"),
     (18446744073709551616, "LygHa16AHYG", "lYGhA16ahyg"),
     (18446744073709551617, "LygHa16AHYH", "lYGhA16ahyh"),
-    // The lower digits are all zero.
+    // The lower digits are all zero: below 2^64, above it, and in the longest texts.
+    (17625286683235144704, "L0000000000", "l0000000000"),
+    (18464586049103484928, "M0000000000", "m0000000000"),
     (
         92202686130861137968548313400401640448,
         "26tF05fvSIgh0000000000",

@@ -11,7 +11,7 @@ use std::test::Fail;
 const FILLER: u8 = 0xa5;
 
 // Into a buffer of each length: the text comes at its front with no other byte written, or it is too short and no byte
-// is written.
+// is written. So does the counted call.
 pub(crate) fn assert_encodes<T: Number + Copy>(
     rt: &impl Abort,
     alphabet: BuiltIn,
@@ -30,16 +30,20 @@ pub(crate) fn assert_encodes<T: Number + Copy>(
         };
         let mut bytes = untouched;
         let outcome = alphabet.encode(number, &mut bytes[..length]);
-        assert_eq!(rt;
-            outcome,
-            answer,
-            "encoding to {text:?} in {length} bytes, {alphabet:?}"
-        );
-        assert_eq!(rt;
-            bytes,
-            wanted,
-            "encoding to {text:?} in {length} bytes, {alphabet:?}"
-        );
+        let mut counted = untouched;
+        let again = alphabet.encode_counted(number, &mut counted[..length], &mut Work::new());
+        for (outcome, bytes) in [(outcome, bytes), (again, counted)] {
+            assert_eq!(rt;
+                outcome,
+                answer,
+                "encoding to {text:?} in {length} bytes, {alphabet:?}"
+            );
+            assert_eq!(rt;
+                bytes,
+                wanted,
+                "encoding to {text:?} in {length} bytes, {alphabet:?}"
+            );
+        }
     }
 }
 

@@ -1,4 +1,4 @@
-//! Tests of `base62` by topic, against values from outside, and two counted calls whose contracts state the
+//! Tests of `base62` by topic, against values from outside, and counted calls whose contracts state the
 //! answer and the steps.
 #![tactic(auto)]
 

@@ -47,12 +47,8 @@ fn narrow(tables: &Tables, n: u64, count: usize, buf: &mut [u8], work: &mut Work
         let quotient = n / POWER_10;
         // For ten letters the first is written over.
         buf[0] = tables.letter(quotient as u32, work);
-        ten(
-            tables,
-            n - quotient * POWER_10,
-            &mut buf[count - 10..],
-            work,
-        );
+        let rest = n - quotient * POWER_10;
+        ten(tables, rest, &mut buf[count - 10..], work);
     }
 }
 
@@ -145,9 +141,7 @@ fn two(tables: &Tables, x: u32, buf: &mut [u8], work: &mut Work)
     ensures written { WritesFixed tables.now.letters 2 x buf.old buf.new }
     ensures steps { work.new ≡ work.old + 1 }
 {
-    let (first, second) = tables.pair(x, work);
-    buf[0] = first;
-    buf[1] = second;
+    ends(tables, x, 2, buf, work);
 }
 
 // Four letters.

@@ -1,0 +1,15 @@
+use Rattle.std.proofs.Common.{codes, refl, inr, arith}
+use Rattle.base62.specs.Alphabet.{standard, digit_of}
+use Rattle.base62.specs.Places.{sum_over_places}
+use Rattle.base62.specs.Value.{value}
+use Rattle.base62_vectors.proofs.CountedLemmas.{uncounted}
+use Rattle.base62_vectors.proofs.steps.two_letters_in_one_byte.Goals as goal
+
+pub returns : goal.returns
+unfolding standard digit_of sum_over_places value
+returns c =
+    let law = c.one_text.ensures in
+    let call = c.encode_bytes_counted-answer in
+    let known = uncounted c.built_in_alphabets.ensures.standard law.only law.which (codes "LZ") refl (omega arith, inr (λ e. omega arith)) in
+    let both = known _ _ _ _ c.new-work.ensures call.result (omega arith) call.ensures in
+    record { answer = both.0; steps = both.1 }

@@ -1,0 +1,16 @@
+use Rattle.std.proofs.Common.{codes, refl, inl, arith}
+use Rattle.base62.specs.Alphabet.{standard, digit_of}
+use Rattle.base62.specs.Places.{sum_over_places}
+use Rattle.base62.specs.Value.{value}
+use Rattle.base62.specs.Steps.{encoding_steps}
+use Rattle.base62_vectors.proofs.CountedLemmas.{counted}
+use Rattle.base62_vectors.proofs.steps.zero_in_22_bytes.Goals as goal
+
+pub returns : goal.returns
+unfolding standard digit_of sum_over_places value encoding_steps
+returns c =
+    let law = c.one_text.ensures in
+    let call = c.encode_bytes_counted-answer in
+    let known = counted c.built_in_alphabets.ensures.standard law.only law.which (codes "0") refl (omega arith, inl refl) in
+    let both = known _ _ _ _ c.new-work.ensures call.result (omega arith) call.ensures in
+    record { answer = both.0; steps = both.1 }

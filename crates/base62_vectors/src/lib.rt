@@ -9,7 +9,11 @@ mod codec;
 #[cfg(test)]
 mod count;
 #[cfg(test)]
+mod failing;
+#[cfg(test)]
 mod fault;
+#[cfg(test)]
+mod hostile;
 #[cfg(test)]
 mod key;
 #[cfg(test)]
@@ -18,6 +22,10 @@ mod laws;
 mod memory;
 #[cfg(test)]
 mod number;
+#[cfg(test)]
+mod plain;
+#[cfg(test)]
+mod random;
 #[cfg(test)]
 mod show;
 pub mod steps;

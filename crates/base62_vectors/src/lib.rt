@@ -1,5 +1,5 @@
-//! Tests of `base62` by topic, against values from outside, and counted calls whose contracts state the
-//! answer and the steps.
+//! Tests of `base62` by topic, against values from outside and plain code, and counted calls whose contracts
+//! state the answer and the steps.
 #![tactic(auto)]
 
 #[cfg(test)]

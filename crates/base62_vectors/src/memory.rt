@@ -14,22 +14,17 @@ const EARLIER: &str = "Base62: ";
 // Room is asked for a text and no more, though a string that grows may double.
 const MOST_ROOM: usize = 44;
 
-// A refused call is made again.
 fn is_text_refused(rt: &(impl Abort + AllocGlobal), alphabet: BuiltIn, wanted: &str) -> bool {
-    let first = alphabet.text(rt.alloc(), u128::MAX);
-    let is_refused = first.is_err();
-    let text = if is_refused {
-        alphabet.text(rt.alloc(), u128::MAX)
-    } else {
-        first
+    let Ok(text) = alphabet.text(rt.alloc(), u128::MAX) else {
+        return true;
     };
-    let text = text.expect(rt, "one request alone is refused");
     assert_eq!(rt; text.as_str(), wanted, "{alphabet:?}");
     assert!(rt; text.capacity() <= MOST_ROOM, "{alphabet:?}");
-    is_refused
+    false
 }
 
-// The number's text in the alphabet is `Base62`. A refused call leaves the earlier text as it was, and is made again.
+// The number's text in the alphabet is `Base62`. A refused call leaves the earlier text as it was,
+// and serves then as any other.
 fn is_append_refused(rt: &impl Abort, alphabet: BuiltIn, number: u64, text: &mut String) -> bool {
     assert_eq!(rt;
         text.capacity(),

@@ -55,6 +55,13 @@ fn line_of_each_length(rt: HostRuntime) -> Result<(), Fail> {
     Ok(())
 }
 
+// A difference is not shown, since these outputs are too long for a message.
+fn assert_long(rt: &(impl Abort + AllocGlobal), input: &[u8], output: &[u8]) -> Result<(), Fail> {
+    let written = answers(rt.alloc(), input)?;
+    assert!(rt; written.as_slice() == output);
+    Ok(())
+}
+
 // The lines come in an order that no shift repeats.
 #[test]
 fn lines_across_reads(rt: HostRuntime) -> Result<(), Fail> {
@@ -72,16 +79,12 @@ fn lines_across_reads(rt: HostRuntime) -> Result<(), Fail> {
             "a line ends at {taken}"
         );
     }
-    assert_eq!(rt; answers(rt.alloc(), input.as_slice())?, output);
-    Ok(())
+    assert_long(&rt, input.as_slice(), output.as_slice())
 }
 
 #[test]
 fn empty_lines(rt: HostRuntime) -> Result<(), Fail> {
     let input = "\n".repeat(rt.alloc(), 1_000_000)?;
     let output = "fault: unknown command\n".repeat(rt.alloc(), 1_000_000)?;
-    let written = answers(rt.alloc(), input.as_bytes())?;
-    // A difference is not worth 23 million bytes of message.
-    assert!(rt; written.as_slice() == output.as_bytes());
-    Ok(())
+    assert_long(&rt, input.as_bytes(), output.as_bytes())
 }

@@ -9,7 +9,7 @@ use std::test::Fail;
 const ROOM: usize = 128;
 
 // The input and the output stand in fixed arrays, so that each request for memory is the run's.
-fn is_refused_once(rt: &(impl Abort + AllocGlobal), input: &[u8], output: &str) -> bool {
+fn is_refused(rt: &(impl Abort + AllocGlobal), input: &[u8], output: &str) -> bool {
     let mut room = [0u8; ROOM];
     let mut writer = room.as_mut_slice();
     let mut reader = input;
@@ -28,15 +28,6 @@ fn is_refused_once(rt: &(impl Abort + AllocGlobal), input: &[u8], output: &str) 
         }
     }
     outcome.is_err()
-}
-
-// A refused run leaves nothing that a second run, which no request is refused, would meet.
-fn is_refused(rt: &(impl Abort + AllocGlobal), input: &[u8], output: &str) -> bool {
-    let is_refused = is_refused_once(rt, input, output);
-    if is_refused {
-        assert!(rt; !is_refused_once(rt, input, output), "again {input:?}");
-    }
-    is_refused
 }
 
 // Says which run was refused memory, for `.ci/refused-memory`, which has each request refused in turn and

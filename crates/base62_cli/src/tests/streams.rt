@@ -218,9 +218,9 @@ fn no_read_after_the_end(rt: HostRuntime) -> Result<(), Fail> {
         (["enc 1337\n", "", "foo\n", "foo\n"], 2, "LZ\n"),
         // The end is met within a line.
         (["enc 13", "37", "", "0\n"], 1, "LZ\n"),
-        // A line end comes alone, and an empty line with the next line.
+        // A line end comes alone, and then an empty line.
         (
-            ["enc 1337", "\n", "\nenc 62", "\n"],
+            ["enc 1337", "\n", "\n", "enc 62"],
             0,
             "LZ\nfault: unknown command\n10\n",
         ),

@@ -1,10 +1,12 @@
-//! The two alphabets, and numbers with their texts.
+//! Alphabets with the calls over them, and numbers with their texts.
 
 use base62::{
-    DecodeError, EncodeError, Number, Work, decode, decode_alternative, decode_alternative_counted,
-    decode_counted, encode, encode_alternative, encode_alternative_buf, encode_alternative_bytes,
-    encode_alternative_bytes_counted, encode_alternative_io, encode_buf, encode_bytes,
-    encode_bytes_counted, encode_fmt, encode_fmt_alt, encode_io,
+    Alphabet, DecodeError, EncodeError, Number, Work, decode, decode_alternative,
+    decode_alternative_counted, decode_counted, decode_with, decode_with_counted, encode,
+    encode_alternative, encode_alternative_buf, encode_alternative_bytes,
+    encode_alternative_bytes_counted, encode_alternative_io, encode_buf, encode_buf_with,
+    encode_bytes, encode_bytes_counted, encode_bytes_with, encode_bytes_with_counted, encode_fmt,
+    encode_fmt_alt, encode_fmt_with, encode_io, encode_io_with, encode_with,
 };
 use std::alloc::{AllocError, Global};
 use std::io::{self, Write};
@@ -17,21 +19,46 @@ static STANDARD_LETTERS: [u8; 62] =
 static ALTERNATIVE_LETTERS: [u8; 62] =
     *b"0123456789abcdefghijklmnopqrstuvwxyzABCDEFGHIJKLMNOPQRSTUVWXYZ";
 
-// A built-in alphabet, with the calls over it.
+// The standard letters from the last to the first.
+static DESCENDING_LETTERS: [u8; 62] =
+    *b"zyxwvutsrqponmlkjihgfedcbaZYXWVUTSRQPONMLKJIHGFEDCBA9876543210";
+
+// The bytes from 255 down, of which none is ASCII.
+static WIDE_LETTERS: [u8; 62] =
+    *b"\xff\xfe\xfd\xfc\xfb\xfa\xf9\xf8\xf7\xf6\xf5\xf4\xf3\xf2\xf1\xf0\xef\xee\xed\xec\xeb\xea\xe9\xe8\xe7\xe6\xe5\xe4\xe3\xe2\xe1\
+    \xe0\xdf\xde\xdd\xdc\xdb\xda\xd9\xd8\xd7\xd6\xd5\xd4\xd3\xd2\xd1\xd0\xcf\xce\xcd\xcc\xcb\xca\xc9\xc8\xc7\xc6\xc5\xc4\xc3\xc2";
+
+// An alphabet, with the calls over it: the built-in ones, and two of the caller's own.
 #[derive(Clone, Copy, Debug)]
-pub(crate) enum BuiltIn {
+pub(crate) enum Letters {
     Standard,
     Alternative,
+    Descending,
+    Wide,
 }
 
-pub(crate) const BOTH: [BuiltIn; 2] = [BuiltIn::Standard, BuiltIn::Alternative];
+pub(crate) const BOTH: [Letters; 2] = [Letters::Standard, Letters::Alternative];
 
-impl BuiltIn {
+pub(crate) const ALL: [Letters; 4] = [
+    Letters::Standard,
+    Letters::Alternative,
+    Letters::Descending,
+    Letters::Wide,
+];
+
+impl Letters {
     pub(crate) fn letters(self) -> &'static [u8; 62] {
         match self {
-            BuiltIn::Standard => &STANDARD_LETTERS,
-            BuiltIn::Alternative => &ALTERNATIVE_LETTERS,
+            Letters::Standard => &STANDARD_LETTERS,
+            Letters::Alternative => &ALTERNATIVE_LETTERS,
+            Letters::Descending => &DESCENDING_LETTERS,
+            Letters::Wide => &WIDE_LETTERS,
         }
+    }
+
+    // No byte is repeated. If one were, other texts than those wanted would come.
+    fn own(self) -> Alphabet {
+        Alphabet::new(*self.letters()).unwrap_or(Alphabet::standard())
     }
 
     pub(crate) fn encode<T: Number>(
@@ -40,8 +67,9 @@ impl BuiltIn {
         buffer: &mut [u8],
     ) -> Result<usize, EncodeError> {
         match self {
-            BuiltIn::Standard => encode_bytes(number, buffer),
-            BuiltIn::Alternative => encode_alternative_bytes(number, buffer),
+            Letters::Standard => encode_bytes(number, buffer),
+            Letters::Alternative => encode_alternative_bytes(number, buffer),
+            _ => encode_bytes_with(&self.own(), number, buffer),
         }
     }
 
@@ -52,59 +80,95 @@ impl BuiltIn {
         work: &mut Work,
     ) -> Result<usize, EncodeError> {
         match self {
-            BuiltIn::Standard => encode_bytes_counted(number, buffer, work),
-            BuiltIn::Alternative => encode_alternative_bytes_counted(number, buffer, work),
+            Letters::Standard => encode_bytes_counted(number, buffer, work),
+            Letters::Alternative => encode_alternative_bytes_counted(number, buffer, work),
+            _ => encode_bytes_with_counted(&self.own(), number, buffer, work),
         }
     }
 
     pub(crate) fn decode(self, text: &[u8]) -> Result<u128, DecodeError> {
         match self {
-            BuiltIn::Standard => decode(text),
-            BuiltIn::Alternative => decode_alternative(text),
+            Letters::Standard => decode(text),
+            Letters::Alternative => decode_alternative(text),
+            _ => decode_with(&self.own(), text),
         }
     }
 
     pub(crate) fn decode_counted(self, text: &[u8], work: &mut Work) -> Result<u128, DecodeError> {
         match self {
-            BuiltIn::Standard => decode_counted(text, work),
-            BuiltIn::Alternative => decode_alternative_counted(text, work),
+            Letters::Standard => decode_counted(text, work),
+            Letters::Alternative => decode_alternative_counted(text, work),
+            _ => decode_with_counted(&self.own(), text, work),
         }
     }
 
-    pub(crate) fn text<T: Number>(self, alloc: Global, number: T) -> Result<String, AllocError> {
+    // A string of letters that are no ASCII is refused.
+    pub(crate) fn text<T: Number + Drop>(
+        self,
+        alloc: Global,
+        number: T,
+    ) -> Result<String, AllocError> {
+        let own = self.own();
         match self {
-            BuiltIn::Standard => encode(alloc, number),
-            BuiltIn::Alternative => encode_alternative(alloc, number),
+            Letters::Standard => encode(alloc, number),
+            Letters::Alternative => encode_alternative(alloc, number),
+            _ if own.is_ascii() => encode_with(alloc, &own, number),
+            _ => Err(AllocError),
         }
     }
 
-    pub(crate) fn append<T: Number>(self, number: T, text: &mut String) -> Result<(), AllocError> {
+    pub(crate) fn append<T: Number + Drop>(
+        self,
+        number: T,
+        text: &mut String,
+    ) -> Result<(), AllocError> {
+        let own = self.own();
         match self {
-            BuiltIn::Standard => encode_buf(number, text),
-            BuiltIn::Alternative => encode_alternative_buf(number, text),
+            Letters::Standard => encode_buf(number, text),
+            Letters::Alternative => encode_alternative_buf(number, text),
+            _ if own.is_ascii() => encode_buf_with(&own, number, text),
+            _ => Err(AllocError),
         }
     }
 
-    pub(crate) fn shown<T: Number>(self, alloc: Global, number: T) -> Result<String, AllocError> {
-        match self {
-            BuiltIn::Standard => format!(in alloc; "{}", encode_fmt(number)),
-            BuiltIn::Alternative => format!(in alloc; "{}", encode_fmt_alt(number)),
-        }
+    pub(crate) fn shown<T: Number + Drop>(
+        self,
+        alloc: Global,
+        number: T,
+    ) -> Result<String, AllocError> {
+        let own = self.own();
+        let shown = match self {
+            Letters::Standard => encode_fmt(number),
+            Letters::Alternative => encode_fmt_alt(number),
+            _ if own.is_ascii() => encode_fmt_with(&own, number),
+            _ => return Err(AllocError),
+        };
+        format!(in alloc; "{shown}")
     }
 
     pub(crate) fn write<T: Number, W: Write>(self, number: T, writer: &mut W) -> io::Result<()> {
         match self {
-            BuiltIn::Standard => encode_io(number, writer),
-            BuiltIn::Alternative => encode_alternative_io(number, writer),
+            Letters::Standard => encode_io(number, writer),
+            Letters::Alternative => encode_alternative_io(number, writer),
+            _ => encode_io_with(&self.own(), number, writer),
         }
     }
 }
 
 // Each alphabet with what it has of two.
-pub(crate) fn in_both<T>(standard: T, alternative: T) -> [(BuiltIn, T); 2] {
+pub(crate) fn in_both<T>(standard: T, alternative: T) -> [(Letters, T); 2] {
     [
-        (BuiltIn::Standard, standard),
-        (BuiltIn::Alternative, alternative),
+        (Letters::Standard, standard),
+        (Letters::Alternative, alternative),
+    ]
+}
+
+// Each alphabet of ASCII with what it has of three.
+pub(crate) fn in_ascii<T>(standard: T, alternative: T, descending: T) -> [(Letters, T); 3] {
+    [
+        (Letters::Standard, standard),
+        (Letters::Alternative, alternative),
+        (Letters::Descending, descending),
     ]
 }
 
@@ -155,7 +219,7 @@ const NUMBERS: [(u128, &str, &str); 19] = [
 // `1` and k zeros: the number before it is k times the highest letter, and the one after it ends with a `1`.
 pub(crate) fn texts(
     rt: &(impl Abort + AllocGlobal),
-) -> Result<Vec<(BuiltIn, u128, String)>, AllocError> {
+) -> Result<Vec<(Letters, u128, String)>, AllocError> {
     let mut texts = Vec::new(rt.alloc());
     for (number, standard, alternative) in NUMBERS {
         for (alphabet, text) in in_both(standard, alternative) {

@@ -1,6 +1,6 @@
 //! Numbers and their texts over both alphabets, both ways, and the inputs that are refused.
 
-use crate::alphabets::{BuiltIn, in_both, texts};
+use crate::alphabets::{Letters, in_both, texts};
 use crate::plain::{plain_decode, plain_letters};
 use base62::DecodeError::{ArithmeticOverflow, EmptyInput, InvalidBase62Byte};
 use base62::EncodeError::BufferTooSmall;
@@ -15,7 +15,7 @@ const FILLER: u8 = 0xa5;
 // is written. So does the counted call.
 pub(crate) fn assert_encodes<T: Number + Copy>(
     rt: &impl Abort,
-    alphabet: BuiltIn,
+    alphabet: Letters,
     number: T,
     text: &[u8],
 ) {
@@ -81,7 +81,7 @@ fn numbers_and_texts(rt: HostRuntime) -> Result<(), Fail> {
 // The decoder gives the answer, and so do the counted one and the table of cases.
 pub(crate) fn assert_decodes(
     rt: &impl Abort,
-    alphabet: BuiltIn,
+    alphabet: Letters,
     text: &[u8],
     answer: Result<u128, DecodeError>,
 ) {
@@ -120,8 +120,8 @@ fn decoded_texts(rt: HostRuntime) {
         ("RUSTLANG", 96813686712946, 189876682536016),
     ];
     for (text, standard, alternative) in rows {
-        assert_decodes(&rt, BuiltIn::Standard, text.as_bytes(), Ok(standard));
-        assert_decodes(&rt, BuiltIn::Alternative, text.as_bytes(), Ok(alternative));
+        assert_decodes(&rt, Letters::Standard, text.as_bytes(), Ok(standard));
+        assert_decodes(&rt, Letters::Alternative, text.as_bytes(), Ok(alternative));
     }
 }
 

@@ -1,19 +1,20 @@
 //! Writers that take a byte a call, that fail, and that take nothing.
 
-use crate::alphabets::{BuiltIn, in_both};
+use crate::alphabets::{Letters, in_ascii};
 use crate::writers::TestWriter;
 use std::io::ErrorKind;
 use std::process::Abort;
 
-// Numbers of 1, 2, 10 and 22 letters, with their standard and their alternative texts.
-const NUMBERS: [(u128, &str, &str); 4] = [
-    (7, "7", "7"),
-    (1337, "LZ", "lz"),
-    (241240808781287027, "Hostile123", "hOSTILE123"),
+// Numbers of 1, 2, 10 and 22 letters, with their standard and alternative texts, and those of descending letters.
+const NUMBERS: [(u128, &str, &str, &str); 4] = [
+    (7, "7", "7", "s"),
+    (1337, "LZ", "lz", "eQ"),
+    (241240808781287027, "Hostile123", "hOSTILE123", "iB76HELyxw"),
     (
         u128::MAX,
         "7n42DGM5Tflk9n8mt7Fhc7",
         "7N42dgm5tFLK9N8MT7fHC7",
+        "sCvxmjduWKEFqCrD6skINs",
     ),
 ];
 
@@ -25,7 +26,7 @@ fn assert_calls(rt: &impl Abort, writer: &TestWriter, text: &str, calls: usize) 
 }
 
 // A writer of one byte a call fails at one of its calls, and has the bytes before it. The next text follows those.
-fn assert_fails(rt: &(impl Abort + AllocGlobal), alphabet: BuiltIn, number: u128, text: &str) {
+fn assert_fails(rt: &(impl Abort + AllocGlobal), alphabet: Letters, number: u128, text: &str) {
     for call in 1..=text.len() {
         let mut writer = TestWriter::failing_at(rt.alloc(), 1, call, ErrorKind::Other);
         let Err(fault) = alphabet.write(number, &mut writer) else {
@@ -43,7 +44,7 @@ fn assert_fails(rt: &(impl Abort + AllocGlobal), alphabet: BuiltIn, number: u128
 }
 
 // A call that is interrupted is made again.
-fn assert_writes(rt: &(impl Abort + AllocGlobal), alphabet: BuiltIn, number: u128, text: &str) {
+fn assert_writes(rt: &(impl Abort + AllocGlobal), alphabet: Letters, number: u128, text: &str) {
     for call in 1..=text.len() {
         let mut writer = TestWriter::failing_at(rt.alloc(), 1, call, ErrorKind::Interrupted);
         assert!(rt; alphabet.write(number, &mut writer).is_ok(), "{text}");
@@ -56,7 +57,7 @@ fn assert_writes(rt: &(impl Abort + AllocGlobal), alphabet: BuiltIn, number: u12
     assert_calls(rt, &writer, text, text.len());
 }
 
-fn assert_full(rt: &(impl Abort + AllocGlobal), alphabet: BuiltIn, number: u128, text: &str) {
+fn assert_full(rt: &(impl Abort + AllocGlobal), alphabet: Letters, number: u128, text: &str) {
     let mut writer = TestWriter::taking(rt.alloc(), 0);
     let Err(fault) = alphabet.write(number, &mut writer) else {
         panic!(rt; "a writer that takes nothing was answered by Ok, {text}");
@@ -67,8 +68,8 @@ fn assert_full(rt: &(impl Abort + AllocGlobal), alphabet: BuiltIn, number: u128,
 
 #[test]
 fn writers(rt: HostRuntime) {
-    for (number, standard, alternative) in NUMBERS {
-        for (alphabet, text) in in_both(standard, alternative) {
+    for (number, standard, alternative, descending) in NUMBERS {
+        for (alphabet, text) in in_ascii(standard, alternative, descending) {
             assert_fails(&rt, alphabet, number, text);
             assert_writes(&rt, alphabet, number, text);
             assert_full(&rt, alphabet, number, text);

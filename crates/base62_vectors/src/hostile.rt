@@ -1,6 +1,6 @@
-//! Both decoders held against the table of cases, and the encoders against the digit loop.
+//! The decoders held against the table of cases, and the encoders against the digit loop.
 
-use crate::alphabets::{BOTH, BuiltIn};
+use crate::alphabets::{ALL, BOTH, Letters};
 use crate::codec::{assert_decodes, assert_encodes};
 use crate::plain::{plain_decode, plain_letters, plain_zeros};
 use crate::random::Random;
@@ -8,11 +8,11 @@ use base62::DecodeError::{ArithmeticOverflow, InvalidBase62Byte};
 use base62::digit_count;
 use std::process::Abort;
 
-fn assert_by_cases(rt: &impl Abort, alphabet: BuiltIn, text: &[u8]) {
+fn assert_by_cases(rt: &impl Abort, alphabet: Letters, text: &[u8]) {
     assert_decodes(rt, alphabet, text, plain_decode(alphabet.letters(), text));
 }
 
-fn assert_each_length(rt: &impl Abort, alphabet: BuiltIn, text: &[u8; 24]) {
+fn assert_each_length(rt: &impl Abort, alphabet: Letters, text: &[u8; 24]) {
     for length in 0..=24_usize {
         assert_by_cases(rt, alphabet, &text[..length]);
     }
@@ -20,7 +20,7 @@ fn assert_each_length(rt: &impl Abort, alphabet: BuiltIn, text: &[u8; 24]) {
 
 #[test]
 fn each_length(rt: HostRuntime) {
-    for alphabet in BOTH {
+    for alphabet in ALL {
         let letters = alphabet.letters();
         for byte in [letters[0], letters[1], letters[61], b'!'] {
             assert_each_length(&rt, alphabet, &[byte; 24]);
@@ -31,7 +31,7 @@ fn each_length(rt: HostRuntime) {
 // 24 bytes, two zeros, a `1` and more zeros, with any byte in place of each.
 #[test]
 fn each_byte(rt: HostRuntime) {
-    for alphabet in BOTH {
+    for alphabet in ALL {
         let letters = alphabet.letters();
         for byte in 0..=255_u8 {
             for place in 0..24_usize {
@@ -47,7 +47,7 @@ fn each_byte(rt: HostRuntime) {
 // In texts of each length two bytes are no letters. Of 22 letters the second text shows an overflow by its first ten.
 #[test]
 fn two_bad_bytes(rt: HostRuntime) {
-    for alphabet in BOTH {
+    for alphabet in ALL {
         let letters = alphabet.letters();
         let mut largest = [letters[0]; 24];
         largest[2..].copy_from_slice(&plain_letters(letters, u128::MAX));
@@ -100,7 +100,7 @@ fn near_letters(random: &mut Random, letters: &[u8; 62]) -> [u8; 22] {
 #[test]
 fn texts_near_borders(rt: HostRuntime) {
     let mut random = Random::new();
-    for alphabet in BOTH {
+    for alphabet in ALL {
         let letters = alphabet.letters();
         for _ in 0..2_000 {
             let mut text = [letters[0]; 24];
@@ -131,7 +131,7 @@ fn round_number(random: &mut Random) -> u128 {
     }
 }
 
-fn assert_by_digits(rt: &impl Abort, alphabet: BuiltIn, number: u128) {
+fn assert_by_digits(rt: &impl Abort, alphabet: Letters, number: u128) {
     let letters = alphabet.letters();
     let text = plain_letters(letters, number);
     // Of 0 the last zero is the text.
@@ -143,7 +143,7 @@ fn assert_by_digits(rt: &impl Abort, alphabet: BuiltIn, number: u128) {
 #[test]
 fn numbers_near_round_ones(rt: HostRuntime) {
     let mut random = Random::new();
-    for alphabet in BOTH {
+    for alphabet in ALL {
         for _ in 0..400 {
             let number = round_number(&mut random);
             assert_by_digits(&rt, alphabet, number);

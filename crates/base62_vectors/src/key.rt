@@ -1,6 +1,6 @@
 //! Keys, which sort as their numbers, and the ranges of the keys that begin alike.
 
-use crate::alphabets::BuiltIn;
+use crate::alphabets::Letters;
 use crate::plain::{plain_digit, plain_letters};
 use base62::DecodeError::InvalidBase62Byte;
 use base62::{decode, encode_key, key_range};
@@ -31,7 +31,7 @@ fn value_with_zeros(front: &[u8]) -> Option<u128> {
     for letter in front {
         value = value
             .checked_mul(62)?
-            .checked_add(plain_digit(BuiltIn::Standard.letters(), *letter)?)?;
+            .checked_add(plain_digit(Letters::Standard.letters(), *letter)?)?;
     }
     for _ in front.len()..22 {
         value = value.checked_mul(62)?;
@@ -41,7 +41,7 @@ fn value_with_zeros(front: &[u8]) -> Option<u128> {
 
 // The letters just before and just after one of the letters, of which the first and the last have one.
 fn letters_beside(letter: u8) -> [Option<u8>; 2] {
-    let letters = BuiltIn::Standard.letters();
+    let letters = Letters::Standard.letters();
     let mut beside = [None, None];
     for place in 1..62 {
         if letters[place] == letter {
@@ -100,7 +100,7 @@ fn keys_of_numbers(rt: HostRuntime) {
 #[test]
 fn keys_by_division(rt: HostRuntime) -> Result<(), Fail> {
     for number in &numbers(&rt, 3000)? {
-        let key = plain_letters(BuiltIn::Standard.letters(), *number);
+        let key = plain_letters(Letters::Standard.letters(), *number);
         assert_eq!(rt; encode_key(*number), key, "the key of {number}");
         assert_eq!(rt; decode(&key), Ok(*number), "decoding the key of {number}");
         if let Ok(small) = u64::try_from(*number) {
@@ -172,7 +172,7 @@ fn ranges_of_fronts(rt: HostRuntime) {
 
 fn assert_begins(rt: &impl Abort, number: u128, front: &[u8], begins: bool) {
     assert_eq!(rt;
-        plain_letters(BuiltIn::Standard.letters(), number)
+        plain_letters(Letters::Standard.letters(), number)
             .as_slice()
             .starts_with(front),
         begins,
@@ -212,7 +212,7 @@ fn assert_range(rt: &impl Abort, front: &[u8], number: u128) {
 fn ranges_by_plain_keys(rt: HostRuntime) -> Result<(), Fail> {
     for number in &numbers(&rt, 60)? {
         let mut letters = [b'0'; 24];
-        letters[..22].copy_from_slice(&plain_letters(BuiltIn::Standard.letters(), *number));
+        letters[..22].copy_from_slice(&plain_letters(Letters::Standard.letters(), *number));
         for length in 0..=24_usize {
             assert_range(&rt, &letters[..length], *number);
             let Some(last) = length.checked_sub(1) else {

@@ -1,11 +1,13 @@
 //! What the calls that make texts answer where they are refused memory, and which calls ask for none.
 
-use crate::alphabets::{BuiltIn, in_both};
+use crate::alphabets::{Letters, in_ascii};
 use base62::{digit_count, encode_fmt, encode_fmt_alt, encode_key, key_range};
 use std::process::Abort;
 use std::test::Fail;
 
 const ALTERNATIVE: &str = "7N42dgm5tFLK9N8MT7fHC7";
+
+const DESCENDING: &str = "sCvxmjduWKEFqCrD6skINs";
 
 const STANDARD: &str = "7n42DGM5Tflk9n8mt7Fhc7";
 
@@ -14,7 +16,7 @@ const EARLIER: &str = "Base62: ";
 // Room is asked for a text and no more, though a string that grows may double.
 const MOST_ROOM: usize = 44;
 
-fn is_text_refused(rt: &(impl Abort + AllocGlobal), alphabet: BuiltIn, wanted: &str) -> bool {
+fn is_text_refused(rt: &(impl Abort + AllocGlobal), alphabet: Letters, wanted: &str) -> bool {
     let Ok(text) = alphabet.text(rt.alloc(), u128::MAX) else {
         return true;
     };
@@ -25,7 +27,7 @@ fn is_text_refused(rt: &(impl Abort + AllocGlobal), alphabet: BuiltIn, wanted: &
 
 // The number's text in the alphabet is `Base62`. A refused call leaves the earlier text as it was,
 // and serves then as any other.
-fn is_append_refused(rt: &impl Abort, alphabet: BuiltIn, number: u64, text: &mut String) -> bool {
+fn is_append_refused(rt: &impl Abort, alphabet: Letters, number: u64, text: &mut String) -> bool {
     assert_eq!(rt;
         text.capacity(),
         EARLIER.len(),
@@ -44,12 +46,12 @@ fn is_append_refused(rt: &impl Abort, alphabet: BuiltIn, number: u64, text: &mut
 
 // These calls ask for no memory, so none of them is ever refused any.
 fn assert_no_memory(rt: &impl Abort, text: &mut String) {
-    for (alphabet, wanted) in in_both("LZ", "lz") {
+    for (alphabet, wanted) in in_ascii("LZ", "lz", "eQ") {
         text.clear();
         assert!(rt; alphabet.append(1337_u32, text).is_ok(), "{alphabet:?}");
         assert_eq!(rt; text.as_str(), wanted, "{alphabet:?}");
     }
-    for (alphabet, wanted) in in_both(STANDARD, ALTERNATIVE) {
+    for (alphabet, wanted) in in_ascii(STANDARD, ALTERNATIVE, DESCENDING) {
         let mut room = [0u8; 22];
         assert_eq!(rt;
             alphabet.encode(u128::MAX, &mut room),
@@ -82,7 +84,8 @@ fn assert_no_memory(rt: &impl Abort, text: &mut String) {
 // last step is there for it to see that the calls made no further request.
 #[test]
 fn refused_memory(rt: HostRuntime) -> Result<(), Fail> {
-    let (Ok(mut standard), Ok(mut alternative), Ok(mut roomy)) = (
+    let (Ok(mut standard), Ok(mut alternative), Ok(mut own), Ok(mut roomy)) = (
+        String::from_str(rt.alloc(), EARLIER),
         String::from_str(rt.alloc(), EARLIER),
         String::from_str(rt.alloc(), EARLIER),
         String::with_capacity(rt.alloc(), 64),
@@ -92,18 +95,26 @@ fn refused_memory(rt: HostRuntime) -> Result<(), Fail> {
     };
     assert_no_memory(&rt, &mut roomy);
     let steps = [
-        ("encode", is_text_refused(&rt, BuiltIn::Standard, STANDARD)),
+        ("encode", is_text_refused(&rt, Letters::Standard, STANDARD)),
         (
             "encode_alternative",
-            is_text_refused(&rt, BuiltIn::Alternative, ALTERNATIVE),
+            is_text_refused(&rt, Letters::Alternative, ALTERNATIVE),
+        ),
+        (
+            "encode_with",
+            is_text_refused(&rt, Letters::Descending, DESCENDING),
         ),
         (
             "encode_buf",
-            is_append_refused(&rt, BuiltIn::Standard, 10622433094, &mut standard),
+            is_append_refused(&rt, Letters::Standard, 10622433094, &mut standard),
         ),
         (
             "encode_alternative_buf",
-            is_append_refused(&rt, BuiltIn::Alternative, 34051405518, &mut alternative),
+            is_append_refused(&rt, Letters::Alternative, 34051405518, &mut alternative),
+        ),
+        (
+            "encode_buf_with",
+            is_append_refused(&rt, Letters::Descending, 46177802489, &mut own),
         ),
         ("after", Vec::<u8>::with_capacity(rt.alloc(), 1).is_err()),
     ];

@@ -2,7 +2,7 @@
 
 ghost use Rattle.std.specs.Prelude.{◌+◌, ◌*◌, ◌^◌};
 
-use crate::alphabets::BuiltIn;
+use crate::alphabets::Letters;
 use crate::codec::assert_encodes;
 use base62::Number;
 use std::process::Abort;
@@ -38,7 +38,7 @@ fn a_value_means_itself(rt: HostRuntime) {
 }
 
 fn assert_standard<T: Number + Copy>(rt: &impl Abort, number: T, text: &str) {
-    assert_encodes(rt, BuiltIn::Standard, number, text.as_bytes());
+    assert_encodes(rt, Letters::Standard, number, text.as_bytes());
 }
 
 #[test]

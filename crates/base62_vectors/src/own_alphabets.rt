@@ -1,6 +1,6 @@
 //! Alphabets of the caller's own.
 
-use crate::alphabets::{BuiltIn, texts};
+use crate::alphabets::{Letters, texts};
 use base62::{
     Alphabet, AlphabetError, DecodeError, EncodeError, Work, decode_with, decode_with_counted,
     encode_buf_with, encode_bytes_with, encode_bytes_with_counted, encode_fmt_with, encode_io_with,
@@ -36,14 +36,14 @@ fn changed(letters: [u8; 62], changes: &[(usize, u8)]) -> [u8; 62] {
 }
 
 fn standard_letters() -> [u8; 62] {
-    *BuiltIn::Standard.letters()
+    *Letters::Standard.letters()
 }
 
 // Letters, whether they are ASCII, and whether they ascend.
 fn cases() -> [([u8; 62], bool, bool); 9] {
     [
         (standard_letters(), true, true),
-        (*BuiltIn::Alternative.letters(), true, false),
+        (*Letters::Alternative.letters(), true, false),
         (reversed(standard_letters()), true, false),
         // Byte 0 is the zero letter, and 127 the greatest one that is ASCII.
         (bytes_from(0), true, true),
@@ -70,10 +70,10 @@ fn what_is_told_of_alphabets(rt: HostRuntime) {
         assert_eq!(rt; alphabet.is_ascii(), is_ascii, "{letters:?}");
         assert_eq!(rt; alphabet.is_ascending(), is_ascending, "{letters:?}");
     }
-    assert_eq!(rt; Alphabet::standard().letters(), BuiltIn::Standard.letters());
+    assert_eq!(rt; Alphabet::standard().letters(), Letters::Standard.letters());
     assert_eq!(rt;
         Alphabet::alternative().letters(),
-        BuiltIn::Alternative.letters()
+        Letters::Alternative.letters()
     );
 }
 
@@ -161,7 +161,7 @@ fn numbers_and_texts(rt: HostRuntime) -> Result<(), Fail> {
     for (letters, _, _) in cases() {
         let alphabet = made(&rt, letters);
         for (built_in, number, standard_text) in &numbers {
-            if matches!(*built_in, BuiltIn::Standard) {
+            if matches!(*built_in, Letters::Standard) {
                 let text = translated(&rt, &letters, standard_text.as_str())?;
                 assert_bytes(&rt, &alphabet, *number, text.as_slice());
                 assert_targets(&rt, &alphabet, *number, text.as_slice())?;

@@ -1,6 +1,6 @@
 //! Numbers encoded into texts and to writers.
 
-use crate::alphabets::{BuiltIn, texts};
+use crate::alphabets::{Letters, texts};
 use crate::writers::TestWriter;
 use base62::{encode, encode_alternative, encode_alternative_io, encode_io};
 use std::process::Abort;
@@ -9,7 +9,7 @@ use std::test::Fail;
 // The text comes alone, behind no text and an earlier one, and to a writer that has something.
 fn assert_targets(
     rt: &(impl Abort + AllocGlobal),
-    alphabet: BuiltIn,
+    alphabet: Letters,
     number: u128,
     text: &str,
 ) -> Result<(), Fail> {
@@ -34,7 +34,7 @@ fn assert_targets(
 // The text is handed to the writer at once, and it is left to others to flush.
 fn assert_handed_over(
     rt: &(impl Abort + AllocGlobal),
-    alphabet: BuiltIn,
+    alphabet: Letters,
     number: u128,
     text: &str,
 ) -> Result<(), Fail> {

@@ -1,21 +1,23 @@
-//! Answers as C is told them.
+//! How answers are told by a status and through pointers.
 
-ghost use Rattle.base62_c.specs.Answer.{TellsLength, TellsFault, TellsNumber};
+ghost use Rattle.base62_c.specs.Answer.{TellsLength, TellsFault, TellsNumber, TellsRange};
 
 use crate::number::put_halves;
 use base62::{DecodeError, EncodeError};
 
-pub(crate) const OK: i32 = 0;
+pub(crate) const OK: u32 = 0;
 
-const BUFFER_TOO_SMALL: i32 = 1;
+pub(crate) const BUFFER_TOO_SMALL: u32 = 1;
 
-const EMPTY_INPUT: i32 = 2;
+pub(crate) const EMPTY_INPUT: u32 = 2;
 
-const INVALID_BYTE: i32 = 3;
+pub(crate) const INVALID_BYTE: u32 = 3;
 
-const OVERFLOW: i32 = 4;
+pub(crate) const OVERFLOW: u32 = 4;
 
-pub(crate) fn tell_length(answer: Result<usize, EncodeError>, len: &mut usize) -> i32
+pub(crate) const NO_KEY: u32 = 5;
+
+pub(crate) fn tell_length(answer: Result<usize, EncodeError>, len: &mut usize) -> u32
     ensures { TellsLength answer result len.old len.new }
 {
     match answer {
@@ -33,7 +35,7 @@ pub(crate) fn tell_number(
     low: &mut u64,
     byte: &mut u8,
     index: &mut usize,
-) -> i32
+) -> u32
     ensures { TellsNumber answer result (high.old, low.old) (high.new, low.new)
         (byte.old, index.old) (byte.new, index.new) }
 {
@@ -46,7 +48,31 @@ pub(crate) fn tell_number(
     }
 }
 
-fn tell_fault(fault: DecodeError, byte: &mut u8, index: &mut usize) -> i32
+pub(crate) fn tell_range(
+    answer: Result<Option<(u128, u128)>, DecodeError>,
+    least_high: &mut u64,
+    least_low: &mut u64,
+    greatest_high: &mut u64,
+    greatest_low: &mut u64,
+    byte: &mut u8,
+    index: &mut usize,
+) -> u32
+    ensures { TellsRange answer result (least_high.old, least_low.old) (least_high.new, least_low.new)
+        (greatest_high.old, greatest_low.old) (greatest_high.new, greatest_low.new)
+        (byte.old, index.old) (byte.new, index.new) }
+{
+    match answer {
+        Ok(Some((least, greatest))) => {
+            put_halves(least, least_high, least_low);
+            put_halves(greatest, greatest_high, greatest_low);
+            OK
+        }
+        Ok(None) => NO_KEY,
+        Err(fault) => tell_fault(fault, byte, index),
+    }
+}
+
+fn tell_fault(fault: DecodeError, byte: &mut u8, index: &mut usize) -> u32
     ensures { TellsFault fault result (byte.old, index.old) (byte.new, index.new) }
 {
     match fault {

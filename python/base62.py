@@ -1,0 +1,222 @@
+"""Base62 texts of numbers below 2**128, and back.
+
+>>> encode(1337)
+'LZ'
+>>> decode("LZ")
+1337
+
+The calls are those of the library libbase62.so, which are proved. It is found by the environment variable
+BASE62_LIBRARY, or else beside this file, or else where the system looks for libraries.
+"""
+
+from __future__ import annotations
+
+import ctypes
+import enum
+import operator
+import os
+import pathlib
+import uuid
+from typing import Callable, SupportsIndex, Union
+
+__all__ = [
+    "Alphabet",
+    "DecodeError",
+    "EmptyInputError",
+    "InvalidByteError",
+    "TooLargeError",
+    "decode",
+    "decode_uuid",
+    "digit_count",
+    "encode",
+    "encode_key",
+    "key_range",
+]
+
+Number = Union[SupportsIndex, uuid.UUID]
+Text = Union[str, bytes, bytearray, memoryview]
+
+_MAX_DIGITS = 22
+_MAX_FAULT_TEXT = 77
+_OK, _BUFFER_TOO_SMALL, _EMPTY_INPUT, _INVALID_BYTE, _OVERFLOW, _NO_KEY = range(6)
+_HALF = 2**64
+
+
+class Alphabet(enum.Enum):
+    """The letters of a text, in the order of their digits."""
+
+    STANDARD = "0123456789ABCDEFGHIJKLMNOPQRSTUVWXYZabcdefghijklmnopqrstuvwxyz"
+    ALTERNATIVE = "0123456789abcdefghijklmnopqrstuvwxyzABCDEFGHIJKLMNOPQRSTUVWXYZ"
+
+
+class DecodeError(ValueError):
+    """A text that denotes no number below 2**128."""
+
+
+class EmptyInputError(DecodeError):
+    """A text with nothing in it."""
+
+
+class TooLargeError(DecodeError):
+    """A text of 2**128 or more, or with more than 22 bytes after the zeros in front."""
+
+
+class InvalidByteError(DecodeError):
+    """A text with a byte that is no letter.
+
+    >>> try:
+    ...     decode("00LZ-")
+    ... except InvalidByteError as error:
+    ...     print(error, error.byte, error.index, sep="; ")
+    Encoded input contains the invalid byte b'-' at index 4; 45; 4
+    """
+
+    byte: int
+    """The first byte that is no letter. Of a str it is the first byte of a character in UTF-8."""
+
+    index: int
+    """Its index. The letters before it have one byte each, so it is an index of a str too."""
+
+
+def encode(number: Number, alphabet: Alphabet = Alphabet.STANDARD) -> str:
+    """The text of a number: the shortest one that denotes it.
+
+    Raises OverflowError if the number is negative, or 2**128 or more.
+
+    >>> encode(1337), encode(1337, Alphabet.ALTERNATIVE), encode(0)
+    ('LZ', 'lz', '0')
+    >>> encode(uuid.UUID("12345678-1234-5678-1234-567812345678"))
+    'YLmNWW2NwaipfRR50HIPA'
+    """
+    return _text_of(_call("encode", alphabet), *_halves(number))
+
+
+def decode(text: Text, alphabet: Alphabet = Alphabet.STANDARD) -> int:
+    """The number that a text denotes, whatever zeros are in front.
+
+    Raises an EmptyInputError, an InvalidByteError or a TooLargeError.
+
+    >>> decode("00LZ"), decode(b"lz", Alphabet.ALTERNATIVE)
+    (1337, 1337)
+    >>> decode("7n42DGM5Tflk9n8mt7Fhc8")
+    Traceback (most recent call last):
+    base62.TooLargeError: Decoded number cannot fit into a `u128`
+    """
+    (number,) = _numbers_of(_call("decode", alphabet), text, 1)
+    return number
+
+
+def decode_uuid(text: Text, alphabet: Alphabet = Alphabet.STANDARD) -> uuid.UUID:
+    """The UUID of the number that a text denotes, as decode gives it.
+
+    >>> decode_uuid("YLmNWW2NwaipfRR50HIPA")
+    UUID('12345678-1234-5678-1234-567812345678')
+    """
+    return uuid.UUID(int=decode(text, alphabet))
+
+
+def digit_count(number: Number) -> int:
+    """The length of the text of a number, from 1 to 22.
+
+    >>> digit_count(61), digit_count(62)
+    (1, 2)
+    """
+    return _library.base62_digit_count(*_halves(number))
+
+
+def encode_key(number: Number) -> str:
+    """The standard text of 22 letters, with zeros in front. Keys sort as their numbers, and decode reads them.
+
+    >>> encode_key(1337)
+    '00000000000000000000LZ'
+    """
+    key = ctypes.create_string_buffer(_MAX_DIGITS)
+    _library.base62_encode_key(*_halves(number), key)
+    return key.raw.decode("ascii")
+
+
+def key_range(front: Text) -> tuple[int, int] | None:
+    """The least and the greatest number whose key begins so, or None if there is none.
+
+    Raises an InvalidByteError.
+
+    >>> key_range("00000000000000000000L")
+    (1302, 1363)
+    >>> key_range("8")
+    """
+    ends = _numbers_of(_library.base62_key_range, front, 2)
+    return (ends[0], ends[1]) if ends else None
+
+
+def _call(name: str, alphabet: Alphabet) -> Callable[..., int]:
+    is_standard = Alphabet(alphabet) is Alphabet.STANDARD
+    return getattr(_library, f"base62_{name}" if is_standard else f"base62_{name}_alternative")
+
+
+def _halves(number: Number) -> tuple[int, int]:
+    whole = number.int if isinstance(number, uuid.UUID) else operator.index(number)
+    if not 0 <= whole < _HALF**2:
+        raise OverflowError("the number is not from 0 to 2**128 - 1")
+    return divmod(whole, _HALF)
+
+
+def _text_of(call: Callable[..., int], *arguments: int) -> str:
+    """What a call writes into a buffer that is never too small."""
+    buffer = ctypes.create_string_buffer(_MAX_FAULT_TEXT)
+    length = ctypes.c_size_t()
+    status = call(*arguments, buffer, len(buffer), ctypes.byref(length))
+    if status != _OK:
+        raise RuntimeError(f"status {status} with a buffer that is large enough")
+    return buffer.raw[: length.value].decode("ascii")
+
+
+def _numbers_of(call: Callable[..., int], text: Text, count: int) -> list[int]:
+    """The numbers that a call tells of a text, so many or none."""
+    # A lone surrogate of a str is no letter either.
+    data = text.encode("utf-8", "surrogatepass") if isinstance(text, str) else bytes(memoryview(text))
+    halves = [ctypes.c_uint64() for _ in range(2 * count)]
+    byte, index = ctypes.c_ubyte(), ctypes.c_size_t()
+    status = call(data, len(data), *map(ctypes.byref, [*halves, byte, index]))
+    if status == _NO_KEY:
+        return []
+    if status != _OK:
+        raise _error_of(status, byte.value, index.value)
+    return [high.value * _HALF + low.value for high, low in zip(halves[::2], halves[1::2])]
+
+
+def _error_of(status: int, byte: int, index: int) -> DecodeError:
+    said = _text_of(_library.base62_fault_text, status, byte, index)
+    if status == _EMPTY_INPUT:
+        return EmptyInputError(said)
+    if status == _OVERFLOW:
+        return TooLargeError(said)
+    error = InvalidByteError(said)
+    error.byte, error.index = byte, index
+    return error
+
+
+def _load() -> ctypes.CDLL:
+    beside = pathlib.Path(__file__).with_name("libbase62.so")
+    found = str(beside) if beside.exists() else "libbase62.so"
+    library = ctypes.CDLL(os.environ.get("BASE62_LIBRARY") or found)
+    half, size, status, text = ctypes.c_uint64, ctypes.c_size_t, ctypes.c_uint, ctypes.c_char_p
+    halves, sizes, byte = ctypes.POINTER(half), ctypes.POINTER(size), ctypes.POINTER(ctypes.c_ubyte)
+    encodes = (status, [half, half, text, size, sizes])
+    decodes = (status, [text, size, halves, halves, byte, sizes])
+    signatures = {
+        "encode": encodes,
+        "encode_alternative": encodes,
+        "decode": decodes,
+        "decode_alternative": decodes,
+        "digit_count": (size, [half, half]),
+        "encode_key": (None, [half, half, text]),
+        "key_range": (status, [text, size, halves, halves, halves, halves, byte, sizes]),
+        "fault_text": (status, [status, ctypes.c_ubyte, size, text, size, sizes]),
+    }
+    for name, (result, parameters) in signatures.items():
+        call = getattr(library, f"base62_{name}")
+        call.restype, call.argtypes = result, parameters
+    return library
+
+
+_library = _load()

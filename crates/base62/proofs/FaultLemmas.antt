@@ -22,7 +22,7 @@ module _ {W : Type 0} (took : W → List ℕ → W → Type 0) where
       → a ++ (b ++ (c ++ d)) ≡ all → HasWrittenStyled took f all j
   put_four_styled f g h i j a b c d all p q r s is = put_three_styled f g h j a b (c ++ d) all p q (has_written_styled_append took _ _ _ _ _ r s) is
 
-pub ruleset styled_writes = (append_assoc, encode_ascii, put_three_styled, put_four_styled)
+pub ruleset styled_writes = (append_assoc, encode_ascii, put_two_styled, put_three_styled, put_four_styled)
 
 -- the front of a number, and its last digit
 pub ruleset decimal_writes = (encode_ascii, decimal_digit, decimal_step, put_two, put_two_styled)

@@ -1,6 +1,7 @@
 pub mod PlacesLemmas
 pub mod AlphabetLemmas
 pub mod TableLemmas
+pub mod TableFillLemmas
 pub mod ValueLemmas
 pub mod CanonicalLemmas
 pub mod LengthLemmas

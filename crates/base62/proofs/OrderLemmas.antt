@@ -1,5 +1,7 @@
 -- Texts over an alphabet whose letters ascend compare as the numbers that they denote.
-use Rattle.std.proofs.Common.{Bool, true, Ordering, ◌≡◌, ◌≢◌, ◌↔◌, ℕ, ◌+◌, ◌-◌, ◌*◌, ◌^◌, ◌<◌, ◌≤◌, ltb, List, [], ◌∷◌, length, get_or, refl, sym, ◌∙◌, inl, inr, arith}
+use Rattle.std.proofs.Common.{Bool, true, false, Ordering, ◌≡◌, ◌≢◌, ◌↔◌, ℕ, ◌+◌, ◌-◌, ◌*◌, ◌^◌, ◌<◌, ◌≤◌, ltb, List, [], ◌∷◌, length, get_or, refl, sym, ◌∙◌, inl, inr, arith}
+use Rattle.std.specs.Prelude.{MatchBool}
+use Rattle.std.specs.List.Sorted.{IsNonDecreasing}
 use Rattle.std.specs.Ordering.{nat_cmp, ordering_then, MatchOrdering}
 use Rattle.std.specs.Cmp.{nat_cmp_is}
 use Rattle.std.specs.declared.cmp.Ordering.TheVariants.{Less, Equal, Greater}
@@ -29,6 +31,19 @@ ascends_by B all d h = ltb-true _ _ (agree_below_at (rises B) (λ d. true) 61 d 
 pub standard_ascends : Ascends standard
 unfolding standard
 standard_ascends = ascends_by standard refl
+
+-- the letters of an alphabet are distinct, so they ascend where they do not fall
+pub ascends_where_sorted : (B : List ℕ) (r : Bool) → IsAlphabet B
+    → MatchBool r (IsNonDecreasing B) ((k : ℕ) × (k + 1 < length B) × ((d : ℕ) → get_or B (k + 1) d < get_or B k d)) → (r ≡ true) ↔ Ascends B
+ascends_where_sorted B true ok steps =
+    let above : Ascends B = λ d h. elim (cases_order (get_or B d 0) (get_or B (d + 1) 0)) [
+      | inl e ↦ let same : d ≡ d + 1 = ok.distinct d (d + 1) (omega arith) (omega arith) e in omega (arith, same)
+      | inr (inl less) ↦ less
+      | inr (inr greater) ↦ let most = steps d (d + 1) 0 (omega arith) (omega (arith, h, ok.size)) in omega (arith, most, greater)
+    ] in
+    (λ _. above, λ _. refl)
+ascends_where_sorted B false ok falls =
+    (λ e. cc, λ ascends. absurd (let above = ascends falls.0 (omega (arith, falls.1, ok.size)) in omega (arith, above, falls.2 0)))
 
 -- what a comparison of two numbers answers
 compared : (m n : ℕ) (answer : Ordering) → MatchOrdering answer (m < n) (m ≡ n) (n < m) → nat_cmp m n ≡ answer

@@ -19,6 +19,10 @@ pub record EncodesInto (B : List ℕ) (n : ℕ) (old new : List ℕ) (result : R
   pub refused : OnErr result (new ≡ old)
   pub roomy : 22 ≤ length old → IsOk result
 
+-- a string that is answered is a canonical text of n
+abbrev pub AnswersCanonical : List ℕ → ℕ → Result (String Global) AllocError → Type 0
+AnswersCanonical B n result = IfOk result (λ text. IsCanonical B (string_bytes text) n)
+
 -- A canonical text of n is appended to a string, whole or not at all. The answer is Ok wherever a canonical text of n fits
 -- the spare capacity, so always with 22 bytes of it. The capacity never shrinks, and a refusal leaves it as it was.
 pub record AppendsTo (B : List ℕ) (n : ℕ) (old new : String Global) (result : Result (Unit {0}) AllocError) : Type 0 where

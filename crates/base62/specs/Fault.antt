@@ -3,6 +3,8 @@ use Rattle.std.specs.Prelude.{ℕ, ◌==◌, ◌&&◌, nat_le, if◌then◌else�
 use Rattle.std.specs.Char.Escape.{hex_digit_at}
 use Rattle.std.specs.Ordering.{nat_cmp, ordering_then}
 use Rattle.std.specs.declared.cmp.Ordering.{Ordering}
+use Rattle.base62.specs.declared.fault.AlphabetError.{AlphabetError}
+use Rattle.base62.specs.declared.fault.AlphabetError.TheVariants.{Repeated}
 use Rattle.base62.specs.declared.fault.DecodeError.{DecodeError}
 use Rattle.base62.specs.declared.fault.DecodeError.TheVariants.{ArithmeticOverflow, EmptyInput, InvalidBase62Byte}
 use Rattle.base62.specs.declared.fault.EncodeError.{EncodeError}
@@ -22,16 +24,28 @@ escaped b =
     else if nat_le 32 b && nat_le b 126 then b ∷ []
     else codes "\\x" ++ hex_digit_at 16 b ∷ hex_digit_at 1 b ∷ []
 
+-- a byte that is named, and its index
+unfoldable pub byte_at_index : ℕ → ℕ → List ℕ
+byte_at_index byte index = codes "byte b'" ++ escaped byte ++ codes "' at index " ++ decimal index
+
 -- what a fault of decoding says
 unfoldable pub decode_error_text : DecodeError → List ℕ
 decode_error_text ArithmeticOverflow = codes "Decoded number cannot fit into a `u128`"
 decode_error_text EmptyInput = codes "Encoded input is an empty string"
 decode_error_text (InvalidBase62Byte byte index) =
-    codes "Encoded input contains the invalid byte b'" ++ escaped byte ++ codes "' at index " ++ decimal index
+    codes "Encoded input contains the invalid " ++ byte_at_index byte index
 
 -- what a fault of encoding says
 unfoldable pub encode_error_text : EncodeError → List ℕ
 encode_error_text BufferTooSmall = codes "Buffer too small to encode the number"
+
+-- what a fault of an alphabet says
+unfoldable pub alphabet_error_text : AlphabetError → List ℕ
+alphabet_error_text (Repeated byte index) = codes "Alphabet repeats the " ++ byte_at_index byte index
+
+-- by the byte and then by the index
+abbrev pub byte_then_index : ℕ → ℕ → ℕ → ℕ → Ordering
+byte_then_index b i c j = ordering_then (nat_cmp b c) (nat_cmp i j)
 
 -- the kinds of faults of decoding, in their order
 abbrev pub decode_error_rank : DecodeError → ℕ
@@ -41,5 +55,9 @@ decode_error_rank (InvalidBase62Byte byte index) = 2
 
 -- faults of one kind go by byte and then by index, and others by their kinds
 abbrev pub decode_error_order : DecodeError → DecodeError → Ordering
-decode_error_order (InvalidBase62Byte b i) (InvalidBase62Byte c j) = ordering_then (nat_cmp b c) (nat_cmp i j)
+decode_error_order (InvalidBase62Byte b i) (InvalidBase62Byte c j) = byte_then_index b i c j
 decode_error_order d e = nat_cmp (decode_error_rank d) (decode_error_rank e)
+
+-- the order of faults of alphabets
+abbrev pub alphabet_error_order : AlphabetError → AlphabetError → Ordering
+alphabet_error_order (Repeated b i) (Repeated c j) = byte_then_index b i c j

@@ -1,10 +1,14 @@
-//! The letters of the alphabets, the digits of bytes, and the steps that reading these takes.
+//! Alphabets: their letters, the digits of bytes, and the steps that reading these takes.
 
-ghost use Rattle.std.specs.Prelude.{◌≡◌, ◌+◌, ◌/◌, ◌%◌, ◌<◌, ◌==◌, slice_index};
-ghost use Rattle.base62.specs.Alphabet.{standard, alternative, zero_letter};
+ghost use Rattle.std.specs.Prelude.{◌≡◌, ◌+◌, ◌/◌, ◌%◌, ◌<◌, ◌==◌, ◌↔◌, ℕ, slice_index, Err, IsTrue, IsOk, IfOk};
+ghost use Rattle.std.specs.Str.{IsAscii};
+ghost use Rattle.base62.specs.Alphabet.{IsAlphabet, RepeatsFirst, standard, alternative, zero_letter};
+ghost use Rattle.base62.specs.Order.{Ascends};
 ghost use Rattle.base62.specs.Table.{digit_or_none};
 ghost use Rattle.base62.specs.Tables.{AreTables};
+ghost use Rattle.base62.specs.declared.fault.AlphabetError.TheVariants.{Repeated};
 
+use crate::fault::AlphabetError;
 use std::marker::Model;
 use std::mem;
 use std::snapshot::Snapshot;
@@ -62,7 +66,123 @@ impl Work {
     }
 }
 
+/// 62 distinct bytes, which are the letters of the digits 0 to 61 in order. The first is the zero letter.
+///
+/// Each call over an alphabet of yours is that over a built-in one with `_with` in its name, as [`decode_with`] is
+/// [`decode`]. Contracts see an alphabet as the list of its letters. It holds them with a table of all bytes, in 318
+/// bytes, and takes no memory.
+///
+/// ```rust
+/// // The digits and letters without those that look alike end with some marks.
+/// let letters = *b"23456789ABCDEFGHJKMNPQRSTUVWXYZabcdefghijkmnpqrstuvwxyz-_.~+!*";
+/// let alphabet = base62::Alphabet::new(letters).unwrap();
+/// assert_eq!(rt; base62::decode_with(&alphabet, b"32"), Ok(62));
+/// ```
+///
+/// [`decode`]: crate::decode
+/// [`decode_with`]: crate::decode_with
+#[derive(Clone, Copy)]
+pub struct Alphabet {
+    tables: Tables,
+}
+
+impl Model for Alphabet {
+    ghost use Rattle.std.specs.Prelude.{ℕ, List};
+    ghost use Rattle.base62.specs.Table.{table_of};
+    ghost use Rattle.base62.specs.Tables.{AreTables};
+
+    ghost Value = { List ℕ };
+
+    ghost view = { λ a. a.tables.letters };
+
+    ghost invariant = { λ a. AreTables a.tables };
+
+    ghost inverse = { λ letters. record { tables = record { letters = letters; table = table_of letters } } };
+}
+
+impl Alphabet {
+    /// The alphabet of these letters.
+    ///
+    /// `Err(Repeated(byte, index))` comes exactly where a byte is repeated, and names the first that is: the byte at
+    /// the least index whose byte stands before it too. Any bytes may be letters, also those that are no ASCII.
+    ///
+    /// ```rust
+    /// let repeated = base62::Alphabet::new([b'a'; 62]);
+    /// assert_eq!(rt; repeated.err(), Some(base62::AlphabetError::Repeated(b'a', 1)));
+    /// ```
+    pub fn new(letters: [u8; 62]) -> Result<Alphabet, AlphabetError>
+        ensures ok { IfOk result (λ alphabet. alphabet ≡ letters) }
+        ensures accepted { IsOk result ↔ IsAlphabet letters }
+        ensures named { (byte index : ℕ) → result ≡ Err (Repeated byte index)
+            → RepeatsFirst letters byte index }
+    {
+        let mut table = [255u8; 256];
+        'letters: for index in 0..62 {
+            let byte = letters[index];
+            if table[byte as usize] != 255 {
+                return Err(AlphabetError::Repeated(byte, index));
+            }
+            table[byte as usize] = index as u8;
+        }
+        Ok(Alphabet {
+            tables: Tables { letters, table },
+        })
+    }
+
+    /// The standard alphabet: `0` to `9`, `A` to `Z`, `a` to `z`.
+    pub fn standard() -> Alphabet
+        ensures { result ≡ standard }
+    {
+        Alphabet {
+            tables: *standard_tables(),
+        }
+    }
+
+    /// The alternative alphabet: `0` to `9`, `a` to `z`, `A` to `Z`.
+    pub fn alternative() -> Alphabet
+        ensures { result ≡ alternative }
+    {
+        Alphabet {
+            tables: *alternative_tables(),
+        }
+    }
+
+    /// The letters, that of digit d at place d.
+    pub fn letters(&self) -> &[u8; 62]
+        ensures letters { result.now ≡ self.now }
+        ensures alphabet { IsAlphabet self.now }
+    {
+        &self.tables.letters
+    }
+
+    /// Whether each letter is below 128, as the calls into strings and displays want.
+    pub fn is_ascii(&self) -> bool
+        ensures { IsTrue result ↔ IsAscii self.now }
+    {
+        self.tables.letters.is_ascii()
+    }
+
+    /// Whether each letter is a greater byte than the one before it. Texts of one length then sort by their bytes as
+    /// their numbers.
+    pub fn is_ascending(&self) -> bool
+        ensures { IsTrue result ↔ Ascends self.now }
+    {
+        // Its letters are distinct, so of two in a row one is greater.
+        self.tables.letters.is_sorted()
+    }
+
+    // The tables that calls read.
+    #[inline(always)]
+    pub(crate) fn as_tables(&self) -> &Tables
+        ensures tables { AreTables result.now }
+        ensures letters { result.now.letters ≡ self.now }
+    {
+        &self.tables
+    }
+}
+
 // The letters of an alphabet, that of digit d at place d, and the digits of all bytes, 255 where a byte has none.
+#[derive(Clone, Copy)]
 pub(crate) struct Tables {
     letters: [u8; 62],
     table: [u8; 256],

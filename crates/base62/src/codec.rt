@@ -10,7 +10,7 @@ ghost use Rattle.base62.specs.Tables.{AreTables};
 mod chunks;
 mod kernels;
 
-use crate::alphabet::{Tables, Work, alternative_tables, standard_tables};
+use crate::alphabet::{Alphabet, Tables, Work, alternative_tables, standard_tables};
 use crate::count::digit_count;
 use crate::fault::{DecodeError, EncodeError};
 use crate::number::Number;
@@ -55,6 +55,24 @@ pub fn encode_alternative_bytes<T: Number>(num: T, buf: &mut [u8]) -> Result<usi
     encode_alternative_bytes_counted(num, buf, &mut Work::new())
 }
 
+/// As [`encode_bytes`], over an alphabet of the caller's, whose first letter stands for `0`.
+///
+/// ```rust
+/// let alphabet = base62::Alphabet::alternative();
+/// let mut buf = [0u8; 22];
+/// assert_eq!(rt; base62::encode_bytes_with(&alphabet, 1337_u64, &mut buf), Ok(2));
+/// assert_eq!(rt; &buf[..2], b"lz".as_slice());
+/// ```
+pub fn encode_bytes_with<T: Number>(
+    alphabet: &Alphabet,
+    num: T,
+    buf: &mut [u8],
+) -> Result<usize, EncodeError>
+    ensures { EncodesInto alphabet.now (T.meaning num) buf.old buf.new result }
+{
+    encode_bytes_with_counted(alphabet, num, buf, &mut Work::new())
+}
+
 /// The answer of [`encode_bytes`], with the steps of writing the text counted.
 ///
 /// `work` goes on from where it stood. A text of 1 or 2 letters takes one step, of 10 to 12 seven, and of 21 or 22
@@ -90,6 +108,26 @@ pub fn encode_alternative_bytes_counted<T: Number>(
     ensures { EncodesCounted alternative (T.meaning num) buf.old buf.new work.old work.new result }
 {
     encode_over(alternative_tables(), num.number(), buf, work)
+}
+
+/// As [`encode_bytes_counted`], over an alphabet of the caller's.
+///
+/// ```rust
+/// let alphabet = base62::Alphabet::alternative();
+/// let mut work = base62::Work::new();
+/// let mut buf = [0u8; 22];
+/// let len = base62::encode_bytes_with_counted(&alphabet, 1337_u64, &mut buf, &mut work);
+/// assert_eq!(rt; len, Ok(2));
+/// ```
+pub fn encode_bytes_with_counted<T: Number>(
+    alphabet: &Alphabet,
+    num: T,
+    buf: &mut [u8],
+    work: &mut Work,
+) -> Result<usize, EncodeError>
+    ensures { EncodesCounted alphabet.now (T.meaning num) buf.old buf.new work.old work.new result }
+{
+    encode_over(alphabet.as_tables(), num.number(), buf, work)
 }
 
 /// The number that the standard text `input` denotes.
@@ -134,6 +172,18 @@ pub fn decode_alternative(input: &[u8]) -> Result<u128, DecodeError>
     decode_alternative_counted(input, &mut Work::new())
 }
 
+/// As [`decode`], over an alphabet of the caller's, whose first letter stands for `0`.
+///
+/// ```rust
+/// let alphabet = base62::Alphabet::alternative();
+/// assert_eq!(rt; base62::decode_with(&alphabet, b"lz"), Ok(1337));
+/// ```
+pub fn decode_with(alphabet: &Alphabet, input: &[u8]) -> Result<u128, DecodeError>
+    ensures { result ≡ decoding alphabet.now input.now }
+{
+    decode_with_counted(alphabet, input, &mut Work::new())
+}
+
 /// The answer of [`decode`], with the steps of reading `input` counted.
 ///
 /// `work` goes on from where it stood. An empty text and one of more than 22 bytes after its leading zeros take no
@@ -162,9 +212,26 @@ pub fn decode_alternative_counted(input: &[u8], work: &mut Work) -> Result<u128,
     decode_over(alternative_tables(), input, work)
 }
 
+/// As [`decode_counted`], over an alphabet of the caller's.
+///
+/// ```rust
+/// let alphabet = base62::Alphabet::alternative();
+/// let mut work = base62::Work::new();
+/// assert_eq!(rt; base62::decode_with_counted(&alphabet, b"00lz", &mut work), Ok(1337));
+/// ```
+pub fn decode_with_counted(
+    alphabet: &Alphabet,
+    input: &[u8],
+    work: &mut Work,
+) -> Result<u128, DecodeError>
+    ensures { DecodesCounted alphabet.now input.now work.old work.new result }
+{
+    decode_over(alphabet.as_tables(), input, work)
+}
+
 // The encoder over any alphabet.
 #[inline(always)]
-fn encode_over(
+pub(crate) fn encode_over(
     tables: &Tables,
     n: u128,
     buf: &mut [u8],

@@ -1,10 +1,10 @@
-//! Why a text is not decoded, and why a number is not encoded.
+//! Why a text is not decoded, a number not encoded, and a list of letters no alphabet.
 
 ghost use Rattle.std.specs.Prelude.{◌≡◌, ◌<◌, [], ◌∷◌, ◌++◌, Some, codes, decimal};
 ghost use Rattle.std.specs.Char.{digit_char};
 ghost use Rattle.std.specs.Char.Escape.{hex_digit_at};
 ghost use Rattle.std.specs.Fmt.{WritesOnOk, WritesStyledOnOk};
-ghost use Rattle.base62.specs.Fault.{decode_error_text, encode_error_text, escaped};
+ghost use Rattle.base62.specs.Fault.{alphabet_error_text, byte_at_index, decode_error_text, encode_error_text, escaped};
 
 use std::{error, fmt};
 
@@ -28,6 +28,13 @@ pub enum EncodeError {
     BufferTooSmall,
 }
 
+/// Why 62 bytes are no alphabet.
+#[derive(Clone, Copy, Debug, PartialEq, Eq, PartialOrd, Ord, Hash)]
+pub enum AlphabetError {
+    /// The byte at the least index whose byte stands before it too, and that index, which is 1 to 61.
+    Repeated(u8, usize),
+}
+
 /// Prints what went wrong, and the same under any width, fill and alignment.
 ///
 /// A byte is printed by ASCII's default escape: `\t`, `\n`, `\r`, `\"`, `\'`, `\\`, the byte itself
@@ -45,10 +52,8 @@ impl fmt::Display for DecodeError {
             ),
             DecodeError::EmptyInput => f.write_str("Encoded input is an empty string"),
             DecodeError::InvalidBase62Byte(byte, index) => {
-                f.write_str("Encoded input contains the invalid byte b'")?;
-                write_escaped(byte, f)?;
-                f.write_str("' at index ")?;
-                write_decimal(index, f)
+                f.write_str("Encoded input contains the invalid ")?;
+                write_byte_at_index(byte, index, f)
             }
         }
     }
@@ -71,6 +76,39 @@ impl fmt::Display for EncodeError {
 }
 
 impl error::Error for EncodeError {}
+
+/// Prints what went wrong, with the byte as [`DecodeError`] prints one, and the same under any width, fill and
+/// alignment.
+impl fmt::Display for AlphabetError {
+    ghost output = { λ e. Some (alphabet_error_text e) };
+
+    ghost styled_output = { λ e _. Some (alphabet_error_text e) };
+
+    #[tactic(auto, using(crate::proofs::FaultLemmas::styled_writes), unfolding(crate::specs::Fault::alphabet_error_text))]
+    fn fmt<W: fmt::Write>(&self, f: &mut fmt::Formatter<W>) -> fmt::Result {
+        let AlphabetError::Repeated(byte, index) = *self;
+        f.write_str("Alphabet repeats the ")?;
+        write_byte_at_index(byte, index, f)
+    }
+}
+
+impl error::Error for AlphabetError {}
+
+// Writes a byte that is named, and its index.
+#[tactic(auto, using(crate::proofs::FaultLemmas::styled_writes), unfolding(crate::specs::Fault::byte_at_index))]
+fn write_byte_at_index<W: fmt::Write>(
+    byte: u8,
+    index: usize,
+    f: &mut fmt::Formatter<W>,
+) -> fmt::Result
+    ensures writes { WritesOnOk W.write_str_gives f.old result (byte_at_index byte index) f.new }
+    ensures styled { WritesStyledOnOk W.write_str_gives f.old result (byte_at_index byte index) f.new }
+{
+    f.write_str("byte b'")?;
+    write_escaped(byte, f)?;
+    f.write_str("' at index ")?;
+    write_decimal(index, f)
+}
 
 // Writes the byte as the definition shows it, by plain writes, as all that follows.
 #[tactic(auto, unfolding(crate::specs::Fault::escaped))]

@@ -13,8 +13,9 @@ ghost use Rattle.base62.specs.Case.{exchange_case};
 ghost use Rattle.base62.specs.Key.{IsKey, BeginsWith, IsInInterval, interval_ends};
 ghost use Rattle.base62.specs.Order.{byte_order, length_first_order, Ascends};
 ghost use Rattle.base62.specs.Laws.{HasNoNeedlessZero, AnswerTells, number_or_overflow, one_place_on};
-ghost use Rattle.base62.specs.Fault.{decode_error_order};
+ghost use Rattle.base62.specs.Fault.{alphabet_error_order, decode_error_order};
 ghost use Rattle.base62.specs.Padding.{padded_to};
+ghost use Rattle.base62.specs.declared.fault.AlphabetError.{AlphabetError};
 ghost use Rattle.base62.specs.declared.fault.DecodeError.{DecodeError};
 ghost use Rattle.base62.specs.declared.fault.EncodeError.{EncodeError};
 
@@ -161,6 +162,20 @@ pub fn order_of_encode_errors()
         → ⟦<fault::EncodeError as Hash>⟧.hash_input d ≡ ⟦<fault::EncodeError as Hash>⟧.hash_input e }
 {}
 
+/// How faults of alphabets compare: by byte and then by index. Two are equal exactly where they are one value,
+/// exactly those compare as equal, and equal ones are hashed alike.
+pub fn order_of_alphabet_errors()
+    ensures order { (d e : AlphabetError)
+        → ⟦<fault::AlphabetError as Ord>⟧.cmp d e ≡ alphabet_error_order d e }
+    ensures equal { (d e : AlphabetError)
+        → (⟦<fault::AlphabetError as PartialEq>⟧.eq d e ≡ true) ↔ (d ≡ e) }
+    ensures compare_equal { (d e : AlphabetError)
+        → (⟦<fault::AlphabetError as Ord>⟧.cmp d e ≡ Equal) ↔ (d ≡ e) }
+    ensures hashed_alike { (d e : AlphabetError)
+        → ⟦<fault::AlphabetError as PartialEq>⟧.eq d e ≡ true
+        → ⟦<fault::AlphabetError as Hash>⟧.hash_input d ≡ ⟦<fault::AlphabetError as Hash>⟧.hash_input e }
+{}
+
 /// A clone of a fault is the fault, and making one never fails.
 pub fn clones_of_errors()
     ensures decode_error { (d e : DecodeError) → ⟦<fault::DecodeError as Clone>⟧.is_clone d e → e ≡ d }
@@ -169,4 +184,7 @@ pub fn clones_of_errors()
     ensures encode_error { (d e : EncodeError) → ⟦<fault::EncodeError as Clone>⟧.is_clone d e → e ≡ d }
     ensures encode_error_always { (d : EncodeError)
         → ⟦<fault::EncodeError as Clone>⟧.is_infallible d }
+    ensures alphabet_error { (d e : AlphabetError) → ⟦<fault::AlphabetError as Clone>⟧.is_clone d e → e ≡ d }
+    ensures alphabet_error_always { (d : AlphabetError)
+        → ⟦<fault::AlphabetError as Clone>⟧.is_infallible d }
 {}

@@ -3,8 +3,9 @@
 //! A number is written as the one shortest nonempty text over 62 letters that denotes it, and a text is
 //! read back exactly or refused with the fault that [`decode`] names for it.
 //!
-//! There are two alphabets. The standard one is `0` to `9`, `A` to `Z`, `a` to `z`, and the alternative
-//! one is `0` to `9`, `a` to `z`, `A` to `Z`: a letter's digit is its place, counted from 0.
+//! Two alphabets are built in. The standard one is `0` to `9`, `A` to `Z`, `a` to `z`, and the alternative
+//! one is `0` to `9`, `a` to `z`, `A` to `Z`: a letter's digit is its place, counted from 0. An [`Alphabet`] has
+//! 62 letters of your own.
 //!
 //! ```rust
 //! let mut buf = [0u8; 22];
@@ -14,7 +15,7 @@
 //!
 //! The text goes into a buffer ([`encode_bytes`]), a `String` ([`encode`], [`encode_buf`]), a writer
 //! ([`encode_io`]) or a format string ([`encode_fmt`]). Each of these, and [`decode`], has a twin over the
-//! alternative alphabet. [`encode_key`] makes texts of a fixed length, which sort as their numbers.
+//! alternative alphabet, and a form over an `Alphabet`, as [`decode_with`]. [`encode_key`] makes texts of a fixed length, which sort as their numbers.
 //! [`encode_bytes_counted`] and [`decode_counted`] count their steps on a [`Work`], for a caller that must bound
 //! them.
 #![tactic(auto)]
@@ -31,17 +32,18 @@ pub mod show;
 pub mod target;
 mod text;
 
-pub use alphabet::Work;
+pub use alphabet::{Alphabet, Work};
 pub use codec::{
-    decode, decode_alternative, decode_alternative_counted, decode_counted,
-    encode_alternative_bytes, encode_alternative_bytes_counted, encode_bytes, encode_bytes_counted,
+    decode, decode_alternative, decode_alternative_counted, decode_counted, decode_with,
+    decode_with_counted, encode_alternative_bytes, encode_alternative_bytes_counted, encode_bytes,
+    encode_bytes_counted, encode_bytes_with, encode_bytes_with_counted,
 };
 pub use count::digit_count;
-pub use fault::{DecodeError, EncodeError};
+pub use fault::{AlphabetError, DecodeError, EncodeError};
 pub use key::{encode_key, key_range};
 pub use number::Number;
-pub use show::{Fmt, FmtAlternative, encode_fmt, encode_fmt_alt};
+pub use show::{Fmt, FmtAlternative, FmtWith, encode_fmt, encode_fmt_alt, encode_fmt_with};
 pub use target::{
     encode, encode_alternative, encode_alternative_buf, encode_alternative_io, encode_buf,
-    encode_io,
+    encode_buf_with, encode_io, encode_io_with, encode_with,
 };

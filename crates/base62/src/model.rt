@@ -15,7 +15,7 @@ ghost use Rattle.std.specs.Prelude.{◌≡◌, ◌^◌, ◌-◌, ◌++◌, [], �
 ghost use Rattle.std.specs.List.{range_with_len};
 ghost use Rattle.std.specs.declared.cmp.Ordering.TheVariants.{Less, Equal, Greater};
 ghost use Rattle.std.specs.declared.fmt.Alignment.TheVariants.{Left, Right, Center};
-ghost use Rattle.base62.specs.Alphabet.{IsAlphabet, standard, alternative};
+ghost use Rattle.base62.specs.Alphabet.{IsAlphabet, RepeatsFirst, standard, alternative};
 ghost use Rattle.base62.specs.Value.{value};
 ghost use Rattle.base62.specs.Canonical.{IsCanonical};
 ghost use Rattle.base62.specs.Decoding.{decoding};
@@ -134,7 +134,8 @@ pub fn displays_by_example()
 {}
 
 /// Other alphabets than the built-in ones: one whose zero letter is `a`, with `0` for digit 61; the bytes from
-/// 194 to 255, of which none is ASCII; and those from 33 to 94, which ascend.
+/// 194 to 255, of which none is ASCII; and those from 33 to 94, which ascend. Letters that are no alphabet name
+/// the first byte that is repeated; 97 is `a`, and 49 is `1`.
 pub fn alphabets_by_example()
     ensures small_letters_first { IsAlphabet
         (codes "abcdefghijklmnopqrstuvwxyzABCDEFGHIJKLMNOPQRSTUVWXYZ1234567890") }
@@ -146,6 +147,9 @@ pub fn alphabets_by_example()
     ensures from_33 { IsAlphabet (range_with_len 33 62) }
     ensures from_33_ascends { Ascends (range_with_len 33 62) }
     ensures from_33_decoded { decoding (range_with_len 33 62) (codes "!!6D") ≡ Ok 1337 }
+    ensures one_byte_repeated { RepeatsFirst (replicate 62 97) 97 1 }
+    ensures two_bytes_repeated { RepeatsFirst
+        (codes "012140678ABCDEFGHIJKLMNOPQRSTUVWXYZabcdefghijklmnopqrstuvwxyz9") 49 3 }
 {}
 
 /// How some texts compare, and what does not ascend.

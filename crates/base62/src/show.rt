@@ -1,17 +1,20 @@
 //! Numbers that display as their texts.
 
 ghost use Rattle.std.specs.Prelude.{ℕ, List, Some};
+ghost use Rattle.std.specs.Str.{IsAscii};
 ghost use Rattle.std.specs.Fmt.{spec_width, spec_fill, spec_precision};
 ghost use Rattle.base62.specs.Alphabet.{standard, alternative};
 ghost use Rattle.base62.specs.Canonical.{IsCanonical};
 ghost use Rattle.base62.specs.Padding.{displayed};
 
+use crate::alphabet::{Alphabet, alternative_tables, standard_tables};
 use crate::number::Number;
 use crate::text::Text;
 use std::fmt;
 use std::marker::Model;
 
-/// A number that displays as its standard text: what [`encode_fmt`] answers. Contracts see it as that text.
+/// A number that displays as its text over an alphabet: what [`encode_fmt`], [`encode_fmt_alt`] and
+/// [`encode_fmt_with`] answer. It holds the text, as which contracts see it.
 #[derive(Drop)]
 pub struct Fmt {
     text: Text,
@@ -21,7 +24,15 @@ impl Model for Fmt {
     ghost Value = { List ℕ };
 
     ghost view = { λ f. f.text };
+
+    ghost invariant = { λ f. IsAscii f.text };
 }
+
+/// What [`encode_fmt_alt`] answers.
+pub type FmtAlternative = Fmt;
+
+/// What [`encode_fmt_with`] answers.
+pub type FmtWith = Fmt;
 
 /// Writes the text, padded to the formatter's width.
 ///
@@ -41,32 +52,6 @@ impl fmt::Display for Fmt {
     }
 }
 
-/// A number that displays as its alternative text, as [`Fmt`] does as its standard one: what [`encode_fmt_alt`]
-/// answers.
-#[derive(Drop)]
-pub struct FmtAlternative {
-    text: Text,
-}
-
-impl Model for FmtAlternative {
-    ghost Value = { List ℕ };
-
-    ghost view = { λ f. f.text };
-}
-
-/// Writes the text, padded to the formatter's width as for [`Fmt`].
-impl fmt::Display for FmtAlternative {
-    ghost output = { λ text. Some text };
-
-    ghost styled_output = { λ text options. displayed (spec_precision options) (spec_width options)
-        (spec_fill options) options.align text };
-
-    #[tactic(auto, using(crate::proofs::PaddingLemmas::pad_displays))]
-    fn fmt<W: fmt::Write>(&self, f: &mut fmt::Formatter<W>) -> fmt::Result {
-        f.pad(self.text.as_str())
-    }
-}
-
 /// A value that displays as the standard text of `num`, which has 1 to 22 letters.
 ///
 /// It takes no memory and refuses nothing. A display pads the text to a width as [`Fmt`] says.
@@ -75,11 +60,12 @@ impl fmt::Display for FmtAlternative {
 /// println!(rt; "{}", base62::encode_fmt(1337_u64))?;     // LZ
 /// println!(rt; "{:0>5}", base62::encode_fmt(1337_u64))?; // 000LZ
 /// ```
+#[tactic(auto, using(crate::proofs::TextLemmas::ascii_texts))]
 pub fn encode_fmt<T: Number>(num: T) -> Fmt
     ensures { IsCanonical standard result (T.meaning num) }
 {
     Fmt {
-        text: Text::standard(num),
+        text: Text::over(standard_tables(), num),
     }
 }
 
@@ -89,10 +75,30 @@ pub fn encode_fmt<T: Number>(num: T) -> Fmt
 /// println!(rt; "{}", base62::encode_fmt_alt(1337_u64))?;     // lz
 /// println!(rt; "{:0>5}", base62::encode_fmt_alt(1337_u64))?; // 000lz
 /// ```
+#[tactic(auto, using(crate::proofs::TextLemmas::ascii_texts))]
 pub fn encode_fmt_alt<T: Number>(num: T) -> FmtAlternative
     ensures { IsCanonical alternative result (T.meaning num) }
 {
-    FmtAlternative {
-        text: Text::alternative(num),
+    Fmt {
+        text: Text::over(alternative_tables(), num),
+    }
+}
+
+/// As [`encode_fmt`], over an alphabet of the caller's. Its letters have to be ASCII, as for
+/// [`encode_with`](crate::encode_with).
+///
+/// ```rust
+/// let alphabet = base62::Alphabet::alternative();
+/// if alphabet.is_ascii() {
+///     println!(rt; "{:0>5}", base62::encode_fmt_with(&alphabet, 1337_u64))?; // 000lz
+/// }
+/// ```
+#[tactic(auto, using(crate::proofs::TextLemmas::ascii_texts))]
+pub fn encode_fmt_with<T: Number>(alphabet: &Alphabet, num: T) -> FmtWith
+    requires { IsAscii alphabet.now }
+    ensures { IsCanonical alphabet.now result (T.meaning num) }
+{
+    Fmt {
+        text: Text::over(alphabet.as_tables(), num),
     }
 }

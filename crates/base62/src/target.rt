@@ -1,11 +1,12 @@
 //! Encoding into texts and to writers.
 
-ghost use Rattle.std.specs.Prelude.{◌≡◌, ◌+◌, ◌-◌, ◌≤◌, ◌++◌, length, IsOk, IfOk, OnOk, OnErr};
+ghost use Rattle.std.specs.Prelude.{◌≡◌, ◌+◌, ◌-◌, ◌≤◌, ◌++◌, length, IsOk, OnOk, OnErr};
+ghost use Rattle.std.specs.Str.{IsAscii};
 ghost use Rattle.std.specs.String.{string_bytes, string_len, string_capacity};
 ghost use Rattle.base62.specs.Alphabet.{standard, alternative};
-ghost use Rattle.base62.specs.Canonical.{IsCanonical};
-ghost use Rattle.base62.specs.Encoding.{AppendsTo, WritesCanonical};
+ghost use Rattle.base62.specs.Encoding.{AnswersCanonical, AppendsTo, WritesCanonical};
 
+use crate::alphabet::{Alphabet, alternative_tables, standard_tables};
 use crate::number::Number;
 use crate::text::Text;
 use std::alloc::{AllocError, Global};
@@ -22,10 +23,11 @@ use std::io::{self, Write};
 /// ```
 ///
 /// [`encode_bytes`]: crate::encode_bytes
+#[tactic(auto, using(crate::proofs::TextLemmas::ascii_texts))]
 pub fn encode<T: Number>(alloc: Global, num: T) -> Result<String, AllocError>
-    ensures { IfOk result (λ text. IsCanonical standard (string_bytes text) (T.meaning num)) }
+    ensures { AnswersCanonical standard (T.meaning num) result }
 {
-    String::from_str(alloc, Text::standard(num).as_str())
+    String::from_str(alloc, Text::over(standard_tables(), num).as_str())
 }
 
 /// As [`encode`], over the alternative alphabet.
@@ -34,10 +36,33 @@ pub fn encode<T: Number>(alloc: Global, num: T) -> Result<String, AllocError>
 /// let text = base62::encode_alternative(rt.alloc(), 1234567890_u64)?;
 /// assert_eq!(rt; text.as_str(), "1ly7vk");
 /// ```
+#[tactic(auto, using(crate::proofs::TextLemmas::ascii_texts))]
 pub fn encode_alternative<T: Number>(alloc: Global, num: T) -> Result<String, AllocError>
-    ensures { IfOk result (λ text. IsCanonical alternative (string_bytes text) (T.meaning num)) }
+    ensures { AnswersCanonical alternative (T.meaning num) result }
 {
-    String::from_str(alloc, Text::alternative(num).as_str())
+    String::from_str(alloc, Text::over(alternative_tables(), num).as_str())
+}
+
+/// As [`encode`], over an alphabet of the caller's. Its letters have to be ASCII, as
+/// [`is_ascii`](Alphabet::is_ascii) tells, for a string is UTF-8.
+///
+/// ```rust
+/// let alphabet = base62::Alphabet::alternative();
+/// if alphabet.is_ascii() {
+///     let text = base62::encode_with(rt.alloc(), &alphabet, 1234567890_u64)?;
+///     assert_eq!(rt; text.as_str(), "1ly7vk");
+/// }
+/// ```
+#[tactic(auto, using(crate::proofs::TextLemmas::ascii_texts))]
+pub fn encode_with<T: Number>(
+    alloc: Global,
+    alphabet: &Alphabet,
+    num: T,
+) -> Result<String, AllocError>
+    requires { IsAscii alphabet.now }
+    ensures { AnswersCanonical alphabet.now (T.meaning num) result }
+{
+    String::from_str(alloc, Text::over(alphabet.as_tables(), num).as_str())
 }
 
 /// Appends the standard text of `num`, which has 1 to 22 letters, to `buf`.
@@ -51,11 +76,11 @@ pub fn encode_alternative<T: Number>(alloc: Global, num: T) -> Result<String, Al
 /// base62::encode_buf(1337_u64, &mut link)?;
 /// assert_eq!(rt; link.as_str(), "https://example.org/LZ");
 /// ```
-#[tactic(auto, using(crate::proofs::TextLemmas::canonical_fits))]
+#[tactic(auto, using(crate::proofs::TextLemmas::ascii_texts, crate::proofs::TextLemmas::canonical_fits))]
 pub fn encode_buf<T: Number>(num: T, buf: &mut String) -> Result<(), AllocError>
     ensures { AppendsTo standard (T.meaning num) buf.old buf.new result }
 {
-    append(&Text::standard(num), buf)
+    append(&Text::over(standard_tables(), num), buf)
 }
 
 /// As [`encode_buf`], over the alternative alphabet.
@@ -65,14 +90,37 @@ pub fn encode_buf<T: Number>(num: T, buf: &mut String) -> Result<(), AllocError>
 /// base62::encode_alternative_buf(1337_u64, &mut link)?;
 /// assert_eq!(rt; link.as_str(), "https://example.org/lz");
 /// ```
-#[tactic(auto, using(crate::proofs::TextLemmas::canonical_fits))]
+#[tactic(auto, using(crate::proofs::TextLemmas::ascii_texts, crate::proofs::TextLemmas::canonical_fits))]
 pub fn encode_alternative_buf<T: Number>(num: T, buf: &mut String) -> Result<(), AllocError>
     ensures { AppendsTo alternative (T.meaning num) buf.old buf.new result }
 {
-    append(&Text::alternative(num), buf)
+    append(&Text::over(alternative_tables(), num), buf)
+}
+
+/// As [`encode_buf`], over an alphabet of the caller's. Its letters have to be ASCII, as for [`encode_with`].
+///
+/// ```rust
+/// let alphabet = base62::Alphabet::alternative();
+/// let mut link = String::from_str(rt.alloc(), "https://example.org/")?;
+/// if alphabet.is_ascii() {
+///     base62::encode_buf_with(&alphabet, 1337_u64, &mut link)?;
+///     assert_eq!(rt; link.as_str(), "https://example.org/lz");
+/// }
+/// ```
+#[tactic(auto, using(crate::proofs::TextLemmas::ascii_texts, crate::proofs::TextLemmas::canonical_fits))]
+pub fn encode_buf_with<T: Number>(
+    alphabet: &Alphabet,
+    num: T,
+    buf: &mut String,
+) -> Result<(), AllocError>
+    requires { IsAscii alphabet.now }
+    ensures { AppendsTo alphabet.now (T.meaning num) buf.old buf.new result }
+{
+    append(&Text::over(alphabet.as_tables(), num), buf)
 }
 
 fn append(text: &Text, buf: &mut String) -> Result<(), AllocError>
+    requires { IsAscii text.now }
     ensures ok { OnOk result (string_bytes buf.new ≡ string_bytes buf.old ++ text.now) }
     ensures err { OnErr result ((string_bytes buf.new ≡ string_bytes buf.old)
         × (string_capacity buf.new ≡ string_capacity buf.old)) }
@@ -101,7 +149,7 @@ fn append(text: &Text, buf: &mut String) -> Result<(), AllocError>
 pub fn encode_io<T: Number, W: Write>(num: T, w: &mut W) -> io::Result<()>
     ensures { OnOk result (WritesCanonical standard (T.meaning num) (W.contents w.old) (W.contents w.new)) }
 {
-    w.write_all(Text::standard(num).as_bytes())
+    w.write_all(Text::over(standard_tables(), num).as_bytes())
 }
 
 /// As [`encode_io`], over the alternative alphabet.
@@ -114,5 +162,19 @@ pub fn encode_io<T: Number, W: Write>(num: T, w: &mut W) -> io::Result<()>
 pub fn encode_alternative_io<T: Number, W: Write>(num: T, w: &mut W) -> io::Result<()>
     ensures { OnOk result (WritesCanonical alternative (T.meaning num) (W.contents w.old) (W.contents w.new)) }
 {
-    w.write_all(Text::alternative(num).as_bytes())
+    w.write_all(Text::over(alternative_tables(), num).as_bytes())
+}
+
+/// As [`encode_io`], over an alphabet of the caller's, of any bytes.
+///
+/// ```rust
+/// let alphabet = base62::Alphabet::alternative();
+/// let mut out = Vec::new(rt.alloc());
+/// base62::encode_io_with(&alphabet, 1337_u64, &mut out)?;
+/// assert_eq!(rt; out.as_slice(), b"lz".as_slice());
+/// ```
+pub fn encode_io_with<T: Number, W: Write>(alphabet: &Alphabet, num: T, w: &mut W) -> io::Result<()>
+    ensures { OnOk result (WritesCanonical alphabet.now (T.meaning num) (W.contents w.old) (W.contents w.new)) }
+{
+    w.write_all(Text::over(alphabet.as_tables(), num).as_bytes())
 }

@@ -19,6 +19,8 @@ mod memory;
 #[cfg(test)]
 mod number;
 #[cfg(test)]
+mod own_alphabets;
+#[cfg(test)]
 mod show;
 pub mod steps;
 #[cfg(test)]

@@ -1,0 +1,100 @@
+-- The table of an alphabet, as it is filled letter by letter.
+use Rattle.std.proofs.Common.{◌≡◌, ◌≢◌, ℕ, ◌+◌, ◌<◌, ◌≤◌, List, length, get_or, slice_set, Option, Some, None, unwrap_or, refl, sym, ap, ◌∙◌, arith, ◌⊎◌, inl, inr}
+use Rattle.std.proofs.lemmas.Bool.{cases_lt, cases_eq}
+use Rattle.std.proofs.lemmas.List.{get_or-set_same, get_or-set_other, length-set, ext_get_or}
+use Rattle.std.proofs.lemmas.List.Elements.{All-from_get_or}
+use Rattle.std.proofs.lemmas.List.FromFn.{length-map-range_with_len}
+use Rattle.base62.specs.Alphabet.{IsAlphabet, IsRepeated, RepeatsFirst, digit_of}
+use Rattle.base62.specs.Table.{digit_or_none, table_of}
+use Rattle.base62.proofs.AlphabetLemmas.{digit_of-letter, letter-digit_of}
+use Rattle.base62.proofs.TableLemmas.{get_or-table_of}
+
+-- the table has the digits of the first i letters, and 255 for all other bytes
+pub record IsTableOfFirst (B T : List ℕ) (i : ℕ) : Type 0 where
+  pub size : length T ≡ 256
+  pub digits : (k : ℕ) → k < i → get_or T (get_or B k 0) 0 ≡ k
+  pub bytes : (x : ℕ) → x < 256 → (get_or T x 0 ≡ 255) ⊎ ((get_or T x 0 < i) × (get_or B (get_or T x 0) 0 ≡ x))
+
+-- one more letter in the table
+pub IsTableOfFirst-more : (B T : List ℕ) (i b : ℕ) → get_or B i 0 ≡ b → b < 256 → i < 62 → get_or T b 0 ≡ 255 → IsTableOfFirst B T i
+    → IsTableOfFirst B (slice_set T b i) (i + 1)
+IsTableOfFirst-more B T i b is fits inside free held = record {
+  size = length-set T b i ∙ held.size;
+  digits = λ k below. elim (cases_lt k i) [
+    | inl earlier ↦
+        let other : get_or B k 0 ≢ b = λ same. (let e : get_or T b 0 ≡ k = sym (ap (λ x. get_or T x 0) same) ∙ held.digits k earlier in omega (arith, e, free, earlier, inside)) in
+        get_or-set_other T b (get_or B k 0) i 0 other ∙ held.digits k earlier
+    | inr top ↦
+        let e : k ≡ i = omega (arith, below, top) in
+        rw (e, is) (get_or-set_same T b i 0 (omega (arith, fits, held.size)))
+  ];
+  bytes = λ x in_range. elim (cases_eq x b) [
+    | inl same ↦
+        let now : get_or (slice_set T b i) x 0 ≡ i = rw same (get_or-set_same T b i 0 (omega (arith, fits, held.size))) in
+        inr (rw now (omega arith), rw (now, same) is)
+    | inr other ↦
+        let now : get_or (slice_set T b i) x 0 ≡ get_or T x 0 = get_or-set_other T b x i 0 other in
+        elim (held.bytes x in_range) [
+          | inl none ↦ inl (now ∙ none)
+          | inr some ↦ inr (rw now (omega (arith, some.0)), rw now some.1)
+        ]
+  ];
+}
+
+-- the letters whose digits are in the table are distinct
+distinct_first : (B T : List ℕ) (i : ℕ) → IsTableOfFirst B T i → (j k : ℕ) → j < i → k < i → get_or B j 0 ≡ get_or B k 0 → j ≡ k
+distinct_first B T i held j k p q same = sym (held.digits j p) ∙ ap (λ x. get_or T x 0) same ∙ held.digits k q
+
+no_digit : (B T : List ℕ) → IsTableOfFirst B T 62 → length B ≡ 62 → (x : ℕ) → get_or T x 0 ≡ 255 → (o : Option ℕ) → digit_of B x ≡ o → unwrap_or o 255 ≡ 255
+no_digit B T held size x none None e = refl
+no_digit B T held size x none (Some d) e =
+    let at = letter-digit_of B x d e in
+    let is : get_or T x 0 ≡ d = sym (ap (λ y. get_or T y 0) at.1) ∙ held.digits d (omega (arith, at.0, size)) in
+    sym is ∙ none
+
+-- once all letters are in it, it is the table of the letters
+table_of_all : (B T : List ℕ) → IsAlphabet B → IsTableOfFirst B T 62 → T ≡ table_of B
+unfolding table_of
+table_of_all B T ok held =
+    let size : length (table_of B) ≡ 256 = length-map-range_with_len (digit_or_none B) 0 256 in
+    ext_get_or 0 T (table_of B) (held.size ∙ sym size) (λ x h.
+    let below : x < 256 = omega (arith, h, held.size) in
+    let entry : get_or (table_of B) x 0 ≡ digit_or_none B x = get_or-table_of B x below in
+    elim (held.bytes x below) [
+      | inl none ↦ none ∙ sym (no_digit B T held ok.size x none (digit_of B x) refl) ∙ sym entry
+      | inr some ↦
+          let digit : digit_of B x ≡ Some (get_or T x 0) = ap (digit_of B) (sym some.1) ∙ digit_of-letter B ok (get_or T x 0) some.0 in
+          sym (ap (λ o. unwrap_or o 255) digit) ∙ sym entry
+    ])
+
+-- then the letters are an alphabet, and it is theirs
+pub alphabet_of_all : (B T : List ℕ) (i : ℕ) → length B ≡ 62 → ((k : ℕ) → get_or B k 0 < 256) → 62 ≤ i → i ≤ 62 → IsTableOfFirst B T i
+    → IsAlphabet B × (T ≡ table_of B)
+alphabet_of_all B T i size fits low high held =
+    let all : i ≡ 62 = omega (arith, low, high) in
+    let full : IsTableOfFirst B T 62 = rw all at held in
+    let ok : IsAlphabet B = record {
+      size = size;
+      bytes = All-from_get_or (λ b. b < 256) B 0 (λ k _. fits k);
+      distinct = distinct_first B T 62 full;
+    } in
+    (ok, table_of_all B T ok full)
+
+-- where the next byte is in the table already, it is the first that is repeated
+pub repeats_first : (B T : List ℕ) (b i : ℕ) → get_or B i 0 ≡ b → b < 256 → i < length B → get_or T b 0 ≢ 255 → IsTableOfFirst B T i → RepeatsFirst B b i
+repeats_first B T b i is fits inside taken held = elim (held.bytes b fits) [
+  | inl none ↦ absurd (taken none)
+  | inr some ↦ record {
+    within = inside;
+    byte_is = sym is;
+    repeated = (get_or T b 0, some.0, some.1 ∙ sym is);
+    first = λ k below again. (let same = distinct_first B T i held again.0 k (omega (arith, again.1, below)) below again.2 in omega (arith, same, again.1));
+  }
+]
+
+-- no byte of an alphabet is repeated
+pub no_alphabet : (B : List ℕ) (b i : ℕ) → RepeatsFirst B b i → IsAlphabet B → ⊥
+no_alphabet B b i r ok =
+    let inside : i < 62 = omega (arith, r.within, ok.size) in
+    let same : r.repeated.0 ≡ i = ok.distinct r.repeated.0 i (omega (arith, r.repeated.1, inside)) inside r.repeated.2 in
+    omega (arith, same, r.repeated.1)

@@ -1,0 +1,22 @@
+use Rattle.std.proofs.Common.{◌≡◌, refl, arith, inl, rules}
+use Rattle.std.proofs.lemmas.List.{get_or-replicate}
+use Rattle.base62.specs.Alphabet.{IsAlphabet}
+use Rattle.base62.specs.Table.{table_of}
+use Rattle.base62.proofs.TableFillLemmas.{alphabet_of_all}
+use Rattle.base62.proofs.alphabet.Alphabet.new.Goals as goal
+
+pub letters-init : goal.letters-init
+letters-init c = record {
+  size = refl;
+  digits = λ k below. absurd (omega arith);
+  bytes = λ x fits. inl (get_or-replicate 256 x 255 0 fits);
+}
+
+done : (c : goal.After-letters) → IsAlphabet c.args.letters × (c.letters.table ≡ table_of c.args.letters)
+done c = alphabet_of_all c.args.letters c.letters.table c.letters.index (omega arith) (λ k. search rules) c.letters-test.false c.letters.auto.index-end c.letters.invariant
+
+pub invariant_of-result : goal.invariant_of-result
+invariant_of-result c = record { alphabet = (done c).0; digits = (done c).1 }
+
+pub returns-clause-accepted : goal.returns-clause-accepted
+returns-clause-accepted c = (λ _. (done c).0, λ _. refl)

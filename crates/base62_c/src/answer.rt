@@ -1,9 +1,11 @@
 //! How answers are told by a status and through pointers.
 
+ghost use Rattle.std.specs.Prelude.{◌≡◌};
+ghost use Rattle.base62.specs.declared.fault.AlphabetError.TheVariants.{Repeated};
 ghost use Rattle.base62_c.specs.Answer.{TellsLength, TellsFault, TellsNumber, TellsRange};
 
 use crate::number::put_halves;
-use base62::{DecodeError, EncodeError};
+use base62::{AlphabetError, DecodeError, EncodeError};
 
 pub(crate) const OK: u32 = 0;
 
@@ -16,6 +18,8 @@ pub(crate) const INVALID_BYTE: u32 = 3;
 pub(crate) const OVERFLOW: u32 = 4;
 
 pub(crate) const NO_KEY: u32 = 5;
+
+pub(crate) const REPEATED_LETTER: u32 = 6;
 
 pub(crate) fn tell_length(answer: Result<usize, EncodeError>, len: &mut usize) -> u32
     ensures { TellsLength answer result len.old len.new }
@@ -84,4 +88,12 @@ fn tell_fault(fault: DecodeError, byte: &mut u8, index: &mut usize) -> u32
         }
         DecodeError::ArithmeticOverflow => OVERFLOW,
     }
+}
+
+pub(crate) fn put_repeat(fault: AlphabetError, byte: &mut u8, index: &mut usize)
+    ensures { fault ≡ Repeated byte.new index.new }
+{
+    let AlphabetError::Repeated(letter, at) = fault;
+    *byte = letter;
+    *index = at;
 }

@@ -4,8 +4,8 @@ ghost use Rattle.std.specs.Fmt.Cut.{IsTextOrCut};
 ghost use Rattle.std.specs.Fmt.InlineText.{inline_text};
 ghost use Rattle.base62_c.specs.Fault.{fault_text};
 
-use crate::answer::{BUFFER_TOO_SMALL, EMPTY_INPUT, INVALID_BYTE, OVERFLOW};
-use base62::{DecodeError, EncodeError};
+use crate::answer::{BUFFER_TOO_SMALL, EMPTY_INPUT, INVALID_BYTE, OVERFLOW, REPEATED_LETTER};
+use base62::{AlphabetError, DecodeError, EncodeError};
 use std::fmt::InlineText;
 
 // The longest text has 77 bytes.
@@ -21,6 +21,7 @@ pub(crate) fn text_of(status: u32, byte: u8, index: usize) -> InlineText<MAX_LEN
         EMPTY_INPUT => InlineText::of(DecodeError::EmptyInput),
         INVALID_BYTE => InlineText::of(DecodeError::InvalidBase62Byte(byte, index)),
         OVERFLOW => InlineText::of(DecodeError::ArithmeticOverflow),
+        REPEATED_LETTER => InlineText::of(AlphabetError::Repeated(byte, index)),
         _ => InlineText::new(),
     }
 }

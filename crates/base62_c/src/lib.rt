@@ -3,7 +3,8 @@
 //! A `&[u8]` is a pointer and then a length in C, and any other reference a pointer.
 #![tactic(auto)]
 
-ghost use Rattle.base62.specs.Alphabet.{standard, alternative};
+ghost use Rattle.std.specs.Prelude.{◌≡◌};
+ghost use Rattle.base62.specs.Alphabet.{IsAlphabet, RepeatsFirst, standard, alternative};
 ghost use Rattle.base62.specs.Canonical.{HasLetters};
 ghost use Rattle.base62.specs.Decoding.{decoding};
 ghost use Rattle.base62.specs.Key.{IsKey, range_of};
@@ -15,7 +16,8 @@ mod answer;
 mod fault;
 mod number;
 
-use answer::{BUFFER_TOO_SMALL, OK, tell_length, tell_number, tell_range};
+use answer::{BUFFER_TOO_SMALL, OK, REPEATED_LETTER, put_repeat, tell_length, tell_number, tell_range};
+use base62::Alphabet;
 use fault::text_of;
 use number::joined;
 
@@ -37,6 +39,28 @@ pub extern "C" fn base62_encode_alternative(
 {
     tell_length(
         base62::encode_alternative_bytes(joined(high, low), buf),
+        len,
+    )
+}
+
+#[unsafe(no_mangle)]
+pub extern "C" fn base62_encode_with(
+    letters: &[u8; 62],
+    high: u64,
+    low: u64,
+    buf: &mut [u8],
+    len: &mut usize,
+) -> u32
+    ensures accepted { IsAlphabet letters.now
+        → Encodes letters.now (number_of (high, low)) buf.old buf.new result len.old len.new }
+    ensures refused { (IsAlphabet letters.now → ⊥)
+        → (result ≡ 6) × (buf.new ≡ buf.old) × (len.new ≡ len.old) }
+{
+    let Ok(alphabet) = Alphabet::new(*letters) else {
+        return REPEATED_LETTER;
+    };
+    tell_length(
+        base62::encode_bytes_with(&alphabet, joined(high, low), buf),
         len,
     )
 }
@@ -67,6 +91,44 @@ pub extern "C" fn base62_decode_alternative(
         (byte.old, index.old) (byte.new, index.new) }
 {
     tell_number(base62::decode_alternative(text), high, low, byte, index)
+}
+
+#[unsafe(no_mangle)]
+pub extern "C" fn base62_decode_with(
+    letters: &[u8; 62],
+    text: &[u8],
+    high: &mut u64,
+    low: &mut u64,
+    byte: &mut u8,
+    index: &mut usize,
+) -> u32
+    ensures accepted { IsAlphabet letters.now
+        → TellsNumber (decoding letters.now text.now) result (high.old, low.old) (high.new, low.new)
+        (byte.old, index.old) (byte.new, index.new) }
+    ensures refused { (IsAlphabet letters.now → ⊥)
+        → (result ≡ 6) × (high.new ≡ high.old) × (low.new ≡ low.old)
+        × (byte.new ≡ byte.old) × (index.new ≡ index.old) }
+{
+    let Ok(alphabet) = Alphabet::new(*letters) else {
+        return REPEATED_LETTER;
+    };
+    tell_number(base62::decode_with(&alphabet, text), high, low, byte, index)
+}
+
+#[unsafe(no_mangle)]
+pub extern "C" fn base62_check_alphabet(letters: &[u8; 62], byte: &mut u8, index: &mut usize) -> u32
+    ensures accepted { IsAlphabet letters.now
+        → (result ≡ 0) × (byte.new ≡ byte.old) × (index.new ≡ index.old) }
+    ensures refused { (IsAlphabet letters.now → ⊥)
+        → (result ≡ 6) × RepeatsFirst letters.now byte.new index.new }
+{
+    match Alphabet::new(*letters) {
+        Ok(_) => OK,
+        Err(fault) => {
+            put_repeat(fault, byte, index);
+            REPEATED_LETTER
+        }
+    }
 }
 
 #[unsafe(no_mangle)]

@@ -1,9 +1,9 @@
 -- What the code of keys rests on: zero letters in front of a text, decoding one letter or a front, and the rules of fronts.
-use Rattle.std.proofs.Common.{true, false, ◌≡◌, ℕ, zero, suc, ◌+◌, ◌-◌, ◌^◌, ◌<◌, ◌≤◌, List, [], ◌∷◌, ◌++◌, length, take, drop, replicate, Ok, Err, refl, sym, ap, ◌∙◌, inl, inr, arith}
+use Rattle.std.proofs.Common.{true, false, ◌≡◌, ℕ, ◌+◌, ◌-◌, ◌^◌, ◌<◌, ◌≤◌, List, [], ◌∷◌, ◌++◌, length, take, drop, replicate, Ok, Err, refl, sym, ap, ◌∙◌, inl, inr, arith}
 use Rattle.std.specs.Result.{is_err}
 use Rattle.std.proofs.lemmas.Bool.{cases_lt, false≢true, false_from_ne_true}
-use Rattle.std.proofs.lemmas.List.{length-append, length-replicate, drop-replicate, length-take-le}
-use Rattle.std.proofs.lemmas.List.Elements.{All-nil, All-cons, All-append, All-replicate}
+use Rattle.std.proofs.lemmas.List.{drop-replicate, length-take-le}
+use Rattle.std.proofs.lemmas.List.Elements.{All-nil, All-cons}
 use Rattle.base62.specs.declared.fault.DecodeError.{DecodeError}
 use Rattle.base62.specs.Alphabet.{IsAlphabet, AreLetters, is_letter, zero_letter}
 use Rattle.base62.specs.Value.{value}
@@ -11,30 +11,10 @@ use Rattle.base62.specs.Canonical.{Denotes}
 use Rattle.base62.specs.Decoding.{decoding}
 use Rattle.base62.specs.Key.{IsKey}
 use Rattle.base62.proofs.AlphabetLemmas.{IsLetter, is_letter-letter, standard_is_alphabet}
+use Rattle.base62.proofs.KeyLemmas.{padded_key}
 use Rattle.base62.proofs.ValueLemmas.{value-lt_most}
 use Rattle.base62.proofs.AnswerLemmas.{answer_cases, decoding_accepts, decoding-denotes}
-use Rattle.base62.proofs.ZeroLemmas.{value_front}
 use Rattle.base62.proofs.FrontLemmas.{span_some, span_fits, ends_empty, ends_long, ends_over, ends_above, ends_some, range_of-letters, range_of-bad, range_none, range_ends}
-
--- zero letters in front add nothing
-value-zeros : (B : List ℕ) → IsAlphabet B → (k : ℕ) (text : List ℕ) → value B (replicate k (zero_letter B) ++ text) ≡ value B text
-value-zeros B ok zero text = refl
-value-zeros B ok (suc k) text = value_front B (replicate k (zero_letter B) ++ text) ok ∙ value-zeros B ok k text
-
--- a text that denotes n is its key, once zero letters in front fill it up to 22
-padded_key : (B : List ℕ) → IsAlphabet B → (text : List ℕ) (n k : ℕ) → Denotes B text n → k + length text ≡ 22 → IsKey B (replicate k (zero_letter B) ++ text) n
-padded_key B ok text n k denotes full =
-    let zeros : AreLetters B (replicate k (zero_letter B)) = All-replicate (IsLetter B) k (zero_letter B) (is_letter-letter B ok 0 (omega arith)) in
-    let size : length (replicate k (zero_letter B) ++ text) ≡ 22 =
-    length-append (replicate k (zero_letter B)) text ∙ ap (λ m. m + length text) (length-replicate k (zero_letter B)) ∙ full in
-    record {
-      size = size;
-      denotes = record {
-        nonempty = omega (arith, size);
-        letters = All-append (IsLetter B) (replicate k (zero_letter B)) text zeros denotes.letters;
-        value_is = value-zeros B ok k text ∙ denotes.value_is;
-      };
-    }
 
 -- a buffer of 22 bytes with a text in front of zero letters, after the text has been moved behind them
 pub moved_key : (B : List ℕ) → IsAlphabet B → (buf key : List ℕ) (n len : ℕ) → length buf ≡ 22 → len ≤ length buf

@@ -4,7 +4,7 @@ use Rattle.std.proofs.lemmas.Bool.{cases_lt, cases_eq}
 use Rattle.std.proofs.lemmas.List.{get_or-set_same, get_or-set_other, length-set, ext_get_or}
 use Rattle.std.proofs.lemmas.List.Elements.{All-from_get_or}
 use Rattle.std.proofs.lemmas.List.FromFn.{length-map-range_with_len}
-use Rattle.base62.specs.Alphabet.{IsAlphabet, IsRepeated, RepeatsFirst, digit_of}
+use Rattle.base62.specs.Alphabet.{IsAlphabet, RepeatsFirst, digit_of}
 use Rattle.base62.specs.Table.{digit_or_none, table_of}
 use Rattle.base62.proofs.AlphabetLemmas.{digit_of-letter, letter-digit_of}
 use Rattle.base62.proofs.TableLemmas.{get_or-table_of}

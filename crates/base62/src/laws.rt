@@ -1,13 +1,14 @@
 //! What follows from the definitions alone. No call here takes part in a run.
 
-ghost use Rattle.std.specs.Prelude.{◌≡◌, ◌+◌, ◌-◌, ◌*◌, ◌<◌, ◌≤◌, ◌^◌, ◌↔◌, ◌∷◌, ◌++◌, ℕ, List, length, replicate, true, Ok, Some, None};
+ghost use Rattle.std.specs.Prelude.{◌≡◌, ◌+◌, ◌-◌, ◌*◌, ◌<◌, ◌≤◌, ◌^◌, ◌↔◌, ◌∷◌, ◌++◌, ℕ, List, length, map, nat_lt, replicate, true, Ok, Some, None};
+ghost use Rattle.std.specs.List.{list_all, range_with_len};
 ghost use Rattle.std.specs.Ordering.{nat_cmp};
 ghost use Rattle.std.specs.Str.{IsAscii};
 ghost use Rattle.std.specs.declared.cmp.Ordering.TheVariants.{Equal};
 ghost use Rattle.std.specs.declared.fmt.Alignment.TheVariants.{Right};
-ghost use Rattle.base62.specs.Alphabet.{IsAlphabet, AreLetters, zero_letter, standard, alternative};
+ghost use Rattle.base62.specs.Alphabet.{IsAlphabet, AreLetters, digit_of, zero_letter, standard, alternative};
 ghost use Rattle.base62.specs.Value.{value};
-ghost use Rattle.base62.specs.Canonical.{IsCanonical};
+ghost use Rattle.base62.specs.Canonical.{Denotes, IsCanonical};
 ghost use Rattle.base62.specs.Decoding.{decoding};
 ghost use Rattle.base62.specs.Case.{exchange_case};
 ghost use Rattle.base62.specs.Key.{IsKey, BeginsWith, IsInInterval, interval_ends};
@@ -27,6 +28,14 @@ use std::hash::Hash;
 pub fn built_in_alphabets()
     ensures standard { IsAlphabet standard }
     ensures alternative { IsAlphabet alternative }
+{}
+
+/// 62 bytes are an alphabet where each has its place as its digit: for letters that are written out, computing tells.
+#[tactic(auto, using(crate::proofs::AlphabetLemmas::is_alphabet))]
+pub fn alphabets_by_computing()
+    ensures { (letters : List ℕ) → length letters ≡ 62 → list_all (λ b. nat_lt b 256) letters ≡ true
+        → map (digit_of letters) letters ≡ map (λ d. Some d) (range_with_len 0 62)
+        → IsAlphabet letters }
 {}
 
 /// Over any alphabet each number below 2^128 has a canonical text, and only one, of 1 to 22 letters. A text of letters is the canonical text
@@ -86,7 +95,7 @@ pub fn exchange_of_case()
 {}
 
 /// Over any alphabet each number below 62^22 has a key, and only one. Decoding gives back the number below 2^128
-/// of its key.
+/// of its key. A shorter text of a number is its key once zero letters in front fill it up.
 #[tactic(auto, using(crate::proofs::KeyLemmas::some_key, crate::proofs::KeyLemmas::one_key, crate::proofs::KeyLemmas::key_decodes))]
 pub fn keys()
     ensures exists { (B : List ℕ) → IsAlphabet B → (n : ℕ) → n < 62 ^ 22
@@ -95,6 +104,9 @@ pub fn keys()
         → IsKey B a n → IsKey B b n → a ≡ b }
     ensures decoded { (B : List ℕ) → IsAlphabet B → (n : ℕ) → n < 2 ^ 128 → (key : List ℕ)
         → IsKey B key n → decoding B key ≡ Ok n }
+    ensures filled_up { (B : List ℕ) → IsAlphabet B → (n : ℕ) (text : List ℕ)
+        → Denotes B text n → length text ≤ 22
+        → IsKey B (replicate (22 - length text) (zero_letter B) ++ text) n }
 {}
 
 /// Over an alphabet whose letters ascend by byte, as the standard ones do, texts of letters of one length

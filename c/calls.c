@@ -5,10 +5,11 @@
  *     number ALPHABET HIGH LOW TEXT
  *     key HIGH LOW TEXT
  *     decode ALPHABET TEXT STATUS HIGH LOW BYTE INDEX
+ *     alphabet TEXT STATUS BYTE INDEX
  *     range TEXT STATUS LEAST_HIGH LEAST_LOW GREATEST_HIGH GREATEST_LOW BYTE INDEX
  *     fault STATUS BYTE INDEX TEXT
  *
- * A field that the status leaves unwritten is 0.
+ * An alphabet is a word, or a text where it is the caller's own. A field that the status leaves unwritten is 0.
  */
 #define _DEFAULT_SOURCE
 #include <base62.h>
@@ -21,15 +22,19 @@
 
 enum { GUARD = 64, MOST = 16384 };
 
-static const unsigned char filler = 0xa5;
-static const uint64_t unwritten = UINT64_C(0xa5a5a5a5a5a5a5a5);
+/* What stands at a byte and at a number that no call has written. */
+#define filler 0xa5
+#define unwritten UINT64_C(0xa5a5a5a5a5a5a5a5)
 
 static unsigned long row_number;
 static char row[4 * MOST];
 
-/* Two pages that can't be touched, and the bytes between them. */
-static char *fenced;
-static char *fenced_end;
+/* Bytes between two pages that can't be touched. */
+struct fenced {
+    char *start, *end;
+};
+
+static struct fenced texts, alphabets;
 
 static void expect(int holds, const char *what) {
     if (!holds) {
@@ -38,14 +43,18 @@ static void expect(int holds, const char *what) {
     }
 }
 
-static void set_fences(void) {
+static struct fenced set_fences(void) {
     const size_t page = 4096, size = MOST + 2 * page;
     char *area = mmap(NULL, size, PROT_READ | PROT_WRITE, MAP_PRIVATE | MAP_ANONYMOUS, -1, 0);
     expect(area != MAP_FAILED, "mmap");
-    fenced = area + page;
-    fenced_end = fenced + MOST;
     expect(mprotect(area, page, PROT_NONE) == 0, "mprotect");
-    expect(mprotect(fenced_end, page, PROT_NONE) == 0, "mprotect");
+    expect(mprotect(area + page + MOST, page, PROT_NONE) == 0, "mprotect");
+    return (struct fenced){area + page, area + page + MOST};
+}
+
+/* A copy of the text that begins or ends at a page that can't be read. */
+static const char *fence(struct fenced between, int at_end, const char *text, size_t length) {
+    return memcpy(at_end ? between.end - length : between.start, text, length);
 }
 
 /* A buffer with guard bytes on both sides, all of one value. */
@@ -80,8 +89,8 @@ static uint64_t number(void) {
     return strtoull(field(), NULL, 10);
 }
 
-static size_t text_field(char *text) {
-    const char *digits = field() + 1;
+static size_t text_of(const char *word, char *text) {
+    const char *digits = word + 1;
     const size_t length = strlen(digits) / 2;
     expect(length <= MOST, "the text is too long");
     for (size_t i = 0; i < length; i++) {
@@ -91,17 +100,72 @@ static size_t text_field(char *text) {
     return length;
 }
 
-typedef base62_status encoder(uint64_t, uint64_t, char *, size_t, size_t *);
-typedef base62_status decoder(const char *, size_t, uint64_t *, uint64_t *, unsigned char *, size_t *);
+static size_t text_field(char *text) {
+    return text_of(field(), text);
+}
 
-static int is_alternative(void) {
-    return strcmp(field(), "alternative") == 0;
+/* The alphabet of the row: a built-in one, or the letters of one of the caller's own. */
+static enum { STANDARD, ALTERNATIVE, OWN } alphabet;
+
+static const char *letters;
+
+static void alphabet_field(int at_end) {
+    static char own[MOST];
+    const char *word = field();
+    if (strcmp(word, "standard") == 0) {
+        alphabet = STANDARD;
+    } else if (strcmp(word, "alternative") == 0) {
+        alphabet = ALTERNATIVE;
+    } else {
+        alphabet = OWN;
+        expect(text_of(word, own) == BASE62_ALPHABET_LENGTH, "the length of the alphabet");
+        letters = fence(alphabets, at_end, own, BASE62_ALPHABET_LENGTH);
+    }
+}
+
+static base62_status encode(uint64_t high, uint64_t low, char *buffer, size_t size, size_t *length) {
+    if (alphabet == STANDARD)
+        return base62_encode(high, low, buffer, size, length);
+    if (alphabet == ALTERNATIVE)
+        return base62_encode_alternative(high, low, buffer, size, length);
+    return base62_encode_with(letters, high, low, buffer, size, length);
+}
+
+/* What a call writes besides its status. */
+struct told {
+    uint64_t halves[4];
+    unsigned char byte;
+    size_t index;
+};
+
+static const struct told untold = {{unwritten, unwritten, unwritten, unwritten}, filler, unwritten};
+
+static base62_status decode(const char *text, size_t length, struct told *told) {
+    uint64_t *const high = &told->halves[0], *const low = &told->halves[1];
+    if (alphabet == STANDARD)
+        return base62_decode(text, length, high, low, &told->byte, &told->index);
+    if (alphabet == ALTERNATIVE)
+        return base62_decode_alternative(text, length, high, low, &told->byte, &told->index);
+    return base62_decode_with(letters, text, length, high, low, &told->byte, &told->index);
+}
+
+/* The status and all that is told are the next fields of the row, where they are written. */
+static void expect_told(base62_status status, const struct told *told, size_t halves) {
+    const int is_named = status == BASE62_INVALID_BYTE || status == BASE62_REPEATED_LETTER;
+    expect(status == (base62_status)number(), "the status");
+    for (size_t i = 0; i < halves; i++) {
+        const uint64_t half = number();
+        expect(told->halves[i] == (status == BASE62_OK ? half : unwritten), "half of a number");
+    }
+    const uint64_t byte = number(), index = number();
+    expect(told->byte == (is_named ? byte : filler), "the byte");
+    expect(told->index == (is_named ? index : unwritten), "the index");
 }
 
 /* The text in a buffer of each size, just too small ones too. */
-static void check_number(void) {
+static void check_number(int at_end) {
     static char text[MOST];
-    encoder *const encode = is_alternative() ? base62_encode_alternative : base62_encode;
+    alphabet_field(at_end);
     const uint64_t high = number(), low = number();
     const size_t wanted = text_field(text);
     for (size_t size = 0; size <= BASE62_MAX_DIGITS + 2; size++) {
@@ -128,54 +192,41 @@ static void check_key(void) {
     expect_front(text, BASE62_KEY_LENGTH, "the key");
 }
 
-/* What stands at a pointer: the field of the row where it is written, and else what stood there. */
-static void expect_at(uint64_t is, int is_written, const char *what) {
-    const uint64_t wanted = number();
-    expect(is == (is_written ? wanted : unwritten), what);
-}
-
-static void expect_bad(base62_status status, unsigned char byte, size_t index) {
-    const int is_written = status == BASE62_INVALID_BYTE;
-    expect(byte == (is_written ? number() : number() + filler), "the byte");
-    expect_at(index, is_written, "the index");
-}
-
-static void expect_status(base62_status status) {
-    expect(status == (base62_status)number(), "the status");
-}
-
-/* A copy of the text that begins or ends at a page that can't be read. */
-static const char *fence(int at_end, const char *text, size_t length) {
-    char *place = at_end ? fenced_end - length : fenced;
-    return memcpy(place, text, length);
-}
-
 static void check_decode(int at_end) {
     static char text[MOST];
-    decoder *const decode = is_alternative() ? base62_decode_alternative : base62_decode;
+    struct told told = untold;
+    alphabet_field(at_end);
     const size_t length = text_field(text);
-    uint64_t high = unwritten, low = unwritten;
-    unsigned char byte = filler;
-    size_t index = unwritten;
-    const base62_status status = decode(fence(at_end, text, length), length, &high, &low, &byte, &index);
-    expect_status(status);
-    expect_at(high, status == BASE62_OK, "the high half");
-    expect_at(low, status == BASE62_OK, "the low half");
-    expect_bad(status, byte, index);
+    const base62_status status = decode(fence(texts, at_end, text, length), length, &told);
+    expect_told(status, &told, 2);
+}
+
+/* An alphabet by itself. Where it is refused, so is each call over it, which writes nothing. */
+static void check_alphabet(int at_end) {
+    struct told told = untold;
+    alphabet_field(at_end);
+    const base62_status status = base62_check_alphabet(letters, &told.byte, &told.index);
+    expect_told(status, &told, 0);
+    if (status == BASE62_OK)
+        return;
+    size_t length = unwritten;
+    told = untold;
+    expect(encode(0, 1337, filled(), BASE62_MAX_DIGITS, &length) == status, "the status of encoding");
+    expect(length == unwritten, "the length is written on a refusal");
+    expect_front("", 0, "the text");
+    expect(decode("1", 1, &told) == status, "the status of decoding");
+    expect(memcmp(told.halves, untold.halves, sizeof told.halves) == 0, "a half is written on a refusal");
+    expect(told.byte == filler && told.index == unwritten, "a byte is written on a refusal");
 }
 
 static void check_range(int at_end) {
     static char front[MOST];
+    struct told told = untold;
+    uint64_t *const ends = told.halves;
     const size_t length = text_field(front);
-    uint64_t ends[4] = {unwritten, unwritten, unwritten, unwritten};
-    unsigned char byte = filler;
-    size_t index = unwritten;
-    const base62_status status = base62_key_range(fence(at_end, front, length), length, &ends[0], &ends[1], &ends[2],
-                                                  &ends[3], &byte, &index);
-    expect_status(status);
-    for (int i = 0; i < 4; i++)
-        expect_at(ends[i], status == BASE62_OK, "half of an end");
-    expect_bad(status, byte, index);
+    const base62_status status = base62_key_range(fence(texts, at_end, front, length), length, &ends[0], &ends[1],
+                                                  &ends[2], &ends[3], &told.byte, &told.index);
+    expect_told(status, &told, 4);
 }
 
 static void check_fault(void) {
@@ -198,11 +249,13 @@ static void check_row(int at_end) {
     const char *word = strtok(strcpy(line, row), " \n");
     expect(word != NULL, "the row is empty");
     if (strcmp(word, "number") == 0)
-        check_number();
+        check_number(at_end);
     else if (strcmp(word, "key") == 0)
         check_key();
     else if (strcmp(word, "decode") == 0)
         check_decode(at_end);
+    else if (strcmp(word, "alphabet") == 0)
+        check_alphabet(at_end);
     else if (strcmp(word, "range") == 0)
         check_range(at_end);
     else if (strcmp(word, "fault") == 0)
@@ -213,7 +266,8 @@ static void check_row(int at_end) {
 }
 
 int main(void) {
-    set_fences();
+    texts = set_fences();
+    alphabets = set_fences();
     while (fgets(row, sizeof row, stdin) != NULL) {
         row_number++;
         check_row(0);

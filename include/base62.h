@@ -3,7 +3,8 @@
  *
  * A number is two halves of 64 bits: high * 2^64 + low. A text is a pointer and a length, and no byte with the
  * value 0 ends it. The standard alphabet is the digits, then the capital letters, then the small ones; the
- * alternative one has the small letters before the capital ones. Zeros in front change no number.
+ * alternative one has the small letters before the capital ones. One of the caller's own is 62 distinct bytes, of
+ * which the first is its zero. Zeros in front change no number.
  *
  * What a call does not say that it writes, it leaves as it was. It reads and writes nothing beyond the lengths that
  * it is given, takes no memory and keeps nothing, so threads may call at once.
@@ -39,6 +40,9 @@ extern "C" {
 /* The letters of each key. */
 #define BASE62_KEY_LENGTH 22
 
+/* The letters of an alphabet. */
+#define BASE62_ALPHABET_LENGTH 62
+
 /* The bytes of the longest text of a fault. */
 #define BASE62_MAX_FAULT_TEXT 77
 
@@ -48,7 +52,8 @@ typedef enum base62_status {
     BASE62_EMPTY_INPUT = 2,
     BASE62_INVALID_BYTE = 3,
     BASE62_OVERFLOW = 4,
-    BASE62_NO_KEY = 5
+    BASE62_NO_KEY = 5,
+    BASE62_REPEATED_LETTER = 6
 } base62_status;
 
 /*
@@ -61,6 +66,14 @@ base62_status base62_encode(uint64_t high, uint64_t low, char *buffer, size_t si
 
 /* The same over the alternative alphabet. */
 base62_status base62_encode_alternative(uint64_t high, uint64_t low, char *buffer, size_t size, size_t *length);
+
+/*
+ * The same over an alphabet of the caller's own, which each call looks through anew.
+ *
+ * BASE62_REPEATED_LETTER: a letter of the alphabet stands there twice. This comes before the others.
+ */
+base62_status base62_encode_with(const char letters[BASE62_ALPHABET_LENGTH], uint64_t high, uint64_t low, char *buffer,
+                                 size_t size, size_t *length);
 
 /*
  * Reads the number that a text denotes. The first of these that fits decides:
@@ -81,7 +94,20 @@ base62_status base62_decode(const char *text, size_t length, uint64_t *high, uin
 base62_status base62_decode_alternative(const char *text, size_t length, uint64_t *high, uint64_t *low,
                                         unsigned char *byte, size_t *index);
 
-/* The length of the text of a number, from 1 to 22, over either alphabet. */
+/* The same over an alphabet of the caller's own, or BASE62_REPEATED_LETTER as base62_encode_with. */
+base62_status base62_decode_with(const char letters[BASE62_ALPHABET_LENGTH], const char *text, size_t length,
+                                 uint64_t *high, uint64_t *low, unsigned char *byte, size_t *index);
+
+/*
+ * Tells whether no letter of an alphabet is repeated.
+ *
+ * BASE62_OK: none is.
+ * BASE62_REPEATED_LETTER: the first letter that stands before its place too is written at byte, and that place,
+ *     counted from 0, at index.
+ */
+base62_status base62_check_alphabet(const char letters[BASE62_ALPHABET_LENGTH], unsigned char *byte, size_t *index);
+
+/* The length of the text of a number, from 1 to 22, over any alphabet. */
 size_t base62_digit_count(uint64_t high, uint64_t low);
 
 /*
@@ -103,8 +129,8 @@ base62_status base62_key_range(const char *front, size_t length, uint64_t *least
                                size_t *index);
 
 /*
- * Writes what a fault says to the front of a buffer. BASE62_INVALID_BYTE says the byte and the index too. BASE62_OK,
- * BASE62_NO_KEY and any number that is no status say nothing, in no bytes.
+ * Writes what a fault says to the front of a buffer. BASE62_INVALID_BYTE and BASE62_REPEATED_LETTER say the byte and
+ * the index too. BASE62_OK, BASE62_NO_KEY and any number that is no status say nothing, in no bytes.
  *
  * BASE62_OK: the text is written, and its length at length.
  * BASE62_BUFFER_TOO_SMALL: size is less than that length, so never at BASE62_MAX_FAULT_TEXT or more.

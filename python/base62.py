@@ -13,6 +13,7 @@ from __future__ import annotations
 
 import ctypes
 import enum
+import functools
 import operator
 import os
 import pathlib
@@ -21,6 +22,7 @@ from typing import Callable, SupportsIndex, Union
 
 __all__ = [
     "Alphabet",
+    "AlphabetError",
     "DecodeError",
     "EmptyInputError",
     "InvalidByteError",
@@ -36,17 +38,42 @@ __all__ = [
 Number = Union[SupportsIndex, uuid.UUID]
 Text = Union[str, bytes, bytearray, memoryview]
 
+_ALPHABET_LENGTH = 62
 _MAX_DIGITS = 22
 _MAX_FAULT_TEXT = 77
-_OK, _BUFFER_TOO_SMALL, _EMPTY_INPUT, _INVALID_BYTE, _OVERFLOW, _NO_KEY = range(6)
+_OK, _BUFFER_TOO_SMALL, _EMPTY_INPUT, _INVALID_BYTE, _OVERFLOW, _NO_KEY, _REPEATED_LETTER = range(7)
 _HALF = 2**64
 
 
 class Alphabet(enum.Enum):
-    """The letters of a text, in the order of their digits."""
+    """The letters of the two built-in alphabets, in the order of their digits.
+
+    Each call over an alphabet also takes a str of 62 distinct letters of ASCII.
+
+    >>> encode(62, "23456789ABCDEFGHJKMNPQRSTUVWXYZabcdefghijkmnpqrstuvwxyz-_.~+!*")
+    '32'
+    """
 
     STANDARD = "0123456789ABCDEFGHIJKLMNOPQRSTUVWXYZabcdefghijklmnopqrstuvwxyz"
     ALTERNATIVE = "0123456789abcdefghijklmnopqrstuvwxyzABCDEFGHIJKLMNOPQRSTUVWXYZ"
+
+
+AnyAlphabet = Union[Alphabet, str]
+
+
+class AlphabetError(ValueError):
+    """An alphabet with a letter that is repeated.
+
+    >>> encode(62, "0" * 62)
+    Traceback (most recent call last):
+    base62.AlphabetError: Alphabet repeats the byte b'0' at index 1
+    """
+
+    byte: int
+    """The first letter that stands before its place too."""
+
+    index: int
+    """That place, counted from 0."""
 
 
 class DecodeError(ValueError):
@@ -78,20 +105,20 @@ class InvalidByteError(DecodeError):
     """Its index. The letters before it have one byte each, so it is an index of a str too."""
 
 
-def encode(number: Number, alphabet: Alphabet = Alphabet.STANDARD) -> str:
+def encode(number: Number, alphabet: AnyAlphabet = Alphabet.STANDARD) -> str:
     """The text of a number: the shortest one that denotes it.
 
-    Raises OverflowError if the number is negative, or 2**128 or more.
+    Raises an OverflowError if the number is negative, or 2**128 or more.
 
     >>> encode(1337), encode(1337, Alphabet.ALTERNATIVE), encode(0)
     ('LZ', 'lz', '0')
     >>> encode(uuid.UUID("12345678-1234-5678-1234-567812345678"))
     'YLmNWW2NwaipfRR50HIPA'
     """
-    return _text_of(_call("encode", alphabet), *_halves(number))
+    return _text_of(_over(alphabet, "base62_encode"), *_halves(number))
 
 
-def decode(text: Text, alphabet: Alphabet = Alphabet.STANDARD) -> int:
+def decode(text: Text, alphabet: AnyAlphabet = Alphabet.STANDARD) -> int:
     """The number that a text denotes, whatever zeros are in front.
 
     Raises an EmptyInputError, an InvalidByteError or a TooLargeError.
@@ -102,11 +129,12 @@ def decode(text: Text, alphabet: Alphabet = Alphabet.STANDARD) -> int:
     Traceback (most recent call last):
     base62.TooLargeError: Decoded number cannot fit into a `u128`
     """
-    (number,) = _numbers_of(_call("decode", alphabet), text, 1)
+    data = _bytes_of(text)
+    (number,) = _numbers_of(_over(alphabet, "base62_decode"), 1, data, len(data))
     return number
 
 
-def decode_uuid(text: Text, alphabet: Alphabet = Alphabet.STANDARD) -> uuid.UUID:
+def decode_uuid(text: Text, alphabet: AnyAlphabet = Alphabet.STANDARD) -> uuid.UUID:
     """The UUID of the number that a text denotes, as decode gives it.
 
     >>> decode_uuid("YLmNWW2NwaipfRR50HIPA")
@@ -144,13 +172,24 @@ def key_range(front: Text) -> tuple[int, int] | None:
     (1302, 1363)
     >>> key_range("8")
     """
-    ends = _numbers_of(_library.base62_key_range, front, 2)
+    data = _bytes_of(front)
+    ends = _numbers_of(_library.base62_key_range, 2, data, len(data))
     return (ends[0], ends[1]) if ends else None
 
 
-def _call(name: str, alphabet: Alphabet) -> Callable[..., int]:
-    is_standard = Alphabet(alphabet) is Alphabet.STANDARD
-    return getattr(_library, f"base62_{name}" if is_standard else f"base62_{name}_alternative")
+def _over(alphabet: AnyAlphabet, name: str) -> Callable[..., int]:
+    """The call of a name over an alphabet."""
+    if alphabet is Alphabet.STANDARD:
+        return getattr(_library, name)
+    if alphabet is Alphabet.ALTERNATIVE:
+        return getattr(_library, f"{name}_alternative")
+    if not isinstance(alphabet, str):
+        raise TypeError("an alphabet is an Alphabet or a str")
+    letters = alphabet.encode("ascii")
+    if len(letters) != _ALPHABET_LENGTH:
+        raise ValueError("an alphabet has 62 letters")
+    _numbers_of(_library.base62_check_alphabet, 0, letters)
+    return functools.partial(getattr(_library, f"{name}_with"), letters)
 
 
 def _halves(number: Number) -> tuple[int, int]:
@@ -170,13 +209,16 @@ def _text_of(call: Callable[..., int], *arguments: int) -> str:
     return buffer.raw[: length.value].decode("ascii")
 
 
-def _numbers_of(call: Callable[..., int], text: Text, count: int) -> list[int]:
-    """The numbers that a call tells of a text, so many or none."""
+def _bytes_of(text: Text) -> bytes:
     # A lone surrogate of a str is no letter either.
-    data = text.encode("utf-8", "surrogatepass") if isinstance(text, str) else bytes(memoryview(text))
+    return text.encode("utf-8", "surrogatepass") if isinstance(text, str) else bytes(memoryview(text))
+
+
+def _numbers_of(call: Callable[..., int], count: int, *arguments: object) -> list[int]:
+    """The numbers that a call tells, so many or none."""
     halves = [ctypes.c_uint64() for _ in range(2 * count)]
     byte, index = ctypes.c_ubyte(), ctypes.c_size_t()
-    status = call(data, len(data), *map(ctypes.byref, [*halves, byte, index]))
+    status = call(*arguments, *map(ctypes.byref, [*halves, byte, index]))
     if status == _NO_KEY:
         return []
     if status != _OK:
@@ -184,13 +226,13 @@ def _numbers_of(call: Callable[..., int], text: Text, count: int) -> list[int]:
     return [high.value * _HALF + low.value for high, low in zip(halves[::2], halves[1::2])]
 
 
-def _error_of(status: int, byte: int, index: int) -> DecodeError:
+def _error_of(status: int, byte: int, index: int) -> ValueError:
     said = _text_of(_library.base62_fault_text, status, byte, index)
     if status == _EMPTY_INPUT:
         return EmptyInputError(said)
     if status == _OVERFLOW:
         return TooLargeError(said)
-    error = InvalidByteError(said)
+    error = InvalidByteError(said) if status == _INVALID_BYTE else AlphabetError(said)
     error.byte, error.index = byte, index
     return error
 
@@ -206,8 +248,11 @@ def _load() -> ctypes.CDLL:
     signatures = {
         "encode": encodes,
         "encode_alternative": encodes,
+        "encode_with": (status, [text, *encodes[1]]),
         "decode": decodes,
         "decode_alternative": decodes,
+        "decode_with": (status, [text, *decodes[1]]),
+        "check_alphabet": (status, [text, byte, sizes]),
         "digit_count": (size, [half, half]),
         "encode_key": (None, [half, half, text]),
         "key_range": (status, [text, size, halves, halves, halves, halves, byte, sizes]),

@@ -10,12 +10,15 @@ import base62
 from base62 import Alphabet
 
 LARGEST = 2**128 - 1
+STANDARD = "0123456789ABCDEFGHIJKLMNOPQRSTUVWXYZabcdefghijklmnopqrstuvwxyz"
+OWN = STANDARD[::-1]
+ALPHABETS = {Alphabet.STANDARD: STANDARD, Alphabet.ALTERNATIVE: STANDARD.swapcase(), OWN: OWN}
 
 
-def value(text, alphabet):
+def value(text, letters=STANDARD):
     total = 0
     for letter in text:
-        total = total * 62 + alphabet.value.index(letter)
+        total = total * 62 + letters.index(letter)
     return total
 
 
@@ -26,20 +29,20 @@ def numbers(count):
 
 class Texts(unittest.TestCase):
     def test_round_trips(self):
-        for alphabet in Alphabet:
+        for alphabet, letters in ALPHABETS.items():
             for number in numbers(3000):
                 text = base62.encode(number, alphabet)
-                self.assertEqual(value(text, alphabet), number)
-                self.assertTrue(text[0] != "0" or number == 0 and text == "0")
+                self.assertEqual(value(text, letters), number)
+                self.assertTrue(text[0] != letters[0] or len(text) == 1)
                 self.assertEqual(base62.digit_count(number), len(text))
                 self.assertEqual(base62.decode(text, alphabet), number)
-                self.assertEqual(base62.decode(b"000" + text.encode(), alphabet), number)
+                self.assertEqual(base62.decode(letters[0] * 3 + text, alphabet), number)
 
     def test_uuids(self):
         for number in numbers(100):
             name = uuid.UUID(int=number)
             self.assertEqual(base62.decode_uuid(base62.encode(name)), name)
-            self.assertEqual(value(base62.encode(name), Alphabet.STANDARD), name.int)
+            self.assertEqual(value(base62.encode(name)), name.int)
             self.assertEqual(base62.encode_key(name), base62.encode_key(number))
 
     def test_kinds_of_texts(self):
@@ -55,7 +58,19 @@ class Texts(unittest.TestCase):
             self.assertRaises(TypeError, base62.encode, number)
         for text in (5, None, [1]):
             self.assertRaises(TypeError, base62.decode, text)
-        self.assertRaises(ValueError, base62.encode, 1, "standard")
+
+
+    def test_alphabets(self):
+        for alphabet, letters in zip(Alphabet, ALPHABETS.values()):
+            self.assertEqual(alphabet.value, letters)
+        with self.assertRaises(base62.AlphabetError) as caught:
+            base62.decode("0", STANDARD[:-1] + "7")
+        self.assertEqual((caught.exception.byte, caught.exception.index), (ord("7"), 61))
+        self.assertEqual(str(caught.exception), "Alphabet repeats the byte b'7' at index 61")
+        for letters in ("standard", STANDARD + "-", "é" + STANDARD[1:]):
+            self.assertRaises(ValueError, base62.encode, 1, letters)
+        for letters in (None, STANDARD.encode()):
+            self.assertRaises(TypeError, base62.encode, 1, letters)
 
 
 class Keys(unittest.TestCase):
@@ -63,7 +78,7 @@ class Keys(unittest.TestCase):
         keys = [base62.encode_key(number) for number in numbers(2000)]
         for number, key in zip(numbers(2000), keys):
             self.assertEqual(len(key), 22)
-            self.assertEqual(value(key, Alphabet.STANDARD), number)
+            self.assertEqual(value(key), number)
         self.assertEqual(sorted(keys), [base62.encode_key(number) for number in sorted(numbers(2000))])
 
     def test_ranges(self):
@@ -73,7 +88,7 @@ class Keys(unittest.TestCase):
             key = base62.encode_key(number)
             for length in range(23):
                 span = 62 ** (22 - length)
-                least = value(key[:length], Alphabet.STANDARD) * span
+                least = value(key[:length]) * span
                 self.assertEqual(base62.key_range(key[:length]), (least, min(least + span - 1, LARGEST)))
 
 

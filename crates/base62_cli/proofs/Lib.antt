@@ -1,4 +1,5 @@
 pub mod NumberLemmas
+pub mod DecimalLemmas
 pub mod ReplyLemmas
 pub mod LineLemmas
 pub mod StreamLemmas

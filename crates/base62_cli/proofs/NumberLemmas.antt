@@ -1,10 +1,9 @@
 -- The number that decimal digits denote, as std reads it.
-use Rattle.std.proofs.Common.{◌≡◌, ℕ, ◌+◌, ◌-◌, ◌*◌, ◌^◌, ◌<◌, ◌&&◌, inl, inr, true, false, List, [], ◌∷◌, map, length, Some, None, Result, Ok, Err, if◌then◌else◌, refl, ap, ◌∙◌}
-use Rattle.std.specs.Char.{is_ascii_digit}
-use Rattle.std.specs.List.{list_all}
+use Rattle.std.proofs.Common.{◌≡◌, ◌≢◌, ℕ, ◌+◌, ◌-◌, ◌*◌, ◌^◌, ◌<◌, ◌&&◌, ltb, eqb, nat_eq, Bool, true, false, List, [], ◌∷◌, map, length, get_or, codes, Some, None, Result, Ok, Err, if◌then◌else◌, refl, sym, ap, ◌∙◌, arith}
+use Rattle.std.specs.List.{starts_with}
 use Rattle.std.specs.Result.{OkIff, result_ok}
 use Rattle.std.specs.Str.{all_ascii_digits}
-use Rattle.std.proofs.lemmas.Bool.{lt-ltb, le-ltb, cases_lt, and_left, and_right}
+use Rattle.std.proofs.lemmas.Bool.{true≢false, false≢true, ltb-true, lt-ltb, eqb-true, and_parts, false_from_ne_true}
 use Rattle.std.proofs.lemmas.List.{length-map}
 use Rattle.std.proofs.lemmas.Str.Parse.{IsNumeralModel, WeighsDigits, numerals_by_weight, tells_all_ascii_digits}
 use Rattle.base62.proofs.PlacesLemmas.{places-nil, places-cons}
@@ -22,26 +21,43 @@ weighs = record {
 pub numerals : IsNumeralModel (λ text. all_ascii_digits text ≡ true) decimal_value
 numerals = numerals_by_weight _ tells_all_ascii_digits decimal_value weighs
 
--- the two ways to test that all are digits
-pub list_all-ascii_digits : (text : List ℕ) → list_all is_ascii_digit text ≡ all_ascii_digits text
-list_all-ascii_digits [] = refl
-list_all-ascii_digits (c ∷ cs) = ap (λ b. is_ascii_digit c && b) (list_all-ascii_digits cs)
-
--- a text with another byte than a digit is no number
-pub not_number : (text : List ℕ) → all_ascii_digits text ≡ false → is_number text ≡ false
+-- what a number is made of
+pub number_parts : (text : List ℕ) → is_number text ≡ true → (0 < length text) × (all_ascii_digits text ≡ true) × (decimal_value text < 2 ^ 128)
 unfolding is_number
-not_number text e = and_left _ _ (and_right _ _ e)
+number_parts text e =
+    let some = ltb 0 (length text) in
+    let small = ltb (decimal_value text) (2 ^ 128) in
+    let parts = and_parts (some && all_ascii_digits text) small e in
+    let front = and_parts some (all_ascii_digits text) parts.0 in
+    (ltb-true 0 (length text) front.0, front.1, ltb-true (decimal_value text) (2 ^ 128) parts.1)
 
--- what std parses of digits is the number, where it is one
-pub parsed_number : {E : Type 0} (text : List ℕ) (r : Result ℕ E) → all_ascii_digits text ≡ true
-    → OkIff r ((0 < length text) × (decimal_value text < 2 ^ 128)) (decimal_value text)
+-- a plus sign in front, which std takes
+abbrev pub has_plus : List ℕ → Bool
+has_plus text = starts_with nat_eq text (codes "+")
+
+pub plus_no_number : (text : List ℕ) → has_plus text ≡ true → is_number text ≢ true
+plus_no_number [] plus e = absurd (omega (arith, (number_parts [] e).0))
+plus_no_number (c ∷ cs) plus e =
+    let same = eqb-true 43 c (and_parts (eqb 43 c) true plus).0 in
+    let digits = (number_parts (c ∷ cs) e).1 in
+    false≢true (rw (sym same) at digits)
+
+pub no_plus : (text : List ℕ) → has_plus text ≡ false → get_or text 0 0 ≢ 43
+no_plus [] none e = absurd (omega arith)
+no_plus (c ∷ cs) none e = true≢false (rw e at none)
+
+-- what `number_of` answers where the text is a number, and where it is none
+pub the_number : (text : List ℕ) (n : ℕ) → all_ascii_digits text ≡ true → 0 < length text → decimal_value text < 2 ^ 128 → n ≡ decimal_value text
+    → Some n ≡ (if is_number text then Some (decimal_value text) else None)
+unfolding is_number
+the_number text n digits some small is = rw (digits, lt-ltb 0 (length text) some, lt-ltb (decimal_value text) (2 ^ 128) small) (ap Some is)
+
+pub no_number : (text : List ℕ) → is_number text ≢ true → None ≡ (if is_number text then Some (decimal_value text) else None)
+no_number text none = rw (false_from_ne_true (is_number text) none) refl
+
+-- what std parses of a text with no plus sign in front
+pub parsed_number : {E : Type 0} (text : List ℕ) (r : Result ℕ E)
+    → OkIff r ((all_ascii_digits text ≡ true) × (0 < length text) × (decimal_value text < 2 ^ 128)) (decimal_value text)
     → result_ok r ≡ (if is_number text then Some (decimal_value text) else None)
-unfolding is_number
-parsed_number text (Ok n) digits h = rw (digits, lt-ltb 0 (length text) h.0.0, lt-ltb (decimal_value text) (2 ^ 128) h.0.1) (ap Some h.1)
-parsed_number text (Err e) digits h = elim (cases_lt 0 (length text)) [
-  | inl some ↦ elim (cases_lt (decimal_value text) (2 ^ 128)) [
-    | inl small ↦ absurd (h (some, small))
-    | inr large ↦ rw (digits, le-ltb (decimal_value text) (2 ^ 128) large, lt-ltb 0 (length text) some)
-  ]
-  | inr none ↦ rw (le-ltb 0 (length text) none)
-]
+parsed_number text (Ok n) h = the_number text n h.0.0 h.0.1 h.0.2 h.1
+parsed_number text (Err e) h = no_number text (λ is. let parts = number_parts text is in h (parts.1, parts.0, parts.2))

@@ -1,9 +1,7 @@
 -- An input has one output, and what the reply to each command is.
-use Rattle.std.proofs.Common.{◌≡◌, ℕ, ◌^◌, ◌<◌, ◌&&◌, ltb, length, Some, None, Result, Ok, Err, is_ok, OnOk, if◌then◌else◌, Bool, true, false, List, [], ◌∷◌, ◌++◌, drop, codes, nat_eq, refl, sym, ◌∙◌}
+use Rattle.std.proofs.Common.{◌≡◌, ℕ, Some, None, Result, Ok, Err, is_ok, OnOk, if◌then◌else◌, Bool, true, false, List, [], ◌∷◌, ◌++◌, drop, codes, nat_eq, refl, sym, ◌∙◌}
 use Rattle.std.specs.Bool.{MatchBool}
 use Rattle.std.specs.List.{starts_with}
-use Rattle.std.specs.Str.{all_ascii_digits}
-use Rattle.std.proofs.lemmas.Bool.{ltb-true, and_parts}
 use Rattle.std.proofs.lemmas.Option.{none-some}
 use Rattle.base62.specs.Alphabet.{IsAlphabet, standard, alternative}
 use Rattle.base62.specs.Canonical.{IsCanonical}
@@ -12,6 +10,7 @@ use Rattle.base62.proofs.CanonicalLemmas.{one_canonical}
 use Rattle.base62.proofs.FixedLemmas.{some_canonical}
 use Rattle.base62_cli.specs.Reply.{IsReply, IsEncodeReply, decimal_value, decode_reply, is_number}
 use Rattle.base62_cli.specs.Output.{AreReplies}
+use Rattle.base62_cli.proofs.NumberLemmas.{number_parts}
 
 -- exactly one text has the property
 pub record ExactlyOne (P : List ℕ → Type 0) : Type 0 where
@@ -27,19 +26,12 @@ one_of_two false F G f g = g
 stated : (text : List ℕ) → ExactlyOne (λ x. x ≡ text)
 stated text = record { exists = (text, refl); only = λ a b p q. p ∙ sym q }
 
--- a text that is a number has a value below 2^128
-number_small : (text : List ℕ) → is_number text ≡ true → decimal_value text < 2 ^ 128
-unfolding is_number
-number_small text e =
-    let parts = and_parts (ltb 0 (length text) && all_ascii_digits text) (ltb (decimal_value text) (2 ^ 128)) e in
-    ltb-true (decimal_value text) (2 ^ 128) parts.1
-
 -- a text to be encoded has one reply
 one_encode_reply : (B : List ℕ) → IsAlphabet B → (text : List ℕ) → ExactlyOne (IsEncodeReply B text)
 one_encode_reply B ok text =
     let n = decimal_value text in
     let canonical : is_number text ≡ true → ExactlyOne (λ r. IsCanonical B r n) =
-    λ e. record { exists = some_canonical B ok n (number_small text e); only = one_canonical B ok n } in
+    λ e. record { exists = some_canonical B ok n (number_parts text e).2; only = one_canonical B ok n } in
     one_of_two (is_number text) (λ r. IsCanonical B r n) (λ r. r ≡ codes "fault: not a number") canonical (stated (codes "fault: not a number"))
 
 -- a line begins with a command

@@ -1,7 +1,6 @@
 //! The reply to one line.
 
-ghost use Rattle.std.specs.Prelude.{◌≡◌, ◌≤◌, ℕ, ◌∷◌, [], ◌++◌, List, take, OnOk, Some, None, if◌then◌else◌};
-ghost use Rattle.std.specs.Str.{all_ascii_digits};
+ghost use Rattle.std.specs.Prelude.{◌≡◌, ◌≤◌, ℕ, ◌∷◌, [], ◌++◌, List, take, decimal, OnOk, Some, None, if◌then◌else◌};
 ghost use Rattle.base62.specs.Canonical.{IsCanonical};
 ghost use Rattle.base62.specs.Decoding.{decoding};
 ghost use Rattle.base62_cli.specs.BuiltIn.{alphabet_of};
@@ -9,8 +8,10 @@ ghost use Rattle.base62_cli.specs.Reply.{IsReply, IsEncodeReply, decode_reply, d
 
 use base62::DecodeError;
 use std::alloc::AllocError;
-use std::io::Write;
+use std::io::{self, Write};
 use std::str;
+
+const TEN_TO_19: u128 = 10_000_000_000_000_000_000;
 
 // The built-in alphabet that a command speaks of.
 #[derive(Clone, Copy)]
@@ -44,14 +45,14 @@ fn push_encoded(alphabet: BuiltIn, text: &[u8], out: &mut Vec<u8>) -> Result<(),
     let Some(number) = number_of(text) else {
         return out.extend_from_slice(b"fault: not a number\n");
     };
-    let mut buf = [0u8; 22];
+    // The text has 22 letters at most.
+    let mut buf = [0u8; 23];
     let len = encode(alphabet, number, &mut buf);
-    out.extend_from_slice(&buf[..len])?;
-    out.push(b'\n')?;
-    Ok(())
+    buf[len] = b'\n';
+    out.extend_from_slice(&buf[..=len])
 }
 
-fn encode(alphabet: BuiltIn, number: u128, buf: &mut [u8; 22]) -> usize
+fn encode(alphabet: BuiltIn, number: u128, buf: &mut [u8; 23]) -> usize
     ensures within { result ≤ 22 }
     ensures text { IsCanonical (alphabet_of alphabet) (take result buf.new) number }
 {
@@ -66,10 +67,22 @@ fn push_decoded(alphabet: BuiltIn, text: &[u8], out: &mut Vec<u8>) -> Result<(),
         ≡ out.old.items ++ (decode_reply (alphabet_of alphabet) text.now ++ 10 ∷ [])) }
 {
     let written = match decode(alphabet, text) {
-        Ok(number) => writeln!(out, "{number}"),
+        Ok(number) => push_number(number, out),
         Err(fault) => writeln!(out, "fault: {fault}"),
     };
     written.map_err(|_| AllocError)
+}
+
+// Appends the number in decimal, and `\n`. One above 64 bits goes in two parts: each digit of a part above 64 bits
+// takes a division of 128 bits, and of another part one of 64.
+fn push_number(number: u128, out: &mut Vec<u8>) -> io::Result<()>
+    ensures { OnOk result (out.new.items ≡ out.old.items ++ (decimal number ++ 10 ∷ [])) }
+{
+    if number <= u128::from(u64::MAX) {
+        return writeln!(out, "{number}");
+    }
+    let high = number / TEN_TO_19;
+    writeln!(out, "{high}{:019}", number - high * TEN_TO_19)
 }
 
 fn decode(alphabet: BuiltIn, text: &[u8]) -> Result<u128, DecodeError>
@@ -85,17 +98,18 @@ fn decode(alphabet: BuiltIn, text: &[u8]) -> Result<u128, DecodeError>
 fn number_of(text: &[u8]) -> Option<u128>
     ensures { result ≡ (if is_number text.now then Some (decimal_value text.now) else None) }
 {
-    if !are_digits(text) {
+    // `parse` takes a plus sign.
+    if text.starts_with(b"+") {
         return None;
     }
     let Ok(digits) = str::from_utf8(text) else {
-        unreachable!();
+        return None;
     };
+    // A `u64` has twenty digits at most, and is read without products of 128 bits.
+    if text.len() <= 20 {
+        if let Ok(number) = digits.parse::<u64>() {
+            return Some(u128::from(number));
+        }
+    }
     digits.parse::<u128>().ok()
-}
-
-fn are_digits(text: &[u8]) -> bool
-    ensures { result ≡ all_ascii_digits text.now }
-{
-    text.iter().all(|byte| byte.is_ascii_digit())
 }

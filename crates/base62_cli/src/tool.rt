@@ -1,7 +1,7 @@
 //! The run over a reader and a writer.
 
-ghost use Rattle.std.specs.Prelude.{◌≡◌, ◌≢◌, ℕ, List, [], ◌∷◌, ◌++◌, Some, OnOk, IfSome, MatchOption};
-ghost use Rattle.std.specs.List.{All};
+ghost use Rattle.std.specs.Prelude.{◌≡◌, ◌≢◌, ℕ, ◌<◌, List, [], ◌∷◌, ◌++◌, length, Some, OnOk, IfSome, MatchOption};
+ghost use Rattle.std.specs.List.{All, AllWithin, HoldsAt};
 ghost use Rattle.std.specs.Io.KnownBytes.{Appends};
 ghost use Rattle.base62_cli.specs.Output.{IsOutput, Leaves};
 
@@ -9,8 +9,9 @@ use crate::fault::ToolFault;
 use crate::reply::push_reply;
 use std::alloc::{AllocError, Global};
 use std::io::{Read, Write};
+use std::simd::prelude::*;
 
-const CHUNK_LEN: usize = 8192;
+const CHUNK_LEN: usize = 32768;
 
 /// Answers each line of the reader, in order, and writes nothing else.
 ///
@@ -76,11 +77,16 @@ fn answer(chunk: &[u8], line: &mut Vec<u8>, out: &mut Vec<u8>) -> Result<(), All
     ensures answered { OnOk result ((replies : List ℕ) × (out.new.items ≡ out.old.items ++ replies)
         × ((more : List ℕ) → Leaves (line.old.items ++ (chunk.now ++ more)) replies (line.new.items ++ more))) }
 {
-    let mut rest = chunk;
-    while let Some((end, after)) = split_line(rest) {
-        line.extend_from_slice(end)?;
-        push_reply(line.as_slice(), out)?;
-        line.clear();
+    let Some((end, after)) = split_line(chunk) else {
+        return line.extend_from_slice(chunk);
+    };
+    line.extend_from_slice(end)?;
+    push_reply(line.as_slice(), out)?;
+    line.clear();
+    // The others stand whole in the chunk.
+    let mut rest = after;
+    while let Some((whole, after)) = split_line(rest) {
+        push_reply(whole, out)?;
         rest = after;
     }
     line.extend_from_slice(rest)
@@ -91,8 +97,25 @@ fn split_line(bytes: &[u8]) -> Option<(&[u8], &[u8])>
     ensures { MatchOption result (All (λ b. b ≢ 10) bytes.now)
         (λ parts. All (λ b. b ≢ 10) parts.0.now × (bytes.now ≡ parts.0.now ++ 10 ∷ parts.1.now)) }
 {
-    let end = bytes.iter().position(|byte| *byte == b'\n')?;
+    let end = line_end(bytes)?;
     Some((&bytes[..end], &bytes[end + 1..]))
+}
+
+// The index of the first byte 10. Of 64 bytes it is the lowest bit of a mask.
+fn line_end(bytes: &[u8]) -> Option<usize>
+    ensures { MatchOption result (All (λ b. b ≢ 10) bytes.now)
+        (λ end. (end < length bytes.now) × HoldsAt (λ b. b ≡ 10) bytes.now end
+        × AllWithin (λ b. b ≢ 10) bytes.now 0 end) }
+{
+    if bytes.len() >= 64 {
+        let ends = u8x64::from_slice(bytes)
+            .simd_eq(u8x64::splat(b'\n'))
+            .to_bitmask();
+        if ends != 0 {
+            return Some(ends.trailing_zeros() as usize);
+        }
+    }
+    bytes.iter().position(|byte| *byte == b'\n')
 }
 
 // Answers a last line that no byte 10 ends, if there is one, and flushes.

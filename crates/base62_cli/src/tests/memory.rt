@@ -35,7 +35,7 @@ fn is_refused(rt: &(impl Abort + AllocGlobal), input: &[u8], output: &str) -> bo
 // further request.
 #[test]
 fn refused_memory(rt: HostRuntime) -> Result<(), Fail> {
-    let mut long_line = [b'0'; 10_000];
+    let mut long_line = [b'0'; 40_000];
     long_line[..4].copy_from_slice(b"dec ");
     let cases: [(&str, &[u8], &str); 6] = [
         // None: there is no line.
@@ -47,8 +47,8 @@ fn refused_memory(rt: HostRuntime) -> Result<(), Fail> {
         ("open_line", b"enc 62", "10\n"),
         // One for what each of two reads gives of the line, and one for the replies.
         ("long_line", &long_line, "0\n"),
-        // Two for the lines, of 8 and then of 12 bytes, and five for the replies, which grow to 120 bytes: room
-        // is for 8 bytes first, and at least doubles then.
+        // One for the first line, and five for the replies, which grow to 120 bytes: room is for 8 bytes first,
+        // and at least doubles then.
         ("stored_run", STORED_INPUT.as_bytes(), STORED_OUTPUT),
     ];
     for (name, input, output) in cases {

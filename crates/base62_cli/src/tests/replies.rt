@@ -144,18 +144,18 @@ fn long_lines(rt: HostRuntime) -> Result<(), Fail> {
     Ok(())
 }
 
-// A read takes up to 8192 bytes. The lines come in an order that no shift repeats.
+// A read takes up to 32768 bytes. The lines come in an order that no shift repeats.
 #[test]
 fn lines_across_reads(rt: HostRuntime) -> Result<(), Fail> {
     let mut input = Vec::new(rt.alloc());
     let mut output = Vec::new(rt.alloc());
-    for place in 0..3000u32 {
+    for place in 1..12_000u32 {
         let (line, reply) = REPLIES[place.count_ones() as usize % REPLIES.len()];
         push_line(&mut input, line)?;
         push_line(&mut output, reply.as_bytes())?;
     }
-    assert!(rt; input.len() > 3 * 8192);
-    for border in [8192, 2 * 8192, 3 * 8192] {
+    assert!(rt; input.len() > 3 * 32768);
+    for border in [32768, 2 * 32768, 3 * 32768] {
         assert_ne!(rt;
             input.get(border - 1),
             Some(&b'\n'),

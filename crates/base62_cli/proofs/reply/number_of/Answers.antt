@@ -1,22 +1,28 @@
-use Rattle.std.proofs.Common.{◌≡◌, ◌∙◌, sym, true, false}
+use Rattle.std.proofs.Common.{sym, ◌∙◌, arith}
 use Rattle.std.proofs.lemmas.Fmt.{IsAscii-from_digits}
 use Rattle.std.proofs.lemmas.Str.{IsUtf8-from_ascii}
-use Rattle.std.proofs.lemmas.Str.Parse.{parse_digits}
-use Rattle.std.specs.Str.{all_ascii_digits}
-use Rattle.base62_cli.proofs.NumberLemmas.{numerals, not_number, parsed_number}
+use Rattle.std.proofs.lemmas.Str.Parse.{parse_plain}
+use Rattle.base62_cli.proofs.NumberLemmas.{numerals, number_parts, plus_no_number, no_plus, the_number, no_number, parsed_number}
 use Rattle.base62_cli.proofs.reply.number_of.Goals as goal
 
-pub returns-then-not-are_digits : goal.returns-then-not-are_digits
-returns-then-not-are_digits c =
-    let none : all_ascii_digits c.args.text.now ≡ false = sym c.are_digits.ensures ∙ c.if-not-are_digits.true in
-    rw (not_number c.args.text.now none)
+pub returns-then-starts_with : goal.returns-then-starts_with
+returns-then-starts_with c = no_number c.args.text.now (plus_no_number c.args.text.now (sym c.starts_with.ensures.value ∙ c.if-starts_with.true))
 
-pub unreachable-requires : goal.unreachable-requires
-unreachable-requires c =
-    let digits : all_ascii_digits c.args.text.now ≡ true = sym c.are_digits.ensures ∙ c.if-not-are_digits.false in
-    c.in_default.ensures.cases.0 (IsUtf8-from_ascii c.args.text.now (IsAscii-from_digits c.args.text.now (numerals.to c.args.text.now digits)))
+pub returns-in_default : goal.returns-in_default
+returns-in_default c =
+    let text = c.args.text.now in
+    no_number text (λ is. c.in_default.ensures.cases.0 (IsUtf8-from_ascii text (IsAscii-from_digits text (numerals.to text (number_parts text is).1))))
+
+pub returns-in-Ok-parse : goal.returns-in-Ok-parse
+returns-in-Ok-parse c =
+    let text = c.args.text.now in
+    let plain = no_plus text (sym c.starts_with.ensures.value ∙ c.if-starts_with.false) in
+    let parsed = parse_plain numerals 64 text c.parse.result (rw c.in-Ok.ensures.cases.0 at c.parse.ensures.value.0) plain in
+    let read = rw c.in-Ok-parse.is at parsed in
+    the_number text c.from.result read.0.0 read.0.1 (omega (arith, read.0.2)) (c.from.ensures ∙ read.1)
 
 pub returns : goal.returns
 returns c =
-    let digits : all_ascii_digits c.args.text.now ≡ true = sym c.are_digits.ensures ∙ c.if-not-are_digits.false in
-    c.ok.ensures.value ∙ parsed_number c.args.text.now c.parse.result digits (parse_digits numerals 128 c.args.text.now c.parse.result (rw c.in-Ok.ensures.cases.0 at c.parse.ensures.value.0) digits)
+    let text = c.args.text.now in
+    let plain = no_plus text (sym c.starts_with.ensures.value ∙ c.if-starts_with.false) in
+    c.ok.ensures.value ∙ parsed_number text c.parse-2.result (parse_plain numerals 128 text c.parse-2.result (rw c.in-Ok.ensures.cases.0 at c.parse-2.ensures.value.0) plain)

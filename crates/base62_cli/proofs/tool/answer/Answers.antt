@@ -1,5 +1,5 @@
 use Rattle.std.proofs.Common.{◌≡◌, ◌≢◌, ℕ, [], ◌∷◌, List, ◌++◌, ap, ◌∙◌, append_assoc}
-use Rattle.std.proofs.lemmas.List.Elements.{All-nil, All-append}
+use Rattle.std.proofs.lemmas.List.Elements.{All-append}
 use Rattle.base62_cli.proofs.LineLemmas.{leaves_more}
 use Rattle.base62_cli.proofs.tool.answer.Goals as goal
 
@@ -7,21 +7,28 @@ use Rattle.base62_cli.proofs.tool.answer.Goals as goal
 line_cut : (line rest end after more : List ℕ) → rest ≡ end ++ 10 ∷ after → line ++ (rest ++ more) ≡ (line ++ end) ++ 10 ∷ (after ++ more)
 line_cut line rest end after more e = ap (λ r. line ++ (r ++ more)) e ∙ simp append_assoc
 
-pub loop-end-preserved : goal.loop-end-preserved
-loop-end-preserved c =
-    let l = c.loop-end in
-    let line = l.line.items in
+pub loop-whole-init : goal.loop-whole-init
+loop-whole-init c =
+    let line = c.args.line.now.items in
     let end = c.in-Some.end.now in
     let after = c.in-Some.after.now in
     let cut = c.in-Some.ensures in
     let reply = c.in_ok-push_reply.ensures in
-    let is_line = c.as_slice.ensures.value ∙ c.in_ok-extend_from_slice.ensures.items in
-    let unended = All-append (λ b. b ≢ 10) line end l.invariant.0 cut.0 in
-    let is = rw is_line at reply.1 in
-    let none = c.clear.ensures.items in (
-      rw none (All-nil (λ b. b ≢ 10)),
-      l.invariant.1 ++ (reply.0 ++ 10 ∷ []),
-      reply.2 ∙ ap (λ out. out ++ (reply.0 ++ 10 ∷ [])) l.invariant.2 ∙ append_assoc _ l.invariant.1 _,
-      λ more. rw none (leaves_more _ l.invariant.1 (line ++ end) (line ++ (l.rest.now ++ more)) reply.0 (after ++ more)
-          unended is (line_cut line l.rest.now end after more cut.1) (l.invariant.3 more)),
+    let unended = All-append (λ b. b ≢ 10) line end c.requires cut.0 in
+    let is = rw (c.as_slice.ensures.value ∙ c.in_ok-extend_from_slice.ensures.items) at reply.1 in (
+      reply.0 ++ 10 ∷ [],
+      reply.2,
+      λ more. leaves_more _ [] (line ++ end) _ reply.0 (after ++ more) unended is (line_cut line c.args.chunk.now end after more cut.1) (λ later h. h),
+    )
+
+pub loop-whole-preserved : goal.loop-whole-preserved
+loop-whole-preserved c =
+    let l = c.loop-whole in
+    let whole = c.in-Some-split_line.whole.now in
+    let after = c.in-Some-split_line.after.now in
+    let cut = c.in-Some-split_line.ensures in
+    let reply = c.in_ok-push_reply-2.ensures in (
+      l.invariant.0 ++ (reply.0 ++ 10 ∷ []),
+      reply.2 ∙ ap (λ out. out ++ (reply.0 ++ 10 ∷ [])) l.invariant.1 ∙ append_assoc _ l.invariant.0 _,
+      λ more. leaves_more _ l.invariant.0 whole _ reply.0 (after ++ more) cut.0 reply.1 (line_cut [] l.rest.now whole after more cut.1) (l.invariant.2 more),
     )

@@ -16,7 +16,9 @@ mod answer;
 mod fault;
 mod number;
 
-use answer::{BUFFER_TOO_SMALL, OK, REPEATED_LETTER, put_repeat, tell_length, tell_number, tell_range};
+use answer::{
+    BUFFER_TOO_SMALL, OK, REPEATED_LETTER, put_repeat, tell_length, tell_number, tell_range,
+};
 use base62::Alphabet;
 use fault::text_of;
 use number::joined;

@@ -48,7 +48,8 @@ _HALF = 2**64
 class Alphabet(enum.Enum):
     """The letters of the two built-in alphabets, in the order of their digits.
 
-    Each call over an alphabet also takes a str of 62 distinct letters of ASCII.
+    Each call over an alphabet also takes a str of 62 distinct letters of ASCII. For another it raises a ValueError,
+    which is an AlphabetError where a letter is repeated.
 
     >>> encode(62, "23456789ABCDEFGHJKMNPQRSTUVWXYZabcdefghijkmnpqrstuvwxyz-_.~+!*")
     '32'

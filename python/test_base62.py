@@ -24,7 +24,8 @@ def value(text, letters=STANDARD):
 
 def numbers(count):
     choice = random.Random(count)
-    return [0, 1, 61, 62, 2**64 - 1, 2**64, LARGEST] + [choice.getrandbits(choice.randint(1, 128)) for _ in range(count)]
+    edges = [0, 1, 61, 62, 2**64 - 1, 2**64, LARGEST]
+    return edges + [choice.getrandbits(choice.randint(1, 128)) for _ in range(count)]
 
 
 class Texts(unittest.TestCase):

@@ -1,5 +1,6 @@
 -- The decimal digits of a number, cut in two.
-use Rattle.std.proofs.Common.{◌≡◌, ℕ, zero, suc, ◌+◌, ◌-◌, ◌*◌, ◌/◌, ◌%◌, ◌^◌, ◌<◌, inl, inr, false, List, [], ◌∷◌, ◌++◌, length, replicate, decimal, refl, sym, ap, arith, append_assoc, append-nil, mul-pos}
+use Rattle.std.proofs.Common.{◌≡◌, ℕ, zero, suc, ◌+◌, ◌-◌, ◌*◌, ◌/◌, ◌%◌, ◌^◌, ◌<◌, inl, inr, false, List, [], ◌∷◌, ◌++◌, length, refl, sym, arith, append_assoc, append-nil, mul-pos}
+use Rattle.std.specs.Prelude.{replicate, decimal}
 use Rattle.std.specs.Fmt.{padded_integral, format_spec, char_count}
 use Rattle.std.proofs.Math.Nat.{pow-suc, one-le-pow}
 use Rattle.std.proofs.lemmas.Bool.{cases_lt}
@@ -15,7 +16,7 @@ pub zeros_written : (n : ℕ) → padded_integral (format_spec 32 0 4 19 (2 ^ 64
 unfolding padded_integral char_count
 zeros_written n =
     let width : 19 - length (decimal n) - 0 - 0 ≡ 19 - length (decimal n) = omega arith in
-    rw width (ap (λ digits. replicate (19 - length (decimal n)) 48 ++ digits) (append-nil (decimal n)))
+    rw (width, append-nil (decimal n)) refl
 
 -- its last digit, where there are more
 with_zeros_step : (k n : ℕ) → n < 10 ^ 64 → with_zeros (suc (suc k)) n ≡ with_zeros (suc k) (n / 10) ++ (48 + n % 10) ∷ []

@@ -1,5 +1,6 @@
 -- The number that decimal digits denote, as std reads it.
-use Rattle.std.proofs.Common.{◌≡◌, ◌≢◌, ℕ, ◌+◌, ◌-◌, ◌*◌, ◌^◌, ◌<◌, ◌&&◌, ltb, eqb, nat_eq, Bool, true, false, List, [], ◌∷◌, map, length, get_or, codes, Some, None, Result, Ok, Err, if◌then◌else◌, refl, sym, ap, ◌∙◌, arith}
+use Rattle.std.proofs.Common.{◌≡◌, ◌≢◌, ℕ, ◌+◌, ◌-◌, ◌*◌, ◌^◌, ◌<◌, Bool, true, false, List, [], ◌∷◌, map, length, get_or, Some, None, Result, Ok, Err, if◌then◌else◌, refl, sym, ap, ◌∙◌, arith}
+use Rattle.std.specs.Prelude.{nat_eq, codes}
 use Rattle.std.specs.List.{starts_with}
 use Rattle.std.specs.Result.{OkIff, result_ok}
 use Rattle.std.specs.Str.{all_ascii_digits}
@@ -25,11 +26,8 @@ numerals = numerals_by_weight _ tells_all_ascii_digits decimal_value weighs
 pub number_parts : (text : List ℕ) → is_number text ≡ true → (0 < length text) × (all_ascii_digits text ≡ true) × (decimal_value text < 2 ^ 128)
 unfolding is_number
 number_parts text e =
-    let some = ltb 0 (length text) in
-    let small = ltb (decimal_value text) (2 ^ 128) in
-    let parts = and_parts (some && all_ascii_digits text) small e in
-    let front = and_parts some (all_ascii_digits text) parts.0 in
-    (ltb-true 0 (length text) front.0, front.1, ltb-true (decimal_value text) (2 ^ 128) parts.1)
+    let parts = and_parts _ _ e in
+    let front = and_parts _ _ parts.0 in (ltb-true 0 (length text) front.0, front.1, ltb-true (decimal_value text) (2 ^ 128) parts.1)
 
 -- a plus sign in front, which std takes
 abbrev pub has_plus : List ℕ → Bool
@@ -38,7 +36,7 @@ has_plus text = starts_with nat_eq text (codes "+")
 pub plus_no_number : (text : List ℕ) → has_plus text ≡ true → is_number text ≢ true
 plus_no_number [] plus e = absurd (omega (arith, (number_parts [] e).0))
 plus_no_number (c ∷ cs) plus e =
-    let same = eqb-true 43 c (and_parts (eqb 43 c) true plus).0 in
+    let same = eqb-true 43 c (and_parts _ _ plus).0 in
     let digits = (number_parts (c ∷ cs) e).1 in
     false≢true (rw (sym same) at digits)
 

@@ -151,18 +151,6 @@ const NUMBERS: [(u128, &str, &str); 19] = [
     ),
 ];
 
-// A number in 22 letters by repeated division, the last digit first.
-pub(crate) fn plain_letters(alphabet: BuiltIn, number: u128) -> [u8; 22] {
-    let letters = alphabet.letters();
-    let mut text = [b'0'; 22];
-    let mut left = number;
-    for place in 1..=22 {
-        text[22 - place] = letters[(left % 62) as usize];
-        left /= 62;
-    }
-    text
-}
-
 // Numbers with their texts in both alphabets, of each length. A text becomes one letter longer at 62^k, which is a
 // `1` and k zeros: the number before it is k times the highest letter, and the one after it ends with a `1`.
 pub(crate) fn texts(

@@ -1,6 +1,7 @@
 //! Numbers and their texts over both alphabets, both ways, and the inputs that are refused.
 
-use crate::alphabets::{BOTH, BuiltIn, plain_letters, texts};
+use crate::alphabets::{BuiltIn, in_both, texts};
+use crate::plain::{plain_decode, plain_letters};
 use base62::DecodeError::{ArithmeticOverflow, EmptyInput, InvalidBase62Byte};
 use base62::EncodeError::BufferTooSmall;
 use base62::{DecodeError, Number, Work};
@@ -51,7 +52,7 @@ pub(crate) fn assert_encodes<T: Number + Copy>(
 #[test]
 fn texts_by_division(rt: HostRuntime) -> Result<(), Fail> {
     for (alphabet, number, text) in &texts(&rt)? {
-        let letters = plain_letters(*alphabet, *number);
+        let letters = plain_letters(alphabet.letters(), *number);
         let zeros = "0".repeat(rt.alloc(), 22_usize.saturating_sub(text.len()))?;
         let wanted = format!(in rt.alloc(); "{zeros}{text}")?;
         assert_eq!(rt;
@@ -77,24 +78,18 @@ fn numbers_and_texts(rt: HostRuntime) -> Result<(), Fail> {
     Ok(())
 }
 
-// The decoder gives the answer, and so does the counted one.
-fn assert_decodes(
+// The decoder gives the answer, and so do the counted one and the table of cases.
+pub(crate) fn assert_decodes(
     rt: &impl Abort,
     alphabet: BuiltIn,
-    text: &str,
+    text: &[u8],
     answer: Result<u128, DecodeError>,
 ) {
-    assert_eq!(rt;
-        alphabet.decode(text.as_bytes()),
-        answer,
-        "decoding {text:?}, {alphabet:?}"
-    );
-    let mut work = Work::new();
-    assert_eq!(rt;
-        alphabet.decode_counted(text.as_bytes(), &mut work),
-        answer,
-        "decoding {text:?}, counted, {alphabet:?}"
-    );
+    let counted = alphabet.decode_counted(text, &mut Work::new());
+    let plain = plain_decode(alphabet.letters(), text);
+    for outcome in [alphabet.decode(text), counted, plain] {
+        assert_eq!(rt; outcome, answer, "decoding {text:?}, {alphabet:?}");
+    }
 }
 
 // Each text with what it denotes over the standard and over the alternative alphabet.
@@ -111,25 +106,28 @@ fn decoded_texts(rt: HostRuntime) {
         ),
         ("lz", 2975, 1337),
         ("LZ", 1337, 2975),
+        (
+            "111111111111111111111",
+            715971350555965203672729121413359851,
+            715971350555965203672729121413359851,
+        ),
+        (
+            "1111111111111111111111",
+            44390223734469842627709205527628310763,
+            44390223734469842627709205527628310763,
+        ),
         ("rustlang", 189876682536016, 96813686712946),
         ("RUSTLANG", 96813686712946, 189876682536016),
     ];
     for (text, standard, alternative) in rows {
-        assert_decodes(&rt, BuiltIn::Standard, text, Ok(standard));
-        assert_decodes(&rt, BuiltIn::Alternative, text, Ok(alternative));
-    }
-    for alphabet in BOTH {
-        assert_eq!(rt;
-            alphabet.decode(&[b'0'; 10000]),
-            Ok(0),
-            "decoding 10000 zeros, {alphabet:?}"
-        );
+        assert_decodes(&rt, BuiltIn::Standard, text.as_bytes(), Ok(standard));
+        assert_decodes(&rt, BuiltIn::Alternative, text.as_bytes(), Ok(alternative));
     }
 }
 
 // Which fault is reported, where a text has more than one.
 // Each row has a text for each alphabet, the standard one first.
-const REFUSED: [(&str, &str, DecodeError); 12] = [
+const REFUSED: [(&str, &str, DecodeError); 13] = [
     ("", "", EmptyInput),
     ("!", "!", InvalidBase62Byte(b'!', 0)),
     ("0!", "0!", InvalidBase62Byte(b'!', 1)),
@@ -170,6 +168,11 @@ const REFUSED: [(&str, &str, DecodeError); 12] = [
         "7N42dgm5tG!00000000000",
         ArithmeticOverflow,
     ),
+    (
+        "zzzzzzzzzzzzzzzzzzzzzz",
+        "ZZZZZZZZZZZZZZZZZZZZZZ",
+        ArithmeticOverflow,
+    ),
     // A wrong byte is reported before an overflow that only the last letters could make.
     (
         "7n42DGM5Tflk9n8mt7Fhc!",
@@ -186,30 +189,8 @@ const REFUSED: [(&str, &str, DecodeError); 12] = [
 #[test]
 fn refused_texts(rt: HostRuntime) {
     for (standard, alternative, fault) in REFUSED {
-        assert_decodes(&rt, BuiltIn::Standard, standard, Err(fault));
-        assert_decodes(&rt, BuiltIn::Alternative, alternative, Err(fault));
-    }
-}
-
-// 24 bytes, two zeros, a `1` and more zeros, with a byte that is no letter in place of one after the two.
-// The first ten letters after the leading zeros end at place 11.
-#[test]
-fn bytes_that_are_no_letters(rt: HostRuntime) {
-    for byte in 0..=255_u8 {
-        if byte.is_ascii_alphanumeric() {
-            continue;
-        }
-        for place in [2, 3, 11, 12, 21, 22, 23_usize] {
-            let mut text = [b'0'; 24];
-            text[2] = b'1';
-            text[place] = byte;
-            for alphabet in BOTH {
-                assert_eq!(rt;
-                    alphabet.decode(&text),
-                    Err(InvalidBase62Byte(byte, place)),
-                    "the byte {byte} at {place}, {alphabet:?}"
-                );
-            }
+        for (alphabet, text) in in_both(standard, alternative) {
+            assert_decodes(&rt, alphabet, text.as_bytes(), Err(fault));
         }
     }
 }

@@ -1,6 +1,7 @@
 //! Keys, which sort as their numbers, and the ranges of the keys that begin alike.
 
-use crate::alphabets::{BuiltIn, plain_letters};
+use crate::alphabets::BuiltIn;
+use crate::plain::{plain_digit, plain_letters};
 use base62::DecodeError::InvalidBase62Byte;
 use base62::{decode, encode_key, key_range};
 use std::alloc::{AllocError, Global};
@@ -21,17 +22,6 @@ fn plain_order(one: &[u8; 22], other: &[u8; 22]) -> Ordering {
     Ordering::Equal
 }
 
-fn plain_digit(letter: u8) -> Option<u128> {
-    let mut digit: u128 = 0;
-    for candidate in BuiltIn::Standard.letters() {
-        if *candidate == letter {
-            return Some(digit);
-        }
-        digit = digit.checked_add(1)?;
-    }
-    None
-}
-
 // The value of a front of letters with zeros up to 22 of them, if it has no more and that is below 2^128.
 fn value_with_zeros(front: &[u8]) -> Option<u128> {
     if front.len() > 22 {
@@ -39,7 +29,9 @@ fn value_with_zeros(front: &[u8]) -> Option<u128> {
     }
     let mut value: u128 = 0;
     for letter in front {
-        value = value.checked_mul(62)?.checked_add(plain_digit(*letter)?)?;
+        value = value
+            .checked_mul(62)?
+            .checked_add(plain_digit(BuiltIn::Standard.letters(), *letter)?)?;
     }
     for _ in front.len()..22 {
         value = value.checked_mul(62)?;
@@ -108,7 +100,7 @@ fn keys_of_numbers(rt: HostRuntime) {
 #[test]
 fn keys_by_division(rt: HostRuntime) -> Result<(), Fail> {
     for number in &numbers(&rt, 3000)? {
-        let key = plain_letters(BuiltIn::Standard, *number);
+        let key = plain_letters(BuiltIn::Standard.letters(), *number);
         assert_eq!(rt; encode_key(*number), key, "the key of {number}");
         assert_eq!(rt; decode(&key), Ok(*number), "decoding the key of {number}");
         if let Ok(small) = u64::try_from(*number) {
@@ -180,7 +172,7 @@ fn ranges_of_fronts(rt: HostRuntime) {
 
 fn assert_begins(rt: &impl Abort, number: u128, front: &[u8], begins: bool) {
     assert_eq!(rt;
-        plain_letters(BuiltIn::Standard, number)
+        plain_letters(BuiltIn::Standard.letters(), number)
             .as_slice()
             .starts_with(front),
         begins,
@@ -220,7 +212,7 @@ fn assert_range(rt: &impl Abort, front: &[u8], number: u128) {
 fn ranges_by_plain_keys(rt: HostRuntime) -> Result<(), Fail> {
     for number in &numbers(&rt, 60)? {
         let mut letters = [b'0'; 24];
-        letters[..22].copy_from_slice(&plain_letters(BuiltIn::Standard, *number));
+        letters[..22].copy_from_slice(&plain_letters(BuiltIn::Standard.letters(), *number));
         for length in 0..=24_usize {
             assert_range(&rt, &letters[..length], *number);
             let Some(last) = length.checked_sub(1) else {

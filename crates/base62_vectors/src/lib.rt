@@ -1,5 +1,5 @@
-//! Tests of `base62` by topic, against values from outside, and counted calls whose contracts state the
-//! answer and the steps.
+//! Tests of `base62` by topic, against values from outside and plain code, and counted calls whose contracts
+//! state the answer and the steps.
 #![tactic(auto)]
 
 #[cfg(test)]
@@ -9,7 +9,11 @@ mod codec;
 #[cfg(test)]
 mod count;
 #[cfg(test)]
+mod failing;
+#[cfg(test)]
 mod fault;
+#[cfg(test)]
+mod hostile;
 #[cfg(test)]
 mod key;
 #[cfg(test)]
@@ -20,6 +24,10 @@ mod memory;
 mod number;
 #[cfg(test)]
 mod own_alphabets;
+#[cfg(test)]
+mod plain;
+#[cfg(test)]
+mod random;
 #[cfg(test)]
 mod show;
 pub mod steps;

@@ -23,25 +23,23 @@ fn is_text_refused(rt: &(impl Abort + AllocGlobal), alphabet: BuiltIn, wanted: &
     false
 }
 
-// The number's text in the alphabet is `Base62`. A refused call leaves the earlier text as it was.
+// The number's text in the alphabet is `Base62`. A refused call leaves the earlier text as it was,
+// and serves then as any other.
 fn is_append_refused(rt: &impl Abort, alphabet: BuiltIn, number: u64, text: &mut String) -> bool {
     assert_eq!(rt;
         text.capacity(),
         EARLIER.len(),
         "there is room to spare, {alphabet:?}"
     );
-    let outcome = alphabet.append(number, text);
-    let Some(added) = text.as_str().strip_prefix(EARLIER) else {
-        panic!(rt; "the earlier text is gone, {alphabet:?}");
-    };
-    if outcome.is_err() {
-        assert_eq!(rt; added, "", "{alphabet:?}");
+    let is_refused = alphabet.append(number, text).is_err();
+    if is_refused {
+        assert_eq!(rt; text.as_str(), EARLIER, "{alphabet:?}");
         assert_eq!(rt; text.capacity(), EARLIER.len(), "{alphabet:?}");
-        return true;
+        assert!(rt; alphabet.append(number, text).is_ok(), "{alphabet:?}");
     }
-    assert_eq!(rt; added, "Base62", "{alphabet:?}");
+    assert_eq!(rt; text.as_str(), "Base62: Base62", "{alphabet:?}");
     assert!(rt; text.capacity() <= MOST_ROOM, "{alphabet:?}");
-    false
+    is_refused
 }
 
 // These calls ask for no memory, so none of them is ever refused any.

@@ -1,9 +1,8 @@
 //! Numbers encoded into texts and to writers.
 
-use crate::alphabets::{BuiltIn, in_both, texts};
+use crate::alphabets::{BuiltIn, texts};
 use crate::writers::TestWriter;
 use base62::{encode, encode_alternative, encode_alternative_io, encode_io};
-use std::io::ErrorKind;
 use std::process::Abort;
 use std::test::Fail;
 
@@ -32,7 +31,7 @@ fn assert_targets(
     Ok(())
 }
 
-// The text is handed to the writer at once, and whether that takes it or fails, it is left to others to flush.
+// The text is handed to the writer at once, and it is left to others to flush.
 fn assert_handed_over(
     rt: &(impl Abort + AllocGlobal),
     alphabet: BuiltIn,
@@ -49,18 +48,6 @@ fn assert_handed_over(
         "{text}, {alphabet:?}"
     );
     assert_eq!(rt; taking.flushes, 0, "{text}, {alphabet:?}");
-
-    let mut failing = TestWriter::failing_at(rt.alloc(), usize::MAX, 1);
-    assert!(rt;
-        alphabet.write(number, &mut failing).is_err(),
-        "{text}, {alphabet:?}"
-    );
-    assert_eq!(rt;
-        failing.handed.as_slice(),
-        whole.as_slice(),
-        "{text}, {alphabet:?}"
-    );
-    assert_eq!(rt; failing.flushes, 0, "{text}, {alphabet:?}");
     Ok(())
 }
 
@@ -88,48 +75,4 @@ fn one_writer_for_two_texts(rt: HostRuntime) -> Result<(), Fail> {
     encode_alternative_io(0_u8, &mut written)?;
     assert_eq!(rt; written.as_slice(), b"x=LZ0".as_slice());
     Ok(())
-}
-
-#[test]
-fn one_byte_a_call(rt: HostRuntime) -> Result<(), Fail> {
-    for (alphabet, text) in in_both("LZ", "lz") {
-        let mut writer = TestWriter::taking(rt.alloc(), 1);
-        alphabet.write(1337_u32, &mut writer)?;
-        assert_eq!(rt; writer.written.as_slice(), text.as_bytes(), "{alphabet:?}");
-        assert_eq!(rt; writer.flushes, 0, "{alphabet:?}");
-    }
-    Ok(())
-}
-
-// The kind of the fault that a writer answers, and what it has then.
-fn assert_write_fails(
-    rt: &impl Abort,
-    alphabet: BuiltIn,
-    writer: &mut TestWriter,
-    kind: ErrorKind,
-    written: &str,
-) {
-    let outcome = alphabet.write(1337_u32, writer);
-    let Err(fault) = outcome else {
-        panic!(rt; "a failed write was answered by Ok, {alphabet:?}");
-    };
-    assert_eq!(rt; fault.kind(), kind, "{alphabet:?}");
-    assert_eq!(rt;
-        writer.written.as_slice(),
-        written.as_bytes(),
-        "{alphabet:?}"
-    );
-    assert_eq!(rt; writer.flushes, 0, "{alphabet:?}");
-}
-
-#[test]
-fn failed_writes(rt: HostRuntime) {
-    for (alphabet, first) in in_both("L", "l") {
-        for (call, written) in [(1, ""), (2, first)] {
-            let mut writer = TestWriter::failing_at(rt.alloc(), 1, call);
-            assert_write_fails(&rt, alphabet, &mut writer, ErrorKind::Other, written);
-        }
-        let mut full = TestWriter::taking(rt.alloc(), 0);
-        assert_write_fails(&rt, alphabet, &mut full, ErrorKind::WriteZero, "");
-    }
 }

@@ -11,8 +11,8 @@ pub(crate) struct TestWriter {
     pub(crate) flushes: usize,
     // The most that it takes in one call.
     most: usize,
-    // The call of `write`, counted from 1, that fails.
-    failing: Option<usize>,
+    // The call of `write`, counted from 1, that fails, and how.
+    failing: Option<(usize, ErrorKind)>,
 }
 
 impl TestWriter {
@@ -26,9 +26,9 @@ impl TestWriter {
         }
     }
 
-    pub(crate) fn failing_at(alloc: Global, most: usize, call: usize) -> Self {
+    pub(crate) fn failing_at(alloc: Global, most: usize, call: usize, kind: ErrorKind) -> Self {
         TestWriter {
-            failing: Some(call),
+            failing: Some((call, kind)),
             ..TestWriter::taking(alloc, most)
         }
     }
@@ -37,8 +37,10 @@ impl TestWriter {
 impl Write for TestWriter {
     fn write(&mut self, buf: &[u8]) -> io::Result<usize> {
         self.handed.push(buf.len())?;
-        if self.failing == Some(self.handed.len()) {
-            return Err(io::Error::from(ErrorKind::Other));
+        if let Some((call, kind)) = self.failing {
+            if call == self.handed.len() {
+                return Err(io::Error::from(kind));
+            }
         }
         let taken = self.most.min(buf.len());
         self.written.extend_from_slice(&buf[..taken])?;

@@ -1,11 +1,11 @@
-//! The replies to lines: alone, in order, and across the borders of what a read takes.
+//! The replies to lines, alone and in order.
 
 use super::{STORED_INPUT, STORED_OUTPUT};
 use crate::tool::run;
 use std::alloc::{AllocError, Global};
 use std::test::Fail;
 
-const REPLIES: [(&[u8], &str); 27] = [
+pub(super) const REPLIES: [(&[u8], &str); 31] = [
     (b"enc 62", "10"),
     (b"enc 000", "0"),
     (b"enc 00000000000000000000000000000000000000005", "5"),
@@ -37,8 +37,15 @@ const REPLIES: [(&[u8], &str); 27] = [
         b"dec \xff",
         "fault: Encoded input contains the invalid byte b'\\xff' at index 0",
     ),
+    (b"enc 1\0", "fault: not a number"),
+    (
+        b"dec L\0Z",
+        "fault: Encoded input contains the invalid byte b'\\x00' at index 1",
+    ),
     (b"", "fault: unknown command"),
+    (b"\0", "fault: unknown command"),
     (b"\xff", "fault: unknown command"),
+    (b"enc\xff1", "fault: unknown command"),
     (b"enc", "fault: unknown command"),
     (b"ENC 1", "fault: unknown command"),
     (b"alt 1337", "lz"),
@@ -54,14 +61,14 @@ const REPLIES: [(&[u8], &str); 27] = [
     (b"ADC lz", "fault: unknown command"),
 ];
 
-fn answers(alloc: Global, input: &[u8]) -> Result<Vec<u8>, Fail> {
+pub(super) fn answers(alloc: Global, input: &[u8]) -> Result<Vec<u8>, Fail> {
     let mut reader = input;
     let mut written = Vec::new(alloc);
     run(alloc, &mut reader, &mut written)?;
     Ok(written)
 }
 
-fn push_line(text: &mut Vec<u8>, line: &[u8]) -> Result<(), AllocError> {
+pub(super) fn push_line(text: &mut Vec<u8>, line: &[u8]) -> Result<(), AllocError> {
     text.extend_from_slice(line)?;
     text.push(b'\n')?;
     Ok(())
@@ -141,27 +148,5 @@ fn long_lines(rt: HostRuntime) -> Result<(), Fail> {
             "answering {count} bytes"
         );
     }
-    Ok(())
-}
-
-// A read takes up to 32768 bytes. The lines come in an order that no shift repeats.
-#[test]
-fn lines_across_reads(rt: HostRuntime) -> Result<(), Fail> {
-    let mut input = Vec::new(rt.alloc());
-    let mut output = Vec::new(rt.alloc());
-    for place in 1..12_000u32 {
-        let (line, reply) = REPLIES[place.count_ones() as usize % REPLIES.len()];
-        push_line(&mut input, line)?;
-        push_line(&mut output, reply.as_bytes())?;
-    }
-    assert!(rt; input.len() > 3 * 32768);
-    for border in [32768, 2 * 32768, 3 * 32768] {
-        assert_ne!(rt;
-            input.get(border - 1),
-            Some(&b'\n'),
-            "a line ends at {border}"
-        );
-    }
-    assert_eq!(rt; answers(rt.alloc(), input.as_slice())?, output);
     Ok(())
 }

@@ -14,7 +14,7 @@ use std::test::Fail;
 
 // Counts calls from 1, and fails one of them where it is told to.
 #[derive(Clone, Copy, Default)]
-struct Calls {
+pub(super) struct Calls {
     made: usize,
     failing: Option<usize>,
 }
@@ -37,9 +37,15 @@ impl Calls {
 }
 
 #[derive(Drop)]
-struct ByteReader<'a> {
+pub(super) struct ByteReader<'a> {
     rest: &'a [u8],
     reads: Calls,
+}
+
+impl<'a> ByteReader<'a> {
+    pub(super) fn new(rest: &'a [u8], reads: Calls) -> Self {
+        ByteReader { rest, reads }
+    }
 }
 
 impl Read for ByteReader<'_> {
@@ -93,10 +99,7 @@ impl Write for ByteWriter {
 
 #[test]
 fn one_byte_a_call(rt: HostRuntime) -> Result<(), Fail> {
-    let mut reader = ByteReader {
-        rest: STORED_INPUT.as_bytes(),
-        reads: Calls::default(),
-    };
+    let mut reader = ByteReader::new(STORED_INPUT.as_bytes(), Calls::default());
     let mut writer = ByteWriter::new(rt.alloc(), Calls::default(), Calls::default());
     run(rt.alloc(), &mut reader, &mut writer)?;
     assert_eq!(rt; writer.written.as_slice(), STORED_OUTPUT.as_bytes());
@@ -107,23 +110,41 @@ fn one_byte_a_call(rt: HostRuntime) -> Result<(), Fail> {
     Ok(())
 }
 
+fn count_lines(text: &[u8]) -> usize {
+    let mut count: usize = 0;
+    for byte in text {
+        if *byte == b'\n' {
+            count = count.saturating_add(1);
+        }
+    }
+    count
+}
+
+// What was read before is answered, and no part of a reply follows.
 #[test]
 fn failed_reads(rt: HostRuntime) {
     for input in stored_inputs() {
         // The last read is the one that meets the end.
         for call in 1..=input.len().saturating_add(1) {
-            let mut reader = ByteReader {
-                rest: input.as_bytes(),
-                reads: Calls::failing_at(call),
-            };
+            let mut reader = ByteReader::new(input.as_bytes(), Calls::failing_at(call));
             let mut writer = ByteWriter::new(rt.alloc(), Calls::default(), Calls::default());
             let outcome = run(rt.alloc(), &mut reader, &mut writer);
             assert_eq!(rt; outcome, Err(ToolFault::Read), "at read {call}");
             assert_eq!(rt; reader.reads.made, call, "reads, of which {call} fails");
+            let answered = count_lines(&input.as_bytes()[..call - 1]);
+            assert_eq!(rt;
+                count_lines(writer.written.as_slice()),
+                answered,
+                "at read {call}"
+            );
             assert!(rt;
                 STORED_OUTPUT
                     .as_bytes()
                     .starts_with(writer.written.as_slice()),
+                "at read {call}"
+            );
+            assert!(rt;
+                writer.written.is_empty() || writer.written.ends_with(b"\n"),
                 "at read {call}"
             );
             assert_eq!(rt; writer.flushes.made, 0, "flushes after read {call} failed");
@@ -197,6 +218,12 @@ fn no_read_after_the_end(rt: HostRuntime) -> Result<(), Fail> {
         (["enc 1337\n", "", "foo\n", "foo\n"], 2, "LZ\n"),
         // The end is met within a line.
         (["enc 13", "37", "", "0\n"], 1, "LZ\n"),
+        // A line end comes alone, and then an empty line.
+        (
+            ["enc 1337", "\n", "\n", "enc 62"],
+            0,
+            "LZ\nfault: unknown command\n10\n",
+        ),
     ];
     for (parts, behind, output) in rows {
         let mut reader = PartReader {

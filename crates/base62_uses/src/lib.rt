@@ -11,6 +11,12 @@ ghost use Rattle.base62.specs.Canonical.{IsCanonical, CanonicalFits};
 ghost use Rattle.base62.specs.Decoding.{decoding};
 ghost use Rattle.base62.specs.Key.{IsKey, BeginsWith};
 
+mod alphabets;
+
+pub use alphabets::{
+    ConfigurationFault, code, code_id, compare_by_keys, configured_alphabet, id_of_own_code,
+    key_over,
+};
 use base62::{DecodeError, Number, Work};
 use std::alloc::{AllocError, Global};
 use std::io::{self, Write};

@@ -11,7 +11,19 @@ ghost use Rattle.base62.specs.Canonical.{IsCanonical, CanonicalFits};
 ghost use Rattle.base62.specs.Decoding.{decoding};
 ghost use Rattle.base62.specs.Key.{IsKey, BeginsWith};
 
+mod alphabets;
+mod faults;
+mod invites;
+mod orders;
+
+pub use alphabets::{
+    ConfigurationFault, code, code_id, compare_by_keys, configured_alphabet, id_of_own_code,
+    key_over,
+};
 use base62::{DecodeError, Number, Work};
+pub use faults::count_fault;
+pub use invites::{InviteFault, LeadingZeros, invite_number};
+pub use orders::{TimedId, compare_links, compare_timed, timed_key};
 use std::alloc::{AllocError, Global};
 use std::io::{self, Write};
 

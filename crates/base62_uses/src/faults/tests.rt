@@ -1,0 +1,15 @@
+use super::*;
+use std::test::Fail;
+
+#[test]
+fn counts_of_faults(rt: HostRuntime) -> Result<(), Fail> {
+    let mut counts = BTreeMap::new(rt.alloc());
+    let bad_byte = DecodeError::InvalidBase62Byte(b'-', 3);
+    count_fault(&mut counts, bad_byte)?;
+    count_fault(&mut counts, DecodeError::EmptyInput)?;
+    count_fault(&mut counts, bad_byte)?;
+    assert_eq!(rt; counts.get(&bad_byte), Some(&2));
+    assert_eq!(rt; counts.get(&DecodeError::EmptyInput), Some(&1));
+    assert_eq!(rt; counts.get(&DecodeError::ArithmeticOverflow), None);
+    Ok(())
+}

@@ -1,0 +1,58 @@
+//! Texts that sort.
+
+ghost use Rattle.std.specs.Prelude.{◌≡◌, ◌+◌, ◌*◌, ◌^◌, ℕ};
+ghost use Rattle.std.specs.Ordering.{nat_cmp, ordering_then};
+ghost use Rattle.base62.specs.Alphabet.{standard};
+ghost use Rattle.base62.specs.Canonical.{IsCanonical};
+ghost use Rattle.base62.specs.Key.{IsKey};
+
+use base62::Number;
+use std::cmp::Ordering;
+
+/// How two links compare in a listing: the shorter one is less, and those of one length go by their bytes. So the
+/// links of ids sort as the ids.
+pub fn compare_links(a: &[u8], b: &[u8]) -> Ordering
+    ensures { (m n : ℕ) → IsCanonical standard a.now m → IsCanonical standard b.now n
+        → result ≡ nat_cmp m n }
+{
+    base62::laws::built_in_alphabets();
+    base62::laws::order_of_texts();
+    a.len().cmp(&b.len()).then(a.cmp(b))
+}
+
+/// An id that sorts by the time at which it was made, and then by its place among those of one time.
+#[derive(Clone, Copy, Debug, PartialEq, Eq)]
+pub struct TimedId {
+    pub milliseconds: u64,
+    pub sequence: u32,
+}
+
+/// The time stands in the high bits.
+impl Number for TimedId {
+    ghost meaning = { λ id. id.milliseconds * 2 ^ 32 + id.sequence };
+
+    fn number(self) -> u128 {
+        u128::from(self.milliseconds) * (1 << 32) + u128::from(self.sequence)
+    }
+}
+
+/// The key of an id.
+pub fn timed_key(id: TimedId) -> [u8; 22]
+    ensures { IsKey standard result (id.milliseconds * 2 ^ 32 + id.sequence) }
+{
+    base62::encode_key(id)
+}
+
+/// How two ids compare, by the bytes of their keys alone: the later one is greater, and those of one time go by
+/// their places.
+pub fn compare_timed(a: TimedId, b: TimedId) -> Ordering
+    ensures { result ≡ ordering_then (nat_cmp a.milliseconds b.milliseconds)
+        (nat_cmp a.sequence b.sequence) }
+{
+    base62::laws::built_in_alphabets();
+    base62::laws::order_of_texts();
+    timed_key(a).cmp(&timed_key(b))
+}
+
+#[cfg(test)]
+mod tests;

@@ -14,7 +14,9 @@ ghost use Rattle.base62.specs.Key.{IsKey, BeginsWith};
 mod alphabets;
 mod faults;
 mod invites;
+mod literals;
 mod orders;
+mod uuids;
 
 pub use alphabets::{
     ConfigurationFault, code, code_id, compare_by_keys, configured_alphabet, id_of_own_code,
@@ -23,9 +25,11 @@ pub use alphabets::{
 use base62::{DecodeError, Number, Work};
 pub use faults::count_fault;
 pub use invites::{InviteFault, LeadingZeros, invite_number};
+pub use literals::{manual_link, manual_number};
 pub use orders::{TimedId, compare_links, compare_timed, timed_key};
 use std::alloc::{AllocError, Global};
 use std::io::{self, Write};
+pub use uuids::{short_uuid, uuid_of_own_short, uuid_of_short};
 
 /// The text of the short link for a row's id. It never fails.
 pub fn link_text(id: u64, buf: &mut [u8; 22]) -> &[u8]

@@ -1,0 +1,26 @@
+//! Contracts that name one text and its number.
+#![tactic(auto, unfolding(base62::specs::Alphabet::standard, base62::specs::Alphabet::digit_of, base62::specs::Places::sum_over_places, base62::specs::Value::value, base62::specs::Decoding::decoding))]
+
+ghost use Rattle.std.specs.Prelude.{◌≡◌, codes, Ok};
+
+use base62::DecodeError;
+
+/// The number of the link that a manual prints.
+pub fn manual_number() -> Result<u128, DecodeError>
+    ensures { result ≡ Ok 1337 }
+{
+    base62::decode(b"LZ")
+}
+
+/// The link of that number.
+pub fn manual_link(buf: &mut [u8; 22]) -> &[u8]
+    ensures { result.now ≡ codes "LZ" }
+{
+    base62::laws::built_in_alphabets();
+    base62::laws::accepted_and_refused();
+    base62::laws::one_text();
+    crate::link_text(1337, buf)
+}
+
+#[cfg(test)]
+mod tests;

@@ -60,6 +60,7 @@ fn is_canonical(code: &[u8]) -> bool
     has_no_needless_zero(code)
 }
 
+// Whether a code has one letter, or more of which the first is no zero.
 #[tactic(auto, unfolding(base62::specs::Alphabet::standard))]
 fn has_no_needless_zero(code: &[u8]) -> bool
     ensures { IsTrue result ↔ HasNoNeedlessZero standard code.now }

@@ -13,13 +13,14 @@ ghost use Rattle.base62.specs.Decoding.{decoding};
 ghost use Rattle.base62.specs.Case.{exchange_case};
 ghost use Rattle.base62.specs.Key.{IsKey, BeginsWith, IsInInterval, interval_ends};
 ghost use Rattle.base62.specs.Order.{byte_order, length_first_order, Ascends};
-ghost use Rattle.base62.specs.Laws.{HasNoNeedlessZero, AnswerTells, number_or_overflow, one_place_on};
+ghost use Rattle.base62.specs.Laws.{HasNoNeedlessZero, AnswerTells, number_or_overflow, one_place_on, without_zeros};
 ghost use Rattle.base62.specs.Fault.{alphabet_error_order, decode_error_order};
 ghost use Rattle.base62.specs.Padding.{padded_to};
 ghost use Rattle.base62.specs.declared.fault.AlphabetError.{AlphabetError};
 ghost use Rattle.base62.specs.declared.fault.DecodeError.{DecodeError};
 ghost use Rattle.base62.specs.declared.fault.EncodeError.{EncodeError};
 
+use crate::alphabet::Alphabet;
 use crate::fault;
 use std::hash::Hash;
 
@@ -50,6 +51,18 @@ pub fn one_text()
     ensures which { (B : List ℕ) → IsAlphabet B → (text : List ℕ) → AreLetters B text
         → (IsCanonical B text (value B text) ↔ HasNoNeedlessZero B text) }
 {}
+
+/// A text without needless zeros is the only canonical text of the number that decoding gives for it. Where text and
+/// number are written out, computing tells both.
+pub fn text_of_number(alphabet: &Alphabet, text: &[u8], number: u128)
+    ensures { decoding alphabet.now text.now ≡ Ok number
+        → without_zeros alphabet.now text.now ≡ text.now
+        → (other : List ℕ) → IsCanonical alphabet.now other number → other ≡ text.now }
+{
+    let _ = alphabet.letters();
+    accepted_and_refused();
+    one_text();
+}
 
 /// Over any alphabet decoding gives back the number below 2^128 of its canonical text, and no text is the
 /// canonical text of two numbers.

@@ -16,9 +16,7 @@ pub fn manual_number() -> Result<u128, DecodeError>
 pub fn manual_link(buf: &mut [u8; 22]) -> &[u8]
     ensures { result.now ≡ codes "LZ" }
 {
-    base62::laws::built_in_alphabets();
-    base62::laws::accepted_and_refused();
-    base62::laws::one_text();
+    base62::laws::text_of_number(&base62::Alphabet::standard(), b"LZ", 1337);
     crate::link_text(1337, buf)
 }
 

@@ -68,12 +68,12 @@ impl Work {
 
 /// 62 distinct bytes, which are the letters of the digits 0 to 61 in order. The first is the zero letter.
 ///
-/// Each call over an alphabet of yours is that over a built-in one with `_with` in its name, as [`decode_with`] is
-/// [`decode`]. Contracts see an alphabet as the list of its letters. It holds them with a table of all bytes, in 318
-/// bytes, and takes no memory.
+/// The calls over an alphabet have `_with` in their names: [`decode_with`] is [`decode`] over letters of yours.
+/// Contracts see an alphabet as the list of its letters. It holds them with the digits of all bytes, in 318 bytes,
+/// and takes no memory.
 ///
 /// ```rust
-/// // The digits and letters without those that look alike end with some marks.
+/// // Digits and letters, but none that look alike, and some marks.
 /// let letters = *b"23456789ABCDEFGHJKMNPQRSTUVWXYZabcdefghijkmnpqrstuvwxyz-_.~+!*";
 /// let alphabet = base62::Alphabet::new(letters).unwrap();
 /// assert_eq!(rt; base62::decode_with(&alphabet, b"32"), Ok(62));

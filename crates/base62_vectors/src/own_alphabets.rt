@@ -1,12 +1,11 @@
 //! Alphabets of the caller's own.
 
-use crate::alphabets::{Letters, texts};
+use crate::alphabets::Letters;
 use base62::{
     Alphabet, AlphabetError, DecodeError, EncodeError, Work, decode_with, decode_with_counted,
     encode_buf_with, encode_bytes_with, encode_bytes_with_counted, encode_fmt_with, encode_io_with,
     encode_with,
 };
-use std::alloc::{AllocError, Global};
 use std::process::Abort;
 use std::test::Fail;
 
@@ -112,63 +111,11 @@ fn texts_of_faults(rt: HostRuntime) -> Result<(), Fail> {
     Ok(())
 }
 
-// The standard text with each letter replaced by the one of its digit.
-fn translated(
-    rt: &(impl Abort + AllocGlobal),
-    letters: &[u8; 62],
-    standard_text: &str,
-) -> Result<Vec<u8>, AllocError> {
-    let mut text = Vec::new(rt.alloc());
-    for byte in standard_text.as_bytes() {
-        let places = standard_letters();
-        let digit = places.iter().position(|letter| letter == byte);
-        text.push(letters[digit.expect(rt, "a standard text has standard letters")])?;
-    }
-    Ok(text)
-}
-
 fn assert_bytes(rt: &impl Abort, alphabet: &Alphabet, number: u128, text: &[u8]) {
     let mut room = [0; 22];
     let len = encode_bytes_with(alphabet, number, &mut room);
     assert_eq!(rt; len.map(|len| &room[..len]), Ok(text), "{number}");
     assert_eq!(rt; decode_with(alphabet, text), Ok(number), "{number}");
-}
-
-fn assert_targets(
-    rt: &(impl Abort + AllocGlobal),
-    alphabet: &Alphabet,
-    number: u128,
-    text: &[u8],
-) -> Result<(), Fail> {
-    let mut written = Vec::from_slice(rt.alloc(), b"=")?;
-    encode_io_with(alphabet, number, &mut written)?;
-    assert_eq!(rt; &written.as_slice()[1..], text, "{number}");
-    if alphabet.is_ascii() {
-        let alone = encode_with(rt.alloc(), alphabet, number)?;
-        assert_eq!(rt; alone.as_bytes(), text, "{number}");
-        let mut joined = String::from_str(rt.alloc(), "é")?;
-        encode_buf_with(alphabet, number, &mut joined)?;
-        assert_eq!(rt; &joined.as_bytes()[2..], text, "{number}");
-        let shown = format!(in rt.alloc(); "{}", encode_fmt_with(alphabet, number))?;
-        assert_eq!(rt; shown.as_bytes(), text, "{number}");
-    }
-    Ok(())
-}
-
-#[test]
-fn numbers_and_texts(rt: HostRuntime) -> Result<(), Fail> {
-    let numbers = texts(&rt)?;
-    for (letters, _, _) in cases() {
-        let alphabet = made(&rt, letters);
-        for (built_in, number, standard_text) in &numbers {
-            if matches!(*built_in, Letters::Standard) {
-                let text = translated(&rt, &letters, standard_text.as_str())?;
-                assert_bytes(&rt, &alphabet, *number, text.as_slice());
-                assert_targets(&rt, &alphabet, *number, text.as_slice())?;
-            }
-        }
-    }
-    Ok(())
 }
 
 // A run of zero letters changes no number, and no byte `0` is taken for one where it is none.
@@ -252,15 +199,20 @@ fn counted_calls(rt: HostRuntime) {
 }
 
 #[test]
-fn texts_over_other_alphabets(rt: HostRuntime) {
+fn texts_over_other_alphabets(rt: HostRuntime) -> Result<(), Fail> {
     let descending = made(&rt, reversed(standard_letters()));
     assert_bytes(&rt, &descending, 0, b"z");
     assert_bytes(&rt, &descending, 62, b"yz");
     assert_bytes(&rt, &descending, 1337, b"eQ");
+    assert_bytes(&rt, &made(&rt, bytes_from(0)), 1337, &[21, 35]);
     let above_ascii = made(&rt, bytes_from(194));
     assert_bytes(&rt, &above_ascii, 1337, &[215, 229]);
+    let mut written = Vec::new(rt.alloc());
+    encode_io_with(&above_ascii, 1337_u32, &mut written)?;
+    assert_eq!(rt; written.as_slice(), [215, 229].as_slice());
     // The order of the numbers is not that of the bytes.
     let alternative = Alphabet::alternative();
     assert_bytes(&rt, &alternative, 35, b"z");
     assert_bytes(&rt, &alternative, 36, b"A");
+    Ok(())
 }

@@ -4,7 +4,7 @@ use Rattle.std.proofs.lemmas.Bool.{cases_lt, cases_eq}
 use Rattle.std.proofs.lemmas.List.{get_or-set_same, get_or-set_other, length-set, ext_get_or}
 use Rattle.std.proofs.lemmas.List.Elements.{All-from_get_or}
 use Rattle.std.proofs.lemmas.List.FromFn.{length-map-range_with_len}
-use Rattle.base62.specs.Alphabet.{IsAlphabet, RepeatsFirst, digit_of}
+use Rattle.base62.specs.Alphabet.{IsAlphabet, digit_of}
 use Rattle.base62.specs.Table.{digit_or_none, table_of}
 use Rattle.base62.proofs.AlphabetLemmas.{digit_of-letter, letter-digit_of}
 use Rattle.base62.proofs.TableLemmas.{get_or-table_of}
@@ -79,22 +79,3 @@ alphabet_of_all B T i size fits low high held =
       distinct = distinct_first B T 62 full;
     } in
     (ok, table_of_all B T ok full)
-
--- where the next byte is in the table already, it is the first that is repeated
-pub repeats_first : (B T : List ℕ) (b i : ℕ) → get_or B i 0 ≡ b → b < 256 → i < length B → get_or T b 0 ≢ 255 → IsTableOfFirst B T i → RepeatsFirst B b i
-repeats_first B T b i is fits inside taken held = elim (held.bytes b fits) [
-  | inl none ↦ absurd (taken none)
-  | inr some ↦ record {
-    within = inside;
-    byte_is = sym is;
-    repeated = (get_or T b 0, some.0, some.1 ∙ sym is);
-    first = λ k below again. (let same = distinct_first B T i held again.0 k (omega (arith, again.1, below)) below again.2 in omega (arith, same, again.1));
-  }
-]
-
--- no byte of an alphabet is repeated
-pub no_alphabet : (B : List ℕ) (b i : ℕ) → RepeatsFirst B b i → IsAlphabet B → ⊥
-no_alphabet B b i r ok =
-    let inside : i < 62 = omega (arith, r.within, ok.size) in
-    let same : r.repeated.0 ≡ i = ok.distinct r.repeated.0 i (omega (arith, r.repeated.1, inside)) inside r.repeated.2 in
-    omega (arith, same, r.repeated.1)

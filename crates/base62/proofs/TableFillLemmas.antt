@@ -1,7 +1,6 @@
 -- The table of an alphabet, as it is filled letter by letter.
-use Rattle.std.proofs.Common.{◌≡◌, ◌≢◌, ℕ, ◌+◌, ◌<◌, ◌≤◌, List, length, get_or, slice_set, Option, Some, None, unwrap_or, refl, sym, ap, ◌∙◌, arith, ◌⊎◌, inl, inr}
-use Rattle.std.proofs.lemmas.Bool.{cases_lt, cases_eq}
-use Rattle.std.proofs.lemmas.List.{get_or-set_same, get_or-set_other, length-set, ext_get_or}
+use Rattle.std.proofs.Common.{◌≡◌, ℕ, ◌<◌, ◌≤◌, List, length, get_or, Option, Some, None, unwrap_or, refl, sym, ap, ◌∙◌, arith, ◌⊎◌, inl, inr}
+use Rattle.std.proofs.lemmas.List.{ext_get_or}
 use Rattle.std.proofs.lemmas.List.Elements.{All-from_get_or}
 use Rattle.std.proofs.lemmas.List.FromFn.{length-map-range_with_len}
 use Rattle.base62.specs.Alphabet.{IsAlphabet, digit_of}
@@ -14,32 +13,6 @@ pub record IsTableOfFirst (B T : List ℕ) (i : ℕ) : Type 0 where
   pub size : length T ≡ 256
   pub digits : (k : ℕ) → k < i → get_or T (get_or B k 0) 0 ≡ k
   pub bytes : (x : ℕ) → x < 256 → (get_or T x 0 ≡ 255) ⊎ ((get_or T x 0 < i) × (get_or B (get_or T x 0) 0 ≡ x))
-
--- one more letter in the table
-pub IsTableOfFirst-more : (B T : List ℕ) (i b : ℕ) → get_or B i 0 ≡ b → b < 256 → i < 62 → get_or T b 0 ≡ 255 → IsTableOfFirst B T i
-    → IsTableOfFirst B (slice_set T b i) (i + 1)
-IsTableOfFirst-more B T i b is fits inside free held = record {
-  size = length-set T b i ∙ held.size;
-  digits = λ k below. elim (cases_lt k i) [
-    | inl earlier ↦
-        let other : get_or B k 0 ≢ b = λ same. (let e : get_or T b 0 ≡ k = sym (ap (λ x. get_or T x 0) same) ∙ held.digits k earlier in omega (arith, e, free, earlier, inside)) in
-        get_or-set_other T b (get_or B k 0) i 0 other ∙ held.digits k earlier
-    | inr top ↦
-        let e : k ≡ i = omega (arith, below, top) in
-        rw (e, is) (get_or-set_same T b i 0 (omega (arith, fits, held.size)))
-  ];
-  bytes = λ x in_range. elim (cases_eq x b) [
-    | inl same ↦
-        let now : get_or (slice_set T b i) x 0 ≡ i = rw same (get_or-set_same T b i 0 (omega (arith, fits, held.size))) in
-        inr (rw now (omega arith), rw (now, same) is)
-    | inr other ↦
-        let now : get_or (slice_set T b i) x 0 ≡ get_or T x 0 = get_or-set_other T b x i 0 other in
-        elim (held.bytes x in_range) [
-          | inl none ↦ inl (now ∙ none)
-          | inr some ↦ inr (rw now (omega (arith, some.0)), rw now some.1)
-        ]
-  ];
-}
 
 -- the letters whose digits are in the table are distinct
 distinct_first : (B T : List ℕ) (i : ℕ) → IsTableOfFirst B T i → (j k : ℕ) → j < i → k < i → get_or B j 0 ≡ get_or B k 0 → j ≡ k

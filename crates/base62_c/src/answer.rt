@@ -2,7 +2,7 @@
 
 ghost use Rattle.std.specs.Prelude.{◌≡◌};
 ghost use Rattle.base62.specs.declared.fault.AlphabetError.TheVariants.{Repeated};
-ghost use Rattle.base62_c.specs.Answer.{TellsLength, TellsFault, TellsNumber, TellsRange};
+ghost use Rattle.base62_c.specs.Answer.{TellsLength, TellsFault, TellsNumber, TellsRange, WritesText};
 
 use crate::number::put_halves;
 use base62::{AlphabetError, DecodeError, EncodeError};
@@ -96,4 +96,15 @@ pub(crate) fn put_repeat(fault: AlphabetError, byte: &mut u8, index: &mut usize)
     let AlphabetError::Repeated(letter, at) = fault;
     *byte = letter;
     *index = at;
+}
+
+pub(crate) fn tell_text(text: &[u8], buf: &mut [u8], len: &mut usize) -> u32
+    ensures { WritesText text.now buf.old buf.new result len.old len.new }
+{
+    if buf.len() < text.len() {
+        return BUFFER_TOO_SMALL;
+    }
+    buf[..text.len()].copy_from_slice(text);
+    *len = text.len();
+    OK
 }

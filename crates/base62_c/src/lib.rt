@@ -18,6 +18,7 @@ mod number;
 
 use answer::{
     BUFFER_TOO_SMALL, OK, REPEATED_LETTER, put_repeat, tell_length, tell_number, tell_range,
+    tell_text,
 };
 use base62::Alphabet;
 use fault::text_of;
@@ -186,10 +187,8 @@ pub extern "C" fn base62_fault_text(
 {
     let held = text_of(status, byte, index);
     let text = held.as_str().as_bytes();
-    if text.ends_with(b"...") || buf.len() < text.len() {
+    if text.ends_with(b"...") {
         return BUFFER_TOO_SMALL;
     }
-    buf[..text.len()].copy_from_slice(text);
-    *len = text.len();
-    OK
+    tell_text(text, buf, len)
 }

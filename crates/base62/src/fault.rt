@@ -1,11 +1,12 @@
 //! Why a text is not decoded, a number not encoded, and a list of letters no alphabet.
 
-ghost use Rattle.std.specs.Prelude.{◌≡◌, ◌<◌, [], ◌∷◌, ◌++◌, Some, codes, decimal};
+ghost use Rattle.std.specs.Prelude.{◌≡◌, ◌+◌, ◌<◌, ◌≤◌, [], ◌∷◌, ◌++◌, Some, decimal, length};
 ghost use Rattle.std.specs.Char.{digit_char};
-ghost use Rattle.std.specs.Char.Escape.{hex_digit_at};
 ghost use Rattle.std.specs.Fmt.{WritesOnOk, WritesStyledOnOk};
+ghost use Rattle.std.specs.Fmt.InlineText.{inline_text};
 ghost use Rattle.base62.specs.Fault.{alphabet_error_text, byte_at_index, decode_error_text, encode_error_text, escaped};
 
+use std::fmt::InlineText;
 use std::{error, fmt};
 
 /// Why a text is no number below 2^128.
@@ -35,110 +36,148 @@ pub enum AlphabetError {
     Repeated(u8, usize),
 }
 
-/// Prints what went wrong, and the same under any width, fill and alignment.
-///
-/// A byte is printed by ASCII's default escape: `\t`, `\n`, `\r`, `\"`, `\'`, `\\`, the byte itself
-/// from 32 to 126, and else `\x` with two lower-case hexadecimal digits.
-impl fmt::Display for DecodeError {
-    ghost output = { λ e. Some (decode_error_text e) };
+/// The most characters that the text of a fault has: a byte takes four of them, and its index twenty.
+pub const MAX_TEXT_LEN: usize = 77;
 
-    ghost styled_output = { λ e _. Some (decode_error_text e) };
-
-    #[tactic(auto, using(crate::proofs::FaultLemmas::styled_writes), unfolding(crate::specs::Fault::decode_error_text))]
-    fn fmt<W: fmt::Write>(&self, f: &mut fmt::Formatter<W>) -> fmt::Result {
+impl DecodeError {
+    /// What the fault says, in at most 77 characters of ASCII.
+    ///
+    /// A byte is told by ASCII's default escape: `\t`, `\n`, `\r`, `\"`, `\'`, `\\`, the byte itself
+    /// from 32 to 126, and else `\x` with two lower-case hexadecimal digits. It takes no memory and refuses
+    /// nothing.
+    ///
+    /// ```rust
+    /// let fault = base62::decode(b"LZ-").unwrap_err();
+    /// assert_eq!(rt; fault.text().as_str(), "Encoded input contains the invalid byte b'-' at index 2");
+    /// ```
+    #[tactic(auto, unfolding(crate::specs::Fault::decode_error_text))]
+    pub fn text(&self) -> InlineText<MAX_TEXT_LEN>
+        ensures { inline_text result ≡ decode_error_text self.now }
+    {
         match *self {
-            DecodeError::ArithmeticOverflow => f.write_str(
-                "Decoded number cannot fit into a `u128`",
-            ),
-            DecodeError::EmptyInput => f.write_str("Encoded input is an empty string"),
+            DecodeError::ArithmeticOverflow => said("Decoded number cannot fit into a `u128`"),
+            DecodeError::EmptyInput => said("Encoded input is an empty string"),
             DecodeError::InvalidBase62Byte(byte, index) => {
-                f.write_str("Encoded input contains the invalid ")?;
-                write_byte_at_index(byte, index, f)
+                and_byte_at_index(said("Encoded input contains the invalid "), byte, index)
             }
         }
     }
 }
 
+/// Prints what [`DecodeError::text`] answers, and the same under any width, fill and alignment.
+impl fmt::Display for DecodeError {
+    ghost output = { λ e. Some (decode_error_text e) };
+
+    ghost styled_output = { λ e _. Some (decode_error_text e) };
+
+    fn fmt<W: fmt::Write>(&self, f: &mut fmt::Formatter<W>) -> fmt::Result {
+        write_text(self.text(), f)
+    }
+}
+
 impl error::Error for DecodeError {}
 
-/// Prints what went wrong, and the same under any width, fill and alignment.
+impl EncodeError {
+    /// What the fault says, in 37 characters of ASCII. It takes no memory and refuses nothing.
+    #[tactic(auto, unfolding(crate::specs::Fault::encode_error_text))]
+    pub fn text(&self) -> InlineText<MAX_TEXT_LEN>
+        ensures { inline_text result ≡ encode_error_text self.now }
+    {
+        match *self {
+            EncodeError::BufferTooSmall => said("Buffer too small to encode the number"),
+        }
+    }
+}
+
+/// Prints what [`EncodeError::text`] answers, and the same under any width, fill and alignment.
 impl fmt::Display for EncodeError {
     ghost output = { λ e. Some (encode_error_text e) };
 
     ghost styled_output = { λ e _. Some (encode_error_text e) };
 
-    #[tactic(auto, unfolding(crate::specs::Fault::encode_error_text))]
     fn fmt<W: fmt::Write>(&self, f: &mut fmt::Formatter<W>) -> fmt::Result {
-        match *self {
-            EncodeError::BufferTooSmall => f.write_str("Buffer too small to encode the number"),
-        }
+        write_text(self.text(), f)
     }
 }
 
 impl error::Error for EncodeError {}
 
-/// Prints what went wrong, with the byte as [`DecodeError`] prints one, and the same under any width, fill and
-/// alignment.
+impl AlphabetError {
+    /// What the fault says, in at most 63 characters of ASCII, with the byte as [`DecodeError::text`] tells one.
+    /// It takes no memory and refuses nothing.
+    #[tactic(auto, unfolding(crate::specs::Fault::alphabet_error_text))]
+    pub fn text(&self) -> InlineText<MAX_TEXT_LEN>
+        ensures { inline_text result ≡ alphabet_error_text self.now }
+    {
+        let AlphabetError::Repeated(byte, index) = *self;
+        and_byte_at_index(said("Alphabet repeats the "), byte, index)
+    }
+}
+
+/// Prints what [`AlphabetError::text`] answers, and the same under any width, fill and alignment.
 impl fmt::Display for AlphabetError {
     ghost output = { λ e. Some (alphabet_error_text e) };
 
     ghost styled_output = { λ e _. Some (alphabet_error_text e) };
 
-    #[tactic(auto, using(crate::proofs::FaultLemmas::styled_writes), unfolding(crate::specs::Fault::alphabet_error_text))]
     fn fmt<W: fmt::Write>(&self, f: &mut fmt::Formatter<W>) -> fmt::Result {
-        let AlphabetError::Repeated(byte, index) = *self;
-        f.write_str("Alphabet repeats the ")?;
-        write_byte_at_index(byte, index, f)
+        write_text(self.text(), f)
     }
 }
 
 impl error::Error for AlphabetError {}
 
-// Writes a byte that is named, and its index.
-#[tactic(auto, using(crate::proofs::FaultLemmas::styled_writes), unfolding(crate::specs::Fault::byte_at_index))]
-fn write_byte_at_index<W: fmt::Write>(
-    byte: u8,
-    index: usize,
+// Writes the text as it is, whatever options the formatter has.
+fn write_text<W: fmt::Write>(
+    text: InlineText<MAX_TEXT_LEN>,
     f: &mut fmt::Formatter<W>,
 ) -> fmt::Result
-    ensures writes { WritesOnOk W.write_str_gives f.old result (byte_at_index byte index) f.new }
-    ensures styled { WritesStyledOnOk W.write_str_gives f.old result (byte_at_index byte index) f.new }
+    ensures writes { WritesOnOk W.write_str_gives f.old result (inline_text text) f.new }
+    ensures styled { WritesStyledOnOk W.write_str_gives f.old result (inline_text text) f.new }
 {
-    f.write_str("byte b'")?;
-    write_escaped(byte, f)?;
-    f.write_str("' at index ")?;
-    write_decimal(index, f)
+    f.write_str(text.as_str())
 }
 
-// Writes the byte as the definition shows it, by plain writes, as all that follows.
-#[tactic(auto, unfolding(crate::specs::Fault::escaped))]
-fn write_escaped<W: fmt::Write>(byte: u8, f: &mut fmt::Formatter<W>) -> fmt::Result
-    ensures writes { WritesOnOk W.write_str_gives f.old result (escaped byte) f.new }
-    ensures styled { WritesStyledOnOk W.write_str_gives f.old result (escaped byte) f.new }
+fn said(words: &str) -> InlineText<MAX_TEXT_LEN>
+    requires { length words.now ≤ 77 }
+    ensures { inline_text result ≡ words.now }
+{
+    and(InlineText::new(), words)
+}
+
+// A byte that is named, and its index.
+#[tactic(auto, using(crate::proofs::FaultLemmas::appends), unfolding(crate::specs::Fault::byte_at_index))]
+fn and_byte_at_index(
+    text: InlineText<MAX_TEXT_LEN>,
+    byte: u8,
+    index: usize,
+) -> InlineText<MAX_TEXT_LEN>
+    requires { length (inline_text text) ≤ 35 }
+    ensures { inline_text result ≡ inline_text text ++ byte_at_index byte index }
+{
+    let named = and_escaped(and(text, "byte b'"), byte);
+    and_decimal(and(named, "' at index "), index)
+}
+
+#[tactic(auto, using(crate::proofs::FaultLemmas::appends), unfolding(crate::specs::Fault::escaped))]
+fn and_escaped(text: InlineText<MAX_TEXT_LEN>, byte: u8) -> InlineText<MAX_TEXT_LEN>
+    requires { length (inline_text text) ≤ 42 }
+    ensures text { inline_text result ≡ inline_text text ++ escaped byte }
+    ensures short { length (inline_text result) ≤ length (inline_text text) + 4 }
 {
     match byte {
-        b'\t' => f.write_str("\\t"),
-        b'\n' => f.write_str("\\n"),
-        b'\r' => f.write_str("\\r"),
-        b'\"' => f.write_str("\\\""),
-        b'\'' => f.write_str("\\'"),
-        b'\\' => f.write_str("\\\\"),
-        32..=126 => f.write_char(char::from(byte)),
-        _ => write_hex(byte, f),
+        b'\t' => and(text, "\\t"),
+        b'\n' => and(text, "\\n"),
+        b'\r' => and(text, "\\r"),
+        b'\"' => and(text, "\\\""),
+        b'\'' => and(text, "\\'"),
+        b'\\' => and(text, "\\\\"),
+        32..=126 => and_char(text, char::from(byte)),
+        _ => {
+            let high = and_char(and(text, "\\x"), hex_digit(byte / 16));
+            and_char(high, hex_digit(byte % 16))
+        }
     }
-}
-
-// Writes `\x` and the byte's two hexadecimal digits.
-#[tactic(auto, using(crate::proofs::FaultLemmas::styled_writes))]
-fn write_hex<W: fmt::Write>(byte: u8, f: &mut fmt::Formatter<W>) -> fmt::Result
-    ensures writes { WritesOnOk W.write_str_gives f.old result
-        (codes "\\x" ++ hex_digit_at 16 byte ∷ hex_digit_at 1 byte ∷ []) f.new }
-    ensures styled { WritesStyledOnOk W.write_str_gives f.old result
-        (codes "\\x" ++ hex_digit_at 16 byte ∷ hex_digit_at 1 byte ∷ []) f.new }
-{
-    f.write_str("\\x")?;
-    f.write_char(hex_digit(byte / 16))?;
-    f.write_char(hex_digit(byte % 16))
 }
 
 fn hex_digit(digit: u8) -> char
@@ -149,14 +188,31 @@ fn hex_digit(digit: u8) -> char
     char::from_digit(u32::from(digit), 16).unwrap()
 }
 
-// Writes the number as `{}` does, whatever options the formatter has.
-#[tactic(auto, using(crate::proofs::FaultLemmas::decimal_writes))]
-fn write_decimal<W: fmt::Write>(number: usize, f: &mut fmt::Formatter<W>) -> fmt::Result
-    ensures writes { WritesOnOk W.write_str_gives f.old result (decimal number) f.new }
-    ensures styled { WritesStyledOnOk W.write_str_gives f.old result (decimal number) f.new }
+#[tactic(auto, using(crate::proofs::FaultLemmas::appends))]
+fn and_decimal(text: InlineText<MAX_TEXT_LEN>, number: usize) -> InlineText<MAX_TEXT_LEN>
+    requires { length (inline_text text) + length (decimal number) ≤ 77 }
+    ensures { inline_text result ≡ inline_text text ++ decimal number }
 {
-    if number >= 10 {
-        write_decimal(number / 10, f)?;
+    if number < 10 {
+        return and_char(text, char::from(b'0' + number as u8));
     }
-    f.write_char(char::from(b'0' + (number % 10) as u8))
+    let front = and_decimal(text, number / 10);
+    and_char(front, char::from(b'0' + (number % 10) as u8))
+}
+
+fn and_char(text: InlineText<MAX_TEXT_LEN>, c: char) -> InlineText<MAX_TEXT_LEN>
+    requires roomy { length (inline_text text) < 77 }
+    requires ascii { c < 128 }
+    ensures { inline_text result ≡ inline_text text ++ c ∷ [] }
+{
+    let mut bytes = [0; 4];
+    and(text, c.encode_utf8(&mut bytes))
+}
+
+#[tactic(auto, using(crate::proofs::FaultLemmas::appends))]
+fn and(text: InlineText<MAX_TEXT_LEN>, part: &str) -> InlineText<MAX_TEXT_LEN>
+    requires { length (inline_text text) + length part.now ≤ 77 }
+    ensures { inline_text result ≡ inline_text text ++ part.now }
+{
+    text.and_str(part, MAX_TEXT_LEN)
 }

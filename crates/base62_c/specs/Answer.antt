@@ -37,10 +37,11 @@ TellsRange (Ok None) status low low' high high' bad bad' = (status ≡ 5) × (lo
 TellsRange (Err fault) status low low' high high' bad bad' =
     TellsFault fault status bad bad' × (low' ≡ low) × (high' ≡ high)
 
--- a text is written to the front of a buffer with all other bytes as before, or nothing is changed
+-- a text that fits is written to the front of a buffer with all other bytes as before, and else nothing is changed
 pub record WritesText (text buf buf' : List ℕ) (status len len' : ℕ) : Type 0 where
   pub statuses : (status ≡ 0) ⊎ (status ≡ 1)
   pub length_is : status ≡ 0 → len' ≡ length text
   pub text_is : status ≡ 0 → buf' ≡ text ++ drop (length text) buf
   pub fits : status ≡ 0 → length text ≤ length buf
+  pub roomy : length text ≤ length buf → status ≡ 0
   pub refused : status ≡ 1 → (buf' ≡ buf) × (len' ≡ len)

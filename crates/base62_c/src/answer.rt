@@ -1,6 +1,6 @@
 //! How answers are told by a status and through pointers.
 
-ghost use Rattle.std.specs.Prelude.{◌≡◌, ◌≤◌, length};
+ghost use Rattle.std.specs.Prelude.{◌≡◌};
 ghost use Rattle.base62.specs.declared.fault.AlphabetError.TheVariants.{Repeated};
 ghost use Rattle.base62_c.specs.Answer.{TellsLength, TellsFault, TellsNumber, TellsRange, WritesText};
 
@@ -99,8 +99,7 @@ pub(crate) fn put_repeat(fault: AlphabetError, byte: &mut u8, index: &mut usize)
 }
 
 pub(crate) fn tell_text(text: &[u8], buf: &mut [u8], len: &mut usize) -> u32
-    ensures writes { WritesText text.now buf.old buf.new result len.old len.new }
-    ensures roomy { length text.now ≤ length buf.old → result ≡ 0 }
+    ensures { WritesText text.now buf.old buf.new result len.old len.new }
 {
     if buf.len() < text.len() {
         return BUFFER_TOO_SMALL;

@@ -16,10 +16,7 @@ mod answer;
 mod fault;
 mod number;
 
-use answer::{
-    BUFFER_TOO_SMALL, OK, REPEATED_LETTER, put_repeat, tell_length, tell_number, tell_range,
-    tell_text,
-};
+use answer::{OK, REPEATED_LETTER, put_repeat, tell_length, tell_number, tell_range, tell_text};
 use base62::Alphabet;
 use fault::text_of;
 use number::joined;
@@ -185,10 +182,5 @@ pub extern "C" fn base62_fault_text(
 ) -> u32
     ensures { WritesText (fault_text status byte index) buf.old buf.new result len.old len.new }
 {
-    let held = text_of(status, byte, index);
-    let text = held.as_str().as_bytes();
-    if text.ends_with(b"...") {
-        return BUFFER_TOO_SMALL;
-    }
-    tell_text(text, buf, len)
+    tell_text(text_of(status, byte, index).as_str().as_bytes(), buf, len)
 }

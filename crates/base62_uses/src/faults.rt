@@ -1,12 +1,18 @@
-//! Faults that a service counts.
+//! Faults that a service counts and tells.
 
-ghost use Rattle.std.specs.Prelude.{◌≡◌, ◌≢◌, ◌+◌, ◌-◌, ◌^◌, min, unwrap_or, OnOk, OnErr};
+ghost use Rattle.std.specs.Prelude.{◌≡◌, ◌≢◌, ◌+◌, ◌-◌, ◌^◌, [], Err, min, unwrap_or, IsOk, OnOk, OnErr};
 ghost use Rattle.std.specs.BTreeMap.{get, IsUnchanged};
+ghost use Rattle.std.specs.Fmt.InlineText.{inline_text};
+ghost use Rattle.base62.specs.Alphabet.{standard};
+ghost use Rattle.base62.specs.Decoding.{decoding};
+ghost use Rattle.base62.specs.Fault.{decode_error_text};
 ghost use Rattle.base62.specs.declared.fault.DecodeError.{DecodeError};
 
 use base62::DecodeError;
+use base62::fault::MAX_TEXT_LEN;
 use std::alloc::AllocError;
 use std::collections::BTreeMap;
+use std::fmt::InlineText;
 
 /// Counts a fault once more, up to 2^64 - 1. `Err` says that there was no memory for it.
 pub fn count_fault(
@@ -26,6 +32,19 @@ pub fn count_fault(
     };
     counts.insert(fault, count.saturating_add(1))?;
     Ok(())
+}
+
+/// What a server tells a client whose text names no id, and nothing where it names one. It takes no memory, as
+/// where there is none left to answer with.
+pub fn complaint(text: &[u8]) -> InlineText<MAX_TEXT_LEN>
+    ensures number { IsOk (decoding standard text.now) → inline_text result ≡ [] }
+    ensures fault { (fault : DecodeError) → decoding standard text.now ≡ Err fault
+        → inline_text result ≡ decode_error_text fault }
+{
+    match base62::decode(text) {
+        Ok(_) => InlineText::new(),
+        Err(fault) => fault.text(),
+    }
 }
 
 #[cfg(test)]

@@ -23,7 +23,7 @@ pub use alphabets::{
     key_over,
 };
 use base62::{DecodeError, Number, Work};
-pub use faults::count_fault;
+pub use faults::{complaint, count_fault};
 pub use invites::{InviteFault, LeadingZeros, invite_number};
 pub use literals::{manual_link, manual_number};
 pub use orders::{TimedId, compare_links, compare_timed, timed_key};

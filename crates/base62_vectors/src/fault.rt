@@ -64,8 +64,13 @@ fn texts(rt: HostRuntime) -> Result<(), Fail> {
         ),
     ];
     for (fault, text) in cases {
+        assert_eq!(rt; fault.text().as_str(), text);
         assert_prints(&rt, rt.alloc(), &fault, text)?;
     }
+    assert_eq!(rt;
+        BufferTooSmall.text().as_str(),
+        "Buffer too small to encode the number"
+    );
     assert_prints(
         &rt,
         rt.alloc(),

@@ -105,6 +105,7 @@ fn texts_of_faults(rt: HostRuntime) -> Result<(), Fail> {
     ];
     for (byte, index, text) in cases {
         let fault = AlphabetError::Repeated(byte, index);
+        assert_eq!(rt; fault.text().as_str(), text);
         assert_eq!(rt; format!(in rt.alloc(); "{fault}")?.as_str(), text);
         assert_eq!(rt; format!(in rt.alloc(); "{fault:>60}")?.as_str(), text);
     }

@@ -13,3 +13,13 @@ fn counts_of_faults(rt: HostRuntime) -> Result<(), Fail> {
     assert_eq!(rt; counts.get(&DecodeError::ArithmeticOverflow), None);
     Ok(())
 }
+
+#[test]
+fn complaints(rt: HostRuntime) {
+    assert_eq!(rt; complaint(b"LZ").as_str(), "");
+    assert_eq!(rt; complaint(b"").as_str(), "Encoded input is an empty string");
+    assert_eq!(rt;
+        complaint(b"LZ?").as_str(),
+        "Encoded input contains the invalid byte b'?' at index 2"
+    );
+}

@@ -9,7 +9,8 @@
  *     range TEXT STATUS LEAST_HIGH LEAST_LOW GREATEST_HIGH GREATEST_LOW BYTE INDEX
  *     fault STATUS BYTE INDEX TEXT
  *
- * An alphabet is a word, or a text where it is the caller's own. A field that the status leaves unwritten is 0.
+ * An alphabet is a word, or a text where it is the caller's own. A status is a name of the header, or a number that is
+ * none. A field that the status leaves unwritten is 0.
  */
 #define _DEFAULT_SOURCE
 #include <base62.h>
@@ -89,6 +90,27 @@ static uint64_t number(void) {
     return strtoull(field(), NULL, 10);
 }
 
+/* The status of a name, as the header has it. */
+static base62_status status_field(void) {
+    static const struct {
+        const char *name;
+        base62_status status;
+    } statuses[] = {
+        {"OK", BASE62_OK},
+        {"BUFFER_TOO_SMALL", BASE62_BUFFER_TOO_SMALL},
+        {"EMPTY_INPUT", BASE62_EMPTY_INPUT},
+        {"INVALID_BYTE", BASE62_INVALID_BYTE},
+        {"OVERFLOW", BASE62_OVERFLOW},
+        {"NO_KEY", BASE62_NO_KEY},
+        {"REPEATED_LETTER", BASE62_REPEATED_LETTER},
+    };
+    const char *word = field();
+    for (size_t i = 0; i < sizeof statuses / sizeof *statuses; i++)
+        if (strcmp(word, statuses[i].name) == 0)
+            return statuses[i].status;
+    return (base62_status)strtoul(word, NULL, 10);
+}
+
 static size_t text_of(const char *word, char *text) {
     const char *digits = word + 1;
     const size_t length = strlen(digits) / 2;
@@ -152,7 +174,7 @@ static base62_status decode(const char *text, size_t length, struct told *told) 
 /* The status and all that is told are the next fields of the row, where they are written. */
 static void expect_told(base62_status status, const struct told *told, size_t halves) {
     const int is_named = status == BASE62_INVALID_BYTE || status == BASE62_REPEATED_LETTER;
-    expect(status == (base62_status)number(), "the status");
+    expect(status == status_field(), "the status");
     for (size_t i = 0; i < halves; i++) {
         const uint64_t half = number();
         expect(told->halves[i] == (status == BASE62_OK ? half : unwritten), "half of a number");
@@ -162,12 +184,16 @@ static void expect_told(base62_status status, const struct told *told, size_t ha
     expect(told->index == (is_named ? index : unwritten), "the index");
 }
 
+/* The lengths of the longest texts of the rows: those of the header. */
+static size_t most_digits, most_fault_text;
+
 /* The text in a buffer of each size, just too small ones too. */
 static void check_number(int at_end) {
     static char text[MOST];
     alphabet_field(at_end);
     const uint64_t high = number(), low = number();
     const size_t wanted = text_field(text);
+    most_digits = wanted > most_digits ? wanted : most_digits;
     for (size_t size = 0; size <= BASE62_MAX_DIGITS + 2; size++) {
         size_t length = unwritten;
         const base62_status status = encode(high, low, filled(), size, &length);
@@ -201,22 +227,21 @@ static void check_decode(int at_end) {
     expect_told(status, &told, 2);
 }
 
-/* An alphabet by itself. Where it is refused, so is each call over it, which writes nothing. */
+/* An alphabet by itself. Where it is refused, so is each call over it, which writes at most what is refused. */
 static void check_alphabet(int at_end) {
-    struct told told = untold;
+    struct told told = untold, decoded = untold;
     alphabet_field(at_end);
     const base62_status status = base62_check_alphabet(letters, &told.byte, &told.index);
     expect_told(status, &told, 0);
     if (status == BASE62_OK)
         return;
     size_t length = unwritten;
-    told = untold;
     expect(encode(0, 1337, filled(), BASE62_MAX_DIGITS, &length) == status, "the status of encoding");
     expect(length == unwritten, "the length is written on a refusal");
     expect_front("", 0, "the text");
-    expect(decode("1", 1, &told) == status, "the status of decoding");
-    expect(memcmp(told.halves, untold.halves, sizeof told.halves) == 0, "a half is written on a refusal");
-    expect(told.byte == filler && told.index == unwritten, "a byte is written on a refusal");
+    expect(decode("1", 1, &decoded) == status, "the status of decoding");
+    expect(memcmp(decoded.halves, untold.halves, sizeof decoded.halves) == 0, "a half is written on a refusal");
+    expect(decoded.byte == told.byte && decoded.index == told.index, "the repeated letter");
 }
 
 static void check_range(int at_end) {
@@ -231,9 +256,10 @@ static void check_range(int at_end) {
 
 static void check_fault(void) {
     static char text[MOST];
-    const base62_status fault = (base62_status)number();
+    const base62_status fault = status_field();
     const unsigned char byte = (unsigned char)number();
     const size_t index = number(), wanted = text_field(text);
+    most_fault_text = wanted > most_fault_text ? wanted : most_fault_text;
     for (size_t size = 0; size <= BASE62_MAX_FAULT_TEXT + 2; size++) {
         size_t length = unwritten;
         const base62_status status = base62_fault_text(fault, byte, index, filled(), size, &length);
@@ -273,7 +299,8 @@ int main(void) {
         check_row(0);
         check_row(1);
     }
-    expect(row_number > 0, "there are no rows");
+    expect(most_digits == BASE62_MAX_DIGITS, "the length of the longest text of a number");
+    expect(most_fault_text == BASE62_MAX_FAULT_TEXT, "the length of the longest text of a fault");
     printf("calls: %lu rows hold\n", row_number);
     return 0;
 }

@@ -16,7 +16,8 @@ LETTERS = {
     "alternative": STANDARD.swapcase(),
     **{hexadecimal(letters): letters for letters in OWN},
 }
-OK, BUFFER_TOO_SMALL, EMPTY_INPUT, INVALID_BYTE, OVERFLOW, NO_KEY, REPEATED_LETTER = range(7)
+STATUSES = "OK BUFFER_TOO_SMALL EMPTY_INPUT INVALID_BYTE OVERFLOW NO_KEY REPEATED_LETTER".split()
+OK, BUFFER_TOO_SMALL, EMPTY_INPUT, INVALID_BYTE, OVERFLOW, NO_KEY, REPEATED_LETTER = STATUSES
 LARGEST = 2**128 - 1
 
 # What the words of the tables mean here: an answer is a status, and what comes with it.

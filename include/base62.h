@@ -13,9 +13,9 @@
  * nothing else that it is given.
  *
  *     char text[BASE62_MAX_DIGITS];
- *     size_t length, index;
+ *     size_t length, index = 0;
  *     uint64_t high, low;
- *     unsigned char byte;
+ *     unsigned char byte = 0;
  *
  *     if (base62_encode(0, 1337, text, sizeof text, &length) == BASE62_OK)
  *         printf("%.*s\n", (int)length, text);
@@ -94,7 +94,11 @@ base62_status base62_decode(const char *text, size_t length, uint64_t *high, uin
 base62_status base62_decode_alternative(const char *text, size_t length, uint64_t *high, uint64_t *low,
                                         unsigned char *byte, size_t *index);
 
-/* The same over an alphabet of the caller's own, or BASE62_REPEATED_LETTER as base62_encode_with. */
+/*
+ * The same over an alphabet of the caller's own.
+ *
+ * BASE62_REPEATED_LETTER: as base62_check_alphabet, which this comes with before the others.
+ */
 base62_status base62_decode_with(const char letters[BASE62_ALPHABET_LENGTH], const char *text, size_t length,
                                  uint64_t *high, uint64_t *low, unsigned char *byte, size_t *index);
 

@@ -6,7 +6,7 @@
 1337
 
 The calls are those of the library libbase62.so, which are proved. It is found by the environment variable
-BASE62_LIBRARY, or else beside this file, or else where the system looks for libraries.
+BASE62_LIBRARY, or else beside this file, or else where the system looks for libraries. Python is 3.8 or later.
 """
 
 from __future__ import annotations
@@ -18,7 +18,7 @@ import operator
 import os
 import pathlib
 import uuid
-from typing import Callable, SupportsIndex, Union
+from typing import Callable, List, Optional, SupportsIndex, Tuple, Union
 
 __all__ = [
     "Alphabet",
@@ -49,7 +49,7 @@ class Alphabet(enum.Enum):
     """The letters of the two built-in alphabets, in the order of their digits.
 
     Each call over an alphabet also takes a str of 62 distinct letters of ASCII. For another it raises a ValueError,
-    which is an AlphabetError where a letter is repeated.
+    which is an AlphabetError where 62 letters of ASCII repeat one.
 
     >>> encode(62, "23456789ABCDEFGHJKMNPQRSTUVWXYZabcdefghijkmnpqrstuvwxyz-_.~+!*")
     '32'
@@ -86,7 +86,8 @@ class EmptyInputError(DecodeError):
 
 
 class TooLargeError(DecodeError):
-    """A text of 2**128 or more, or with more than 22 bytes after the zeros in front."""
+    """A text of 2**128 or more, or with more than 22 bytes after the zeros in front, or with 22 of which the first ten
+    show already that it would be so much. A str is taken in UTF-8."""
 
 
 class InvalidByteError(DecodeError):
@@ -147,6 +148,8 @@ def decode_uuid(text: Text, alphabet: AnyAlphabet = Alphabet.STANDARD) -> uuid.U
 def digit_count(number: Number) -> int:
     """The length of the text of a number, from 1 to 22.
 
+    Raises an OverflowError as encode.
+
     >>> digit_count(61), digit_count(62)
     (1, 2)
     """
@@ -156,6 +159,8 @@ def digit_count(number: Number) -> int:
 def encode_key(number: Number) -> str:
     """The standard text of 22 letters, with zeros in front. Keys sort as their numbers, and decode reads them.
 
+    Raises an OverflowError as encode.
+
     >>> encode_key(1337)
     '00000000000000000000LZ'
     """
@@ -164,7 +169,7 @@ def encode_key(number: Number) -> str:
     return key.raw.decode("ascii")
 
 
-def key_range(front: Text) -> tuple[int, int] | None:
+def key_range(front: Text) -> Optional[Tuple[int, int]]:
     """The least and the greatest number whose key begins so, or None if there is none.
 
     Raises an InvalidByteError.
@@ -193,7 +198,7 @@ def _over(alphabet: AnyAlphabet, name: str) -> Callable[..., int]:
     return functools.partial(getattr(_library, f"{name}_with"), letters)
 
 
-def _halves(number: Number) -> tuple[int, int]:
+def _halves(number: Number) -> Tuple[int, int]:
     whole = number.int if isinstance(number, uuid.UUID) else operator.index(number)
     if not 0 <= whole < _HALF**2:
         raise OverflowError("the number is not from 0 to 2**128 - 1")
@@ -215,7 +220,7 @@ def _bytes_of(text: Text) -> bytes:
     return text.encode("utf-8", "surrogatepass") if isinstance(text, str) else bytes(memoryview(text))
 
 
-def _numbers_of(call: Callable[..., int], count: int, *arguments: object) -> list[int]:
+def _numbers_of(call: Callable[..., int], count: int, *arguments: object) -> List[int]:
     """The numbers that a call tells, so many or none."""
     halves = [ctypes.c_uint64() for _ in range(2 * count)]
     byte, index = ctypes.c_ubyte(), ctypes.c_size_t()
@@ -233,15 +238,23 @@ def _error_of(status: int, byte: int, index: int) -> ValueError:
         return EmptyInputError(said)
     if status == _OVERFLOW:
         return TooLargeError(said)
-    error = InvalidByteError(said) if status == _INVALID_BYTE else AlphabetError(said)
+    kind = InvalidByteError if status == _INVALID_BYTE else AlphabetError
+    error: Union[InvalidByteError, AlphabetError] = kind(said)
     error.byte, error.index = byte, index
     return error
 
 
 def _load() -> ctypes.CDLL:
     beside = pathlib.Path(__file__).with_name("libbase62.so")
-    found = str(beside) if beside.exists() else "libbase62.so"
-    library = ctypes.CDLL(os.environ.get("BASE62_LIBRARY") or found)
+    found = os.environ.get("BASE62_LIBRARY") or (str(beside) if beside.exists() else "libbase62.so")
+    try:
+        return _declared(ctypes.CDLL(found))
+    except (OSError, AttributeError) as error:
+        raise ImportError(f"{found} is no library of base62: build it by c/build, set BASE62_LIBRARY") from error
+
+
+def _declared(library: ctypes.CDLL) -> ctypes.CDLL:
+    """The library, with the types of its calls."""
     half, size, status, text = ctypes.c_uint64, ctypes.c_size_t, ctypes.c_uint, ctypes.c_char_p
     halves, sizes, byte = ctypes.POINTER(half), ctypes.POINTER(size), ctypes.POINTER(ctypes.c_ubyte)
     encodes = (status, [half, half, text, size, sizes])

@@ -3,6 +3,10 @@
 import doctest
 import pickle
 import random
+import shutil
+import subprocess
+import sys
+import tempfile
 import unittest
 import uuid
 
@@ -42,8 +46,10 @@ class Texts(unittest.TestCase):
     def test_uuids(self):
         for number in numbers(100):
             name = uuid.UUID(int=number)
-            self.assertEqual(base62.decode_uuid(base62.encode(name)), name)
-            self.assertEqual(value(base62.encode(name)), name.int)
+            for alphabet, letters in ALPHABETS.items():
+                text = base62.encode(name, alphabet)
+                self.assertEqual(value(text, letters), number)
+                self.assertEqual(base62.decode_uuid(text, alphabet), name)
             self.assertEqual(base62.encode_key(name), base62.encode_key(number))
 
     def test_kinds_of_texts(self):
@@ -60,7 +66,6 @@ class Texts(unittest.TestCase):
         for text in (5, None, [1]):
             self.assertRaises(TypeError, base62.decode, text)
 
-
     def test_alphabets(self):
         for alphabet, letters in zip(Alphabet, ALPHABETS.values()):
             self.assertEqual(alphabet.value, letters)
@@ -68,8 +73,9 @@ class Texts(unittest.TestCase):
             base62.decode("0", STANDARD[:-1] + "7")
         self.assertEqual((caught.exception.byte, caught.exception.index), (ord("7"), 61))
         self.assertEqual(str(caught.exception), "Alphabet repeats the byte b'7' at index 61")
-        for letters in ("standard", STANDARD + "-", "é" + STANDARD[1:]):
-            self.assertRaises(ValueError, base62.encode, 1, letters)
+        for letters in ("standard", STANDARD[:-1], STANDARD + "-", "é" + STANDARD[1:], "é" + STANDARD[2:]):
+            for call, told in ((base62.encode, 1), (base62.decode, "9")):
+                self.assertRaises(ValueError, call, told, letters)
         for letters in (None, STANDARD.encode()):
             self.assertRaises(TypeError, base62.encode, 1, letters)
 
@@ -102,8 +108,9 @@ class Faults(unittest.TestCase):
     def test_texts(self):
         error = self.refused(base62.EmptyInputError, base62.decode, "")
         self.assertEqual(str(error), "Encoded input is an empty string")
-        error = self.refused(base62.TooLargeError, base62.decode, base62.encode(LARGEST) + "0")
-        self.assertEqual(str(error), "Decoded number cannot fit into a `u128`")
+        for text in (base62.encode(LARGEST) + "0", "z" * 10 + "-" * 12, "é" * 12):
+            error = self.refused(base62.TooLargeError, base62.decode, text)
+            self.assertEqual(str(error), "Decoded number cannot fit into a `u128`")
         for kind in (base62.EmptyInputError, base62.InvalidByteError, base62.TooLargeError):
             self.assertTrue(issubclass(kind, base62.DecodeError))
             self.assertTrue(issubclass(kind, ValueError))
@@ -116,6 +123,22 @@ class Faults(unittest.TestCase):
                 self.assertIn(f"at index {index}", str(error))
                 again = pickle.loads(pickle.dumps(error))
                 self.assertEqual((str(again), again.byte, again.index), (str(error), byte, index))
+
+
+class Library(unittest.TestCase):
+    def test_places(self):
+        """The library is found beside the module, and a missing one or another fails to be imported."""
+        with tempfile.TemporaryDirectory() as folder:
+            shutil.copy(base62.__file__, folder)
+
+            def imported(**named):
+                call = [sys.executable, "-c", "import base62; print(base62.encode(1337))"]
+                return subprocess.run(call, cwd=folder, env=named, capture_output=True, text=True)
+
+            for library in ("./libbase62.so", "libc.so.6"):
+                self.assertIn("ImportError: " + library, imported(BASE62_LIBRARY=library).stderr)
+            shutil.copy(base62._library._name, f"{folder}/libbase62.so")
+            self.assertEqual(imported().stdout, "LZ\n")
 
 
 def load_tests(loader, tests, pattern):

@@ -1,11 +1,12 @@
 //! How answers are told by a status and through pointers.
 
-ghost use Rattle.std.specs.Prelude.{◌≡◌};
+ghost use Rattle.std.specs.Prelude.{◌≡◌, Some, None};
+ghost use Rattle.base62.specs.Alphabet.{IsAlphabet, RepeatsFirst};
 ghost use Rattle.base62.specs.declared.fault.AlphabetError.TheVariants.{Repeated};
 ghost use Rattle.base62_c.specs.Answer.{TellsLength, TellsFault, TellsNumber, TellsRange, WritesText};
 
 use crate::number::put_halves;
-use base62::{AlphabetError, DecodeError, EncodeError};
+use base62::{Alphabet, AlphabetError, DecodeError, EncodeError};
 
 pub(crate) const OK: u32 = 0;
 
@@ -90,7 +91,23 @@ fn tell_fault(fault: DecodeError, byte: &mut u8, index: &mut usize) -> u32
     }
 }
 
-pub(crate) fn put_repeat(fault: AlphabetError, byte: &mut u8, index: &mut usize)
+// The alphabet of the letters, or none where one is repeated, which is told.
+pub(crate) fn alphabet_of(letters: &[u8; 62], byte: &mut u8, index: &mut usize) -> Option<Alphabet>
+    ensures accepted { IsAlphabet letters.now
+        → (result ≡ Some letters.now) × (byte.new ≡ byte.old) × (index.new ≡ index.old) }
+    ensures refused { (IsAlphabet letters.now → ⊥)
+        → (result ≡ None) × RepeatsFirst letters.now byte.new index.new }
+{
+    match Alphabet::new(*letters) {
+        Ok(alphabet) => Some(alphabet),
+        Err(fault) => {
+            put_repeat(fault, byte, index);
+            None
+        }
+    }
+}
+
+fn put_repeat(fault: AlphabetError, byte: &mut u8, index: &mut usize)
     ensures { fault ≡ Repeated byte.new index.new }
 {
     let AlphabetError::Repeated(letter, at) = fault;

@@ -3,7 +3,7 @@
 //! A `&[u8]` is a pointer and then a length in C, and any other reference a pointer.
 #![tactic(auto)]
 
-ghost use Rattle.std.specs.Prelude.{◌≡◌};
+ghost use Rattle.std.specs.Prelude.{◌≡◌, ◌≤◌, length};
 ghost use Rattle.base62.specs.Alphabet.{IsAlphabet, RepeatsFirst, standard, alternative};
 ghost use Rattle.base62.specs.Canonical.{HasLetters};
 ghost use Rattle.base62.specs.Decoding.{decoding};
@@ -16,7 +16,7 @@ mod answer;
 mod fault;
 mod number;
 
-use answer::{OK, REPEATED_LETTER, put_repeat, tell_length, tell_number, tell_range, tell_text};
+use answer::{OK, REPEATED_LETTER, alphabet_of, tell_length, tell_number, tell_range, tell_text};
 use base62::Alphabet;
 use fault::text_of;
 use number::joined;
@@ -106,10 +106,10 @@ pub extern "C" fn base62_decode_with(
         → TellsNumber (decoding letters.now text.now) result (high.old, low.old) (high.new, low.new)
         (byte.old, index.old) (byte.new, index.new) }
     ensures refused { (IsAlphabet letters.now → ⊥)
-        → (result ≡ 6) × (high.new ≡ high.old) × (low.new ≡ low.old)
-        × (byte.new ≡ byte.old) × (index.new ≡ index.old) }
+        → (result ≡ 6) × RepeatsFirst letters.now byte.new index.new
+        × (high.new ≡ high.old) × (low.new ≡ low.old) }
 {
-    let Ok(alphabet) = Alphabet::new(*letters) else {
+    let Some(alphabet) = alphabet_of(letters, byte, index) else {
         return REPEATED_LETTER;
     };
     tell_number(base62::decode_with(&alphabet, text), high, low, byte, index)
@@ -122,18 +122,17 @@ pub extern "C" fn base62_check_alphabet(letters: &[u8; 62], byte: &mut u8, index
     ensures refused { (IsAlphabet letters.now → ⊥)
         → (result ≡ 6) × RepeatsFirst letters.now byte.new index.new }
 {
-    match Alphabet::new(*letters) {
-        Ok(_) => OK,
-        Err(fault) => {
-            put_repeat(fault, byte, index);
-            REPEATED_LETTER
-        }
+    match alphabet_of(letters, byte, index) {
+        Some(_) => OK,
+        None => REPEATED_LETTER,
     }
 }
 
 #[unsafe(no_mangle)]
 pub extern "C" fn base62_digit_count(high: u64, low: u64) -> usize
-    ensures { HasLetters (number_of (high, low)) result }
+    ensures counted { HasLetters (number_of (high, low)) result }
+    ensures least { 1 ≤ result }
+    ensures most { result ≤ 22 }
 {
     base62::digit_count(joined(high, low))
 }
@@ -180,7 +179,8 @@ pub extern "C" fn base62_fault_text(
     buf: &mut [u8],
     len: &mut usize,
 ) -> u32
-    ensures { WritesText (fault_text status byte index) buf.old buf.new result len.old len.new }
+    ensures writes { WritesText (fault_text status byte index) buf.old buf.new result len.old len.new }
+    ensures roomy { 77 ≤ length buf.old → result ≡ 0 }
 {
     tell_text(text_of(status, byte, index).as_str().as_bytes(), buf, len)
 }

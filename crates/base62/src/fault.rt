@@ -37,21 +37,21 @@ pub enum AlphabetError {
 }
 
 /// The most characters that the text of a fault has: a byte takes four of them, and its index twenty.
-pub const MAX_TEXT_LEN: usize = 77;
+pub const MAX_FAULT_TEXT: usize = 77;
 
 impl DecodeError {
     /// What the fault says, in at most 77 characters of ASCII.
     ///
     /// A byte is told by ASCII's default escape: `\t`, `\n`, `\r`, `\"`, `\'`, `\\`, the byte itself
-    /// from 32 to 126, and else `\x` with two lower-case hexadecimal digits. It takes no memory and refuses
-    /// nothing.
+    /// from 32 to 126, and else `\x` with two lower-case hexadecimal digits. The call takes no memory and
+    /// refuses nothing.
     ///
     /// ```rust
     /// let fault = base62::decode(b"LZ-").unwrap_err();
     /// assert_eq!(rt; fault.text().as_str(), "Encoded input contains the invalid byte b'-' at index 2");
     /// ```
     #[tactic(auto, unfolding(crate::specs::Fault::decode_error_text))]
-    pub fn text(&self) -> InlineText<MAX_TEXT_LEN>
+    pub fn text(&self) -> InlineText<MAX_FAULT_TEXT>
         ensures { inline_text result ≡ decode_error_text self.now }
     {
         match *self {
@@ -80,7 +80,7 @@ impl error::Error for DecodeError {}
 impl EncodeError {
     /// What the fault says, in 37 characters of ASCII. It takes no memory and refuses nothing.
     #[tactic(auto, unfolding(crate::specs::Fault::encode_error_text))]
-    pub fn text(&self) -> InlineText<MAX_TEXT_LEN>
+    pub fn text(&self) -> InlineText<MAX_FAULT_TEXT>
         ensures { inline_text result ≡ encode_error_text self.now }
     {
         match *self {
@@ -106,7 +106,7 @@ impl AlphabetError {
     /// What the fault says, in at most 63 characters of ASCII, with the byte as [`DecodeError::text`] tells one.
     /// It takes no memory and refuses nothing.
     #[tactic(auto, unfolding(crate::specs::Fault::alphabet_error_text))]
-    pub fn text(&self) -> InlineText<MAX_TEXT_LEN>
+    pub fn text(&self) -> InlineText<MAX_FAULT_TEXT>
         ensures { inline_text result ≡ alphabet_error_text self.now }
     {
         let AlphabetError::Repeated(byte, index) = *self;
@@ -129,7 +129,7 @@ impl error::Error for AlphabetError {}
 
 // Writes the text as it is, whatever options the formatter has.
 fn write_text<W: fmt::Write>(
-    text: InlineText<MAX_TEXT_LEN>,
+    text: InlineText<MAX_FAULT_TEXT>,
     f: &mut fmt::Formatter<W>,
 ) -> fmt::Result
     ensures writes { WritesOnOk W.write_str_gives f.old result (inline_text text) f.new }
@@ -138,7 +138,7 @@ fn write_text<W: fmt::Write>(
     f.write_str(text.as_str())
 }
 
-fn said(words: &str) -> InlineText<MAX_TEXT_LEN>
+fn said(words: &str) -> InlineText<MAX_FAULT_TEXT>
     requires { length words.now ≤ 77 }
     ensures { inline_text result ≡ words.now }
 {
@@ -148,10 +148,10 @@ fn said(words: &str) -> InlineText<MAX_TEXT_LEN>
 // A byte that is named, and its index.
 #[tactic(auto, using(crate::proofs::FaultLemmas::appends), unfolding(crate::specs::Fault::byte_at_index))]
 fn and_byte_at_index(
-    text: InlineText<MAX_TEXT_LEN>,
+    text: InlineText<MAX_FAULT_TEXT>,
     byte: u8,
     index: usize,
-) -> InlineText<MAX_TEXT_LEN>
+) -> InlineText<MAX_FAULT_TEXT>
     requires { length (inline_text text) ≤ 35 }
     ensures { inline_text result ≡ inline_text text ++ byte_at_index byte index }
 {
@@ -160,7 +160,7 @@ fn and_byte_at_index(
 }
 
 #[tactic(auto, using(crate::proofs::FaultLemmas::appends), unfolding(crate::specs::Fault::escaped))]
-fn and_escaped(text: InlineText<MAX_TEXT_LEN>, byte: u8) -> InlineText<MAX_TEXT_LEN>
+fn and_escaped(text: InlineText<MAX_FAULT_TEXT>, byte: u8) -> InlineText<MAX_FAULT_TEXT>
     requires { length (inline_text text) ≤ 42 }
     ensures text { inline_text result ≡ inline_text text ++ escaped byte }
     ensures short { length (inline_text result) ≤ length (inline_text text) + 4 }
@@ -189,7 +189,7 @@ fn hex_digit(digit: u8) -> char
 }
 
 #[tactic(auto, using(crate::proofs::FaultLemmas::appends))]
-fn and_decimal(text: InlineText<MAX_TEXT_LEN>, number: usize) -> InlineText<MAX_TEXT_LEN>
+fn and_decimal(text: InlineText<MAX_FAULT_TEXT>, number: usize) -> InlineText<MAX_FAULT_TEXT>
     requires { length (inline_text text) + length (decimal number) ≤ 77 }
     ensures { inline_text result ≡ inline_text text ++ decimal number }
 {
@@ -200,7 +200,7 @@ fn and_decimal(text: InlineText<MAX_TEXT_LEN>, number: usize) -> InlineText<MAX_
     and_char(front, char::from(b'0' + (number % 10) as u8))
 }
 
-fn and_char(text: InlineText<MAX_TEXT_LEN>, c: char) -> InlineText<MAX_TEXT_LEN>
+fn and_char(text: InlineText<MAX_FAULT_TEXT>, c: char) -> InlineText<MAX_FAULT_TEXT>
     requires roomy { length (inline_text text) < 77 }
     requires ascii { c < 128 }
     ensures { inline_text result ≡ inline_text text ++ c ∷ [] }
@@ -210,9 +210,9 @@ fn and_char(text: InlineText<MAX_TEXT_LEN>, c: char) -> InlineText<MAX_TEXT_LEN>
 }
 
 #[tactic(auto, using(crate::proofs::FaultLemmas::appends))]
-fn and(text: InlineText<MAX_TEXT_LEN>, part: &str) -> InlineText<MAX_TEXT_LEN>
+fn and(text: InlineText<MAX_FAULT_TEXT>, part: &str) -> InlineText<MAX_FAULT_TEXT>
     requires { length (inline_text text) + length part.now ≤ 77 }
     ensures { inline_text result ≡ inline_text text ++ part.now }
 {
-    text.and_str(part, MAX_TEXT_LEN)
+    text.and_str(part, MAX_FAULT_TEXT)
 }

@@ -39,7 +39,7 @@ pub use codec::{
     encode_bytes_counted, encode_bytes_with, encode_bytes_with_counted,
 };
 pub use count::digit_count;
-pub use fault::{AlphabetError, DecodeError, EncodeError};
+pub use fault::{AlphabetError, DecodeError, EncodeError, MAX_FAULT_TEXT};
 pub use key::{encode_key, key_range};
 pub use number::Number;
 pub use show::{Fmt, FmtAlternative, FmtWith, encode_fmt, encode_fmt_alt, encode_fmt_with};

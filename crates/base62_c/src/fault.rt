@@ -5,12 +5,11 @@ ghost use Rattle.std.specs.Fmt.InlineText.{inline_text};
 ghost use Rattle.base62_c.specs.Fault.{fault_text};
 
 use crate::answer::{BUFFER_TOO_SMALL, EMPTY_INPUT, INVALID_BYTE, OVERFLOW, REPEATED_LETTER};
-use base62::fault::MAX_TEXT_LEN;
-use base62::{AlphabetError, DecodeError, EncodeError};
+use base62::{AlphabetError, DecodeError, EncodeError, MAX_FAULT_TEXT};
 use std::fmt::InlineText;
 
 #[tactic(auto, unfolding(crate::specs::Fault::fault_text))]
-pub(crate) fn text_of(status: u32, byte: u8, index: usize) -> InlineText<MAX_TEXT_LEN>
+pub(crate) fn text_of(status: u32, byte: u8, index: usize) -> InlineText<MAX_FAULT_TEXT>
     ensures { inline_text result ≡ fault_text status byte index }
 {
     match status {

@@ -1,8 +1,10 @@
 //! Alphabets of the caller's own.
 
-ghost use Rattle.std.specs.Prelude.{◌≡◌, ◌≢◌, ◌<◌, ◌^◌, ◌↔◌, ℕ, length, Some, Ok, Err, None, IsOk, IfOk};
+ghost use Rattle.std.specs.Prelude.{◌≡◌, ◌≢◌, ◌<◌, ◌^◌, ◌↔◌, ℕ, length, Some, Ok, Err, None, IsOk, IfOk, IfSome};
 ghost use Rattle.std.specs.List.{AllPass};
 ghost use Rattle.std.specs.Ordering.{nat_cmp};
+ghost use Rattle.std.specs.Str.{IsAscii};
+ghost use Rattle.std.specs.String.{string_bytes};
 ghost use Rattle.base62.specs.Alphabet.{IsAlphabet, RepeatsFirst};
 ghost use Rattle.base62.specs.Canonical.{IsCanonical};
 ghost use Rattle.base62.specs.Decoding.{decoding};
@@ -11,6 +13,7 @@ ghost use Rattle.base62.specs.Order.{Ascends};
 ghost use Rattle.base62_uses.specs.Codes.{code_letters, is_clear};
 
 use base62::{Alphabet, AlphabetError};
+use std::alloc::{AllocError, Global};
 use std::cmp::Ordering;
 
 /// Why the letters of a configuration are no alphabet.
@@ -78,6 +81,22 @@ pub fn id_of_own_code(id: u64) -> Option<u64>
     let _ = code_alphabet();
     let mut buf = [0u8; 22];
     code_id(code(id, &mut buf))
+}
+
+/// The text of an id over a service's own letters. `Ok(None)` says that a byte is repeated, or is not ASCII, and
+/// `Err` that there was no memory for it.
+pub fn own_text(alloc: Global, letters: [u8; 62], id: u64) -> Result<Option<String>, AllocError>
+    ensures text { IfOk result (λ text. IfSome text (λ text. IsCanonical letters (string_bytes text) id)) }
+    ensures none { result ≡ Ok None ↔ (IsAlphabet letters × IsAscii letters → ⊥) }
+{
+    let Ok(own) = Alphabet::new(letters) else {
+        return Ok(None);
+    };
+    if !own.is_ascii() {
+        return Ok(None);
+    }
+    let text = base62::encode_with(alloc, &own, id)?;
+    Ok(Some(text))
 }
 
 /// The key of a number: its text over an alphabet, with zero letters in front up to 22 letters.

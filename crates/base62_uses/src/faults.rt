@@ -8,8 +8,7 @@ ghost use Rattle.base62.specs.Decoding.{decoding};
 ghost use Rattle.base62.specs.Fault.{decode_error_text};
 ghost use Rattle.base62.specs.declared.fault.DecodeError.{DecodeError};
 
-use base62::DecodeError;
-use base62::fault::MAX_TEXT_LEN;
+use base62::{DecodeError, MAX_FAULT_TEXT};
 use std::alloc::AllocError;
 use std::collections::BTreeMap;
 use std::fmt::InlineText;
@@ -34,9 +33,9 @@ pub fn count_fault(
     Ok(())
 }
 
-/// What a server tells a client whose text names no id, and nothing where it names one. It takes no memory, as
-/// where there is none left to answer with.
-pub fn complaint(text: &[u8]) -> InlineText<MAX_TEXT_LEN>
+/// What a server tells a client whose text names no number below 2^128, and nothing where it names one. It takes
+/// no memory, so it serves where none is left.
+pub fn complaint(text: &[u8]) -> InlineText<MAX_FAULT_TEXT>
     ensures number { IsOk (decoding standard text.now) → inline_text result ≡ [] }
     ensures fault { (fault : DecodeError) → decoding standard text.now ≡ Err fault
         → inline_text result ≡ decode_error_text fault }

@@ -20,7 +20,7 @@ mod uuids;
 
 pub use alphabets::{
     ConfigurationFault, code, code_id, compare_by_keys, configured_alphabet, id_of_own_code,
-    key_over,
+    key_over, own_text,
 };
 use base62::{DecodeError, Number, Work};
 pub use faults::{complaint, count_fault};

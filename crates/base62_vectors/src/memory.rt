@@ -1,7 +1,7 @@
 //! What the calls that make texts answer where they are refused memory, and which calls ask for none.
 
 use crate::alphabets::{Letters, in_ascii};
-use base62::{digit_count, encode_fmt, encode_fmt_alt, encode_key, key_range};
+use base62::{DecodeError, digit_count, encode_fmt, encode_fmt_alt, encode_key, key_range};
 use std::process::Abort;
 use std::test::Fail;
 
@@ -78,6 +78,11 @@ fn assert_no_memory(rt: &impl Abort, text: &mut String) {
     let key = encode_key(u128::MAX);
     assert_eq!(rt; key.as_slice(), STANDARD.as_bytes());
     assert_eq!(rt; key_range(&key), Ok(Some((u128::MAX, u128::MAX))));
+    let fault = DecodeError::InvalidBase62Byte(b'!', 7);
+    assert_eq!(rt;
+        fault.text().as_str(),
+        "Encoded input contains the invalid byte b'!' at index 7"
+    );
 }
 
 // Says which step was refused memory, for `.ci/refused-memory`, which has each request refused in turn. The

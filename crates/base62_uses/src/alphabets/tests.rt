@@ -1,4 +1,5 @@
 use super::*;
+use std::test::Fail;
 
 fn standard_letters() -> [u8; 62] {
     *Alphabet::standard().letters()
@@ -43,4 +44,17 @@ fn keys_over_alphabets(rt: HostRuntime) {
     );
     assert_eq!(rt; compare_by_keys(&standard, 61, 62), Some(Ordering::Less));
     assert_eq!(rt; compare_by_keys(&code_alphabet(), 61, 62), None);
+}
+
+#[test]
+fn texts_over_own_letters(rt: HostRuntime) -> Result<(), Fail> {
+    let mut letters = standard_letters();
+    letters.reverse();
+    let text = own_text(rt.alloc(), letters, 1337)?;
+    assert_eq!(rt; text.map(|t| t.as_str() == "eQ"), Some(true));
+    letters[61] = 200;
+    assert!(rt; own_text(rt.alloc(), letters, 1337)?.is_none());
+    letters[61] = letters[0];
+    assert!(rt; own_text(rt.alloc(), letters, 1337)?.is_none());
+    Ok(())
 }

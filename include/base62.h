@@ -97,7 +97,8 @@ base62_status base62_decode_alternative(const char *text, size_t length, uint64_
 /*
  * The same over an alphabet of the caller's own.
  *
- * BASE62_REPEATED_LETTER: as base62_check_alphabet, which this comes with before the others.
+ * BASE62_REPEATED_LETTER: a letter of the alphabet is repeated, and told as by base62_check_alphabet. This comes before
+ *     the others.
  */
 base62_status base62_decode_with(const char letters[BASE62_ALPHABET_LENGTH], const char *text, size_t length,
                                  uint64_t *high, uint64_t *low, unsigned char *byte, size_t *index);

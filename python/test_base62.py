@@ -1,6 +1,7 @@
 """Tests of base62.py, by Python's own integers."""
 
 import doctest
+import os
 import pickle
 import random
 import shutil
@@ -133,7 +134,8 @@ class Library(unittest.TestCase):
 
             def imported(**named):
                 call = [sys.executable, "-c", "import base62; print(base62.encode(1337))"]
-                return subprocess.run(call, cwd=folder, env=named, capture_output=True, text=True)
+                own = {**os.environ, "BASE62_LIBRARY": "", "PYTHONPATH": "", **named}
+                return subprocess.run(call, cwd=folder, env=own, capture_output=True, text=True)
 
             for library in ("./libbase62.so", "libc.so.6"):
                 self.assertIn("ImportError: " + library, imported(BASE62_LIBRARY=library).stderr)

@@ -48,7 +48,7 @@ decoding_cases B text P empty long bad first_over over fine =
     fine (elim (cases_eq (length text) 0) [ inl e ↦ absurd (eqb-false _ _ f1 e) | inr e ↦ omega arith ]) (letters r (not-false _ f5)) (leb-false _ _ f6)))))))
 
 -- a text with a bad byte has a first one
-first_invalid_is : (B text : List ℕ) (k : ℕ) → list_all (is_letter B) (drop k text) ≡ false → IsFirstInvalid B text (get_or text (prefix_len (is_letter B) text) 0) (prefix_len (is_letter B) text)
+pub first_invalid_is : (B text : List ℕ) (k : ℕ) → list_all (is_letter B) (drop k text) ≡ false → IsFirstInvalid B text (get_or text (prefix_len (is_letter B) text) 0) (prefix_len (is_letter B) text)
 first_invalid_is B text k bad =
     let index = prefix_len (is_letter B) text in
     let before : (i : ℕ) → i < index → is_letter B (get_or text i 0) ≡ true = λ i h. prefix_len_passes (is_letter B) text i 0 h in
@@ -171,7 +171,7 @@ decoding_accepts_iff B text ok = (
 )
 
 -- a fault that equals the one of the first bad byte names that byte and its index
-first_invalid_named : (B text : List ℕ) (byte index b i : ℕ) → InvalidBase62Byte byte index ≡ InvalidBase62Byte b i → IsFirstInvalid B text byte index → IsFirstInvalid B text b i
+pub first_invalid_named : (B text : List ℕ) (byte index b i : ℕ) → InvalidBase62Byte byte index ≡ InvalidBase62Byte b i → IsFirstInvalid B text byte index → IsFirstInvalid B text b i
 first_invalid_named B text byte index b i is first =
     let byte_same : byte ≡ b = cc in
     let index_same : index ≡ i = cc in

@@ -3,7 +3,7 @@ use Rattle.std.proofs.Common.{◌≡◌, ℕ, ◌+◌, ◌-◌, ◌*◌, ◌/◌
 use Rattle.std.proofs.Math.Nat.{pow-le-pow_left}
 use Rattle.std.proofs.Math.Dec.{ltb}
 use Rattle.std.proofs.lemmas.Bool.{agree_below, agree_below_at, ltb-true, eqb-true}
-use Rattle.base62.specs.declared.count.TheConstants.{GREATEST, GREATEST_NARROW}
+use Rattle.base62.specs.declared.powers.TheConstants.{GREATEST, GREATEST_NARROW}
 use Rattle.base62.specs.Canonical.{HasLetters}
 use Rattle.base62.proofs.FixedLemmas.{has_letters}
 

@@ -1,10 +1,11 @@
 -- Which keys begin with a front, and the ends of its interval.
 use Rattle.std.proofs.Common.{◌≡◌, ℕ, ◌+◌, ◌-◌, ◌*◌, ◌^◌, ◌<◌, ◌≤◌, ◌↔◌, false, List, length, get_or, take, drop, min, Option, Some, None, Result, Ok, Err, refl, sym, ap, ◌∙◌, subst, arith}
 use Rattle.std.specs.List.{prefix_len, list_all}
+use Rattle.std.specs.Prelude.{IsOk, is_ok}
 use Rattle.std.proofs.Math.Nat.{one-le-pow, pow-le-pow_right, le-mul_of_pos_right}
-use Rattle.std.proofs.lemmas.Bool.{cond_both, ltb-true, ltb-false, leb-true, leb-false, lt-ltb, le-ltb, lt-leb, le-leb}
+use Rattle.std.proofs.lemmas.Bool.{cond_both, false≢true, ltb-true, ltb-false, leb-true, leb-false, lt-ltb, le-ltb, lt-leb, le-leb}
 use Rattle.std.proofs.lemmas.List.{take-append-drop, length-take, length-take-le, length-drop, nil_from_length}
-use Rattle.std.proofs.lemmas.List.Sums.{prefix_len_is, list_all-from_AllPass}
+use Rattle.std.proofs.lemmas.List.Sums.{prefix_len_is, list_all-from_AllPass, AllPass-from_list_all}
 use Rattle.std.proofs.lemmas.List.Elements.{All-take}
 use Rattle.std.proofs.lemmas.List.Folds.{list_all_at}
 use Rattle.std.proofs.lemmas.Nat.{same_from_place}
@@ -17,6 +18,7 @@ use Rattle.base62.specs.Decoding.{IsFirstInvalid}
 use Rattle.base62.specs.Key.{IsKey, BeginsWith, BeginsNoKey, BeginsKeysOf, BeginsKeysBetween, IsInInterval, span, interval_ends, range_of}
 use Rattle.base62.specs.Order.{Ascends}
 use Rattle.base62.proofs.AlphabetLemmas.{IsLetter}
+use Rattle.base62.proofs.AnswerLemmas.{first_invalid_is, first_invalid_named}
 use Rattle.base62.proofs.ValueLemmas.{value-nil, value-append, value-lt, same_text}
 use Rattle.base62.specs.Fixed.{fixed}
 use Rattle.base62.proofs.KeyLemmas.{key-fixed}
@@ -183,25 +185,46 @@ no_ends_of B ok front letters h = no_ends B front (λ n inside.
     let is = key-fixed B ok n (omega (arith, inside.small)) in
     h n (fixed B 22 n) inside.small is (begins_with B ok front (fixed B 22 n) n letters is inside))
 
--- a front has no ends exactly where no key begins with it
-pub range_none : (B : List ℕ) → IsAlphabet B → (front : List ℕ) (r : Result (Option (ℕ × ℕ)) DecodeError) → AreLetters B front → r ≡ Ok (interval_ends B front) → (r ≡ Ok None ↔ BeginsNoKey B front)
-range_none B ok front r letters is = (
-  λ none. begins_no_key B ok front (cc),
-  λ h. is ∙ ap Ok (no_ends_of B ok front letters h),
-)
+-- what holds of the ends of letters and of a first bad byte holds of the range
+range_cases : (B front : List ℕ) (P : Result (Option (ℕ × ℕ)) DecodeError → Type 0)
+    → (AreLetters B front → P (Ok (interval_ends B front)))
+    → ((byte index : ℕ) → IsFirstInvalid B front byte index → P (Err (InvalidBase62Byte byte index)))
+    → P (range_of B front)
+range_cases B front P letters bad =
+    cond_both _ _ _ P (λ t. letters (AllPass-from_list_all (is_letter B) front t)) (λ f. bad _ _ (first_invalid_is B front 0 f))
 
--- the keys that begin with a front are those of the numbers from its one end to the other
-pub range_ends : (B : List ℕ) → IsAlphabet B → (front : List ℕ) (r : Result (Option (ℕ × ℕ)) DecodeError) → AreLetters B front → r ≡ Ok (interval_ends B front)
-    → (least greatest : ℕ) → r ≡ Ok (Some (least, greatest)) → BeginsKeysOf B front least greatest
-range_ends B ok front r letters answer least greatest e =
-    let ends = ends_are B front least greatest (cc) in
-    record {
-      some = ends.0;
-      keys = λ n key small is. (
-        λ begins. (ends.1 n).0 (in_interval B ok front key n small (begins_short B front key n is begins) is begins),
-        λ between. begins_with B ok front key n letters is ((ends.1 n).1 between),
-      );
-    }
+-- the range of a front says which byte it names, that none begins so, or of which numbers the keys begin so
+module _ (B : List ℕ) (ok : IsAlphabet B) (front : List ℕ) (r : Result (Option (ℕ × ℕ)) DecodeError) (is : r ≡ range_of B front) where
+  pub range_accepted : IsOk r ↔ AreLetters B front
+  range_accepted = range_cases B front (λ x. r ≡ x → (IsOk r ↔ AreLetters B front))
+      (λ letters e. (λ _. letters, λ _. ap is_ok e))
+      (λ byte index first e. (
+        λ accepted. absurd (false≢true (sym (ap is_ok e) ∙ accepted)),
+        λ letters. absurd (false≢true (sym first.no_letter ∙ ap (is_letter B) first.byte_is ∙ letters index 0 first.within)),
+      )) is
+
+  pub range_named : (byte index : ℕ) → r ≡ Err (InvalidBase62Byte byte index) → IsFirstInvalid B front byte index
+  range_named byte index e = range_cases B front (λ x. r ≡ x → IsFirstInvalid B front byte index)
+      (λ letters same. cc)
+      (λ b i first same. first_invalid_named B front b i byte index (cc) first) is
+
+  pub range_none : AreLetters B front → (r ≡ Ok None ↔ BeginsNoKey B front)
+  range_none letters = (
+    λ none. begins_no_key B ok front (cc (range_of-letters B front letters)),
+    λ h. is ∙ range_of-letters B front letters ∙ ap Ok (no_ends_of B ok front letters h),
+  )
+
+  pub range_ends : (least greatest : ℕ) → r ≡ Ok (Some (least, greatest)) → BeginsKeysOf B front least greatest
+  range_ends least greatest e =
+      let letters = range_accepted.0 (ap is_ok e) in
+      let ends = ends_are B front least greatest (cc (range_of-letters B front letters)) in
+      record {
+        some = ends.0;
+        keys = λ n key small is. (
+          λ begins. (ends.1 n).0 (in_interval B ok front key n small (begins_short B front key n is begins) is begins),
+          λ between. begins_with B ok front key n letters is ((ends.1 n).1 between),
+        );
+      }
 
 -- where letters ascend, they are the ones from the key of the least number to that of the greatest
 pub range_scan : (B : List ℕ) → IsAlphabet B → Ascends B → (front : List ℕ) (least greatest : ℕ) → BeginsKeysOf B front least greatest → BeginsKeysBetween B front least greatest

@@ -1,32 +1,43 @@
 -- What the code of keys rests on: zero letters in front of a text, decoding one letter or a front, and the rules of fronts.
-use Rattle.std.proofs.Common.{true, false, ◌≡◌, ℕ, ◌+◌, ◌-◌, ◌^◌, ◌<◌, ◌≤◌, List, [], ◌∷◌, ◌++◌, length, take, drop, replicate, Ok, Err, refl, sym, ap, ◌∙◌, inl, inr, arith}
+use Rattle.std.proofs.Common.{true, false, None, Some, ◌≡◌, ℕ, ◌-◌, ◌^◌, ◌<◌, ◌≤◌, List, [], ◌∷◌, ◌++◌, length, take, drop, replicate, Ok, Err, refl, sym, ap, ◌∙◌, inl, inr, arith}
 use Rattle.std.specs.Result.{is_err}
 use Rattle.std.proofs.lemmas.Bool.{cases_lt, false≢true, false_from_ne_true}
-use Rattle.std.proofs.lemmas.List.{drop-replicate, length-take-le}
+use Rattle.std.proofs.lemmas.List.{append-nil, take-replicate, drop_all, length-drop, length-replicate, length-take-le}
+use borrow.Rule.Slice.PartMut.{post_of}
 use Rattle.std.proofs.lemmas.List.Elements.{All-nil, All-cons}
 use Rattle.base62.specs.declared.fault.DecodeError.{DecodeError}
+use Rattle.base62.specs.declared.fault.DecodeError.TheVariants.{ArithmeticOverflow, InvalidBase62Byte}
 use Rattle.base62.specs.Alphabet.{IsAlphabet, AreLetters, is_letter, zero_letter}
 use Rattle.base62.specs.Value.{value}
 use Rattle.base62.specs.Canonical.{Denotes}
 use Rattle.base62.specs.Decoding.{decoding}
-use Rattle.base62.specs.Key.{IsKey}
+use Rattle.base62.specs.Key.{IsKey, interval_ends, range_of}
 use Rattle.base62.proofs.AlphabetLemmas.{IsLetter, is_letter-letter, standard_is_alphabet}
+use Rattle.base62.proofs.KernelLemmas.{places_from, put_from}
 use Rattle.base62.proofs.KeyLemmas.{padded_key}
 use Rattle.base62.proofs.ValueLemmas.{value-lt_most}
 use Rattle.base62.proofs.AnswerLemmas.{answer_cases, decoding_accepts, decoding-denotes}
-use Rattle.base62.proofs.FrontLemmas.{span_some, span_fits, ends_empty, ends_long, ends_over, ends_above, ends_some, range_of-letters, range_of-bad, range_none, range_ends}
+use Rattle.base62.proofs.FrontLemmas.{ends_empty, ends_long, ends_over, range_of-letters, range_of-bad}
 
--- a buffer of 22 bytes with a text in front of zero letters, after the text has been moved behind them
-pub moved_key : (B : List ℕ) → IsAlphabet B → (buf key : List ℕ) (n len : ℕ) → length buf ≡ 22 → len ≤ length buf
-    → Denotes B (take len buf) n
-    → drop len buf ≡ drop len (replicate 22 (zero_letter B))
-    → key ≡ drop (length buf - (22 - len)) buf ++ take (length buf - (22 - len)) buf → IsKey B key n
-moved_key B ok buf key n len size within denotes others after =
-    let place : length buf - (22 - len) ≡ len = omega arith in
-    let zeros : drop len buf ≡ replicate (22 - len) (zero_letter B) = others ∙ drop-replicate len 22 (zero_letter B) in
-    let whole : key ≡ replicate (22 - len) (zero_letter B) ++ take len buf = rw (place, zeros) at after in
-    let filled : 22 - len + length (take len buf) ≡ 22 = omega (arith, length-take-le len buf within) in
-    rw whole (padded_key B ok (take len buf) n (22 - len) denotes filled)
+-- 22 zero letters, and the last count of them
+abbrev zeros : List ℕ → List ℕ
+zeros B = replicate 22 (zero_letter B)
+
+pub last_places : (B : List ℕ) (count : ℕ) → count ≤ 22 → length (places_from (22 - count) (zeros B)) ≡ count
+last_places B count few =
+    let size = length-replicate 22 (zero_letter B) in
+    let behind = length-drop (22 - count) (zeros B) in
+    length-take-le (length (zeros B) - (22 - count)) (drop (22 - count) (zeros B)) (omega (arith, size, behind)) ∙ omega (arith, size)
+
+-- where a text takes those places, it is a key
+pub placed_key : (B : List ℕ) → IsAlphabet B → (part : List ℕ) (n count : ℕ) → count ≤ 22 → length part ≡ count → Denotes B part n
+    → IsKey B (put_from (22 - count) (zeros B) part) n
+placed_key B ok part n count few size denotes =
+    let v = 22 - count in
+    let none : post_of v (length (zeros B) - v) (zeros B) ≡ [] = drop_all (length (zeros B) - v) (drop v (zeros B)) (omega (arith, length-drop v (zeros B))) in
+    let front : take v (zeros B) ≡ replicate v (zero_letter B) = take-replicate v 22 (zero_letter B) (omega arith) in
+    let whole : put_from v (zeros B) part ≡ replicate v (zero_letter B) ++ part = rw (none, append-nil, front) refl in
+    rw whole (padded_key B ok part n v denotes (omega (arith, size)))
 
 -- a byte alone is accepted exactly where it is a letter
 pub accepted_letter : (B : List ℕ) (b : ℕ) → IsAlphabet B → is_err (decoding B (b ∷ [])) ≡ false → is_letter B b ≡ true
@@ -47,20 +58,32 @@ refused_letter B b ok e = false_from_ne_true (is_letter B b) (λ letter.
 -- each byte of a front, decoded alone
 pub ruleset letters_alone = (standard_is_alphabet, accepted_letter, refused_letter)
 
--- what is accepted denotes the number that is answered
-pub accepted_value : (B text : List ℕ) → IsAlphabet B → (n : ℕ) → decoding B text ≡ Ok n → value B text ≡ n
-accepted_value B text ok n is = (decoding_accepts B text ok n is).0.value_is
+-- the range of the empty front
+pub range_empty : (B front : List ℕ) → length front ≡ 0 → range_of B front ≡ Ok (Some (0, 2 ^ 128 - 1))
+range_empty B front none = range_of-letters B front (λ k d h. absurd (omega arith)) ∙ ap Ok (ends_empty B front none)
 
--- letters that are refused denote 2^128 or more
-pub refused_value : (B text : List ℕ) → IsAlphabet B → 0 < length text → AreLetters B text → (e : DecodeError) → decoding B text ≡ Err e → 2 ^ 128 ≤ value B text
-refused_value B text ok some letters e refused = elim (cases_lt (value B text) (2 ^ 128)) [
+-- the range of a front that is accepted
+pub range_number : (B front : List ℕ) → IsAlphabet B → (n : ℕ) → decoding B front ≡ Ok n → (value B front ≡ n) × (range_of B front ≡ Ok (interval_ends B front))
+range_number B front ok n is = let denotes = (decoding_accepts B front ok n is).0 in (denotes.value_is, range_of-letters B front denotes.letters)
+
+-- of letters that are refused
+pub range_over : (B front : List ℕ) → IsAlphabet B → 0 < length front → AreLetters B front → (e : DecodeError) → decoding B front ≡ Err e → range_of B front ≡ Ok None
+range_over B front ok some letters e refused = elim (cases_lt (value B front) (2 ^ 128)) [
   | inl less ↦
-      let accepted = decoding-denotes B ok (value B text) less text (record { nonempty = some; letters = letters; value_is = refl }) in absurd (cc)
-  | inr more ↦ more
+      let accepted = decoding-denotes B ok (value B front) less front (record { nonempty = some; letters = letters; value_is = refl }) in absurd (cc)
+  | inr more ↦ elim (cases_lt 22 (length front)) [
+    | inl long ↦ range_of-letters B front letters ∙ ap Ok (ends_long B front long)
+    | inr short ↦ range_of-letters B front letters ∙ ap Ok (ends_over B front short more)
+  ]
 ]
 
--- the ends, as they are computed for a front of letters
-pub ruleset ends_computed = (standard_is_alphabet, accepted_value, refused_value, span_some, span_fits, ends_empty, ends_long, ends_over, ends_above, ends_some)
+-- of a front with another fault than an overflow
+pub range_fault : (B front : List ℕ) → IsAlphabet B → 0 < length front → (e : DecodeError) → decoding B front ≡ Err e → (e ≡ ArithmeticOverflow → ⊥) → range_of B front ≡ Err e
+range_fault B front ok some e = answer_cases B front ok (λ r. r ≡ Err e → (e ≡ ArithmeticOverflow → ⊥) → range_of B front ≡ Err e)
+    (λ none is other. absurd (omega arith))
+    (λ more over is other. absurd (other (cc)))
+    (λ byte index first is other. let same : InvalidBase62Byte byte index ≡ e = cc in range_of-bad B front byte index first ∙ ap Err same)
+    (λ denotes small is other. cc)
 
--- the range, by the first byte that is no letter or by the ends
-pub ruleset range_found = (standard_is_alphabet, range_of-letters, range_of-bad, range_none, range_ends)
+-- the range, as it is computed for a front that is not empty
+pub ruleset range_computed = (standard_is_alphabet, range_empty, range_number, range_over, range_fault, range_of-bad)

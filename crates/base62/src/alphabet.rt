@@ -217,11 +217,11 @@ impl Tables {
         ensures step { work.new ≡ work.old + 1 }
     {
         work.tick();
-        // The mask changes nothing: it shows that both places are within the letters.
-        let number = number & 0xfff;
-        let quotient = number / 62;
+        // The quotient by 62, since the number is small; 62 is 64 - 2.
+        let quotient = (number * 4229) >> 18;
+        let remainder = number + (quotient << 1) - (quotient << 6);
         let first = self.letters[quotient as usize];
-        let second = self.letters[(number - quotient * 62) as usize];
+        let second = self.letters[remainder as usize];
         (first, second)
     }
 

@@ -8,7 +8,7 @@ ghost use Rattle.base62.specs.Steps.{DecodesCounted, EncodesCounted};
 ghost use Rattle.base62.specs.Tables.{AreTables};
 
 mod chunks;
-mod kernels;
+pub(crate) mod kernels;
 
 use crate::alphabet::{Alphabet, Tables, Work, alternative_tables, standard_tables};
 use crate::count::digit_count;
@@ -16,13 +16,6 @@ use crate::fault::{DecodeError, EncodeError};
 use crate::number::Number;
 use chunks::decode_over;
 use kernels::write_text;
-
-// No number below 2^128 has a longer text.
-pub(crate) const MAX_DIGITS: usize = 22;
-
-const POWER_5: u64 = 916132832;
-
-const POWER_10: u64 = 839299365868340224;
 
 /// Writes the standard text of `num` to the front of `buf`, and answers its length, which is 1 to 22.
 ///

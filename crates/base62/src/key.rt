@@ -1,14 +1,17 @@
 //! Keys of a fixed number of letters, which sort as their numbers, and the range of those that begin alike.
 
-ghost use Rattle.std.specs.Prelude.{◌≡◌, ◌↔◌, ℕ, Ok, Err, Some, None, IsOk, OnOk, IfErr};
+ghost use Rattle.std.specs.Prelude.{◌≡◌, ◌↔◌, ◌<◌, ℕ, List, length, Ok, Err, Some, None, IsOk, OnOk, IfErr};
 ghost use Rattle.base62.specs.Alphabet.{AreLetters, standard};
 ghost use Rattle.base62.specs.Key.{IsKey, BeginsNoKey, BeginsKeysOf, BeginsKeysBetween, interval_ends, range_of};
+ghost use Rattle.base62.specs.Value.{value};
 ghost use Rattle.base62.specs.Decoding.{IsFirstInvalid};
 ghost use Rattle.base62.specs.declared.fault.DecodeError.TheVariants.{InvalidBase62Byte};
 
-use crate::codec::{MAX_DIGITS, decode, encode_bytes};
+use crate::codec::{decode, encode_bytes};
+use crate::count::{MAX_DIGITS, digit_count};
 use crate::fault::DecodeError;
 use crate::number::Number;
+use crate::powers::wide_power;
 
 // A key is as long as the longest text.
 const KEY_LEN: usize = MAX_DIGITS;
@@ -24,9 +27,9 @@ const KEY_LEN: usize = MAX_DIGITS;
 pub fn encode_key<T: Number>(num: T) -> [u8; 22]
     ensures { IsKey standard result (T.meaning num) }
 {
+    let n = num.number();
     let mut key = [b'0'; KEY_LEN];
-    let len = encode_bytes(num, &mut key).unwrap();
-    key.rotate_right(KEY_LEN - len);
+    encode_bytes(n, &mut key[KEY_LEN - digit_count(n)..]).unwrap();
     key
 }
 
@@ -44,7 +47,6 @@ pub fn encode_key<T: Number>(num: T) -> [u8; 22]
 /// assert_eq!(rt; range, Ok(Some((1337, 1337))));
 /// assert_eq!(rt; base62::key_range(b"8"), Ok(None));
 /// ```
-#[tactic(auto, using(crate::proofs::KeyCodeLemmas::range_found))]
 pub fn key_range(front: &[u8]) -> Result<Option<(u128, u128)>, DecodeError>
     ensures exact { result ≡ range_of standard front.now }
     ensures accepted { IsOk result ↔ AreLetters standard front.now }
@@ -57,8 +59,43 @@ pub fn key_range(front: &[u8]) -> Result<Option<(u128, u128)>, DecodeError>
     ensures scan { (least greatest : ℕ) → result ≡ Ok (Some (least, greatest))
         → BeginsKeysBetween standard front.now least greatest }
 {
-    check_letters(front)?;
-    Ok(ends_of(front))
+    range_found(front)
+}
+
+// The range alone, of which the clauses of the public call follow.
+#[tactic(auto, using(crate::proofs::KeyCodeLemmas::range_computed))]
+fn range_found(front: &[u8]) -> Result<Option<(u128, u128)>, DecodeError>
+    ensures { result ≡ range_of standard front.now }
+{
+    // 62^22 is no u128, so the empty front, with which all keys begin, stands apart.
+    if front.is_empty() {
+        return Ok(Some((0, u128::MAX)));
+    }
+    match decode(front) {
+        Ok(number) => Ok(ends_of(number, front.len())),
+        Err(DecodeError::ArithmeticOverflow) => {
+            // It may be told before a bad byte is.
+            check_letters(front)?;
+            Ok(None)
+        }
+        Err(fault) => Err(fault),
+    }
+}
+
+// The ends of the interval of a front of that value and length, if it has any.
+fn ends_of(number: u128, len: usize) -> Option<(u128, u128)>
+    requires { 0 < len }
+    ensures { (front : List ℕ) → length front ≡ len → value standard front ≡ number → result ≡ interval_ends standard front }
+{
+    if len > KEY_LEN {
+        return None;
+    }
+    let span = wide_power(KEY_LEN - len);
+    let Some(least) = number.checked_mul(span) else {
+        return None;
+    };
+    // The sum saturates at 2^128 - 1, so it is the lesser of the two ends.
+    Some((least, least.saturating_add(span - 1)))
 }
 
 // Refuses a front that has a byte which is no letter, and names the first.
@@ -68,36 +105,10 @@ fn check_letters(front: &[u8]) -> Result<(), DecodeError>
     ensures err { IfErr result (λ e. (byte index : ℕ) × (e ≡ InvalidBase62Byte byte index)
         × IsFirstInvalid standard front.now byte index) }
 {
-    // Each byte is decoded alone, for a whole front may overflow before decoding names a bad byte.
     for (index, byte) in front.iter().enumerate() {
         if decode(&[*byte]).is_err() {
             return Err(DecodeError::InvalidBase62Byte(*byte, index));
         }
     }
     Ok(())
-}
-
-// The ends of the interval of a front of letters, if it has any.
-#[tactic(auto, using(crate::proofs::KeyCodeLemmas::ends_computed))]
-fn ends_of(front: &[u8]) -> Option<(u128, u128)>
-    requires { AreLetters standard front.now }
-    ensures { result ≡ interval_ends standard front.now }
-{
-    // 62^22 is no u128, so the empty front, with which all keys begin, stands apart.
-    if front.is_empty() {
-        return Some((0, u128::MAX));
-    }
-    if front.len() > KEY_LEN {
-        return None;
-    }
-    // Decoding refuses a text of letters for an overflow alone.
-    let Ok(value) = decode(front) else {
-        return None;
-    };
-    let span = 62u128.pow((KEY_LEN - front.len()) as u32);
-    let Some(least) = value.checked_mul(span) else {
-        return None;
-    };
-    // The sum saturates at 2^128 - 1, so it is the lesser of the two ends.
-    Some((least, least.saturating_add(span - 1)))
 }

@@ -28,6 +28,7 @@ pub mod key;
 pub mod laws;
 pub mod model;
 pub mod number;
+mod powers;
 pub mod show;
 pub mod target;
 mod text;

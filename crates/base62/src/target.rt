@@ -1,12 +1,14 @@
 //! Encoding into texts and to writers.
 
-ghost use Rattle.std.specs.Prelude.{◌≡◌, ◌+◌, ◌-◌, ◌≤◌, ◌++◌, length, IsOk, OnOk, OnErr};
+ghost use Rattle.std.specs.Prelude.{OnOk};
 ghost use Rattle.std.specs.Str.{IsAscii};
-ghost use Rattle.std.specs.String.{string_bytes, string_len, string_capacity};
 ghost use Rattle.base62.specs.Alphabet.{standard, alternative};
 ghost use Rattle.base62.specs.Encoding.{AnswersCanonical, AppendsTo, WritesCanonical};
+ghost use Rattle.base62.specs.Tables.{AreTables};
 
-use crate::alphabet::{Alphabet, alternative_tables, standard_tables};
+use crate::alphabet::{Alphabet, Tables, Work, alternative_tables, standard_tables};
+use crate::codec::kernels::write_text;
+use crate::count::digit_count;
 use crate::number::Number;
 use crate::text::Text;
 use std::alloc::{AllocError, Global};
@@ -27,7 +29,7 @@ use std::io::{self, Write};
 pub fn encode<T: Number>(alloc: Global, num: T) -> Result<String, AllocError>
     ensures { AnswersCanonical standard (T.meaning num) result }
 {
-    String::from_str(alloc, Text::over(standard_tables(), num).as_str())
+    string_over(alloc, standard_tables(), num)
 }
 
 /// As [`encode`], over the alternative alphabet.
@@ -40,7 +42,7 @@ pub fn encode<T: Number>(alloc: Global, num: T) -> Result<String, AllocError>
 pub fn encode_alternative<T: Number>(alloc: Global, num: T) -> Result<String, AllocError>
     ensures { AnswersCanonical alternative (T.meaning num) result }
 {
-    String::from_str(alloc, Text::over(alternative_tables(), num).as_str())
+    string_over(alloc, alternative_tables(), num)
 }
 
 /// As [`encode`], over an alphabet of the caller's. Its letters have to be ASCII, as
@@ -62,7 +64,7 @@ pub fn encode_with<T: Number>(
     requires { IsAscii alphabet.now }
     ensures { AnswersCanonical alphabet.now (T.meaning num) result }
 {
-    String::from_str(alloc, Text::over(alphabet.as_tables(), num).as_str())
+    string_over(alloc, alphabet.as_tables(), num)
 }
 
 /// Appends the standard text of `num`, which has 1 to 22 letters, to `buf`.
@@ -76,11 +78,11 @@ pub fn encode_with<T: Number>(
 /// base62::encode_buf(1337_u64, &mut link)?;
 /// assert_eq!(rt; link.as_str(), "https://example.org/LZ");
 /// ```
-#[tactic(auto, using(crate::proofs::TextLemmas::ascii_texts, crate::proofs::TextLemmas::canonical_fits))]
+#[tactic(auto, using(crate::proofs::TextLemmas::ascii_texts))]
 pub fn encode_buf<T: Number>(num: T, buf: &mut String) -> Result<(), AllocError>
     ensures { AppendsTo standard (T.meaning num) buf.old buf.new result }
 {
-    append(&Text::over(standard_tables(), num), buf)
+    append_over(standard_tables(), num, buf)
 }
 
 /// As [`encode_buf`], over the alternative alphabet.
@@ -90,11 +92,11 @@ pub fn encode_buf<T: Number>(num: T, buf: &mut String) -> Result<(), AllocError>
 /// base62::encode_alternative_buf(1337_u64, &mut link)?;
 /// assert_eq!(rt; link.as_str(), "https://example.org/lz");
 /// ```
-#[tactic(auto, using(crate::proofs::TextLemmas::ascii_texts, crate::proofs::TextLemmas::canonical_fits))]
+#[tactic(auto, using(crate::proofs::TextLemmas::ascii_texts))]
 pub fn encode_alternative_buf<T: Number>(num: T, buf: &mut String) -> Result<(), AllocError>
     ensures { AppendsTo alternative (T.meaning num) buf.old buf.new result }
 {
-    append(&Text::over(alternative_tables(), num), buf)
+    append_over(alternative_tables(), num, buf)
 }
 
 /// As [`encode_buf`], over an alphabet of the caller's. Its letters have to be ASCII, as for [`encode_with`].
@@ -107,7 +109,7 @@ pub fn encode_alternative_buf<T: Number>(num: T, buf: &mut String) -> Result<(),
 ///     assert_eq!(rt; link.as_str(), "https://example.org/lz");
 /// }
 /// ```
-#[tactic(auto, using(crate::proofs::TextLemmas::ascii_texts, crate::proofs::TextLemmas::canonical_fits))]
+#[tactic(auto, using(crate::proofs::TextLemmas::ascii_texts))]
 pub fn encode_buf_with<T: Number>(
     alphabet: &Alphabet,
     num: T,
@@ -116,18 +118,31 @@ pub fn encode_buf_with<T: Number>(
     requires { IsAscii alphabet.now }
     ensures { AppendsTo alphabet.now (T.meaning num) buf.old buf.new result }
 {
-    append(&Text::over(alphabet.as_tables(), num), buf)
+    append_over(alphabet.as_tables(), num, buf)
 }
 
-fn append(text: &Text, buf: &mut String) -> Result<(), AllocError>
-    requires { IsAscii text.now }
-    ensures ok { OnOk result (string_bytes buf.new ≡ string_bytes buf.old ++ text.now) }
-    ensures err { OnErr result ((string_bytes buf.new ≡ string_bytes buf.old)
-        × (string_capacity buf.new ≡ string_capacity buf.old)) }
-    ensures fits { length text.now ≤ string_capacity buf.old - string_len buf.old → IsOk result }
-    ensures roomy { string_len buf.old + 22 ≤ string_capacity buf.old → IsOk result }
-    ensures capacity { string_capacity buf.old ≤ string_capacity buf.new }
+// The text over the alphabet of the tables, written into the memory of its string.
+fn string_over<T: Number>(alloc: Global, tables: &Tables, num: T) -> Result<String, AllocError>
+    requires tables { AreTables tables.now }
+    requires ascii { IsAscii tables.now.letters }
+    ensures { AnswersCanonical tables.now.letters (T.meaning num) result }
 {
+    let n = num.number();
+    let count = digit_count(n);
+    let mut bytes = Vec::from_elem(alloc, 0u8, count)?;
+    write_text(tables, n, count, bytes.as_mut_slice(), &mut Work::new());
+    // The letters are ASCII.
+    Ok(unsafe { String::from_utf8_unchecked(bytes) })
+}
+
+// Appends the text over the alphabet of the tables.
+#[tactic(auto, using(crate::proofs::TextLemmas::ascii_texts, crate::proofs::TextLemmas::canonical_fits))]
+fn append_over<T: Number>(tables: &Tables, num: T, buf: &mut String) -> Result<(), AllocError>
+    requires tables { AreTables tables.now }
+    requires ascii { IsAscii tables.now.letters }
+    ensures { AppendsTo tables.now.letters (T.meaning num) buf.old buf.new result }
+{
+    let text = Text::over(tables, num);
     let text = text.as_str();
     buf.reserve(text.len())?;
     // There is room now, so this can't be refused.

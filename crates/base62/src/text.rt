@@ -6,7 +6,8 @@ ghost use Rattle.base62.specs.Canonical.{IsCanonical};
 ghost use Rattle.base62.specs.Tables.{AreTables};
 
 use crate::alphabet::{Tables, Work};
-use crate::codec::{MAX_DIGITS, encode_over};
+use crate::codec::encode_over;
+use crate::count::MAX_DIGITS;
 use crate::number::Number;
 use std::marker::Model;
 use std::str;
@@ -32,9 +33,12 @@ impl Text {
         requires { AreTables tables.now }
         ensures { IsCanonical tables.now.letters result (T.meaning num) }
     {
-        let mut bytes = [0; MAX_DIGITS];
-        let len = encode_over(tables, num.number(), &mut bytes, &mut Work::new()).unwrap();
-        Text { bytes, len }
+        let mut text = Text {
+            bytes: [0; MAX_DIGITS],
+            len: 0,
+        };
+        text.len = encode_over(tables, num.number(), &mut text.bytes, &mut Work::new()).unwrap();
+        text
     }
 
     pub(crate) fn as_bytes(&self) -> &[u8]
@@ -49,6 +53,6 @@ impl Text {
         ensures bytes { result.now ≡ self.now }
         ensures short { length result.now ≤ 22 }
     {
-        str::from_utf8(self.as_bytes()).unwrap()
+        unsafe { str::from_utf8_unchecked(self.as_bytes()) }
     }
 }

@@ -6,23 +6,10 @@ ghost use Rattle.base62.specs.Steps.{DecodesCounted};
 ghost use Rattle.base62.specs.Parts.{IsAfterZeros, ReadsPart};
 ghost use Rattle.base62.specs.Tables.{AreTables};
 
-use super::{MAX_DIGITS, POWER_5, POWER_10};
 use crate::alphabet::{Tables, Work};
+use crate::count::MAX_DIGITS;
 use crate::fault::DecodeError;
-
-static POWERS: [u64; 11] = [
-    1,
-    62,
-    3844,
-    238328,
-    14776336,
-    POWER_5,
-    56800235584,
-    3521614606208,
-    218340105584896,
-    13537086546263552,
-    POWER_10,
-];
+use crate::powers::{POWER_2, POWER_3, POWER_4, POWER_5, POWER_10, power};
 
 // The decoder over any alphabet.
 #[inline(always)]
@@ -218,7 +205,7 @@ fn five_digits(
     let c = digit_at(tables, part, 2, start, work)?;
     let d = digit_at(tables, part, 3, start, work)?;
     let e = digit_at(tables, part, 4, start, work)?;
-    Ok(a * 14776336 + b * 238328 + c * 3844 + d * 62 + e)
+    Ok(a * POWER_4 + b * POWER_3 + c * POWER_2 + d * 62 + e)
 }
 
 // The byte at a place of a part.
@@ -242,13 +229,4 @@ fn digit_at(
         return Err(DecodeError::InvalidBase62Byte(part[i], start + i));
     }
     Ok(digit as u32)
-}
-
-// 62 to the k.
-#[inline(always)]
-fn power(k: usize) -> u64
-    requires { k ≤ 10 }
-    ensures { result ≡ 62 ^ k }
-{
-    POWERS[k]
 }

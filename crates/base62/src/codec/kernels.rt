@@ -3,18 +3,14 @@
 //! Each writes the text of a fixed number of letters into the first places of a buffer. Quotients and remainders
 //! by powers of 62 cut a number into those of its parts.
 
-ghost use Rattle.std.specs.Prelude.{◌≡◌, ◌+◌, ◌*◌, ◌/◌, ◌<◌, ◌≤◌, ◌^◌, length};
+ghost use Rattle.std.specs.Prelude.{◌≡◌, ◌+◌, ◌-◌, ◌*◌, ◌/◌, ◌%◌, ◌<◌, ◌≤◌, ◌^◌, length};
 ghost use Rattle.base62.specs.Canonical.{HasLetters};
 ghost use Rattle.base62.specs.Fixed.{WritesFixed};
 ghost use Rattle.base62.specs.Steps.{encoding_steps};
 ghost use Rattle.base62.specs.Tables.{AreTables};
 
-use super::{POWER_5, POWER_10};
 use crate::alphabet::{Tables, Work};
-
-const POWER_2: u32 = 3844;
-
-const POWER_4: u32 = 14776336;
+use crate::powers::{POWER_2, POWER_4, POWER_5, POWER_10, POWER_20};
 
 // The text of a number, of which the number of letters is given.
 #[inline(always)]
@@ -61,19 +57,72 @@ fn wide(tables: &Tables, n: u128, count: usize, buf: &mut [u8], work: &mut Work)
     ensures written { WritesFixed tables.now.letters count n buf.old buf.new }
     ensures steps { work.new ≡ work.old + encoding_steps count }
 {
-    let quotient = n / POWER_10 as u128;
-    let low = (n - quotient * POWER_10 as u128) as u64;
-    if count < 20 {
-        short(tables, quotient as u64, count - 10, buf, work);
-        ten(tables, low, &mut buf[count - 10..], work);
-    } else if count == 20 {
-        twenty(tables, quotient as u64, low, buf, work);
-    } else {
-        let top = quotient / POWER_10 as u128;
-        let middle = (quotient - top * POWER_10 as u128) as u64;
-        ends(tables, top as u32, count - 20, buf, work);
+    if count > 20 {
+        let (top, rest) = cut_by_20(n);
+        let (middle, low) = cut_by_10(rest);
+        ends(tables, top, count - 20, buf, work);
         twenty(tables, middle, low, &mut buf[count - 20..], work);
+    } else if count == 20 {
+        let (high, low) = cut_by_10(n);
+        twenty(tables, high, low, buf, work);
+    } else {
+        let (high, low) = cut_by_10(n);
+        short(tables, high, count - 10, buf, work);
+        ten(tables, low, &mut buf[count - 10..], work);
     }
+}
+
+// The quotient and the remainder by 62^20. The upper bits times 2^136 / 62^20 tell the quotient, or one less.
+#[inline(always)]
+fn cut_by_20(n: u128) -> (u32, u128)
+    ensures quotient { result.0 ≡ n / 62 ^ 20 }
+    ensures remainder { result.1 ≡ n % 62 ^ 20 }
+{
+    let upper = (n >> 96) as u64;
+    let estimate = ((upper * 123664) >> 40) as u32;
+    let rest = n - estimate as u128 * POWER_20;
+    if rest < POWER_20 {
+        (estimate, rest)
+    } else {
+        one_more_20(estimate, rest)
+    }
+}
+
+#[cold]
+fn one_more_20(estimate: u32, rest: u128) -> (u32, u128)
+    requires few { estimate ≤ 483 }
+    requires some { 62 ^ 20 ≤ rest }
+    ensures quotient { result.0 ≡ estimate + 1 }
+    ensures remainder { result.1 ≡ rest - 62 ^ 20 }
+{
+    (estimate + 1, rest - POWER_20)
+}
+
+// The quotient and the remainder by 62^10. The upper bits times 2^123 / 62^10 tell the quotient, or one less.
+#[inline(always)]
+fn cut_by_10(n: u128) -> (u64, u64)
+    requires { n < 62 ^ 20 }
+    ensures quotient { result.0 ≡ n / 62 ^ 10 }
+    ensures remainder { result.1 ≡ n % 62 ^ 10 }
+{
+    let upper = (n >> 56) as u64;
+    let estimate = ((upper as u128 * 12669882045338564946) >> 67) as u64;
+    let rest = (n - estimate as u128 * POWER_10 as u128) as u64;
+    if rest < POWER_10 {
+        (estimate, rest)
+    } else {
+        one_more_10(estimate, rest)
+    }
+}
+
+#[cold]
+fn one_more_10(estimate: u64, rest: u64) -> (u64, u64)
+    requires few { estimate < 62 ^ 10 }
+    requires some { 62 ^ 10 ≤ rest }
+    ensures quotient { result.0 ≡ estimate + 1 }
+    ensures remainder { result.1 ≡ rest - 62 ^ 10 }
+{
+    (estimate + 1, rest - POWER_10)
 }
 
 // One to nine letters, from the last to the first, two turns of two letters at once where there are more than four.

@@ -1,11 +1,22 @@
-use Rattle.std.proofs.Common.{Ok, ap}
 use Rattle.base62.specs.Alphabet.{standard}
 use Rattle.base62.proofs.AlphabetLemmas.{standard_is_alphabet}
-use Rattle.base62.proofs.FrontLemmas.{range_ends, range_scan}
+use Rattle.base62.proofs.FrontLemmas.{range_accepted, range_named, range_none, range_ends, range_scan}
 use Rattle.base62.proofs.OrderLemmas.{standard_ascends}
 use Rattle.base62.proofs.key.key_range.Goals as goal
+
+pub returns-clause-accepted : goal.returns-clause-accepted
+returns-clause-accepted c = range_accepted standard standard_is_alphabet c.args.front.now _ c.range_found.ensures
+
+pub returns-clause-named : goal.returns-clause-named
+returns-clause-named c = range_named standard standard_is_alphabet c.args.front.now _ c.range_found.ensures
+
+pub returns-clause-none : goal.returns-clause-none
+returns-clause-none c = range_none standard standard_is_alphabet c.args.front.now _ c.range_found.ensures
+
+pub returns-clause-ends : goal.returns-clause-ends
+returns-clause-ends c = range_ends standard standard_is_alphabet c.args.front.now _ c.range_found.ensures
 
 pub returns-clause-scan : goal.returns-clause-scan
 returns-clause-scan c = λ least greatest e.
     range_scan standard standard_is_alphabet standard_ascends c.args.front.now least greatest
-    (range_ends standard standard_is_alphabet c.args.front.now _ c.in_ok-check_letters.ensures.ok (ap Ok c.ends_of.ensures) least greatest e)
+    (range_ends standard standard_is_alphabet c.args.front.now _ c.range_found.ensures least greatest e)

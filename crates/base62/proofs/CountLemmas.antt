@@ -4,7 +4,7 @@ use Rattle.std.proofs.Math.Nat.{pow-le-pow_left}
 use Rattle.std.proofs.Math.Dec.{ltb}
 use Rattle.std.proofs.lemmas.Bool.{agree_below, agree_below_at, ltb-true, eqb-true}
 use Rattle.base62.specs.declared.powers.TheConstants.{GREATEST, GREATEST_NARROW}
-use Rattle.base62.specs.Canonical.{HasLetters}
+use Rattle.base62.specs.Canonical.{DigitCount}
 use Rattle.base62.proofs.FixedLemmas.{has_letters}
 
 -- a count by six bits a letter, which a power of 2 shows, as 64 is 2^6
@@ -71,13 +71,13 @@ greatest_narrow_is k few = eqb-true _ _ (agree_below_at is_greatest_narrow (λ _
 
 -- the estimate is right, or short by one
 module _ (n b limit greatest : ℕ) (few : b < 128) (low : 2 ^ b ≤ n) (high : n < 2 * 2 ^ b) (small : n < limit) (threshold : greatest + 1 ≡ min (62 ^ estimate b) limit) where
-  pub estimate_right : n ≤ greatest → HasLetters n (estimate b)
+  pub estimate_right : n ≤ greatest → DigitCount n (estimate b)
   estimate_right within =
       let back : estimate b - 1 ≡ b * 43 / 256 = omega arith in
       let least : 62 ^ (estimate b - 1) ≤ n = rw back (omega (arith, power_of_62_le_64 (b * 43 / 256), from_power_of_64 n b few low)) in
       has_letters n (estimate b) (omega arith) (omega (arith, within, threshold)) (inr least)
 
-  pub estimate_short : greatest < n → HasLetters n (estimate b + 1)
+  pub estimate_short : greatest < n → DigitCount n (estimate b + 1)
   estimate_short beyond =
       let back : estimate b + 1 - 1 ≡ estimate b = omega arith in
       let least : 62 ^ (estimate b + 1 - 1) ≤ n = rw back (omega (arith, beyond, small, threshold)) in

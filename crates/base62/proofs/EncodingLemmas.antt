@@ -3,15 +3,15 @@ use Rattle.std.proofs.Common.{◌≡◌, ℕ, ◌+◌, ◌<◌, ◌≤◌, List,
 use Rattle.std.proofs.lemmas.Bool.{false≢true}
 use Rattle.base62.specs.declared.fault.EncodeError.TheVariants.{BufferTooSmall}
 use Rattle.base62.specs.Alphabet.{IsAlphabet}
-use Rattle.base62.specs.Canonical.{IsCanonical, HasLetters}
+use Rattle.base62.specs.Canonical.{IsCanonical, DigitCount}
 use Rattle.base62.specs.Fixed.{fixed, WritesFixed}
 use Rattle.base62.specs.Steps.{EncodesCounted, encoding_steps}
 use Rattle.base62.proofs.FixedLemmas.{length-fixed, letters_exact, canonical_has}
-use Rattle.base62.proofs.KernelLemmas.{written_front, written_rest, written_length}
+use Rattle.base62.proofs.WritingLemmas.{written_front, written_rest, written_length}
 use Rattle.base62.proofs.StepsLemmas.{most_steps}
 
 -- a number of so many letters
-module _ (B : List ℕ) (ok : IsAlphabet B) (n count : ℕ) (has : HasLetters n count) (some : 1 ≤ count) (few : count ≤ 22) where
+module _ (B : List ℕ) (ok : IsAlphabet B) (n count : ℕ) (has : DigitCount n count) (some : 1 ≤ count) (few : count ≤ 22) where
   -- where they fit, they are written
   pub encodes : (old new : List ℕ) (before after : ℕ) → count ≤ length old → WritesFixed B count n old new → after ≡ before + encoding_steps count → EncodesCounted B n old new before after (Ok count)
   encodes old new before after room writes steps =

@@ -9,7 +9,7 @@ use Rattle.std.proofs.lemmas.List.{length_push, append-nil}
 use Rattle.std.proofs.lemmas.List.Elements.{All-nil, All-push}
 use Rattle.base62.specs.Alphabet.{IsAlphabet, AreLetters}
 use Rattle.base62.specs.Value.{value}
-use Rattle.base62.specs.Canonical.{Denotes, IsCanonical, HasLetters}
+use Rattle.base62.specs.Canonical.{Denotes, IsCanonical, DigitCount}
 use Rattle.base62.specs.Fixed.{fixed}
 use Rattle.base62.proofs.AlphabetLemmas.{IsLetter, is_letter-letter, digit_or_zero-letter}
 use Rattle.base62.proofs.ValueLemmas.{value-nil, value_push, value-lt}
@@ -67,26 +67,26 @@ canonical-fixed B ok w n some fits least =
     let size = length-fixed B w n in canonical_is B ok (fixed B w n) n (denotes-fixed B ok w n some fits) (rw size least)
 
 -- so n has a canonical text of that many letters
-pub has_letters : (n w : ℕ) → 0 < w → n < 62 ^ w → (w ≡ 1) ⊎ (62 ^ (w - 1) ≤ n) → HasLetters n w
+pub has_letters : (n w : ℕ) → 0 < w → n < 62 ^ w → (w ≡ 1) ⊎ (62 ^ (w - 1) ≤ n) → DigitCount n w
 has_letters n w some fits least = λ B ok. (fixed B w n, canonical-fixed B ok w n some fits least, length-fixed B w n)
 
 -- those hold n
-pub has_letters_fits : (B : List ℕ) → IsAlphabet B → (n w : ℕ) → HasLetters n w → n < 62 ^ w
+pub has_letters_fits : (B : List ℕ) → IsAlphabet B → (n w : ℕ) → DigitCount n w → n < 62 ^ w
 has_letters_fits B ok n w has =
     let one = has B ok in
     let below = value-lt B ok one.0 in
     rw (one.1.denotes.value_is, one.2) at below
 
-pub has_letters_some : (B : List ℕ) → IsAlphabet B → (n w : ℕ) → HasLetters n w → 1 ≤ w
+pub has_letters_some : (B : List ℕ) → IsAlphabet B → (n w : ℕ) → DigitCount n w → 1 ≤ w
 has_letters_some B ok n w has = let one = has B ok in omega (arith, one.1.denotes.nonempty, one.2)
 
 -- a number below 62^k takes at most k letters
-pub has_letters_most : (B : List ℕ) → IsAlphabet B → (k n w : ℕ) → 1 ≤ k → HasLetters n w → n < 62 ^ k → w ≤ k
+pub has_letters_most : (B : List ℕ) → IsAlphabet B → (k n w : ℕ) → 1 ≤ k → DigitCount n w → n < 62 ^ k → w ≤ k
 has_letters_most B ok k n w some has small =
     let one = has B ok in omega (arith, one.1.shortest (fixed B k n) (denotes-fixed B ok k n some small), one.2, length-fixed B k n)
 
 -- and one letter less would not
-has_letters_least : (B : List ℕ) → IsAlphabet B → (n w : ℕ) → HasLetters n w → (w ≡ 1) ⊎ (62 ^ (w - 1) ≤ n)
+has_letters_least : (B : List ℕ) → IsAlphabet B → (n w : ℕ) → DigitCount n w → (w ≡ 1) ⊎ (62 ^ (w - 1) ≤ n)
 has_letters_least B ok n w has = elim (cases_lt n (62 ^ (w - 1))) [
   | inr more ↦ inr more
   | inl less ↦ elim (cases_lt 1 w) [
@@ -96,12 +96,12 @@ has_letters_least B ok n w has = elim (cases_lt n (62 ^ (w - 1))) [
 ]
 
 -- the canonical text is the one of that many letters
-pub canonical_has : (B : List ℕ) → IsAlphabet B → (n w : ℕ) → HasLetters n w → IsCanonical B (fixed B w n) n
+pub canonical_has : (B : List ℕ) → IsAlphabet B → (n w : ℕ) → DigitCount n w → IsCanonical B (fixed B w n) n
 canonical_has B ok n w has =
     canonical-fixed B ok w n (has_letters_some B ok n w has) (has_letters_fits B ok n w has) (has_letters_least B ok n w has)
 
 -- each canonical text has as many letters
-pub letters_exact : (n w : ℕ) → HasLetters n w → (B text : List ℕ) → IsAlphabet B → IsCanonical B text n → length text ≡ w
+pub letters_exact : (n w : ℕ) → DigitCount n w → (B text : List ℕ) → IsAlphabet B → IsCanonical B text n → length text ≡ w
 letters_exact n w has B text ok canonical =
     let one = has B ok in ap length (one_canonical B ok n text one.0 canonical one.1) ∙ one.2
 

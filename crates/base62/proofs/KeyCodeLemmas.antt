@@ -13,7 +13,7 @@ use Rattle.base62.specs.Canonical.{Denotes}
 use Rattle.base62.specs.Decoding.{decoding}
 use Rattle.base62.specs.Key.{IsKey, interval_ends, range_of}
 use Rattle.base62.proofs.AlphabetLemmas.{IsLetter, is_letter-letter, standard_is_alphabet}
-use Rattle.base62.proofs.KernelLemmas.{places_from, put_from}
+use Rattle.base62.proofs.WritingLemmas.{places_from, put_from}
 use Rattle.base62.proofs.KeyLemmas.{padded_key}
 use Rattle.base62.proofs.ValueLemmas.{value-lt_most}
 use Rattle.base62.proofs.AnswerLemmas.{answer_cases, decoding_accepts, decoding-denotes}

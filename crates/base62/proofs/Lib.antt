@@ -7,11 +7,11 @@ pub mod CanonicalLemmas
 pub mod LengthLemmas
 pub mod PartLemmas
 pub mod DecodingLemmas
-pub mod FaultLemmas
+pub mod AppendLemmas
 pub mod FixedLemmas
 pub mod PowerLemmas
 pub mod CountLemmas
-pub mod KernelLemmas
+pub mod WritingLemmas
 pub mod StepsLemmas
 pub mod EncodingLemmas
 pub mod PaddingLemmas

@@ -14,7 +14,7 @@ use Rattle.base62.specs.Alphabet.{IsAlphabet, AreLetters, standard, is_letter}
 use Rattle.base62.specs.Value.{value, digit_or_zero}
 use Rattle.base62.specs.Canonical.{IsCanonical}
 use Rattle.base62.specs.Key.{IsKey}
-use Rattle.base62.specs.Order.{byte_order, IsNotAfter, length_first_order, Ascends}
+use Rattle.base62.specs.Order.{lexicographic_order, IsNotAfter, shortlex_order, Ascends}
 use Rattle.base62.proofs.AlphabetLemmas.{IsLetter, letter-digit_of, digit_of-is, same_letter}
 use Rattle.base62.proofs.ValueLemmas.{value-cons, value-lt, value-lt_most}
 use Rattle.base62.proofs.LengthLemmas.{no_needless_zero, needs_each}
@@ -88,7 +88,7 @@ letters_compare B ok up x y p q =
     compared_alike (digit_or_zero B x) (digit_or_zero B y) x y (greater_letter B ok up x y p q) (same_letter B x y p q) (greater_letter B ok up y x q p)
 
 -- texts of one length compare by their bytes as their values
-pub texts_compare : (B : List ℕ) → IsAlphabet B → Ascends B → (a b : List ℕ) → AreLetters B a → AreLetters B b → length a ≡ length b → byte_order a b ≡ nat_cmp (value B a) (value B b)
+pub texts_compare : (B : List ℕ) → IsAlphabet B → Ascends B → (a b : List ℕ) → AreLetters B a → AreLetters B b → length a ≡ length b → lexicographic_order a b ≡ nat_cmp (value B a) (value B b)
 texts_compare B ok up [] [] p q len = sym (compared (value B []) (value B []) Equal refl)
 texts_compare B ok up [] (y ∷ ys) p q len = absurd (omega arith)
 texts_compare B ok up (x ∷ xs) [] p q len = absurd (omega arith)
@@ -100,7 +100,7 @@ texts_compare B ok up (x ∷ xs) (y ∷ ys) p q len =
     rw (value-cons B x xs, value-cons B y ys, ← tails, places, first, later)
 
 -- keys compare by their bytes as their numbers
-pub keys_compare : (B : List ℕ) → IsAlphabet B → Ascends B → (a b : List ℕ) (m n : ℕ) → IsKey B a m → IsKey B b n → byte_order a b ≡ nat_cmp m n
+pub keys_compare : (B : List ℕ) → IsAlphabet B → Ascends B → (a b : List ℕ) (m n : ℕ) → IsKey B a m → IsKey B b n → lexicographic_order a b ≡ nat_cmp m n
 keys_compare B ok up a b m n p q =
     rw (p.denotes.value_is, q.denotes.value_is) at (texts_compare B ok up a b p.denotes.letters q.denotes.letters (p.size ∙ sym q.size))
 
@@ -112,7 +112,7 @@ shorter-lt B ok a b m n p q less = elim (needs_each B ok b q.denotes.letters (no
 ]
 
 -- canonical texts compare as their numbers where the shorter comes first
-pub canonical_compare : (B : List ℕ) → IsAlphabet B → Ascends B → (a b : List ℕ) (m n : ℕ) → IsCanonical B a m → IsCanonical B b n → length_first_order a b ≡ nat_cmp m n
+pub canonical_compare : (B : List ℕ) → IsAlphabet B → Ascends B → (a b : List ℕ) (m n : ℕ) → IsCanonical B a m → IsCanonical B b n → shortlex_order a b ≡ nat_cmp m n
 canonical_compare B ok up a b m n p q = elim (cases_order (length a) (length b)) [
   | inl e ↦ rw (compared (length a) (length b) Equal e) (rw (p.denotes.value_is, q.denotes.value_is) at (texts_compare B ok up a b p.denotes.letters q.denotes.letters e))
   | inr (inl h) ↦ rw (compared (length a) (length b) Less h) (sym (compared m n Less (shorter-lt B ok a b m n p q h)))

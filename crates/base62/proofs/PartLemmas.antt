@@ -9,7 +9,7 @@ use Rattle.std.proofs.lemmas.List.Sums.{prefix_len_is}
 use Rattle.base62.specs.declared.fault.DecodeError.{DecodeError}
 use Rattle.base62.specs.declared.fault.DecodeError.TheVariants.{InvalidBase62Byte}
 use Rattle.base62.specs.Alphabet.{IsAlphabet, AreLetters, is_letter}
-use Rattle.base62.specs.Table.{digit_or_none}
+use Rattle.base62.specs.Tables.{digit_or_255}
 use Rattle.base62.specs.Parts.{HasRead, HasRefused, ReadsPart}
 use Rattle.base62.proofs.ValueLemmas.{value-nil, value-one, value-append, value-lt_most}
 use Rattle.base62.proofs.TableLemmas.{digit-letter, digit-value, digit-no_letter}
@@ -24,14 +24,14 @@ pub read_below : (B part : List ℕ) (old new number k : ℕ) → IsAlphabet B �
 read_below B part old new number k ok read short = rw read.value_is (value-lt_most B ok part k short)
 
 -- a byte by its entry in the table
-pub read_one : (B : List ℕ) (b old new : ℕ) → digit_or_none B b ≤ 61 → new ≡ old + 1 → HasRead B (b ∷ []) old new (digit_or_none B b)
+pub read_one : (B : List ℕ) (b old new : ℕ) → digit_or_255 B b ≤ 61 → new ≡ old + 1 → HasRead B (b ∷ []) old new (digit_or_255 B b)
 read_one B b old new low step = record {
   letters = let P : ℕ → Type 0 = λ x. is_letter B x ≡ true in All-cons P b [] (digit-letter B b low) (All-nil P);
   value_is = digit-value B b low ∙ sym (value-one B b);
   steps = step;
 }
 
-pub refused_one : (B : List ℕ) → IsAlphabet B → (b start old new : ℕ) → 61 < digit_or_none B b → new ≡ old + 1 → HasRefused B (b ∷ []) start old new (InvalidBase62Byte b start)
+pub refused_one : (B : List ℕ) → IsAlphabet B → (b start old new : ℕ) → 61 < digit_or_255 B b → new ≡ old + 1 → HasRefused B (b ∷ []) start old new (InvalidBase62Byte b start)
 refused_one B ok b start old new high step =
     let first : prefix_len (is_letter B) (b ∷ []) ≡ 0 = prefix_len_is (is_letter B) (b ∷ []) 0 0 (omega arith) (λ k h. absurd (omega arith)) (λ _. digit-no_letter B ok b high) in
     record {

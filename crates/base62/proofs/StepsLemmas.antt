@@ -1,4 +1,4 @@
--- The steps of encoding, as the kernels take them.
+-- The steps of encoding, as the encoder takes them.
 use Rattle.std.proofs.Common.{◌≡◌, ℕ, ◌+◌, ◌-◌, ◌/◌, ◌<◌, ◌≤◌, Bool, true, eqb, refl, inl, inr, arith}
 use Rattle.std.proofs.lemmas.Bool.{agree_below, agree_below_at, cases_eq, eqb-true, ltb-true}
 use Rattle.std.proofs.Math.Dec.{ltb}

@@ -4,9 +4,9 @@ use Rattle.std.proofs.lemmas.List.{ext_get_or}
 use Rattle.std.proofs.lemmas.List.Elements.{All-from_get_or}
 use Rattle.std.proofs.lemmas.List.FromFn.{length-map-range_with_len}
 use Rattle.base62.specs.Alphabet.{IsAlphabet, digit_of}
-use Rattle.base62.specs.Table.{digit_or_none, table_of}
+use Rattle.base62.specs.Tables.{digit_or_255, digits_of_bytes}
 use Rattle.base62.proofs.AlphabetLemmas.{digit_of-letter, letter-digit_of}
-use Rattle.base62.proofs.TableLemmas.{get_or-table_of}
+use Rattle.base62.proofs.TableLemmas.{get_or-digits_of_bytes}
 
 -- the table has the digits of the first i letters, and 255 for all other bytes
 pub record IsTableOfFirst (B T : List ℕ) (i : ℕ) : Type 0 where
@@ -26,13 +26,13 @@ no_digit B T held size x none (Some d) e =
     sym is ∙ none
 
 -- once all letters are in it, it is the table of the letters
-table_of_all : (B T : List ℕ) → IsAlphabet B → IsTableOfFirst B T 62 → T ≡ table_of B
-unfolding table_of
+table_of_all : (B T : List ℕ) → IsAlphabet B → IsTableOfFirst B T 62 → T ≡ digits_of_bytes B
+unfolding digits_of_bytes
 table_of_all B T ok held =
-    let size : length (table_of B) ≡ 256 = length-map-range_with_len (digit_or_none B) 0 256 in
-    ext_get_or 0 T (table_of B) (held.size ∙ sym size) (λ x h.
+    let size : length (digits_of_bytes B) ≡ 256 = length-map-range_with_len (digit_or_255 B) 0 256 in
+    ext_get_or 0 T (digits_of_bytes B) (held.size ∙ sym size) (λ x h.
     let below : x < 256 = omega (arith, h, held.size) in
-    let entry : get_or (table_of B) x 0 ≡ digit_or_none B x = get_or-table_of B x below in
+    let entry : get_or (digits_of_bytes B) x 0 ≡ digit_or_255 B x = get_or-digits_of_bytes B x below in
     elim (held.bytes x below) [
       | inl none ↦ none ∙ sym (no_digit B T held ok.size x none (digit_of B x) refl) ∙ sym entry
       | inr some ↦
@@ -42,7 +42,7 @@ table_of_all B T ok held =
 
 -- then the letters are an alphabet, and it is theirs
 pub alphabet_of_all : (B T : List ℕ) (i : ℕ) → length B ≡ 62 → ((k : ℕ) → get_or B k 0 < 256) → 62 ≤ i → i ≤ 62 → IsTableOfFirst B T i
-    → IsAlphabet B × (T ≡ table_of B)
+    → IsAlphabet B × (T ≡ digits_of_bytes B)
 alphabet_of_all B T i size fits low high held =
     let all : i ≡ 62 = omega (arith, low, high) in
     let full : IsTableOfFirst B T 62 = rw all at held in

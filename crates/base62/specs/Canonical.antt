@@ -19,5 +19,5 @@ abbrev pub CanonicalFits : List ℕ → ℕ → ℕ → Type 0
 CanonicalFits B n room = (text : List ℕ) × IsCanonical B text n × (length text ≤ room)
 
 -- over any alphabet n has a canonical text, of count letters
-abbrev pub HasLetters : ℕ → ℕ → Type 0
-HasLetters n count = (B : List ℕ) → IsAlphabet B → (text : List ℕ) × IsCanonical B text n × (length text ≡ count)
+abbrev pub DigitCount : ℕ → ℕ → Type 0
+DigitCount n count = (B : List ℕ) → IsAlphabet B → (text : List ℕ) × IsCanonical B text n × (length text ≡ count)

@@ -1,5 +1,4 @@
 pub mod Alphabet
-pub mod Table
 pub mod Tables
 pub mod Places
 pub mod Value

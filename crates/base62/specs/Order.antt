@@ -6,16 +6,16 @@ use Rattle.std.specs.declared.cmp.Ordering.{Ordering}
 use Rattle.std.specs.declared.cmp.Ordering.TheVariants.{Greater}
 
 -- byte order: at the first place where two texts differ the lesser byte decides, and a proper beginning is less
-abbrev pub byte_order : List ℕ → List ℕ → Ordering
-byte_order a b = slice_cmp nat_cmp a b
+abbrev pub lexicographic_order : List ℕ → List ℕ → Ordering
+lexicographic_order a b = slice_cmp nat_cmp a b
 
 -- one text is before another in byte order, or is the same
 abbrev pub IsNotAfter : List ℕ → List ℕ → Type 0
-IsNotAfter a b = byte_order a b ≢ Greater
+IsNotAfter a b = lexicographic_order a b ≢ Greater
 
 -- length-first order: the shorter text is less, and texts of one length go by byte order
-abbrev pub length_first_order : List ℕ → List ℕ → Ordering
-length_first_order a b = ordering_then (nat_cmp (length a) (length b)) (byte_order a b)
+abbrev pub shortlex_order : List ℕ → List ℕ → Ordering
+shortlex_order a b = ordering_then (nat_cmp (length a) (length b)) (lexicographic_order a b)
 
 -- each letter of an alphabet is a greater byte than the one before it
 abbrev pub Ascends : List ℕ → Type 0

@@ -5,17 +5,15 @@ ghost use Rattle.base62.specs.Alphabet.{standard, alternative};
 ghost use Rattle.base62.specs.Encoding.{EncodesInto};
 ghost use Rattle.base62.specs.Decoding.{decoding};
 ghost use Rattle.base62.specs.Steps.{DecodesCounted, EncodesCounted};
-ghost use Rattle.base62.specs.Tables.{AreTables};
 
-mod chunks;
-pub(crate) mod kernels;
+mod decoder;
+pub(crate) mod encoder;
 
-use crate::alphabet::{Alphabet, Tables, Work, alternative_tables, standard_tables};
-use crate::count::digit_count;
+use crate::alphabet::{Alphabet, Work, alternative_tables, standard_tables};
 use crate::fault::{DecodeError, EncodeError};
 use crate::number::Number;
-use chunks::decode_over;
-use kernels::write_text;
+use decoder::decode_over;
+use encoder::encode_over;
 
 /// Writes the standard text of `num` to the front of `buf`, and answers its length, which is 1 to 22.
 ///
@@ -220,23 +218,4 @@ pub fn decode_with_counted(
     ensures { DecodesCounted alphabet.now input.now work.old work.new result }
 {
     decode_over(alphabet.as_tables(), input, work)
-}
-
-// The encoder over any alphabet.
-#[inline(always)]
-pub(crate) fn encode_over(
-    tables: &Tables,
-    n: u128,
-    buf: &mut [u8],
-    work: &mut Work,
-) -> Result<usize, EncodeError>
-    requires { AreTables tables.now }
-    ensures { EncodesCounted tables.now.letters n buf.old buf.new work.old work.new result }
-{
-    let count = digit_count(n);
-    if buf.len() < count {
-        return Err(EncodeError::BufferTooSmall);
-    }
-    write_text(tables, n, count, buf, work);
-    Ok(count)
 }

@@ -2,7 +2,7 @@
 
 ghost use Rattle.std.specs.Prelude.{◌≡◌, ◌≤◌, ◌^◌, ℕ, List, length};
 ghost use Rattle.base62.specs.Alphabet.{IsAlphabet};
-ghost use Rattle.base62.specs.Canonical.{IsCanonical, HasLetters};
+ghost use Rattle.base62.specs.Canonical.{IsCanonical, DigitCount};
 
 use crate::powers::{GREATEST, GREATEST_NARROW};
 
@@ -20,7 +20,7 @@ pub const MAX_DIGITS: usize = 22;
 /// ```
 #[inline(always)]
 pub fn digit_count(n: u128) -> usize
-    ensures counted { HasLetters n result }
+    ensures counted { DigitCount n result }
     ensures exact { (B text : List ℕ) → IsAlphabet B → IsCanonical B text n → length text ≡ result }
     ensures least { 1 ≤ result }
     ensures most { result ≤ 22 }
@@ -35,7 +35,7 @@ pub fn digit_count(n: u128) -> usize
 // A letter holds a little less than six bits, so the highest bit tells the number of letters, or one too few.
 #[inline(always)]
 fn narrow_count(n: u64) -> usize
-    ensures { HasLetters n result }
+    ensures { DigitCount n result }
 {
     if n == 0 {
         return 1;
@@ -52,7 +52,7 @@ fn narrow_count(n: u64) -> usize
 #[inline(always)]
 fn wide_count(n: u128) -> usize
     requires { 2 ^ 64 ≤ n }
-    ensures { HasLetters n result }
+    ensures { DigitCount n result }
 {
     let highest = ((n >> 64) as u64).ilog2() as usize + 64;
     let estimate = ((highest * 43) >> 8) + 1;

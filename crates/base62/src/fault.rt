@@ -55,10 +55,20 @@ impl DecodeError {
         ensures { inline_text result ≡ decode_error_text self.now }
     {
         match *self {
-            DecodeError::ArithmeticOverflow => said("Decoded number cannot fit into a `u128`"),
-            DecodeError::EmptyInput => said("Encoded input is an empty string"),
+            DecodeError::ArithmeticOverflow => append(
+                InlineText::new(),
+                "Decoded number cannot fit into a `u128`",
+            ),
+            DecodeError::EmptyInput => append(
+                InlineText::new(),
+                "Encoded input is an empty string",
+            ),
             DecodeError::InvalidBase62Byte(byte, index) => {
-                and_byte_at_index(said("Encoded input contains the invalid "), byte, index)
+                append_byte_at_index(
+                    append(InlineText::new(), "Encoded input contains the invalid "),
+                    byte,
+                    index,
+                )
             }
         }
     }
@@ -71,7 +81,7 @@ impl fmt::Display for DecodeError {
     ghost styled_output = { λ e _. Some (decode_error_text e) };
 
     fn fmt<W: fmt::Write>(&self, f: &mut fmt::Formatter<W>) -> fmt::Result {
-        write_text(self.text(), f)
+        write_unpadded(self.text(), f)
     }
 }
 
@@ -84,7 +94,10 @@ impl EncodeError {
         ensures { inline_text result ≡ encode_error_text self.now }
     {
         match *self {
-            EncodeError::BufferTooSmall => said("Buffer too small to encode the number"),
+            EncodeError::BufferTooSmall => append(
+                InlineText::new(),
+                "Buffer too small to encode the number",
+            ),
         }
     }
 }
@@ -96,7 +109,7 @@ impl fmt::Display for EncodeError {
     ghost styled_output = { λ e _. Some (encode_error_text e) };
 
     fn fmt<W: fmt::Write>(&self, f: &mut fmt::Formatter<W>) -> fmt::Result {
-        write_text(self.text(), f)
+        write_unpadded(self.text(), f)
     }
 }
 
@@ -110,7 +123,11 @@ impl AlphabetError {
         ensures { inline_text result ≡ alphabet_error_text self.now }
     {
         let AlphabetError::Repeated(byte, index) = *self;
-        and_byte_at_index(said("Alphabet repeats the "), byte, index)
+        append_byte_at_index(
+            append(InlineText::new(), "Alphabet repeats the "),
+            byte,
+            index,
+        )
     }
 }
 
@@ -121,14 +138,14 @@ impl fmt::Display for AlphabetError {
     ghost styled_output = { λ e _. Some (alphabet_error_text e) };
 
     fn fmt<W: fmt::Write>(&self, f: &mut fmt::Formatter<W>) -> fmt::Result {
-        write_text(self.text(), f)
+        write_unpadded(self.text(), f)
     }
 }
 
 impl error::Error for AlphabetError {}
 
 // Writes the text as it is, whatever options the formatter has.
-fn write_text<W: fmt::Write>(
+fn write_unpadded<W: fmt::Write>(
     text: InlineText<MAX_FAULT_TEXT>,
     f: &mut fmt::Formatter<W>,
 ) -> fmt::Result
@@ -138,16 +155,9 @@ fn write_text<W: fmt::Write>(
     f.write_str(text.as_str())
 }
 
-fn said(words: &str) -> InlineText<MAX_FAULT_TEXT>
-    requires { length words.now ≤ 77 }
-    ensures { inline_text result ≡ words.now }
-{
-    and(InlineText::new(), words)
-}
-
 // A byte that is named, and its index.
-#[tactic(auto, using(crate::proofs::FaultLemmas::appends), unfolding(crate::specs::Fault::byte_at_index))]
-fn and_byte_at_index(
+#[tactic(auto, using(crate::proofs::AppendLemmas::appends), unfolding(crate::specs::Fault::byte_at_index))]
+fn append_byte_at_index(
     text: InlineText<MAX_FAULT_TEXT>,
     byte: u8,
     index: usize,
@@ -155,27 +165,27 @@ fn and_byte_at_index(
     requires { length (inline_text text) ≤ 35 }
     ensures { inline_text result ≡ inline_text text ++ byte_at_index byte index }
 {
-    let named = and_escaped(and(text, "byte b'"), byte);
-    and_decimal(and(named, "' at index "), index)
+    let named = append_escaped(append(text, "byte b'"), byte);
+    append_decimal(append(named, "' at index "), index)
 }
 
-#[tactic(auto, using(crate::proofs::FaultLemmas::appends), unfolding(crate::specs::Fault::escaped))]
-fn and_escaped(text: InlineText<MAX_FAULT_TEXT>, byte: u8) -> InlineText<MAX_FAULT_TEXT>
+#[tactic(auto, using(crate::proofs::AppendLemmas::appends), unfolding(crate::specs::Fault::escaped))]
+fn append_escaped(text: InlineText<MAX_FAULT_TEXT>, byte: u8) -> InlineText<MAX_FAULT_TEXT>
     requires { length (inline_text text) ≤ 42 }
     ensures text { inline_text result ≡ inline_text text ++ escaped byte }
     ensures short { length (inline_text result) ≤ length (inline_text text) + 4 }
 {
     match byte {
-        b'\t' => and(text, "\\t"),
-        b'\n' => and(text, "\\n"),
-        b'\r' => and(text, "\\r"),
-        b'\"' => and(text, "\\\""),
-        b'\'' => and(text, "\\'"),
-        b'\\' => and(text, "\\\\"),
-        32..=126 => and_char(text, char::from(byte)),
+        b'\t' => append(text, "\\t"),
+        b'\n' => append(text, "\\n"),
+        b'\r' => append(text, "\\r"),
+        b'\"' => append(text, "\\\""),
+        b'\'' => append(text, "\\'"),
+        b'\\' => append(text, "\\\\"),
+        32..=126 => append_char(text, char::from(byte)),
         _ => {
-            let high = and_char(and(text, "\\x"), hex_digit(byte / 16));
-            and_char(high, hex_digit(byte % 16))
+            let high = append_char(append(text, "\\x"), hex_digit(byte / 16));
+            append_char(high, hex_digit(byte % 16))
         }
     }
 }
@@ -188,29 +198,29 @@ fn hex_digit(digit: u8) -> char
     char::from_digit(u32::from(digit), 16).unwrap()
 }
 
-#[tactic(auto, using(crate::proofs::FaultLemmas::appends))]
-fn and_decimal(text: InlineText<MAX_FAULT_TEXT>, number: usize) -> InlineText<MAX_FAULT_TEXT>
+#[tactic(auto, using(crate::proofs::AppendLemmas::appends))]
+fn append_decimal(text: InlineText<MAX_FAULT_TEXT>, number: usize) -> InlineText<MAX_FAULT_TEXT>
     requires { length (inline_text text) + length (decimal number) ≤ 77 }
     ensures { inline_text result ≡ inline_text text ++ decimal number }
 {
     if number < 10 {
-        return and_char(text, char::from(b'0' + number as u8));
+        return append_char(text, char::from(b'0' + number as u8));
     }
-    let front = and_decimal(text, number / 10);
-    and_char(front, char::from(b'0' + (number % 10) as u8))
+    let front = append_decimal(text, number / 10);
+    append_char(front, char::from(b'0' + (number % 10) as u8))
 }
 
-fn and_char(text: InlineText<MAX_FAULT_TEXT>, c: char) -> InlineText<MAX_FAULT_TEXT>
+fn append_char(text: InlineText<MAX_FAULT_TEXT>, c: char) -> InlineText<MAX_FAULT_TEXT>
     requires roomy { length (inline_text text) < 77 }
     requires ascii { c < 128 }
     ensures { inline_text result ≡ inline_text text ++ c ∷ [] }
 {
     let mut bytes = [0; 4];
-    and(text, c.encode_utf8(&mut bytes))
+    append(text, c.encode_utf8(&mut bytes))
 }
 
-#[tactic(auto, using(crate::proofs::FaultLemmas::appends))]
-fn and(text: InlineText<MAX_FAULT_TEXT>, part: &str) -> InlineText<MAX_FAULT_TEXT>
+#[tactic(auto, using(crate::proofs::AppendLemmas::appends))]
+fn append(text: InlineText<MAX_FAULT_TEXT>, part: &str) -> InlineText<MAX_FAULT_TEXT>
     requires { length (inline_text text) + length part.now ≤ 77 }
     ensures { inline_text result ≡ inline_text text ++ part.now }
 {

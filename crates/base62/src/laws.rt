@@ -12,7 +12,7 @@ ghost use Rattle.base62.specs.Canonical.{Denotes, IsCanonical};
 ghost use Rattle.base62.specs.Decoding.{decoding};
 ghost use Rattle.base62.specs.Case.{exchange_case};
 ghost use Rattle.base62.specs.Key.{IsKey, BeginsWith, IsInInterval, interval_ends};
-ghost use Rattle.base62.specs.Order.{byte_order, length_first_order, Ascends};
+ghost use Rattle.base62.specs.Order.{lexicographic_order, shortlex_order, Ascends};
 ghost use Rattle.base62.specs.Laws.{HasNoNeedlessZero, AnswerTells, number_or_overflow, one_place_on, without_zeros};
 ghost use Rattle.base62.specs.Fault.{alphabet_error_order, decode_error_order};
 ghost use Rattle.base62.specs.Padding.{padded_to};
@@ -130,11 +130,11 @@ pub fn order_of_texts()
     ensures standard { Ascends standard }
     ensures one_length { (B : List ℕ) → IsAlphabet B → Ascends B → (a b : List ℕ)
         → AreLetters B a → AreLetters B b → length a ≡ length b
-        → byte_order a b ≡ nat_cmp (value B a) (value B b) }
+        → lexicographic_order a b ≡ nat_cmp (value B a) (value B b) }
     ensures keys { (B : List ℕ) → IsAlphabet B → Ascends B → (a b : List ℕ) (m n : ℕ)
-        → IsKey B a m → IsKey B b n → byte_order a b ≡ nat_cmp m n }
+        → IsKey B a m → IsKey B b n → lexicographic_order a b ≡ nat_cmp m n }
     ensures canonical { (B : List ℕ) → IsAlphabet B → Ascends B → (a b : List ℕ) (m n : ℕ)
-        → IsCanonical B a m → IsCanonical B b n → length_first_order a b ≡ nat_cmp m n }
+        → IsCanonical B a m → IsCanonical B b n → shortlex_order a b ≡ nat_cmp m n }
 {}
 
 /// Over any alphabet a front of a key is at most 22 letters. The key of a number below 2^128 begins with a front of

@@ -24,7 +24,7 @@ ghost use Rattle.base62.specs.Fault.{escaped};
 ghost use Rattle.base62.specs.Case.{exchange_case};
 ghost use Rattle.base62.specs.Laws.{without_zeros, AgreesAtLetters};
 ghost use Rattle.base62.specs.Key.{IsKey, range_of};
-ghost use Rattle.base62.specs.Order.{byte_order, length_first_order, Ascends};
+ghost use Rattle.base62.specs.Order.{lexicographic_order, shortlex_order, Ascends};
 ghost use Rattle.base62.specs.Padding.{padded_to, displayed};
 ghost use Rattle.base62.specs.declared.fault.DecodeError.TheVariants.{ArithmeticOverflow, EmptyInput, InvalidBase62Byte};
 
@@ -154,10 +154,10 @@ pub fn alphabets_by_example()
 
 /// How some texts compare, and what does not ascend.
 pub fn orders_by_example()
-    ensures first_difference { byte_order (codes "10") (codes "z") ≡ Less }
-    ensures beginning { byte_order (codes "1") (codes "10") ≡ Less }
-    ensures same { byte_order (codes "LZ") (codes "LZ") ≡ Equal }
-    ensures shorter_first { length_first_order (codes "10") (codes "z") ≡ Greater }
+    ensures first_difference { lexicographic_order (codes "10") (codes "z") ≡ Less }
+    ensures beginning { lexicographic_order (codes "1") (codes "10") ≡ Less }
+    ensures same { lexicographic_order (codes "LZ") (codes "LZ") ≡ Equal }
+    ensures shorter_first { shortlex_order (codes "10") (codes "z") ≡ Greater }
     ensures no_ascent { Ascends (replicate 62 48) → ⊥ }
 {}
 

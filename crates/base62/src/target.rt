@@ -7,7 +7,7 @@ ghost use Rattle.base62.specs.Encoding.{AnswersCanonical, AppendsTo, WritesCanon
 ghost use Rattle.base62.specs.Tables.{AreTables};
 
 use crate::alphabet::{Alphabet, Tables, Work, alternative_tables, standard_tables};
-use crate::codec::kernels::write_text;
+use crate::codec::encoder::write_text;
 use crate::count::digit_count;
 use crate::number::Number;
 use crate::text::Text;

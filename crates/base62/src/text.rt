@@ -6,7 +6,7 @@ ghost use Rattle.base62.specs.Canonical.{IsCanonical};
 ghost use Rattle.base62.specs.Tables.{AreTables};
 
 use crate::alphabet::{Tables, Work};
-use crate::codec::encode_over;
+use crate::codec::encoder::encode_over;
 use crate::count::MAX_DIGITS;
 use crate::number::Number;
 use std::marker::Model;

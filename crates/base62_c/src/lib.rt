@@ -5,7 +5,7 @@
 
 ghost use Rattle.std.specs.Prelude.{◌≡◌, ◌≤◌, length};
 ghost use Rattle.base62.specs.Alphabet.{IsAlphabet, RepeatsFirst, standard, alternative};
-ghost use Rattle.base62.specs.Canonical.{HasLetters};
+ghost use Rattle.base62.specs.Canonical.{DigitCount};
 ghost use Rattle.base62.specs.Decoding.{decoding};
 ghost use Rattle.base62.specs.Key.{IsKey, range_of};
 ghost use Rattle.base62_c.specs.Answer.{Encodes, TellsNumber, TellsRange, WritesText};
@@ -130,7 +130,7 @@ pub extern "C" fn base62_check_alphabet(letters: &[u8; 62], byte: &mut u8, index
 
 #[unsafe(no_mangle)]
 pub extern "C" fn base62_digit_count(high: u64, low: u64) -> usize
-    ensures counted { HasLetters (number_of (high, low)) result }
+    ensures counted { DigitCount (number_of (high, low)) result }
     ensures least { 1 ≤ result }
     ensures most { result ≤ 22 }
 {

@@ -1,7 +1,7 @@
 use Rattle.std.proofs.Common.{◌≡◌, refl, arith, inl, rules}
 use Rattle.std.proofs.lemmas.List.{get_or-replicate}
 use Rattle.base62.specs.Alphabet.{IsAlphabet}
-use Rattle.base62.specs.Table.{table_of}
+use Rattle.base62.specs.Tables.{digits_of_bytes}
 use Rattle.base62.proofs.TableFillLemmas.{alphabet_of_all}
 use Rattle.base62.proofs.alphabet.Alphabet.new.Goals as goal
 
@@ -12,7 +12,7 @@ letters-init c = record {
   bytes = λ x fits. inl (get_or-replicate 256 x 255 0 fits);
 }
 
-done : (c : goal.After-letters) → IsAlphabet c.args.letters × (c.letters.table ≡ table_of c.args.letters)
+done : (c : goal.After-letters) → IsAlphabet c.args.letters × (c.letters.table ≡ digits_of_bytes c.args.letters)
 done c = alphabet_of_all c.args.letters c.letters.table c.letters.index (omega arith) (λ k. search rules) c.letters-test.false c.letters.auto.index-end c.letters.invariant
 
 pub invariant_of-result : goal.invariant_of-result

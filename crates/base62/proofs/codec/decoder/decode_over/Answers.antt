@@ -1,0 +1,26 @@
+use Rattle.std.proofs.Common.{◌≡◌, ◌<◌, ℕ, false, eqb, List, length, Ok, Err, sym, ◌∙◌, arith}
+use Rattle.std.proofs.lemmas.Bool.{eqb-true, eqb-false}
+use Rattle.std.proofs.lemmas.Result.{err_from_is_err_and}
+use Rattle.base62.proofs.DecodingLemmas.{decodes_empty, decodes_long, decodes_few}
+use Rattle.base62.proofs.codec.decoder.decode_over.Goals as goal
+
+pub returns-then-is_empty : goal.returns-then-is_empty
+returns-then-is_empty c =
+    decodes_empty c.args.tables.now.letters c.args.input.now c.args.work.now (eqb-true _ _ (sym c.is_empty.ensures ∙ c.if-is_empty.true))
+
+nonempty : (text : List ℕ) → eqb (length text) 0 ≡ false → 0 < length text
+nonempty text e = let some = eqb-false (length text) 0 e in omega arith
+
+pub returns-then-rest-gt-MAX_DIGITS : goal.returns-then-rest-gt-MAX_DIGITS
+returns-then-rest-gt-MAX_DIGITS c = decodes_long c.args.work.now c.after_zeros-start.ensures.after c.if-rest-gt-MAX_DIGITS.true
+
+pub returns-in_err-read_up_to_10 : goal.returns-in_err-read_up_to_10
+returns-in_err-read_up_to_10 c =
+    let some = nonempty c.args.input.now (sym c.is_empty.ensures ∙ c.if-is_empty.false) in
+    let p = err_from_is_err_and c.from_residual.result c.from_residual.ensures.1 in
+    rw (p.1, p.2) (decodes_few c.requires.alphabet c.after_zeros-start.ensures.after some (omega (arith, c.if-rest-le10.true)) (Err c.in_err-read_up_to_10.field-0.0) c.in_err-read_up_to_10.ensures)
+
+pub returns-then-rest-le10 : goal.returns-then-rest-le10
+returns-then-rest-le10 c =
+    let some = nonempty c.args.input.now (sym c.is_empty.ensures ∙ c.if-is_empty.false) in
+    decodes_few c.requires.alphabet c.after_zeros-start.ensures.after some (omega (arith, c.if-rest-le10.true)) (Ok c.in_ok-read_up_to_10.field-0) c.in_ok-read_up_to_10.ensures

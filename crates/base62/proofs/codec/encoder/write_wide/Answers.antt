@@ -1,0 +1,43 @@
+use Rattle.std.proofs.Common.{◌≡◌, ◌+◌, ◌-◌, ◌*◌, ◌%◌, ◌^◌, arith}
+use Rattle.base62.proofs.PowerLemmas.{fits_more, quotient_fits}
+use Rattle.base62.proofs.WritingLemmas.{written_on}
+use Rattle.base62.proofs.StepsLemmas.{ten_steps, steps_of_20, twenty_steps}
+use Rattle.base62.proofs.codec.encoder.write_wide.Goals as goal
+
+pub write_1_or_2-requires-clause-fits : goal.write_1_or_2-requires-clause-fits
+write_1_or_2-requires-clause-fits c =
+    let fits = quotient_fits c.args.n (c.args.count - 20) 20 c.args.count (omega arith) c.requires.fits in
+    rw (c.cut_by_20-top.ensures.quotient) fits
+
+pub cut_by_10-high-requires-else-count-eq20 : goal.cut_by_10-high-requires-else-count-eq20
+cut_by_10-high-requires-else-count-eq20 c = fits_more c.args.n c.args.count 20 c.requires.fits (omega arith)
+
+pub write_up_to_9-requires-clause-fits : goal.write_up_to_9-requires-clause-fits
+write_up_to_9-requires-clause-fits c =
+    let fits = quotient_fits c.args.n (c.args.count - 10) 10 c.args.count (omega (arith, c.requires.least)) c.requires.fits in
+    rw (c.cut_by_10-high-else-count-eq20.ensures.quotient) fits
+
+pub returns-then-count-gt20-clause-written : goal.returns-then-count-gt20-clause-written
+returns-then-count-gt20-clause-written c =
+    let n = c.args.n in
+    let count = c.args.count in
+    let remainder : c.cut_by_10-middle.result.0 * 62 ^ 10 + c.cut_by_10-middle.result.1 ≡ n % 62 ^ 20 = omega (arith, c.cut_by_20-top.ensures.remainder, c.cut_by_10-middle.ensures.quotient, c.cut_by_10-middle.ensures.remainder) in
+    let join = written_on c.args.tables.now.letters (count - 20) 20 count n _ _ (omega arith) c.cut_by_20-top.ensures.quotient remainder in
+    join c.args.buf.now c.write_1_or_2.new.buf _ c.requires.room c.write_20.ensures.written c.write_1_or_2.ensures.written
+
+pub returns-then-count-gt20-clause-steps : goal.returns-then-count-gt20-clause-steps
+returns-then-count-gt20-clause-steps c =
+    rw (twenty_steps c.args.count (omega arith) c.requires.most) (omega (arith, c.write_1_or_2.ensures.steps, c.write_20.ensures.steps))
+
+pub returns-then-count-eq20-clause-steps : goal.returns-then-count-eq20-clause-steps
+returns-then-count-eq20-clause-steps c = rw (c.if-count-eq20.true, steps_of_20) c.write_20-then-count-eq20.ensures.steps
+
+pub returns-else-count-eq20-clause-written : goal.returns-else-count-eq20-clause-written
+returns-else-count-eq20-clause-written c =
+    let count = c.args.count in
+    let both : count - 10 + 10 ≡ count = omega (arith, c.requires.least) in
+    let join = written_on c.args.tables.now.letters (count - 10) 10 count c.args.n _ _ both c.cut_by_10-high-else-count-eq20.ensures.quotient c.cut_by_10-high-else-count-eq20.ensures.remainder in
+    join c.args.buf.now c.write_up_to_9.new.buf c.write_10.new.buf c.requires.room c.write_10.ensures.written c.write_up_to_9.ensures.written
+
+pub returns-else-count-eq20-clause-steps : goal.returns-else-count-eq20-clause-steps
+returns-else-count-eq20-clause-steps c = rw (ten_steps c.args.count c.requires.least (omega arith)) (omega (arith, c.write_up_to_9.ensures.steps, c.write_10.ensures.steps))

@@ -1,0 +1,121 @@
+//! The letters and the digits of an alphabet, and their readers.
+
+ghost use Rattle.std.specs.Prelude.{◌≡◌, ◌+◌, ◌/◌, ◌%◌, ◌<◌, ◌==◌, slice_index};
+ghost use Rattle.base62.specs.Alphabet.{standard, alternative, zero_letter};
+ghost use Rattle.base62.specs.Tables.{AreTables, digit_or_255};
+
+use super::Work;
+
+// The letters of an alphabet, that of digit d at place d, and the digits of all bytes, 255 where a byte has none.
+#[derive(Clone, Copy)]
+pub(crate) struct Tables {
+    pub(super) letters: [u8; 62],
+    pub(super) table: [u8; 256],
+}
+
+impl Tables {
+    // The digit of a byte, or 255 where it has none: one step.
+    #[inline]
+    pub(crate) fn digit(&self, byte: u8, work: &mut Work) -> u8
+        requires { AreTables self.now }
+        ensures digit { result ≡ digit_or_255 self.now.letters byte }
+        ensures step { work.new ≡ work.old + 1 }
+    {
+        work.tick();
+        self.table[byte as usize]
+    }
+
+    // Whether a byte is the zero letter.
+    #[inline]
+    pub(crate) fn is_zero(&self, byte: u8) -> bool
+        ensures { result ≡ (byte == zero_letter self.now.letters) }
+    {
+        byte == self.letters[0]
+    }
+
+    // The letters of a number's two digits: one step.
+    #[inline(always)]
+    pub(crate) fn pair(&self, number: u32, work: &mut Work) -> (u8, u8)
+        requires { number < 3844 }
+        ensures first { result.0 ≡ slice_index self.now.letters (number / 62) }
+        ensures second { result.1 ≡ slice_index self.now.letters (number % 62) }
+        ensures step { work.new ≡ work.old + 1 }
+    {
+        work.tick();
+        // The quotient by 62, since the number is small; 62 is 64 - 2.
+        let quotient = (number * 4229) >> 18;
+        let remainder = number + (quotient << 1) - (quotient << 6);
+        let first = self.letters[quotient as usize];
+        let second = self.letters[remainder as usize];
+        (first, second)
+    }
+
+    // The letter of a digit: one step.
+    #[inline(always)]
+    pub(crate) fn letter(&self, digit: u32, work: &mut Work) -> u8
+        requires { digit < 62 }
+        ensures letter { result ≡ slice_index self.now.letters digit }
+        ensures step { work.new ≡ work.old + 1 }
+    {
+        work.tick();
+        self.letters[digit as usize]
+    }
+}
+
+static STANDARD: Tables = Tables {
+    letters: *b"0123456789ABCDEFGHIJKLMNOPQRSTUVWXYZabcdefghijklmnopqrstuvwxyz",
+    table: [
+        255, 255, 255, 255, 255, 255, 255, 255, 255, 255, 255, 255, 255, 255, 255, 255, 255, 255,
+        255, 255, 255, 255, 255, 255, 255, 255, 255, 255, 255, 255, 255, 255, 255, 255, 255, 255,
+        255, 255, 255, 255, 255, 255, 255, 255, 255, 255, 255, 255, 0, 1, 2, 3, 4, 5, 6, 7, 8, 9,
+        255, 255, 255, 255, 255, 255, 255, 10, 11, 12, 13, 14, 15, 16, 17, 18, 19, 20, 21, 22, 23,
+        24, 25, 26, 27, 28, 29, 30, 31, 32, 33, 34, 35, 255, 255, 255, 255, 255, 255, 36, 37, 38,
+        39, 40, 41, 42, 43, 44, 45, 46, 47, 48, 49, 50, 51, 52, 53, 54, 55, 56, 57, 58, 59, 60, 61,
+        255, 255, 255, 255, 255, 255, 255, 255, 255, 255, 255, 255, 255, 255, 255, 255, 255, 255,
+        255, 255, 255, 255, 255, 255, 255, 255, 255, 255, 255, 255, 255, 255, 255, 255, 255, 255,
+        255, 255, 255, 255, 255, 255, 255, 255, 255, 255, 255, 255, 255, 255, 255, 255, 255, 255,
+        255, 255, 255, 255, 255, 255, 255, 255, 255, 255, 255, 255, 255, 255, 255, 255, 255, 255,
+        255, 255, 255, 255, 255, 255, 255, 255, 255, 255, 255, 255, 255, 255, 255, 255, 255, 255,
+        255, 255, 255, 255, 255, 255, 255, 255, 255, 255, 255, 255, 255, 255, 255, 255, 255, 255,
+        255, 255, 255, 255, 255, 255, 255, 255, 255, 255, 255, 255, 255, 255, 255, 255, 255, 255,
+        255, 255, 255, 255, 255, 255, 255,
+    ],
+};
+
+static ALTERNATIVE: Tables = Tables {
+    letters: *b"0123456789abcdefghijklmnopqrstuvwxyzABCDEFGHIJKLMNOPQRSTUVWXYZ",
+    table: [
+        255, 255, 255, 255, 255, 255, 255, 255, 255, 255, 255, 255, 255, 255, 255, 255, 255, 255,
+        255, 255, 255, 255, 255, 255, 255, 255, 255, 255, 255, 255, 255, 255, 255, 255, 255, 255,
+        255, 255, 255, 255, 255, 255, 255, 255, 255, 255, 255, 255, 0, 1, 2, 3, 4, 5, 6, 7, 8, 9,
+        255, 255, 255, 255, 255, 255, 255, 36, 37, 38, 39, 40, 41, 42, 43, 44, 45, 46, 47, 48, 49,
+        50, 51, 52, 53, 54, 55, 56, 57, 58, 59, 60, 61, 255, 255, 255, 255, 255, 255, 10, 11, 12,
+        13, 14, 15, 16, 17, 18, 19, 20, 21, 22, 23, 24, 25, 26, 27, 28, 29, 30, 31, 32, 33, 34, 35,
+        255, 255, 255, 255, 255, 255, 255, 255, 255, 255, 255, 255, 255, 255, 255, 255, 255, 255,
+        255, 255, 255, 255, 255, 255, 255, 255, 255, 255, 255, 255, 255, 255, 255, 255, 255, 255,
+        255, 255, 255, 255, 255, 255, 255, 255, 255, 255, 255, 255, 255, 255, 255, 255, 255, 255,
+        255, 255, 255, 255, 255, 255, 255, 255, 255, 255, 255, 255, 255, 255, 255, 255, 255, 255,
+        255, 255, 255, 255, 255, 255, 255, 255, 255, 255, 255, 255, 255, 255, 255, 255, 255, 255,
+        255, 255, 255, 255, 255, 255, 255, 255, 255, 255, 255, 255, 255, 255, 255, 255, 255, 255,
+        255, 255, 255, 255, 255, 255, 255, 255, 255, 255, 255, 255, 255, 255, 255, 255, 255, 255,
+        255, 255, 255, 255, 255, 255, 255,
+    ],
+};
+
+// The tables of the standard alphabet.
+#[inline(always)]
+pub(crate) fn standard_tables() -> &'static Tables
+    ensures tables { AreTables result.now }
+    ensures letters { result.now.letters ≡ standard }
+{
+    &STANDARD
+}
+
+// The tables of the alternative alphabet.
+#[inline(always)]
+pub(crate) fn alternative_tables() -> &'static Tables
+    ensures tables { AreTables result.now }
+    ensures letters { result.now.letters ≡ alternative }
+{
+    &ALTERNATIVE
+}

@@ -1,0 +1,60 @@
+//! The counter of steps.
+
+ghost use Rattle.std.specs.Prelude.{◌≡◌, ◌+◌};
+
+use std::marker::Model;
+use std::mem;
+use std::snapshot::Snapshot;
+
+/// A counter of the steps that calls take: a step is one reading of a byte's digit, of a digit's letter, or of
+/// the letters of two digits at once.
+///
+/// It is for a caller that must bound its work, such as a server that decodes what it is sent: counted calls such as
+/// [`decode_counted`](crate::decode_counted) say how far they move it on. Contracts see it as the number of steps,
+/// which has no bound. When the program runs it takes no bytes, and nothing can be read from it.
+///
+/// ```rust
+/// let mut work = base62::Work::new();
+/// assert_eq!(rt; base62::decode_counted(b"LZ", &mut work), Ok(1337));
+/// ```
+#[derive(Drop)]
+pub struct Work {
+    // None at the start, and after a step the counter as it was before.
+    before: Snapshot<Option<Work>>,
+}
+
+impl Model for Work {
+    ghost use Rattle.std.specs.Prelude.{ℕ, ◌+◌};
+    ghost use Rattle.std.specs.Option.{option_map_or};
+
+    ghost Value = { ℕ };
+
+    ghost view = { λ w. option_map_or (λ steps. steps + 1) w.before.value 0 };
+
+    ghost size = { λ steps. steps };
+}
+
+const _: () = prove!(size_of::<Work>() == 0);
+
+impl Work {
+    /// A counter that stands at no step.
+    #[inline(always)]
+    pub fn new() -> Work
+        ensures { result ≡ 0 }
+    {
+        Work {
+            before: Snapshot::of(&None),
+        }
+    }
+
+    // One step more.
+    #[inline(always)]
+    pub(super) fn tick(&mut self)
+        ensures { self.new ≡ self.old + 1 }
+    {
+        let before = mem::replace(self, Work::new());
+        *self = Work {
+            before: Snapshot::of(&Some(before)),
+        };
+    }
+}

@@ -1,0 +1,266 @@
+//! The encoder, over the tables of any alphabet.
+//!
+//! Each piece writes the text of a fixed number of letters into the first places of a buffer. Quotients and remainders
+//! by powers of 62 cut a number into its parts.
+
+ghost use Rattle.std.specs.Prelude.{◌≡◌, ◌+◌, ◌-◌, ◌*◌, ◌/◌, ◌%◌, ◌<◌, ◌≤◌, ◌^◌, length};
+ghost use Rattle.base62.specs.Canonical.{DigitCount};
+ghost use Rattle.base62.specs.Fixed.{WritesFixed};
+ghost use Rattle.base62.specs.Steps.{EncodesCounted, encoding_steps};
+ghost use Rattle.base62.specs.Tables.{AreTables};
+
+use crate::alphabet::{Tables, Work};
+use crate::count::digit_count;
+use crate::fault::EncodeError;
+use crate::powers::{POWER_2, POWER_4, POWER_5, POWER_10, POWER_20};
+
+// The encoder over any alphabet.
+#[inline(always)]
+pub(crate) fn encode_over(
+    tables: &Tables,
+    n: u128,
+    buf: &mut [u8],
+    work: &mut Work,
+) -> Result<usize, EncodeError>
+    requires { AreTables tables.now }
+    ensures { EncodesCounted tables.now.letters n buf.old buf.new work.old work.new result }
+{
+    let count = digit_count(n);
+    if buf.len() < count {
+        return Err(EncodeError::BufferTooSmall);
+    }
+    write_text(tables, n, count, buf, work);
+    Ok(count)
+}
+
+// The text of a number, of which the number of letters is given.
+#[inline(always)]
+pub(crate) fn write_text(tables: &Tables, n: u128, count: usize, buf: &mut [u8], work: &mut Work)
+    requires tables { AreTables tables.now }
+    requires count { DigitCount n count }
+    requires room { count ≤ length buf.old }
+    ensures written { WritesFixed tables.now.letters count n buf.old buf.new }
+    ensures steps { work.new ≡ work.old + encoding_steps count }
+{
+    if n <= 0xffffffff_ffffffff {
+        write_narrow(tables, n as u64, count, buf, work);
+    } else {
+        write_wide(tables, n, count, buf, work);
+    }
+}
+
+// The text of a number below 2^64.
+fn write_narrow(tables: &Tables, n: u64, count: usize, buf: &mut [u8], work: &mut Work)
+    requires fits { n < 62 ^ count }
+    requires least { 1 ≤ count }
+    requires most { count ≤ 11 }
+    requires room { count ≤ length buf.old }
+    ensures written { WritesFixed tables.now.letters count n buf.old buf.new }
+    ensures steps { work.new ≡ work.old + encoding_steps count }
+{
+    if count < 10 {
+        write_up_to_9(tables, n, count, buf, work);
+    } else {
+        let quotient = n / POWER_10;
+        // For ten letters the first is written over.
+        buf[0] = tables.letter(quotient as u32, work);
+        let rest = n - quotient * POWER_10;
+        write_10(tables, rest, &mut buf[count - 10..], work);
+    }
+}
+
+// The text of a number from 2^64 on.
+fn write_wide(tables: &Tables, n: u128, count: usize, buf: &mut [u8], work: &mut Work)
+    requires fits { n < 62 ^ count }
+    requires least { 11 ≤ count }
+    requires most { count ≤ 22 }
+    requires room { count ≤ length buf.old }
+    ensures written { WritesFixed tables.now.letters count n buf.old buf.new }
+    ensures steps { work.new ≡ work.old + encoding_steps count }
+{
+    if count > 20 {
+        let (top, rest) = cut_by_20(n);
+        let (middle, low) = cut_by_10(rest);
+        write_1_or_2(tables, top, count - 20, buf, work);
+        write_20(tables, middle, low, &mut buf[count - 20..], work);
+    } else if count == 20 {
+        let (high, low) = cut_by_10(n);
+        write_20(tables, high, low, buf, work);
+    } else {
+        let (high, low) = cut_by_10(n);
+        write_up_to_9(tables, high, count - 10, buf, work);
+        write_10(tables, low, &mut buf[count - 10..], work);
+    }
+}
+
+// The quotient and the remainder by 62^20. The upper bits times 2^136 / 62^20 tell the quotient, or one less.
+#[inline(always)]
+fn cut_by_20(n: u128) -> (u32, u128)
+    ensures quotient { result.0 ≡ n / 62 ^ 20 }
+    ensures remainder { result.1 ≡ n % 62 ^ 20 }
+{
+    let upper = (n >> 96) as u64;
+    let estimate = ((upper * 123664) >> 40) as u32;
+    let rest = n - estimate as u128 * POWER_20;
+    if rest < POWER_20 {
+        (estimate, rest)
+    } else {
+        one_more_20(estimate, rest)
+    }
+}
+
+#[cold]
+fn one_more_20(estimate: u32, rest: u128) -> (u32, u128)
+    requires few { estimate ≤ 483 }
+    requires some { 62 ^ 20 ≤ rest }
+    ensures quotient { result.0 ≡ estimate + 1 }
+    ensures remainder { result.1 ≡ rest - 62 ^ 20 }
+{
+    (estimate + 1, rest - POWER_20)
+}
+
+// The quotient and the remainder by 62^10. The upper bits times 2^123 / 62^10 tell the quotient, or one less.
+#[inline(always)]
+fn cut_by_10(n: u128) -> (u64, u64)
+    requires { n < 62 ^ 20 }
+    ensures quotient { result.0 ≡ n / 62 ^ 10 }
+    ensures remainder { result.1 ≡ n % 62 ^ 10 }
+{
+    let upper = (n >> 56) as u64;
+    let estimate = ((upper as u128 * 12669882045338564946) >> 67) as u64;
+    let rest = (n - estimate as u128 * POWER_10 as u128) as u64;
+    if rest < POWER_10 {
+        (estimate, rest)
+    } else {
+        one_more_10(estimate, rest)
+    }
+}
+
+#[cold]
+fn one_more_10(estimate: u64, rest: u64) -> (u64, u64)
+    requires few { estimate < 62 ^ 10 }
+    requires some { 62 ^ 10 ≤ rest }
+    ensures quotient { result.0 ≡ estimate + 1 }
+    ensures remainder { result.1 ≡ rest - 62 ^ 10 }
+{
+    (estimate + 1, rest - POWER_10)
+}
+
+// One to nine letters, from the last to the first, two turns of two letters at once where there are more than four.
+fn write_up_to_9(tables: &Tables, n: u64, places: usize, buf: &mut [u8], work: &mut Work)
+    requires fits { n < 62 ^ places }
+    requires least { 1 ≤ places }
+    requires most { places ≤ 9 }
+    requires room { places ≤ length buf.old }
+    ensures written { WritesFixed tables.now.letters places n buf.old buf.new }
+    ensures steps { work.new ≡ work.old + (places + 1) / 2 }
+{
+    if places > 4 {
+        let rest = n / POWER_4 as u64;
+        let last = (n - rest * POWER_4 as u64) as u32;
+        write_4(tables, last, &mut buf[places - 4..], work);
+        write_up_to_5(tables, rest as u32, places - 4, buf, work);
+    } else {
+        write_up_to_5(tables, n as u32, places, buf, work);
+    }
+}
+
+// One to five letters, in the same way.
+#[inline(always)]
+fn write_up_to_5(tables: &Tables, n: u32, places: usize, buf: &mut [u8], work: &mut Work)
+    requires fits { n < 62 ^ places }
+    requires least { 1 ≤ places }
+    requires most { places ≤ 5 }
+    requires room { places ≤ length buf.old }
+    ensures written { WritesFixed tables.now.letters places n buf.old buf.new }
+    ensures steps { work.new ≡ work.old + (places + 1) / 2 }
+{
+    if places > 4 {
+        let rest = n / POWER_4;
+        write_4(tables, n - rest * POWER_4, &mut buf[places - 4..], work);
+        write_1_or_2(tables, rest, places - 4, buf, work);
+    } else if places > 2 {
+        let rest = n / POWER_2;
+        write_2(tables, n - rest * POWER_2, &mut buf[places - 2..], work);
+        write_1_or_2(tables, rest, places - 2, buf, work);
+    } else {
+        write_1_or_2(tables, n, places, buf, work);
+    }
+}
+
+// One or two letters, as a pair whose second letter stands at the last place: of one, it is written over the first.
+#[inline(always)]
+fn write_1_or_2(tables: &Tables, x: u32, places: usize, buf: &mut [u8], work: &mut Work)
+    requires fits { x < 62 ^ places }
+    requires least { 1 ≤ places }
+    requires most { places ≤ 2 }
+    requires room { places ≤ length buf.old }
+    ensures written { WritesFixed tables.now.letters places x buf.old buf.new }
+    ensures steps { work.new ≡ work.old + 1 }
+{
+    let (first, second) = tables.pair(x, work);
+    buf[0] = first;
+    buf[places - 1] = second;
+}
+
+// Two letters.
+#[inline(always)]
+fn write_2(tables: &Tables, x: u32, buf: &mut [u8], work: &mut Work)
+    requires fits { x < 62 ^ 2 }
+    requires room { 2 ≤ length buf.old }
+    ensures written { WritesFixed tables.now.letters 2 x buf.old buf.new }
+    ensures steps { work.new ≡ work.old + 1 }
+{
+    write_1_or_2(tables, x, 2, buf, work);
+}
+
+// Four letters.
+#[inline(always)]
+fn write_4(tables: &Tables, x: u32, buf: &mut [u8], work: &mut Work)
+    requires fits { x < 62 ^ 4 }
+    requires room { 4 ≤ length buf.old }
+    ensures written { WritesFixed tables.now.letters 4 x buf.old buf.new }
+    ensures steps { work.new ≡ work.old + 2 }
+{
+    let rest = x / POWER_2;
+    write_2(tables, x - rest * POWER_2, &mut buf[2..], work);
+    write_2(tables, rest, buf, work);
+}
+
+// Five letters.
+fn write_5(tables: &Tables, x: u32, buf: &mut [u8], work: &mut Work)
+    requires fits { x < 62 ^ 5 }
+    requires room { 5 ≤ length buf.old }
+    ensures written { WritesFixed tables.now.letters 5 x buf.old buf.new }
+    ensures steps { work.new ≡ work.old + 3 }
+{
+    let rest = x / POWER_2;
+    let top = rest / POWER_2;
+    write_2(tables, x - rest * POWER_2, &mut buf[3..], work);
+    write_2(tables, rest - top * POWER_2, &mut buf[1..], work);
+    buf[0] = tables.letter(top, work);
+}
+
+// Ten letters.
+fn write_10(tables: &Tables, n: u64, buf: &mut [u8], work: &mut Work)
+    requires fits { n < 62 ^ 10 }
+    requires room { 10 ≤ length buf.old }
+    ensures written { WritesFixed tables.now.letters 10 n buf.old buf.new }
+    ensures steps { work.new ≡ work.old + 6 }
+{
+    let high = n / POWER_5;
+    write_5(tables, high as u32, buf, work);
+    write_5(tables, (n - high * POWER_5) as u32, &mut buf[5..], work);
+}
+
+// Twenty letters, of a number that is given by its quotient and its remainder by 62^10.
+fn write_20(tables: &Tables, high: u64, low: u64, buf: &mut [u8], work: &mut Work)
+    requires high { high < 62 ^ 10 }
+    requires low { low < 62 ^ 10 }
+    requires room { 20 ≤ length buf.old }
+    ensures written { WritesFixed tables.now.letters 20 (high * 62 ^ 10 + low) buf.old buf.new }
+    ensures steps { work.new ≡ work.old + 12 }
+{
+    write_10(tables, high, buf, work);
+    write_10(tables, low, &mut buf[10..], work);
+}

@@ -1,5 +1,5 @@
 -- What decoding answers and how many steps it takes, by what is read of the bytes after the leading zeros.
-use Rattle.std.proofs.Common.{◌≡◌, ◌+◌, ◌*◌, ◌^◌, ◌<◌, ◌≤◌, ◌==◌, ◌∙◌}
+use Rattle.std.proofs.Common.{◌≡◌, ◌+◌, ◌-◌, ◌*◌, ◌^◌, ◌<◌, ◌≤◌, ◌==◌, ◌∙◌}
 use Rattle.std.proofs.Common.{ℕ, zero, suc, Bool, true, false, eqb, ltb, leb, List, length, get_or, take, drop, Result, Ok, Err, if◌then◌else◌, refl, sym, ap, arith, add-one, inl, inr}
 use Rattle.std.specs.List.{prefix_len, list_all}
 use Rattle.std.proofs.Math.Nat.{pow-le-pow_right, mul-le-mul}
@@ -14,11 +14,11 @@ use Rattle.base62.specs.Alphabet.{IsAlphabet, AreLetters, is_letter, zero_letter
 use Rattle.base62.specs.Value.{value, digit_or_zero}
 use Rattle.base62.specs.Decoding.{decoding, leading_zeros, rest, first_ten, shows_overflow, invalid_index, first_invalid}
 use Rattle.base62.specs.Steps.{decoding_steps, DecodesCounted}
-use Rattle.base62.specs.Parts.{HasRead, HasRefused, ReadsPart, IsAfterZeros}
+use Rattle.base62.specs.Parts.{HasRead, HasRefused, ReadsPart, after_number}
 use Rattle.base62.specs.Laws.{number_or_overflow}
 use Rattle.base62.proofs.AlphabetLemmas.{is_letter-letter, digit_or_zero-letter}
 use Rattle.base62.proofs.ValueLemmas.{value-nil, value-append, value_more}
-use Rattle.base62.proofs.PartLemmas.{prefix_len-letters, read_below, refuses_cut, reads_cut, after_number}
+use Rattle.base62.proofs.PartLemmas.{prefix_len-letters, read_below, refuses_cut, reads_cut}
 
 -- each byte of the leading zeros is the zero letter
 zero_before : (B text : List ℕ) (k : ℕ) → k < leading_zeros B text → get_or text k 0 ≡ zero_letter B
@@ -87,9 +87,9 @@ pub decodes_empty : (B text : List ℕ) (old : ℕ) → length text ≡ 0 → De
 unfolding decoding decoding_steps
 decodes_empty B text old h = record { answer = rw h refl; steps = rw h (omega arith); most = omega arith }
 
-long_answer : (B text : List ℕ) (old : ℕ) → 0 < length text → 22 < length (rest B text) → DecodesCounted B text old old (Err ArithmeticOverflow)
+pub decodes_long : (B text : List ℕ) (old : ℕ) → 0 < length text → 22 < length (rest B text) → DecodesCounted B text old old (Err ArithmeticOverflow)
 unfolding decoding decoding_steps
-long_answer B text old some long =
+decodes_long B text old some long =
     let above = lt-ltb 22 (length (rest B text)) long in
     record { answer = rw (not_empty text some, above) refl; steps = rw (not_empty text some, above) (omega arith); most = omega arith }
 
@@ -155,114 +155,96 @@ module _ (B text : List ℕ) (ok : IsAlphabet B) (some : 0 < length text) (short
   none_shown less = rw (ne_eqb (length (rest B text)) 22 (λ e. omega arith)) refl
 
   -- at most 21 bytes after the leading zeros never overflow
-  answer_21 : (r : Result ℕ DecodeError) → length (rest B text) ≤ 21 → ReadsPart B (rest B text) (leading_zeros B text) old new r → DecodesCounted B text old new r
-  answer_21 (Err fault) less refused = rest_answer (Err fault) (none_shown (omega arith)) refused
-  answer_21 (Ok number) less read =
+  pub decodes_few : (r : Result ℕ DecodeError) → length (rest B text) ≤ 21 → ReadsPart B (rest B text) (leading_zeros B text) old new r → DecodesCounted B text old new r
+  decodes_few (Err fault) less refused = rest_answer (Err fault) (none_shown (omega arith)) refused
+  decodes_few (Ok number) less read =
       let below = read_below B (rest B text) old new number 21 ok read less in
       let small : ltb number (2 ^ 128) ≡ true = lt-ltb number (2 ^ 128) (omega arith) in
       rw small at (rest_answer (Ok number) (none_shown (omega arith)) read)
 
-  -- the first ten are read, and later bytes follow
-  module _ (later : List ℕ) (mid number : ℕ) (ten : 10 ≤ length (rest B text)) (back : later ≡ drop 10 (rest B text)) (read : HasRead B (first_ten B text) old mid number) where
-    size : 10 + length later ≡ length (rest B text)
-    size = omega (arith, ap length back, length-drop 10 (rest B text))
+-- a text is cut after its leading zeros, and after ten bytes more
+pub record IsCut (B text first later : List ℕ) (zeros : ℕ) : Type 0 where
+  pub zeros_are : zeros ≡ leading_zeros B text
+  pub first_is : first ≡ first_ten B text
+  pub later_is : later ≡ drop 10 (rest B text)
+  pub size : 10 + length later ≡ length (rest B text)
+  pub short : length (rest B text) ≤ 22
+  pub some : 0 < length text
+
+pub cut_at : (B text after first later : List ℕ) (zeros : ℕ) → zeros ≡ leading_zeros B text → after ≡ drop zeros text → first ≡ take 10 after → later ≡ drop 10 after
+    → zeros + 10 < length text → length text ≤ zeros + 22 → IsCut B text first later zeros
+cut_at B text after first later zeros zeros_are behind front back long short =
+    let after_is : after ≡ rest B text = rw zeros_are at behind in
+    let left : length after ≡ length text - zeros = ap length behind ∙ length-drop zeros text in
+    record {
+      zeros_are = zeros_are;
+      first_is = rw after_is at front;
+      later_is = rw after_is at back;
+      size = rw (← after_is) (omega (arith, ap length back, length-drop 10 after));
+      short = rw (← after_is) (omega (arith, left));
+      some = omega (arith, long);
+    }
+
+module _ (B : List ℕ) (ok : IsAlphabet B) (text first later : List ℕ) (zeros old : ℕ) (cut : IsCut B text first later zeros) where
+  -- a bad byte is among the first ten
+  pub decodes_first_refused : (mid : ℕ) (fault : DecodeError) → HasRefused B first zeros old mid fault → DecodesCounted B text old mid (Err fault)
+  decodes_first_refused mid fault refused = first_refused_answer B text ok cut.some cut.short old mid fault (rw (cut.first_is, cut.zeros_are) at refused)
+
+  -- they are read
+  module _ (mid number : ℕ) (read : HasRead B first old mid number) where
+    ten : length first ≡ 10
+    ten = ap length cut.first_is ∙ length-take-le 10 (rest B text) (omega (arith, cut.size))
+
+    value_is : number ≡ value B (first_ten B text)
+    value_is = read.value_is ∙ ap (value B) cut.first_is
 
     -- their weighted number reaches 2^128 only where 22 bytes are left
     weighed_full : 2 ^ 128 ≤ number * 62 ^ length later → length later ≡ 12
     weighed_full big = elim (cases_lt (length later) 12) [
       | inl less ↦
-          let below = read_below B (first_ten B text) old mid number 10 ok read (omega (arith, length-take-le 10 (rest B text) ten)) in
+          let below = read_below B first old mid number 10 ok read (omega (arith, ten)) in
           let weight : 62 ^ length later ≤ 62 ^ 11 = pow-le-pow_right {n = 62} (omega arith) {i = length later} {j = 11} (omega arith) in
           let product : number * 62 ^ length later ≤ 62 ^ 10 * 62 ^ 11 = mul-le-mul {n₁ = number} {m₁ = 62 ^ length later} {n₂ = 62 ^ 10} {m₂ = 62 ^ 11} (omega arith) weight in
           absurd (omega arith)
-      | inr more ↦ omega (arith, size)
+      | inr more ↦ omega (arith, cut.size, cut.short)
     ]
 
     -- it does so exactly where they show an overflow
     weighed_overflows : 2 ^ 128 ≤ number * 62 ^ length later → shows_overflow B text ≡ true
     weighed_overflows big =
         let twelve = weighed_full big in
-        let left : length (rest B text) ≡ 22 = omega (arith, size) in
-        let over : leb (2 ^ 128) (value B (first_ten B text) * 62 ^ 12) ≡ true = le-leb _ _ (rw (twelve, read.value_is) at big) in
+        let left : length (rest B text) ≡ 22 = omega (arith, cut.size) in
+        let over : leb (2 ^ 128) (value B (first_ten B text) * 62 ^ 12) ≡ true = le-leb _ _ (rw (twelve, value_is) at big) in
         rw (left, over) refl
 
     weighed_fits : number * 62 ^ length later < 2 ^ 128 → shows_overflow B text ≡ false
     weighed_fits small = elim (cases_eq (length (rest B text)) 22) [
       | inl left ↦
-          let twelve : length later ≡ 12 = omega (arith, size) in
-          let under : leb (2 ^ 128) (value B (first_ten B text) * 62 ^ 12) ≡ false = lt-leb _ _ (rw (twelve, read.value_is) at small) in
+          let twelve : length later ≡ 12 = omega (arith, cut.size) in
+          let under : leb (2 ^ 128) (value B (first_ten B text) * 62 ^ 12) ≡ false = lt-leb _ _ (rw (twelve, value_is) at small) in
           rw (left, under) refl
       | inr other ↦ rw (ne_eqb (length (rest B text)) 22 other) refl
     ]
 
-    shown_answer : 2 ^ 128 ≤ number * 62 ^ length later → DecodesCounted B text old mid (Err ArithmeticOverflow)
+    pub decodes_shown : 2 ^ 128 ≤ number * 62 ^ length later → DecodesCounted B text old mid (Err ArithmeticOverflow)
     unfolding decoding decoding_steps
-    shown_answer big =
-        let letters = list_all-from_AllPass (is_letter B) (first_ten B text) read.letters in
-        let first = length-take-le 10 (rest B text) ten in record {
-          answer = rw (not_empty text some, not_above, letters, weighed_overflows big) refl;
-          steps = rw (not_empty text some, not_above, letters, weighed_overflows big) (omega (arith, read.steps, first));
-          most = omega (arith, read.steps, first);
+    decodes_shown big =
+        let letters = list_all-from_AllPass (is_letter B) (first_ten B text) (rw cut.first_is at read.letters) in
+        let not_above = le-ltb 22 (length (rest B text)) cut.short in record {
+          answer = rw (not_empty text cut.some, not_above, letters, weighed_overflows big) refl;
+          steps = rw (not_empty text cut.some, not_above, letters, weighed_overflows big) (omega (arith, read.steps, ten));
+          most = omega (arith, read.steps, ten);
         }
 
-    others : (r : Result ℕ DecodeError) → ReadsPart B later (leading_zeros B text + 10) mid new r → ReadsPart B (rest B text) (leading_zeros B text) old new (after_number number (length later) r)
-    others r read_later =
-        reads_cut B (rest B text) (first_ten B text) 10 (leading_zeros B text) old refl later mid new number (length later) r back size read read_later
+    -- and so are the others
+    module _ (new : ℕ) (r : Result ℕ DecodeError) (others : ReadsPart B later (zeros + 10) mid new r) where
+      whole : ReadsPart B (rest B text) (leading_zeros B text) old new (after_number number (length later) r)
+      whole =
+          rw cut.zeros_are at
+          (reads_cut B (rest B text) first 10 zeros old cut.first_is later mid new number (length later) r cut.later_is cut.size read others)
 
-    short_answer : (r : Result ℕ DecodeError) → length later ≤ 11 → ReadsPart B later (leading_zeros B text + 10) mid new r → DecodesCounted B text old new (after_number number (length later) r)
-    short_answer r few read_later = answer_21 (after_number number (length later) r) (omega (arith, size)) (others r read_later)
+      pub decodes_short : length later ≤ 11 → DecodesCounted B text old new (after_number number (length later) r)
+      decodes_short few = decodes_few B text ok cut.some cut.short old new (after_number number (length later) r) (omega (arith, cut.size)) whole
 
-    later_answer : (r : Result ℕ DecodeError) → number * 62 ^ length later < 2 ^ 128 → ReadsPart B later (leading_zeros B text + 10) mid new r
-        → DecodesCounted B text old new (or_overflow (after_number number (length later) r))
-    later_answer r small read_later = rest_answer (after_number number (length later) r) (weighed_fits small) (others r read_later)
-
--- ---- as the code cuts a text
-
-some_text : (B text after : List ℕ) (start : ℕ) → IsAfterZeros B text start after → 10 < length after → 0 < length text
-some_text B text after start at long = omega (arith, long, ap length at.bytes_are, length-drop (leading_zeros B text) text)
-
-pub decodes_long : {B text after : List ℕ} {start : ℕ} (old : ℕ) → IsAfterZeros B text start after → 22 < length after → DecodesCounted B text old old (Err ArithmeticOverflow)
-decodes_long {B = B} {text = text} {after = after} {start = start} old at long = long_answer B text old (some_text B text after start at (omega arith)) (rw at.bytes_are at long)
-
--- at most 21 bytes after the leading zeros
-pub decodes_few : {B text after : List ℕ} {start old new : ℕ} → IsAlphabet B → IsAfterZeros B text start after → 0 < length text → length after ≤ 21
-    → (r : Result ℕ DecodeError) → ReadsPart B after start old new r → DecodesCounted B text old new r
-decodes_few {B = B} {text = text} {old = old} {new = new} ok at some few r read =
-    let less = rw at.bytes_are at few in
-    answer_21 B text ok some (omega arith) old new r less (rw (at.bytes_are, at.start_is) at read)
-
--- the first ten bytes after the leading zeros, where more follow
-module _ {B text after first : List ℕ} {start : ℕ} (ok : IsAlphabet B) (at : IsAfterZeros B text start after) (long : 10 < length after) (short : length after ≤ 22)
-    (front : first ≡ take 10 after) where
-  first_is : first ≡ first_ten B text
-  first_is = front ∙ ap (take 10) at.bytes_are
-
-  -- a bad byte is among them
-  pub decodes_first_refused : {old mid : ℕ} {fault : DecodeError} → HasRefused B first start old mid fault → DecodesCounted B text old mid (Err fault)
-  decodes_first_refused {old = old} {mid = mid} {fault = fault} refused =
-      first_refused_answer B text ok (some_text B text after start at long) (rw at.bytes_are at short) old mid fault (rw (first_is, at.start_is) at refused)
-
-  later_is : {later : List ℕ} → later ≡ drop 10 after → later ≡ drop 10 (rest B text)
-  later_is back = back ∙ ap (drop 10) at.bytes_are
-
-  more : 10 ≤ length (rest B text)
-  more = let l = rw at.bytes_are at long in omega arith
-
-  module _ {later : List ℕ} {old mid number : ℕ} (back : later ≡ drop 10 after) (read : HasRead B first old mid number) where
-    -- they show an overflow
-    pub decodes_shown : 2 ^ 128 ≤ number * 62 ^ length later → DecodesCounted B text old mid (Err ArithmeticOverflow)
-    decodes_shown big =
-        shown_answer B text ok (some_text B text after start at long) (rw at.bytes_are at short) old mid later mid number more (later_is back) (rw first_is at read) big
-
-    -- at most eleven follow
-    pub decodes_short : {new : ℕ} (r : Result ℕ DecodeError) → length later ≤ 11 → ReadsPart B later (start + 10) mid new r → DecodesCounted B text old new (after_number number (length later) r)
-    decodes_short {new = new} r few read_later =
-        short_answer B text ok (some_text B text after start at long) (rw at.bytes_are at short) old new later mid number more (later_is back) (rw first_is at read)
-        r few (rw at.start_is at read_later)
-
-    -- they show none
-    pub decodes_later : {new : ℕ} (r : Result ℕ DecodeError) → number * 62 ^ length later < 2 ^ 128 → ReadsPart B later (start + 10) mid new r
-        → DecodesCounted B text old new (or_overflow (after_number number (length later) r))
-    decodes_later {new = new} r small read_later =
-        later_answer B text ok (some_text B text after start at long) (rw at.bytes_are at short) old new later mid number more (later_is back) (rw first_is at read)
-        r small (rw at.start_is at read_later)
+      pub decodes_later : number * 62 ^ length later < 2 ^ 128 → DecodesCounted B text old new (or_overflow (after_number number (length later) r))
+      decodes_later small = rest_answer B text ok cut.some cut.short old new (after_number number (length later) r) (weighed_fits small) whole

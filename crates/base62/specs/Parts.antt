@@ -1,11 +1,10 @@
 -- What reading a part of a text answers: its value, or its first byte that is no letter.
-use Rattle.std.specs.Prelude.{◌≡◌, ℕ, ◌+◌, ◌<◌, List, length, slice_index, Result, Ok, Err}
+use Rattle.std.specs.Prelude.{◌≡◌, ℕ, ◌+◌, ◌*◌, ◌^◌, ◌<◌, List, length, slice_index, Result, Ok, Err}
 use Rattle.base62.specs.declared.fault.DecodeError.{DecodeError}
 use Rattle.base62.specs.declared.fault.DecodeError.TheVariants.{InvalidBase62Byte}
 use Rattle.base62.specs.Alphabet.{AreLetters}
 use Rattle.base62.specs.Value.{value}
 use Rattle.base62.specs.Decoding.{invalid_index}
-use Rattle.base62.specs.Decoding.{leading_zeros, rest}
 
 -- the part is letters alone and has this value, and each took a step
 pub record HasRead (B part : List ℕ) (old new number : ℕ) : Type 0 where
@@ -25,7 +24,12 @@ abbrev pub ReadsPart : List ℕ → List ℕ → ℕ → ℕ → ℕ → Result 
 ReadsPart B part start old new (Ok number) = HasRead B part old new number
 ReadsPart B part start old new (Err fault) = HasRefused B part start old new fault
 
--- the bytes after the leading zeros of a text, and where they begin in it
-pub record IsAfterZeros (B text : List ℕ) (start : ℕ) (bytes : List ℕ) : Type 0 where
-  pub start_is : start ≡ leading_zeros B text
-  pub bytes_are : bytes ≡ rest B text
+-- what an answer becomes behind a number that stands n bytes before the end; a fault stays
+abbrev pub after_number : ℕ → ℕ → Result ℕ DecodeError → Result ℕ DecodeError
+after_number number n (Ok m) = Ok (number * 62 ^ n + m)
+after_number number n (Err fault) = Err fault
+
+-- a part is read behind a number
+abbrev pub ReadsOn : List ℕ → ℕ → List ℕ → ℕ → ℕ → ℕ → Result ℕ DecodeError → Type 0
+ReadsOn B number part start old new result =
+    (alone : Result ℕ DecodeError) × ReadsPart B part start old new alone × (result ≡ after_number number (length part) alone)

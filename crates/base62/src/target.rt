@@ -142,7 +142,8 @@ fn append_over<T: Number>(tables: &Tables, num: T, buf: &mut String) -> Result<(
     requires ascii { IsAscii tables.now.letters }
     ensures { AppendsTo tables.now.letters (T.meaning num) buf.old buf.new result }
 {
-    let text = Text::over(tables, num);
+    let mut text = Text::new();
+    text.set(tables, num);
     let text = text.as_str();
     buf.reserve(text.len())?;
     // There is room now, so this can't be refused.
@@ -164,7 +165,7 @@ fn append_over<T: Number>(tables: &Tables, num: T, buf: &mut String) -> Result<(
 pub fn encode_io<T: Number, W: Write>(num: T, w: &mut W) -> io::Result<()>
     ensures { OnOk result (WritesCanonical standard (T.meaning num) (W.contents w.old) (W.contents w.new)) }
 {
-    w.write_all(Text::over(standard_tables(), num).as_bytes())
+    write_over(standard_tables(), num, w)
 }
 
 /// As [`encode_io`], over the alternative alphabet.
@@ -177,7 +178,7 @@ pub fn encode_io<T: Number, W: Write>(num: T, w: &mut W) -> io::Result<()>
 pub fn encode_alternative_io<T: Number, W: Write>(num: T, w: &mut W) -> io::Result<()>
     ensures { OnOk result (WritesCanonical alternative (T.meaning num) (W.contents w.old) (W.contents w.new)) }
 {
-    w.write_all(Text::over(alternative_tables(), num).as_bytes())
+    write_over(alternative_tables(), num, w)
 }
 
 /// As [`encode_io`], over an alphabet of the caller's, of any bytes.
@@ -191,5 +192,15 @@ pub fn encode_alternative_io<T: Number, W: Write>(num: T, w: &mut W) -> io::Resu
 pub fn encode_io_with<T: Number, W: Write>(alphabet: &Alphabet, num: T, w: &mut W) -> io::Result<()>
     ensures { OnOk result (WritesCanonical alphabet.now (T.meaning num) (W.contents w.old) (W.contents w.new)) }
 {
-    w.write_all(Text::over(alphabet.as_tables(), num).as_bytes())
+    write_over(alphabet.as_tables(), num, w)
+}
+
+// Writes the text over the alphabet of the tables.
+fn write_over<T: Number, W: Write>(tables: &Tables, num: T, w: &mut W) -> io::Result<()>
+    requires { AreTables tables.now }
+    ensures { OnOk result (WritesCanonical tables.now.letters (T.meaning num) (W.contents w.old) (W.contents w.new)) }
+{
+    let mut text = Text::new();
+    text.set(tables, num);
+    w.write_all(text.as_bytes())
 }

@@ -28,16 +28,28 @@ impl Model for Text {
 }
 
 impl Text {
-    // The text over the alphabet of the tables.
+    // No letters yet.
+    pub(crate) fn new() -> Text {
+        Text {
+            bytes: [0; MAX_DIGITS],
+            len: 0,
+        }
+    }
+
+    // The text over the alphabet of the tables takes the place of what stood here.
+    pub(crate) fn set<T: Number>(&mut self, tables: &Tables, num: T)
+        requires { AreTables tables.now }
+        ensures { IsCanonical tables.now.letters self.new (T.meaning num) }
+    {
+        self.len = encode_over(tables, num.number(), &mut self.bytes, &mut Work::new()).unwrap();
+    }
+
     pub(crate) fn over<T: Number>(tables: &Tables, num: T) -> Text
         requires { AreTables tables.now }
         ensures { IsCanonical tables.now.letters result (T.meaning num) }
     {
-        let mut text = Text {
-            bytes: [0; MAX_DIGITS],
-            len: 0,
-        };
-        text.len = encode_over(tables, num.number(), &mut text.bytes, &mut Work::new()).unwrap();
+        let mut text = Text::new();
+        text.set(tables, num);
         text
     }
 

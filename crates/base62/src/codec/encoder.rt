@@ -110,6 +110,7 @@ fn cut_by_20(n: u128) -> (u32, u128)
 }
 
 #[cold]
+#[inline(never)]
 fn one_more_20(estimate: u32, rest: u128) -> (u32, u128)
     requires few { estimate ≤ 483 }
     requires some { 62 ^ 20 ≤ rest }
@@ -137,6 +138,7 @@ fn cut_by_10(n: u128) -> (u64, u64)
 }
 
 #[cold]
+#[inline(never)]
 fn one_more_10(estimate: u64, rest: u64) -> (u64, u64)
     requires few { estimate < 62 ^ 10 }
     requires some { 62 ^ 10 ≤ rest }

@@ -1,15 +1,25 @@
-use Rattle.std.proofs.Common.{◌≡◌, ◌-◌, arith}
-use Rattle.std.proofs.lemmas.List.{length-take-le}
-use Rattle.base62.proofs.PartLemmas.{read_none}
+use Rattle.std.proofs.Common.{take, refl, arith}
+use Rattle.base62.specs.Parts.{HasRead}
+use Rattle.base62.proofs.PartLemmas.{read_none, read_below, reads_on_cut}
 use Rattle.base62.proofs.codec.decoder.read_up_to_10.Goals as goal
 use Rattle.base62.proofs.codec.decoder.read_up_to_10.Goals.{then-part-ge5+in_ok-number, else-part-ge5}
 
-pub read_up_to_5-requires-clause-done : goal.read_up_to_5-requires-clause-done
-read_up_to_5-requires-clause-done c = elim c.if-part-ge5.branch [
+pub read_on-requires-clause-number : goal.read_on-requires-clause-number
+read_on-requires-clause-number c = elim c.if-part-ge5.branch [
   | then-part-ge5+in_ok-number w ↦
-      let before : c.args.work.now ≡ w.read_5.new.work - 5 = omega (arith, w.in_ok-number.ensures.steps, w.if-part-ge5.true, length-take-le 5 c.args.part.now) in
-      rw (w.work-is, w.number-is, w.done-is, ← before) w.in_ok-number.ensures
-  | else-part-ge5 w ↦
-      let same : c.args.work.now - 0 ≡ c.args.work.now = omega arith in
-      rw (w.work-is, w.number-is, w.done-is, same) (read_none c.args.tables.now.letters c.args.part.now c.args.work.now)
+      rw w.number-is
+      (read_below c.args.tables.now.letters w.split_at.result.0.now _ _ _ 5 c.requires.tables.alphabet w.in_ok-number.ensures (omega (arith, w.split_at.ensures.front_len)))
+  | else-part-ge5 w ↦ rw w.number-is (omega arith)
 ]
+
+pub returns : goal.returns
+returns c =
+    let B = c.args.tables.now.letters in
+    let part = c.args.part.now in
+    let cut = c.split_at-2.ensures in
+    let done = c.if-part-ge5.done in
+    let read : HasRead B (take done part) c.args.work.now c.if-part-ge5.work c.if-part-ge5.number = elim c.if-part-ge5.branch [
+      | then-part-ge5+in_ok-number w ↦ rw (w.done-is, w.work-is, w.number-is, ← w.split_at.ensures.front) w.in_ok-number.ensures
+      | else-part-ge5 w ↦ rw (w.done-is, w.work-is, w.number-is) (read_none B part c.args.work.now)
+    ] in
+    reads_on_cut B part (take done part) done c.args.start c.args.work.now refl c.split_at-2.result.1.now _ _ _ c.read_on.result cut.back (omega (arith, cut.back_len)) read c.read_on.ensures

@@ -1,0 +1,7 @@
+use Rattle.std.proofs.Common.{◌≡◌, ℕ, ◌+◌, ◌*◌, ◌^◌, ◌≤◌, length, take}
+use Rattle.base62.specs.Parts.{HasRead}
+use Rattle.base62.proofs.codec.decoder.read_on.Given as goal
+
+abbrev pub invariant-loop-i : goal.invariant-loop-i
+invariant-loop-i l =
+    (l.i ≤ length l.part) × ((m : ℕ) × HasRead l.tables.letters (take l.i l.part) l.fn.work l.work m × (l.total ≡ l.number * 62 ^ l.i + m))

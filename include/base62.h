@@ -10,7 +10,8 @@
  * it is given, takes no memory and keeps nothing, so threads may call at once.
  *
  * The caller owes valid memory: no pointer is null, also where a length is 0, and what a call writes overlaps with
- * nothing else that it is given. A null byte or index shows late, at the first fault that is named by them.
+ * nothing else that it is given. A null byte or index shows late, since only a
+ * bad byte or a repeated letter is told there.
  *
  *     char text[BASE62_MAX_DIGITS];
  *     size_t length, index = 0;
@@ -24,7 +25,7 @@
  *
  * It prints LZ, and byte 45 at 2. Link with -lbase62.
  *
- * The code is for x86-64-v2. An older processor may end the program by an illegal instruction.
+ * The code is for Linux on x86-64-v2. An older processor may end the program by an illegal instruction.
  */
 #ifndef BASE62_H
 #define BASE62_H

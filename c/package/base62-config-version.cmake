@@ -1,9 +1,10 @@
-# A version suits that is no later than this one and has its soname, and a program of 64 bits.
+# An earlier version of the same soname can be asked for, or a range with this one, by a program of 64 bits.
 set(PACKAGE_VERSION "@VERSION@")
+string(REGEX MATCH "^[0-9]+" base62_major "${PACKAGE_VERSION}")
 if(PACKAGE_FIND_VERSION VERSION_EQUAL PACKAGE_VERSION)
     set(PACKAGE_VERSION_EXACT TRUE)
 endif()
-if(PACKAGE_FIND_VERSION_MAJOR EQUAL "@MAJOR@" AND NOT PACKAGE_FIND_VERSION VERSION_GREATER PACKAGE_VERSION)
+if(PACKAGE_FIND_VERSION_MAJOR EQUAL base62_major AND NOT PACKAGE_FIND_VERSION VERSION_GREATER PACKAGE_VERSION)
     set(PACKAGE_VERSION_COMPATIBLE TRUE)
 endif()
 if(PACKAGE_FIND_VERSION_RANGE)

@@ -76,7 +76,7 @@ def kind_of(written):
 
 
 def calls(name, result, parameters):
-    """Statements that call a function, each with the warning that it has to get: none for the first one."""
+    """Statements that call a function, each with the warning that it has to get, or None."""
     kinds = [kind_of(written) for written in parameters]
     right = [ARGUMENTS[kind] for kind in kinds]
     put = {"void": "", "size_t": "size = ", "base62_status": "status = "}[result]
@@ -95,6 +95,8 @@ def calls(name, result, parameters):
 
 
 class Header(unittest.TestCase):
+    maxDiff = None
+
     def test_version(self):
         version = (TOP / "VERSION").read_text().strip()
         words = "BASE62_VERSION BASE62_VERSION_MAJOR BASE62_VERSION_MINOR BASE62_VERSION_PATCH"

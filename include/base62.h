@@ -4,13 +4,14 @@
  * A number is two halves of 64 bits: high * 2^64 + low. A text is a pointer and a length, and no byte with the
  * value 0 ends it. The standard alphabet is the digits, then the capital letters, then the small ones; the
  * alternative one has the small letters before the capital ones. One of the caller's own is 62 distinct bytes, of
- * which the first is its zero. Zeros in front change no number.
+ * which the first is its zero, and each call over it looks at all 62. Zeros in front change no number.
  *
  * What a call does not say that it writes, it leaves as it was. It reads and writes nothing beyond the lengths that
  * it is given, takes no memory and keeps nothing, so threads may call at once.
  *
  * The caller owes valid memory: no pointer is null, also where a length is 0, and what a call writes overlaps with
- * nothing else that it is given.
+ * nothing else that it is given. A null byte or index shows late, since only a
+ * bad byte or a repeated letter is told there.
  *
  *     char text[BASE62_MAX_DIGITS];
  *     size_t length, index = 0;
@@ -23,6 +24,8 @@
  *         printf("byte %d at %zu\n", byte, index);
  *
  * It prints LZ, and byte 45 at 2. Link with -lbase62.
+ *
+ * The code is for Linux on x86-64-v2. An older processor may end the program by an illegal instruction.
  */
 #ifndef BASE62_H
 #define BASE62_H
@@ -33,6 +36,11 @@
 #ifdef __cplusplus
 extern "C" {
 #endif
+
+#define BASE62_VERSION "0.9.0"
+#define BASE62_VERSION_MAJOR 0
+#define BASE62_VERSION_MINOR 9
+#define BASE62_VERSION_PATCH 0
 
 /* The letters of the longest text of a number. No buffer of this size is too small for one. */
 #define BASE62_MAX_DIGITS 22
@@ -56,22 +64,44 @@ typedef enum base62_status {
     BASE62_REPEATED_LETTER = 6
 } base62_status;
 
+/* For compilers that have attributes: no pointer is null, an answer is looked at, so many bytes are read or written. */
+#ifdef __GNUC__
+#define BASE62_NO_NULL __attribute__((__nonnull__))
+#define BASE62_LOOK_AT __attribute__((__nonnull__, __warn_unused_result__))
+#else
+#define BASE62_NO_NULL
+#define BASE62_LOOK_AT
+#endif
+#ifdef __has_attribute
+#if __has_attribute(__access__)
+#define BASE62_READS(text, length) __attribute__((__access__(__read_only__, text, length)))
+#define BASE62_WRITES(buffer, size) __attribute__((__access__(__write_only__, buffer, size)))
+#endif
+#endif
+#ifndef BASE62_READS
+#define BASE62_READS(text, length)
+#define BASE62_WRITES(buffer, size)
+#endif
+
 /*
  * Writes the text of a number to the front of a buffer: the shortest nonempty one that denotes it.
  *
  * BASE62_OK: the text is written, and its length, from 1 to 22, at length.
  * BASE62_BUFFER_TOO_SMALL: size is less than that length, so never at BASE62_MAX_DIGITS or more.
  */
+BASE62_NO_NULL BASE62_WRITES(3, 4)
 base62_status base62_encode(uint64_t high, uint64_t low, char *buffer, size_t size, size_t *length);
 
 /* The same over the alternative alphabet. */
+BASE62_NO_NULL BASE62_WRITES(3, 4)
 base62_status base62_encode_alternative(uint64_t high, uint64_t low, char *buffer, size_t size, size_t *length);
 
 /*
- * The same over an alphabet of the caller's own, which each call looks through anew.
+ * The same over an alphabet of the caller's own.
  *
  * BASE62_REPEATED_LETTER: a letter of the alphabet stands there twice. This comes before the others.
  */
+BASE62_NO_NULL BASE62_WRITES(4, 5)
 base62_status base62_encode_with(const char letters[BASE62_ALPHABET_LENGTH], uint64_t high, uint64_t low, char *buffer,
                                  size_t size, size_t *length);
 
@@ -87,10 +117,12 @@ base62_status base62_encode_with(const char letters[BASE62_ALPHABET_LENGTH], uin
  * BASE62_OVERFLOW: the text denotes 2^128 or more.
  * BASE62_OK: the number is written at high and low.
  */
+BASE62_LOOK_AT BASE62_READS(1, 2)
 base62_status base62_decode(const char *text, size_t length, uint64_t *high, uint64_t *low, unsigned char *byte,
                             size_t *index);
 
 /* The same over the alternative alphabet. */
+BASE62_LOOK_AT BASE62_READS(1, 2)
 base62_status base62_decode_alternative(const char *text, size_t length, uint64_t *high, uint64_t *low,
                                         unsigned char *byte, size_t *index);
 
@@ -100,6 +132,7 @@ base62_status base62_decode_alternative(const char *text, size_t length, uint64_
  * BASE62_REPEATED_LETTER: a letter of the alphabet is repeated, and told as by base62_check_alphabet. This comes before
  *     the others.
  */
+BASE62_LOOK_AT BASE62_READS(2, 3)
 base62_status base62_decode_with(const char letters[BASE62_ALPHABET_LENGTH], const char *text, size_t length,
                                  uint64_t *high, uint64_t *low, unsigned char *byte, size_t *index);
 
@@ -110,6 +143,7 @@ base62_status base62_decode_with(const char letters[BASE62_ALPHABET_LENGTH], con
  * BASE62_REPEATED_LETTER: the first letter that stands before its place too is written at byte, and that place,
  *     counted from 0, at index.
  */
+BASE62_LOOK_AT
 base62_status base62_check_alphabet(const char letters[BASE62_ALPHABET_LENGTH], unsigned char *byte, size_t *index);
 
 /* The length of the text of a number, from 1 to 22, over any alphabet. */
@@ -119,6 +153,7 @@ size_t base62_digit_count(uint64_t high, uint64_t low);
  * Writes the key of a number: the standard text of exactly 22 letters that denotes it, with zeros in front. Keys
  * sort by memcmp as their numbers, and base62_decode reads them.
  */
+BASE62_NO_NULL
 void base62_encode_key(uint64_t high, uint64_t low, char key[BASE62_KEY_LENGTH]);
 
 /*
@@ -129,6 +164,7 @@ void base62_encode_key(uint64_t high, uint64_t low, char key[BASE62_KEY_LENGTH])
  * BASE62_NO_KEY: no key of a number below 2^128 begins so.
  * BASE62_OK: they are the numbers from the least to the greatest, which are written.
  */
+BASE62_LOOK_AT BASE62_READS(1, 2)
 base62_status base62_key_range(const char *front, size_t length, uint64_t *least_high, uint64_t *least_low,
                                uint64_t *greatest_high, uint64_t *greatest_low, unsigned char *byte,
                                size_t *index);
@@ -140,8 +176,14 @@ base62_status base62_key_range(const char *front, size_t length, uint64_t *least
  * BASE62_OK: the text is written, and its length at length.
  * BASE62_BUFFER_TOO_SMALL: size is less than that length, so never at BASE62_MAX_FAULT_TEXT or more.
  */
+BASE62_NO_NULL BASE62_WRITES(4, 5)
 base62_status base62_fault_text(base62_status status, unsigned char byte, size_t index, char *buffer, size_t size,
                                 size_t *length);
+
+#undef BASE62_NO_NULL
+#undef BASE62_LOOK_AT
+#undef BASE62_READS
+#undef BASE62_WRITES
 
 #ifdef __cplusplus
 }

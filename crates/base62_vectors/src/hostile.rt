@@ -1,6 +1,6 @@
 //! The decoders held against the table of cases, and the encoders against the digit loop.
 
-use crate::support::alphabets::{ALL, BOTH, Letters};
+use crate::support::alphabets::{BOTH, FOUR, Letters};
 use crate::support::checks::{FILLER, assert_decodes, assert_encodes, plain_text};
 use crate::support::random::Random;
 use crate::support::reference::{plain_decode, plain_letters};
@@ -20,7 +20,7 @@ fn assert_each_length(rt: &impl Abort, alphabet: Letters, text: &[u8; 24]) {
 
 #[test]
 fn each_length(rt: HostRuntime) {
-    for alphabet in ALL {
+    for alphabet in FOUR {
         let letters = alphabet.letters();
         for byte in [letters[0], letters[1], letters[61], b'!'] {
             assert_each_length(&rt, alphabet, &[byte; 24]);
@@ -31,7 +31,7 @@ fn each_length(rt: HostRuntime) {
 // 24 bytes, two zeros, a `1` and more zeros, with any byte in place of each.
 #[test]
 fn each_byte(rt: HostRuntime) {
-    for alphabet in ALL {
+    for alphabet in FOUR {
         let letters = alphabet.letters();
         for byte in 0..=255_u8 {
             for place in 0..24_usize {
@@ -47,7 +47,7 @@ fn each_byte(rt: HostRuntime) {
 // In texts of each length two bytes are no letters. Of 22 letters the second text shows an overflow by its first ten.
 #[test]
 fn two_bad_bytes(rt: HostRuntime) {
-    for alphabet in ALL {
+    for alphabet in FOUR {
         let letters = alphabet.letters();
         let mut largest = [letters[0]; 24];
         largest[2..].copy_from_slice(&plain_letters(letters, u128::MAX));
@@ -100,7 +100,7 @@ fn near_letters(random: &mut Random, letters: &[u8; 62]) -> [u8; 22] {
 #[test]
 fn texts_near_borders(rt: HostRuntime) {
     let mut random = Random::new();
-    for alphabet in ALL {
+    for alphabet in FOUR {
         let letters = alphabet.letters();
         for _ in 0..2_000 {
             let mut text = [letters[0]; 24];
@@ -137,7 +137,7 @@ fn assert_by_digits(rt: &impl Abort, alphabet: Letters, number: u128) {
 #[test]
 fn numbers_near_round_ones(rt: HostRuntime) {
     let mut random = Random::new();
-    for alphabet in ALL {
+    for alphabet in FOUR {
         for _ in 0..400 {
             let number = round_number(&mut random);
             assert_by_digits(&rt, alphabet, number);
@@ -150,7 +150,7 @@ fn numbers_near_round_ones(rt: HostRuntime) {
     }
 }
 
-// A number of 22 letters is cut by its quotient by 62^10, and this by its quotient by 62^10 again.
+// Kernels cut numbers at the multiples of 62^10, and those of 62^20 among them.
 const CUT: u128 = 839299365868340224;
 
 // So many times 62^10, the number before it and the one after it. The buffer has no byte to spare.
@@ -167,16 +167,13 @@ fn assert_around(rt: &impl Abort, quotient: u128) {
     }
 }
 
-// Around each multiple of 62^20 and the multiples of 62^10 beside it, of which the last are all below 2^128, and around
-// multiples of 62^10 of all lengths and of the greatest ones.
+// Each multiple of 62^20, and the multiples of 62^10 beside it; and others of all lengths and among the greatest.
 #[test]
 fn numbers_around_cuts(rt: HostRuntime) {
-    for top in 0..=483_u128 {
-        let quotient = top.wrapping_mul(CUT);
-        assert_around(&rt, quotient);
-        assert_around(&rt, quotient.wrapping_add(1));
-        if top > 0 {
-            assert_around(&rt, quotient.wrapping_sub(1));
+    for top in 0..=483_u64 {
+        let quotient = u128::from(top).wrapping_mul(CUT);
+        for beside in [quotient.wrapping_sub(1), quotient, quotient.wrapping_add(1)] {
+            assert_around(&rt, beside);
         }
     }
     let mut random = Random::new();

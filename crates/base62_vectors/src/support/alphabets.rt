@@ -44,8 +44,8 @@ pub(crate) enum Letters {
 
 pub(crate) const BOTH: [Letters; 2] = [Letters::Standard, Letters::Alternative];
 
-// Those that inputs as if by chance go over.
-pub(crate) const ALL: [Letters; 4] = [
+// Those, one whose letters descend and one that has no ASCII.
+pub(crate) const FOUR: [Letters; 4] = [
     Letters::Standard,
     Letters::Alternative,
     Letters::Descending,

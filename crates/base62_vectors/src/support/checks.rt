@@ -1,5 +1,7 @@
 //! What an encoder and a decoder owe for one number or text, in each of their forms.
 
+ghost use Rattle.std.specs.Prelude.{◌≤◌};
+
 use super::alphabets::Letters;
 use super::reference::{plain_decode, plain_letters, plain_zeros};
 use base62::EncodeError::BufferTooSmall;
@@ -47,7 +49,9 @@ pub(crate) fn assert_encodes<T: Number + Copy>(
 }
 
 // The digit loop's letters of a number, and how many zeros stand before its text. Of 0 the last zero is the text.
-pub(crate) fn plain_text(alphabet: Letters, number: u128) -> ([u8; 22], usize) {
+pub(crate) fn plain_text(alphabet: Letters, number: u128) -> ([u8; 22], usize)
+    ensures { result.1 ≤ 21 }
+{
     let letters = plain_letters(alphabet.letters(), number);
     (letters, plain_zeros(alphabet.letters(), &letters).min(21))
 }

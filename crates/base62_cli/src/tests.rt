@@ -6,9 +6,6 @@ mod memory;
 mod replies;
 mod streams;
 
-// How many bytes a read of a run may take.
-const READS: [usize; 2] = [8192, 32768];
-
 // The stored run.
 const STORED_INPUT: &str = "enc 1337\nalt 1337\ndec rustlang\nadc rustlang\ndec \nenc x\nfoo\n";
 

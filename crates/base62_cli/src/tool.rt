@@ -11,7 +11,8 @@ use std::alloc::{AllocError, Global};
 use std::io::{Read, Write};
 use std::simd::prelude::*;
 
-const CHUNK_LEN: usize = 32768;
+// How many bytes a read may take.
+pub(crate) const CHUNK_LEN: usize = 32768;
 
 /// Answers each line of the reader, in order, and writes nothing else.
 ///

@@ -1,142 +1,163 @@
 //! Numbers and their texts over both alphabets, both ways, and the inputs that are refused.
 
-use crate::alphabets::{Letters, in_both, texts};
-use crate::plain::{plain_decode, plain_letters};
+use crate::support::alphabets::{BOTH, Letters, in_both, texts};
+use crate::support::checks::{assert_decodes, assert_encodes, plain_text};
+use base62::DecodeError;
 use base62::DecodeError::{ArithmeticOverflow, EmptyInput, InvalidBase62Byte};
-use base62::EncodeError::BufferTooSmall;
-use base62::{DecodeError, Number, Work};
 use std::process::Abort;
 use std::test::Fail;
 
-// What a buffer holds before a call, so that each byte that the call leaves alone shows. It is no letter.
-const FILLER: u8 = 0xa5;
-
-// Into a buffer of each length: the text comes at its front with no other byte written, or it is too short and no byte
-// is written. So does the counted call.
-pub(crate) fn assert_encodes<T: Number + Copy>(
-    rt: &impl Abort,
-    alphabet: Letters,
-    number: T,
-    text: &[u8],
-) {
-    assert!(rt; text.len() <= 22, "the text {text:?} is longer than any");
-    let untouched = [FILLER; 24];
-    let mut written = untouched;
-    written[..text.len()].copy_from_slice(text);
-    for length in 0..=24_usize {
-        let (answer, wanted) = if length < text.len() {
-            (Err(BufferTooSmall), untouched)
-        } else {
-            (Ok(text.len()), written)
-        };
-        let mut bytes = untouched;
-        let outcome = alphabet.encode(number, &mut bytes[..length]);
-        let mut counted = untouched;
-        let again = alphabet.encode_counted(number, &mut counted[..length], &mut Work::new());
-        for (outcome, bytes) in [(outcome, bytes), (again, counted)] {
-            assert_eq!(rt;
-                outcome,
-                answer,
-                "encoding to {text:?} in {length} bytes, {alphabet:?}"
-            );
-            assert_eq!(rt;
-                bytes,
-                wanted,
-                "encoding to {text:?} in {length} bytes, {alphabet:?}"
-            );
-        }
-    }
-}
-
-// The table of texts is that of a plain digit loop, but for the zeros that this has in front.
+// The table of texts is that of the plain digit loop.
 #[test]
 fn texts_by_division(rt: HostRuntime) -> Result<(), Fail> {
-    for (alphabet, number, text) in &texts(&rt)? {
-        let letters = plain_letters(alphabet.letters(), *number);
-        let zeros = "0".repeat(rt.alloc(), 22_usize.saturating_sub(text.len()))?;
-        let wanted = format!(in rt.alloc(); "{zeros}{text}")?;
-        assert_eq!(rt;
-            letters.as_slice(),
-            wanted.as_bytes(),
-            "{number}, {alphabet:?}"
-        );
+    for alphabet in BOTH {
+        for (number, text) in &texts(&rt, alphabet)? {
+            let (letters, zeros) = plain_text(alphabet, *number);
+            assert_eq!(rt;
+                &letters[zeros..],
+                text.as_bytes(),
+                "{number}, {alphabet:?}"
+            );
+        }
     }
     Ok(())
 }
 
 // A number below 2^64 is encoded as each of the two types.
-#[test]
-fn numbers_and_texts(rt: HostRuntime) -> Result<(), Fail> {
-    for (alphabet, number, text) in &texts(&rt)? {
-        assert_encodes(&rt, *alphabet, *number, text.as_bytes());
+fn assert_texts(rt: &(impl Abort + AllocGlobal), alphabet: Letters) -> Result<(), Fail> {
+    assert_encodes(rt, alphabet, 0_u8, b"0");
+    for (number, text) in &texts(rt, alphabet)? {
+        assert_encodes(rt, alphabet, *number, text.as_bytes());
         if let Ok(small) = u64::try_from(*number) {
-            assert_encodes(&rt, *alphabet, small, text.as_bytes());
+            assert_encodes(rt, alphabet, small, text.as_bytes());
         }
-        let outcome = alphabet.decode(text.as_bytes());
-        assert_eq!(rt; outcome, Ok(*number), "decoding {text:?}, {alphabet:?}");
     }
     Ok(())
 }
 
-// The decoder gives the answer, and so do the counted one and the table of cases.
-pub(crate) fn assert_decodes(
-    rt: &impl Abort,
-    alphabet: Letters,
-    text: &[u8],
-    answer: Result<u128, DecodeError>,
-) {
-    let counted = alphabet.decode_counted(text, &mut Work::new());
-    let plain = plain_decode(alphabet.letters(), text);
-    for outcome in [alphabet.decode(text), counted, plain] {
-        assert_eq!(rt; outcome, answer, "decoding {text:?}, {alphabet:?}");
+#[test]
+fn test_encode_bytes(rt: HostRuntime) -> Result<(), Fail> {
+    assert_texts(&rt, Letters::Standard)
+}
+
+#[test]
+fn test_encode_alternative_bytes(rt: HostRuntime) -> Result<(), Fail> {
+    assert_texts(&rt, Letters::Alternative)
+}
+
+// Around each number at which a text, a type or all numbers end.
+#[test]
+fn test_encode_exact_and_short_buffers(rt: HostRuntime) {
+    let mut centers = [18446744073709551615; 25];
+    let mut power: u128 = 1;
+    for center in &mut centers[..22] {
+        *center = power;
+        power = power.wrapping_mul(62);
+    }
+    centers[23] = 18446744073709551616;
+    centers[24] = 340282366920938463463374607431768211454;
+    for center in centers {
+        for number in [center.wrapping_sub(1), center, center.wrapping_add(1)] {
+            for alphabet in BOTH {
+                let (letters, zeros) = plain_text(alphabet, number);
+                assert_encodes(&rt, alphabet, number, &letters[zeros..]);
+            }
+        }
     }
 }
 
 // Each text with what it denotes over the standard and over the alternative alphabet.
-#[test]
-fn decoded_texts(rt: HostRuntime) {
-    let rows = [
-        ("00", 0, 0),
-        ("000", 0, 0),
-        ("0000000000000000000000", 0, 0),
-        (
-            "00001000000000000000000000",
-            43674252383913877424036476406214950912,
-            43674252383913877424036476406214950912,
-        ),
-        ("lz", 2975, 1337),
-        ("LZ", 1337, 2975),
-        (
-            "111111111111111111111",
-            715971350555965203672729121413359851,
-            715971350555965203672729121413359851,
-        ),
-        (
-            "1111111111111111111111",
-            44390223734469842627709205527628310763,
-            44390223734469842627709205527628310763,
-        ),
-        ("rustlang", 189876682536016, 96813686712946),
-        ("RUSTLANG", 96813686712946, 189876682536016),
-    ];
-    for (text, standard, alternative) in rows {
-        assert_decodes(&rt, Letters::Standard, text.as_bytes(), Ok(standard));
-        assert_decodes(&rt, Letters::Alternative, text.as_bytes(), Ok(alternative));
+const DECODED: [(&str, u128, u128); 10] = [
+    ("00", 0, 0),
+    ("000", 0, 0),
+    ("0000000000000000000000", 0, 0),
+    (
+        "00001000000000000000000000",
+        43674252383913877424036476406214950912,
+        43674252383913877424036476406214950912,
+    ),
+    ("lz", 2975, 1337),
+    ("LZ", 1337, 2975),
+    (
+        "111111111111111111111",
+        715971350555965203672729121413359851,
+        715971350555965203672729121413359851,
+    ),
+    (
+        "1111111111111111111111",
+        44390223734469842627709205527628310763,
+        44390223734469842627709205527628310763,
+    ),
+    ("rustlang", 189876682536016, 96813686712946),
+    ("RUSTLANG", 96813686712946, 189876682536016),
+];
+
+fn assert_numbers(rt: &(impl Abort + AllocGlobal), alphabet: Letters) -> Result<(), Fail> {
+    for (number, text) in &texts(rt, alphabet)? {
+        assert_decodes(rt, alphabet, text.as_bytes(), Ok(*number));
     }
+    for (text, standard, alternative) in DECODED {
+        let number = alphabet.of_two(standard, alternative);
+        assert_decodes(rt, alphabet, text.as_bytes(), Ok(number));
+    }
+    Ok(())
+}
+
+#[test]
+fn test_decode(rt: HostRuntime) -> Result<(), Fail> {
+    assert_numbers(&rt, Letters::Standard)
+}
+
+#[test]
+fn test_decode_alternative(rt: HostRuntime) -> Result<(), Fail> {
+    assert_numbers(&rt, Letters::Alternative)
+}
+
+#[test]
+fn test_decode_empty_input(rt: HostRuntime) {
+    assert_decodes(&rt, Letters::Standard, b"", Err(EmptyInput));
+}
+
+#[test]
+fn test_decode_alternative_empty_input(rt: HostRuntime) {
+    assert_decodes(&rt, Letters::Alternative, b"", Err(EmptyInput));
+}
+
+#[test]
+fn test_decode_overflow(rt: HostRuntime) {
+    assert_decodes(&rt, Letters::Standard, &[b'1'; 23], Err(ArithmeticOverflow));
+}
+
+#[test]
+fn test_decode_alternative_overflow(rt: HostRuntime) {
+    assert_decodes(
+        &rt,
+        Letters::Alternative,
+        &[b'1'; 23],
+        Err(ArithmeticOverflow),
+    );
+}
+
+#[test]
+fn test_decode_invalid_char(rt: HostRuntime) {
+    assert_decodes(&rt, Letters::Standard, b"!", Err(InvalidBase62Byte(33, 0)));
+}
+
+#[test]
+fn test_decode_alternative_invalid_char(rt: HostRuntime) {
+    assert_decodes(
+        &rt,
+        Letters::Alternative,
+        b"!",
+        Err(InvalidBase62Byte(33, 0)),
+    );
 }
 
 // Which fault is reported, where a text has more than one.
 // Each row has a text for each alphabet, the standard one first.
-const REFUSED: [(&str, &str, DecodeError); 13] = [
-    ("", "", EmptyInput),
-    ("!", "!", InvalidBase62Byte(b'!', 0)),
+const REFUSED: [(&str, &str, DecodeError); 10] = [
     ("0!", "0!", InvalidBase62Byte(b'!', 1)),
     // A text of more than 22 bytes after its leading zeros is refused before any of them is looked at.
-    (
-        "11111111111111111111111",
-        "11111111111111111111111",
-        ArithmeticOverflow,
-    ),
     (
         "!0000000000000000000000",
         "!0000000000000000000000",
@@ -186,8 +207,22 @@ const REFUSED: [(&str, &str, DecodeError); 13] = [
     ),
 ];
 
+// At the ends of the parts in which 22 letters are read, each byte that is no letter is reported with its index.
 #[test]
-fn refused_texts(rt: HostRuntime) {
+fn test_decode_invalid_bytes_and_overflow_precedence(rt: HostRuntime) {
+    for byte in 0..=255_u8 {
+        if byte.is_ascii_alphanumeric() {
+            continue;
+        }
+        for place in [2, 3, 11, 12, 21, 22, 23_usize] {
+            let mut text = [b'0'; 24];
+            text[2] = b'1';
+            text[place] = byte;
+            for alphabet in BOTH {
+                assert_decodes(&rt, alphabet, &text, Err(InvalidBase62Byte(byte, place)));
+            }
+        }
+    }
     for (standard, alternative, fault) in REFUSED {
         for (alphabet, text) in in_both(standard, alternative) {
             assert_decodes(&rt, alphabet, text.as_bytes(), Err(fault));

@@ -1,7 +1,7 @@
 //! Writers that take a byte a call, that fail, and that take nothing.
 
-use crate::alphabets::{Letters, in_ascii};
-use crate::writers::TestWriter;
+use crate::support::alphabets::{Letters, in_ascii};
+use crate::support::writers::TestWriter;
 use std::io::ErrorKind;
 use std::process::Abort;
 

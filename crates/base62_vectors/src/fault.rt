@@ -115,21 +115,18 @@ fn shown_bytes(rt: HostRuntime) -> Result<(), Fail> {
     Ok(())
 }
 
-// A copy and a clone of each fault equal that fault alone, and each fault has some debug text.
+// A copy and a clone of each fault equal that fault alone.
 fn assert_derives<F: Copy + fmt::Debug + PartialEq>(
     rt: &impl Abort,
-    alloc: Global,
     faults: &[F],
 ) -> Result<(), Fail> {
     for (place, fault) in faults.iter().enumerate() {
         let copy = *fault;
         let clone = fault.clone()?;
-        let debug = format!(in alloc; "{fault:?}")?;
-        assert!(rt; !debug.is_empty(), "the fault at {place} has no debug text");
         for (other_place, other) in faults.iter().enumerate() {
             let same = place == other_place;
-            assert_eq!(rt; copy == *other, same, "a copy of {debug} and {other:?}");
-            assert_eq!(rt; clone == *other, same, "a clone of {debug} and {other:?}");
+            assert_eq!(rt; copy == *other, same, "a copy of {fault:?} and {other:?}");
+            assert_eq!(rt; clone == *other, same, "a clone of {fault:?} and {other:?}");
         }
     }
     Ok(())
@@ -144,8 +141,8 @@ fn derived_traits(rt: HostRuntime) -> Result<(), Fail> {
         InvalidBase62Byte(b'!', 8),
         InvalidBase62Byte(b'?', 7),
     ];
-    assert_derives(&rt, rt.alloc(), &decoding)?;
-    assert_derives(&rt, rt.alloc(), &[BufferTooSmall])
+    assert_derives(&rt, &decoding)?;
+    assert_derives(&rt, &[BufferTooSmall])
 }
 
 // Some faults of decoding from the least to the greatest, and the same in another order.

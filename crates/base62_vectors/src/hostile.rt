@@ -1,9 +1,9 @@
 //! The decoders held against the table of cases, and the encoders against the digit loop.
 
-use crate::alphabets::{ALL, BOTH, Letters};
-use crate::codec::{assert_decodes, assert_encodes};
-use crate::plain::{plain_decode, plain_letters, plain_zeros};
-use crate::random::Random;
+use crate::support::alphabets::{BOTH, FOUR, Letters};
+use crate::support::checks::{FILLER, assert_decodes, assert_encodes, plain_text};
+use crate::support::random::Random;
+use crate::support::reference::{plain_decode, plain_letters};
 use base62::DecodeError::{ArithmeticOverflow, InvalidBase62Byte};
 use base62::digit_count;
 use std::process::Abort;
@@ -20,7 +20,7 @@ fn assert_each_length(rt: &impl Abort, alphabet: Letters, text: &[u8; 24]) {
 
 #[test]
 fn each_length(rt: HostRuntime) {
-    for alphabet in ALL {
+    for alphabet in FOUR {
         let letters = alphabet.letters();
         for byte in [letters[0], letters[1], letters[61], b'!'] {
             assert_each_length(&rt, alphabet, &[byte; 24]);
@@ -31,7 +31,7 @@ fn each_length(rt: HostRuntime) {
 // 24 bytes, two zeros, a `1` and more zeros, with any byte in place of each.
 #[test]
 fn each_byte(rt: HostRuntime) {
-    for alphabet in ALL {
+    for alphabet in FOUR {
         let letters = alphabet.letters();
         for byte in 0..=255_u8 {
             for place in 0..24_usize {
@@ -47,7 +47,7 @@ fn each_byte(rt: HostRuntime) {
 // In texts of each length two bytes are no letters. Of 22 letters the second text shows an overflow by its first ten.
 #[test]
 fn two_bad_bytes(rt: HostRuntime) {
-    for alphabet in ALL {
+    for alphabet in FOUR {
         let letters = alphabet.letters();
         let mut largest = [letters[0]; 24];
         largest[2..].copy_from_slice(&plain_letters(letters, u128::MAX));
@@ -100,7 +100,7 @@ fn near_letters(random: &mut Random, letters: &[u8; 62]) -> [u8; 22] {
 #[test]
 fn texts_near_borders(rt: HostRuntime) {
     let mut random = Random::new();
-    for alphabet in ALL {
+    for alphabet in FOUR {
         let letters = alphabet.letters();
         for _ in 0..2_000 {
             let mut text = [letters[0]; 24];
@@ -116,34 +116,28 @@ fn texts_near_borders(rt: HostRuntime) {
     }
 }
 
-// A few times a power of 62, a power of 2, or a multiple of 62^10.
+// A few times a power of 62, or a power of 2.
 fn round_number(random: &mut Random) -> u128 {
-    match random.below(3) {
-        0 => {
-            let mut number = u128::from(random.below(62));
-            for _ in 0..random.below(22) {
-                number = number.wrapping_mul(62);
-            }
-            number
-        }
-        1 => 1 << random.below(128),
-        _ => u128::from(random.number()) * 839299365868340224,
+    if random.below(2) == 0 {
+        return 1 << random.below(128);
     }
+    let mut number = u128::from(random.below(62));
+    for _ in 0..random.below(22) {
+        number = number.wrapping_mul(62);
+    }
+    number
 }
 
 fn assert_by_digits(rt: &impl Abort, alphabet: Letters, number: u128) {
-    let letters = alphabet.letters();
-    let text = plain_letters(letters, number);
-    // Of 0 the last zero is the text.
-    let start = plain_zeros(letters, &text).min(21);
-    assert_encodes(rt, alphabet, number, &text[start..]);
-    assert_eq!(rt; digit_count(number), 22 - start, "the digits of {number}");
+    let (letters, zeros) = plain_text(alphabet, number);
+    assert_encodes(rt, alphabet, number, &letters[zeros..]);
+    assert_eq!(rt; digit_count(number), 22 - zeros, "the digits of {number}");
 }
 
 #[test]
 fn numbers_near_round_ones(rt: HostRuntime) {
     let mut random = Random::new();
-    for alphabet in ALL {
+    for alphabet in FOUR {
         for _ in 0..400 {
             let number = round_number(&mut random);
             assert_by_digits(&rt, alphabet, number);
@@ -153,5 +147,39 @@ fn numbers_near_round_ones(rt: HostRuntime) {
             assert_by_digits(&rt, alphabet, number.wrapping_add(1));
             assert_by_digits(&rt, alphabet, number.wrapping_sub(1));
         }
+    }
+}
+
+// Kernels cut numbers at the multiples of 62^10, and those of 62^20 among them.
+const CUT: u128 = 839299365868340224;
+
+// So many times 62^10, the number before it and the one after it. The buffer has no byte to spare.
+fn assert_around(rt: &impl Abort, quotient: u128) {
+    let multiple = quotient.wrapping_mul(CUT);
+    for number in [multiple.wrapping_sub(1), multiple, multiple.wrapping_add(1)] {
+        for alphabet in BOTH {
+            let (letters, zeros) = plain_text(alphabet, number);
+            let mut text = [FILLER; 22];
+            let answer = alphabet.encode(number, &mut text[zeros..]);
+            assert_eq!(rt; answer, Ok(22 - zeros), "{number}, {alphabet:?}");
+            assert_eq!(rt; &text[zeros..], &letters[zeros..], "{number}, {alphabet:?}");
+        }
+    }
+}
+
+// Each multiple of 62^20, and the multiples of 62^10 beside it; and others of all lengths and among the greatest.
+#[test]
+fn numbers_around_cuts(rt: HostRuntime) {
+    for top in 0..=483_u64 {
+        let quotient = u128::from(top).wrapping_mul(CUT);
+        for beside in [quotient.wrapping_sub(1), quotient, quotient.wrapping_add(1)] {
+            assert_around(&rt, beside);
+        }
+    }
+    let mut random = Random::new();
+    for _ in 0..2_000 {
+        assert_around(&rt, u128::from(random.number()));
+        let high = u128::from(random.bits()) << 64;
+        assert_around(&rt, (high | u128::from(random.bits())) / CUT);
     }
 }

@@ -1,7 +1,7 @@
 //! Keys, which sort as their numbers, and the ranges of the keys that begin alike.
 
-use crate::alphabets::Letters;
-use crate::plain::{plain_digit, plain_letters};
+use crate::support::alphabets::Letters;
+use crate::support::reference::{plain_digit, plain_letters};
 use base62::DecodeError::InvalidBase62Byte;
 use base62::{decode, encode_key, key_range};
 use std::alloc::{AllocError, Global};

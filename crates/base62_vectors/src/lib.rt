@@ -1,9 +1,7 @@
-//! Tests of `base62` by topic, against values from outside and plain code, and counted calls whose contracts
+//! Tests of `base62` by its modules, against values from outside and plain code, and counted calls whose contracts
 //! state the answer and the steps.
 #![tactic(auto)]
 
-#[cfg(test)]
-mod alphabets;
 #[cfg(test)]
 mod codec;
 #[cfg(test)]
@@ -25,13 +23,9 @@ mod number;
 #[cfg(test)]
 mod own_alphabets;
 #[cfg(test)]
-mod plain;
-#[cfg(test)]
-mod random;
-#[cfg(test)]
 mod show;
 pub mod steps;
 #[cfg(test)]
-mod target;
+mod support;
 #[cfg(test)]
-mod writers;
+mod target;

@@ -1,6 +1,7 @@
 //! What the calls that make texts answer where they are refused memory, and which calls ask for none.
 
-use crate::alphabets::{Letters, in_ascii};
+use crate::support::alphabets::{Letters, in_ascii};
+use crate::support::checks::FILLER;
 use base62::{DecodeError, digit_count, encode_fmt, encode_fmt_alt, encode_key, key_range};
 use std::process::Abort;
 use std::test::Fail;
@@ -11,36 +12,45 @@ const DESCENDING: &str = "sCvxmjduWKEFqCrD6skINs";
 
 const STANDARD: &str = "7n42DGM5Tflk9n8mt7Fhc7";
 
-const EARLIER: &str = "Base62: ";
+const BASE62: &str = "Base62: Base62";
 
-// Room is asked for a text and no more, though a string that grows may double.
-const MOST_ROOM: usize = 44;
-
+// Room is requested for the text and no more.
 fn is_text_refused(rt: &(impl Abort + AllocGlobal), alphabet: Letters, wanted: &str) -> bool {
     let Ok(text) = alphabet.text(rt.alloc(), u128::MAX) else {
         return true;
     };
     assert_eq!(rt; text.as_str(), wanted, "{alphabet:?}");
-    assert!(rt; text.capacity() <= MOST_ROOM, "{alphabet:?}");
+    assert_eq!(rt; text.capacity(), 22, "{alphabet:?}");
     false
 }
 
-// The number's text in the alphabet is `Base62`. A refused call leaves the earlier text as it was,
-// and serves then as any other.
-fn is_append_refused(rt: &impl Abort, alphabet: Letters, number: u64, text: &mut String) -> bool {
+// The text has no room to spare. A refused call leaves it as it was, and it serves then as any other. Room is
+// requested for what is appended, which is shorter than 22 letters, though a text that grows may double.
+fn is_append_refused(
+    rt: &impl Abort,
+    alphabet: Letters,
+    number: u64,
+    text: &mut String,
+    joined: &str,
+) -> bool {
+    let earlier = text.len();
     assert_eq!(rt;
         text.capacity(),
-        EARLIER.len(),
+        earlier,
         "there is room to spare, {alphabet:?}"
     );
     let is_refused = alphabet.append(number, text).is_err();
     if is_refused {
-        assert_eq!(rt; text.as_str(), EARLIER, "{alphabet:?}");
-        assert_eq!(rt; text.capacity(), EARLIER.len(), "{alphabet:?}");
+        let front = joined.as_bytes().get(..earlier);
+        assert_eq!(rt; Some(text.as_bytes()), front, "{alphabet:?}");
+        assert_eq!(rt; text.capacity(), earlier, "{alphabet:?}");
         assert!(rt; alphabet.append(number, text).is_ok(), "{alphabet:?}");
     }
-    assert_eq!(rt; text.as_str(), "Base62: Base62", "{alphabet:?}");
-    assert!(rt; text.capacity() <= MOST_ROOM, "{alphabet:?}");
+    assert_eq!(rt; text.as_str(), joined, "{alphabet:?}");
+    assert!(rt;
+        text.capacity() < earlier.saturating_add(22),
+        "{alphabet:?}"
+    );
     is_refused
 }
 
@@ -75,9 +85,14 @@ fn assert_no_memory(rt: &impl Abort, text: &mut String) {
     assert!(rt; write!(text, "{}", encode_fmt_alt(1337_u32)).is_ok());
     assert_eq!(rt; text.as_str(), " LZlz");
     assert_eq!(rt; digit_count(u128::MAX), 22);
-    let key = encode_key(u128::MAX);
-    assert_eq!(rt; key.as_slice(), STANDARD.as_bytes());
-    assert_eq!(rt; key_range(&key), Ok(Some((u128::MAX, u128::MAX))));
+    let mut bytes = [FILLER; 5];
+    assert_eq!(rt; Letters::Standard.encode(1337_u32, &mut bytes), Ok(2));
+    assert_eq!(rt; bytes, *b"LZ\xa5\xa5\xa5");
+    assert_eq!(rt; Letters::Standard.decode(b"1LY7VK"), Ok(1234567890));
+    assert_eq!(rt; encode_key(1337_u32), *b"00000000000000000000LZ");
+    assert_eq!(rt; encode_key(0_u8), *b"0000000000000000000000");
+    let range = (340236514539200045093703517809706795008, u128::MAX);
+    assert_eq!(rt; key_range(b"7n"), Ok(Some(range)));
     let fault = DecodeError::InvalidBase62Byte(b'!', 7);
     assert_eq!(rt;
         fault.text().as_str(),
@@ -90,9 +105,9 @@ fn assert_no_memory(rt: &impl Abort, text: &mut String) {
 #[test]
 fn refused_memory(rt: HostRuntime) -> Result<(), Fail> {
     let (Ok(mut standard), Ok(mut alternative), Ok(mut own), Ok(mut roomy)) = (
-        String::from_str(rt.alloc(), EARLIER),
-        String::from_str(rt.alloc(), EARLIER),
-        String::from_str(rt.alloc(), EARLIER),
+        String::from_str(rt.alloc(), "Base62: "),
+        String::from_str(rt.alloc(), "Base62: "),
+        String::from_str(rt.alloc(), "id="),
         String::with_capacity(rt.alloc(), 64),
     ) else {
         println!(rt; "refused: set-up")?;
@@ -111,15 +126,21 @@ fn refused_memory(rt: HostRuntime) -> Result<(), Fail> {
         ),
         (
             "encode_buf",
-            is_append_refused(&rt, Letters::Standard, 10622433094, &mut standard),
+            is_append_refused(&rt, Letters::Standard, 10622433094, &mut standard, BASE62),
         ),
         (
             "encode_alternative_buf",
-            is_append_refused(&rt, Letters::Alternative, 34051405518, &mut alternative),
+            is_append_refused(
+                &rt,
+                Letters::Alternative,
+                34051405518,
+                &mut alternative,
+                BASE62,
+            ),
         ),
         (
             "encode_buf_with",
-            is_append_refused(&rt, Letters::Descending, 46177802489, &mut own),
+            is_append_refused(&rt, Letters::Symbols, 1337, &mut own, "id=6D"),
         ),
         ("after", Vec::<u8>::with_capacity(rt.alloc(), 1).is_err()),
     ];

@@ -2,8 +2,8 @@
 
 ghost use Rattle.std.specs.Prelude.{◌+◌, ◌*◌, ◌^◌};
 
-use crate::alphabets::Letters;
-use crate::codec::assert_encodes;
+use crate::support::alphabets::Letters;
+use crate::support::checks::assert_encodes;
 use base62::Number;
 use std::process::Abort;
 

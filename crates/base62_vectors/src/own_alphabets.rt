@@ -1,6 +1,6 @@
 //! Alphabets of the caller's own.
 
-use crate::alphabets::Letters;
+use crate::support::alphabets::Letters;
 use base62::{
     Alphabet, AlphabetError, DecodeError, EncodeError, Work, decode_with, decode_with_counted,
     encode_buf_with, encode_bytes_with, encode_bytes_with_counted, encode_fmt_with, encode_io_with,
@@ -130,6 +130,7 @@ fn zero_letters(rt: HostRuntime) -> Result<(), Fail> {
         assert_eq!(rt; decode_with(&alphabet, text.as_slice()), Ok(1337));
     }
     let above_ascii = made(&rt, bytes_from(194));
+    assert_eq!(rt; decode_with(&above_ascii, b"\xc2\xc2"), Ok(0));
     for (text, index) in [
         (b"0".as_slice(), 0),
         (b"\xc2\xc20", 2),

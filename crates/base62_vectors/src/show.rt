@@ -1,13 +1,16 @@
 //! Numbers that display as their texts.
 
-use crate::alphabets::texts;
+use crate::support::alphabets::{Letters, texts};
 use base62::{encode_fmt, encode_fmt_alt};
 use std::fmt::{self, Write};
+use std::process::Abort;
 use std::test::Fail;
 
-#[test]
-fn numbers_and_texts(rt: HostRuntime) -> Result<(), Fail> {
-    for (alphabet, number, text) in &texts(&rt)? {
+fn assert_shown(rt: &(impl Abort + AllocGlobal), alphabet: Letters) -> Result<(), Fail> {
+    for (number, text) in [(1337_u32, alphabet.of_two("LZ", "lz")), (0, "0")] {
+        assert_eq!(rt; alphabet.shown(rt.alloc(), number)?.as_str(), text);
+    }
+    for (number, text) in &texts(rt, alphabet)? {
         let shown = alphabet.shown(rt.alloc(), *number)?;
         assert_eq!(rt; shown.as_str(), text.as_str(), "{alphabet:?}");
     }
@@ -15,24 +18,43 @@ fn numbers_and_texts(rt: HostRuntime) -> Result<(), Fail> {
 }
 
 #[test]
-fn fixed_width(rt: HostRuntime) -> Result<(), Fail> {
-    let standard = format!(in rt.alloc(); "{:0>22}", encode_fmt(1337_u32))?;
-    assert_eq!(rt; standard.as_str(), "00000000000000000000LZ");
-    let alternative = format!(in rt.alloc(); "{:0>22}", encode_fmt_alt(1337_u32))?;
-    assert_eq!(rt; alternative.as_str(), "00000000000000000000lz");
-    let zero = format!(in rt.alloc(); "{:0>22}{:0>22}", encode_fmt(0_u32), encode_fmt_alt(0_u32))?;
-    assert_eq!(rt;
-        zero.as_str(),
-        "00000000000000000000000000000000000000000000"
-    );
-    let greatest = format!(in rt.alloc(); "{:0>22}", encode_fmt(u128::MAX))?;
-    assert_eq!(rt; greatest.as_str(), "7n42DGM5Tflk9n8mt7Fhc7");
+fn test_fmt_basics(rt: HostRuntime) -> Result<(), Fail> {
+    assert_shown(&rt, Letters::Standard)
+}
+
+#[test]
+fn test_fmt_alternative_basics(rt: HostRuntime) -> Result<(), Fail> {
+    assert_shown(&rt, Letters::Alternative)
+}
+
+#[test]
+fn test_fmt_padding(rt: HostRuntime) -> Result<(), Fail> {
+    let cases = [
+        (encode_fmt(1337_u32), "00000000000000000000LZ"),
+        (encode_fmt(0_u32), "0000000000000000000000"),
+        (encode_fmt(u128::MAX), "7n42DGM5Tflk9n8mt7Fhc7"),
+    ];
+    for (shown, text) in cases {
+        assert_eq!(rt; format!(in rt.alloc(); "{shown:0>22}")?.as_str(), text);
+    }
+    Ok(())
+}
+
+#[test]
+fn test_fmt_alternative_padding(rt: HostRuntime) -> Result<(), Fail> {
+    let cases = [
+        (encode_fmt_alt(1337_u32), "00000000000000000000lz"),
+        (encode_fmt_alt(0_u32), "0000000000000000000000"),
+    ];
+    for (shown, text) in cases {
+        assert_eq!(rt; format!(in rt.alloc(); "{shown:0>22}")?.as_str(), text);
+    }
     Ok(())
 }
 
 // Each format, and what it makes of `LZ`.
 #[test]
-fn alignments(rt: HostRuntime) -> Result<(), Fail> {
+fn test_fmt_alignment(rt: HostRuntime) -> Result<(), Fail> {
     let shown = || encode_fmt(1337_u32);
     let cases = [
         (format!(in rt.alloc(); "{:<5}", shown())?, "LZ   "),
@@ -55,7 +77,7 @@ fn alignments(rt: HostRuntime) -> Result<(), Fail> {
 }
 
 #[test]
-fn within_other_text(rt: HostRuntime) -> Result<(), Fail> {
+fn test_fmt_with_prefix(rt: HostRuntime) -> Result<(), Fail> {
     let standard = format!(in rt.alloc(); "base62: {}", encode_fmt(1337_u32))?;
     assert_eq!(rt; standard.as_str(), "base62: LZ");
     let alternative = format!(in rt.alloc(); "base62: {}", encode_fmt_alt(1337_u32))?;

@@ -1,9 +1,8 @@
 //! Lines across the borders of what a read takes.
 
-use super::READS;
 use super::replies::{REPLIES, answers, push_line};
 use super::streams::{ByteReader, Calls};
-use crate::tool::run;
+use crate::tool::{CHUNK_LEN, run};
 use std::process::Abort;
 use std::test::Fail;
 
@@ -47,10 +46,8 @@ fn assert_line(rt: &(impl Abort + AllocGlobal), length: usize) -> Result<(), Fai
 // bytes come in one read or in two.
 #[test]
 fn line_of_each_length(rt: HostRuntime) -> Result<(), Fail> {
-    for taken in READS {
-        for length in taken - 7..=taken + 8 {
-            assert_line(&rt, length)?;
-        }
+    for length in CHUNK_LEN - 7..=CHUNK_LEN + 8 {
+        assert_line(&rt, length)?;
     }
     Ok(())
 }
@@ -60,6 +57,24 @@ fn assert_long(rt: &(impl Abort + AllocGlobal), input: &[u8], output: &[u8]) -> 
     let written = answers(rt.alloc(), input)?;
     assert!(rt; written.as_slice() == output);
     Ok(())
+}
+
+#[test]
+fn long_lines(rt: HostRuntime) -> Result<(), Fail> {
+    let cases = [
+        ("enc", "9", 200, "fault: not a number\n"),
+        ("dec", "0", 10_000, "0\n"),
+        ("dec", "0", 120_000, "0\n"),
+    ];
+    for (command, digit, count, output) in cases {
+        let digits = digit.repeat(rt.alloc(), count)?;
+        let line = format!(in rt.alloc(); "{command} {digits}")?;
+        assert_answers(&rt, line.as_bytes(), output.as_bytes())?;
+    }
+    // Of more than 4 MiB.
+    let zeros = "0".repeat(rt.alloc(), 4_300_000)?;
+    let line = format!(in rt.alloc(); "dec {zeros}")?;
+    assert_long(&rt, line.as_bytes(), b"0\n")
 }
 
 // The lines come in an order that no shift repeats.
@@ -72,13 +87,11 @@ fn lines_across_reads(rt: HostRuntime) -> Result<(), Fail> {
         push_line(&mut input, line)?;
         push_line(&mut output, reply.as_bytes())?;
     }
-    for taken in READS {
-        let last = input.get(taken - 1);
-        assert!(rt;
-            last.is_some_and(|byte| *byte != b'\n'),
-            "a line ends at {taken}"
-        );
-    }
+    let last = input.get(CHUNK_LEN - 1);
+    assert!(rt;
+        last.is_some_and(|byte| *byte != b'\n'),
+        "a line ends with the first read"
+    );
     assert_long(&rt, input.as_slice(), output.as_slice())
 }
 

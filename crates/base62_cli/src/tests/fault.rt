@@ -23,7 +23,5 @@ fn fault_copies(rt: HostRuntime) -> Result<(), Fail> {
     let copy = fault;
     assert_eq!(rt; fault.clone()?, copy);
     assert_ne!(rt; fault, ToolFault::Write);
-    let shown = format!(in rt.alloc(); "{fault:?}")?;
-    assert_eq!(rt; shown.as_str(), "Read");
     Ok(())
 }

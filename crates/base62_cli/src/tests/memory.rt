@@ -2,29 +2,60 @@
 
 use super::{STORED_INPUT, STORED_OUTPUT};
 use crate::fault::ToolFault;
-use crate::tool::run;
+use crate::tool::{CHUNK_LEN, run};
+use std::io::{self, Write};
 use std::process::Abort;
 use std::test::Fail;
 
 const ROOM: usize = 128;
 
-// The input and the output stand in fixed arrays, so that each request for memory is the run's.
+// Takes no memory, and counts how often it is flushed.
+#[derive(Drop)]
+struct RoomWriter<'a> {
+    room: &'a mut [u8],
+    flushes: usize,
+}
+
+impl Write for RoomWriter<'_> {
+    fn write(&mut self, buf: &[u8]) -> io::Result<usize> {
+        self.room.write(buf)
+    }
+
+    fn flush(&mut self) -> io::Result<()> {
+        self.flushes = self.flushes.saturating_add(1);
+        Ok(())
+    }
+}
+
+// The input and the output stand in fixed arrays, so that each request for memory is the run's. A refused run writes no
+// part of a reply, and does not flush.
 fn is_refused(rt: &(impl Abort + AllocGlobal), input: &[u8], output: &str) -> bool {
     let mut room = [0u8; ROOM];
-    let mut writer = room.as_mut_slice();
+    let mut writer = RoomWriter {
+        room: room.as_mut_slice(),
+        flushes: 0,
+    };
     let mut reader = input;
     let outcome = run(rt.alloc(), &mut reader, &mut writer);
-    let left = writer.len();
+    let (left, flushes) = (writer.room.len(), writer.flushes);
     assert!(rt; left <= ROOM);
     let written = &room[..ROOM - left];
     match outcome {
-        Ok(()) => assert_eq!(rt; written, output.as_bytes(), "answering {input:?}"),
+        Ok(()) => {
+            assert_eq!(rt; written, output.as_bytes(), "answering {input:?}");
+            assert_eq!(rt; flushes, 1, "answering {input:?}");
+        }
         Err(fault) => {
             assert_eq!(rt; fault, ToolFault::Memory, "answering {input:?}");
             assert!(rt;
                 output.as_bytes().starts_with(written),
                 "answering {input:?}"
             );
+            assert!(rt;
+                written.is_empty() || written.ends_with(b"\n"),
+                "a part of a reply to {input:?}"
+            );
+            assert_eq!(rt; flushes, 0, "answering {input:?}");
         }
     }
     outcome.is_err()
@@ -35,16 +66,17 @@ fn is_refused(rt: &(impl Abort + AllocGlobal), input: &[u8], output: &str) -> bo
 // further request.
 #[test]
 fn refused_memory(rt: HostRuntime) -> Result<(), Fail> {
-    let mut long_line = [b'0'; 40_000];
+    let mut long_line = [b'0'; CHUNK_LEN + 8];
     long_line[..4].copy_from_slice(b"dec ");
     let cases: [(&str, &[u8], &str); 6] = [
         // None: there is no line.
         ("empty", b"", ""),
         // One for the gathered replies. The gathered line is empty.
         ("empty_line", b"\n", "fault: unknown command\n"),
-        // One for the line and one for the replies, also where no line end follows the line.
+        // One for the line and one for the replies.
         ("line", b"enc 1337\n", "LZ\n"),
-        ("open_line", b"enc 62", "10\n"),
+        // One for the line, one for the number and one for its line end.
+        ("open_line", b"dec rustlang", "189876682536016\n"),
         // One for what each of two reads gives of the line, and one for the replies.
         ("long_line", &long_line, "0\n"),
         // One for the first line, and five for the replies, which grow to 120 bytes: room is for 8 bytes first,

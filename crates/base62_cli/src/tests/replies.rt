@@ -74,14 +74,6 @@ pub(super) fn push_line(text: &mut Vec<u8>, line: &[u8]) -> Result<(), AllocErro
     Ok(())
 }
 
-fn padded(alloc: Global, front: &[u8], byte: u8, count: u32) -> Result<Vec<u8>, AllocError> {
-    let mut line = front.to_vec(alloc)?;
-    for _ in 0..count {
-        line.push(byte)?;
-    }
-    Ok(line)
-}
-
 #[test]
 fn whole_inputs(rt: HostRuntime) -> Result<(), Fail> {
     let cases = [
@@ -128,25 +120,5 @@ fn each_line(rt: HostRuntime) -> Result<(), Fail> {
         all_replies.extend_from_slice(output.as_slice())?;
     }
     assert_eq!(rt; answers(rt.alloc(), all_lines.as_slice())?, all_replies);
-    Ok(())
-}
-
-#[test]
-fn long_lines(rt: HostRuntime) -> Result<(), Fail> {
-    let cases: [(&[u8], u8, u32, &str); 4] = [
-        (b"enc ", b'9', 200, "fault: not a number\n"),
-        (b"dec ", b'0', 10_000, "0\n"),
-        (b"dec ", b'0', 100_000, "0\n"),
-        (b"dec ", b'0', 2_000_000, "0\n"),
-    ];
-    for (front, byte, count, output) in cases {
-        let line = padded(rt.alloc(), front, byte, count)?;
-        let written = answers(rt.alloc(), line.as_slice())?;
-        assert_eq!(rt;
-            written.as_slice(),
-            output.as_bytes(),
-            "answering {count} bytes"
-        );
-    }
     Ok(())
 }

@@ -97,16 +97,22 @@ impl Write for ByteWriter {
     }
 }
 
+// The one flush is at the end, of no output too.
 #[test]
 fn one_byte_a_call(rt: HostRuntime) -> Result<(), Fail> {
-    let mut reader = ByteReader::new(STORED_INPUT.as_bytes(), Calls::default());
-    let mut writer = ByteWriter::new(rt.alloc(), Calls::default(), Calls::default());
-    run(rt.alloc(), &mut reader, &mut writer)?;
-    assert_eq!(rt; writer.written.as_slice(), STORED_OUTPUT.as_bytes());
-    assert_eq!(rt;
-        writer.flushed_at.as_slice(),
-        [STORED_OUTPUT.len()].as_slice()
-    );
+    let [ended, unended] = stored_inputs();
+    for (input, output) in [(ended, STORED_OUTPUT), (unended, STORED_OUTPUT), ("", "")] {
+        let mut reader = ByteReader::new(input.as_bytes(), Calls::default());
+        let mut writer = ByteWriter::new(rt.alloc(), Calls::default(), Calls::default());
+        run(rt.alloc(), &mut reader, &mut writer)?;
+        assert_eq!(rt; writer.written.as_slice(), output.as_bytes());
+        let end = [output.len()];
+        assert_eq!(rt;
+            writer.flushed_at.as_slice(),
+            end.as_slice(),
+            "after {input:?}"
+        );
+    }
     Ok(())
 }
 
@@ -152,13 +158,38 @@ fn failed_reads(rt: HostRuntime) {
     }
 }
 
+// How many reads of a byte come before the reply to a line: an end that is not a line's takes one more.
+fn reads_for(input: &[u8], line: usize) -> usize {
+    let mut ends: usize = 0;
+    let mut reads: usize = 0;
+    for byte in input {
+        reads = reads.saturating_add(1);
+        if *byte == b'\n' {
+            ends = ends.saturating_add(1);
+            if ends == line {
+                return reads;
+            }
+        }
+    }
+    reads.saturating_add(1)
+}
+
+// Nothing is read after a write that failed, nor is anything written or flushed.
 #[test]
 fn failed_writes(rt: HostRuntime) {
     for input in stored_inputs() {
         for call in 1..=STORED_OUTPUT.len() {
+            let mut reader = ByteReader::new(input.as_bytes(), Calls::default());
             let mut writer = ByteWriter::new(rt.alloc(), Calls::failing_at(call), Calls::default());
-            let outcome = run(rt.alloc(), &mut input.as_bytes(), &mut writer);
+            let outcome = run(rt.alloc(), &mut reader, &mut writer);
             assert_eq!(rt; outcome, Err(ToolFault::Write), "at write {call}");
+            let line = count_lines(writer.written.as_slice()).saturating_add(1);
+            let reads = reads_for(input.as_bytes(), line);
+            assert_eq!(rt;
+                reader.reads.made,
+                reads,
+                "reads, of which write {call} failed"
+            );
             let before = STORED_OUTPUT.as_bytes().get(..call - 1);
             assert_eq!(rt; Some(writer.written.as_slice()), before, "at write {call}");
             assert_eq!(rt; writer.writes.made, call, "writes, of which {call} fails");

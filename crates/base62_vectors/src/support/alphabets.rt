@@ -28,18 +28,24 @@ static WIDE_LETTERS: [u8; 62] =
     *b"\xff\xfe\xfd\xfc\xfb\xfa\xf9\xf8\xf7\xf6\xf5\xf4\xf3\xf2\xf1\xf0\xef\xee\xed\xec\xeb\xea\xe9\xe8\xe7\xe6\xe5\xe4\xe3\xe2\xe1\
     \xe0\xdf\xde\xdd\xdc\xdb\xda\xd9\xd8\xd7\xd6\xd5\xd4\xd3\xd2\xd1\xd0\xcf\xce\xcd\xcc\xcb\xca\xc9\xc8\xc7\xc6\xc5\xc4\xc3\xc2";
 
-// An alphabet, with the calls over it: the built-in ones, and two of the caller's own.
+// The bytes from 33 to 94.
+static SYMBOL_LETTERS: [u8; 62] =
+    *b"!\"#$%&'()*+,-./0123456789:;<=>?@ABCDEFGHIJKLMNOPQRSTUVWXYZ[\\]^";
+
+// An alphabet, with the calls over it: the built-in ones, and three of the caller's own.
 #[derive(Clone, Copy, Debug)]
 pub(crate) enum Letters {
     Standard,
     Alternative,
     Descending,
     Wide,
+    Symbols,
 }
 
 pub(crate) const BOTH: [Letters; 2] = [Letters::Standard, Letters::Alternative];
 
-pub(crate) const ALL: [Letters; 4] = [
+// Those, one whose letters descend and one that has no ASCII.
+pub(crate) const FOUR: [Letters; 4] = [
     Letters::Standard,
     Letters::Alternative,
     Letters::Descending,
@@ -53,6 +59,15 @@ impl Letters {
             Letters::Alternative => &ALTERNATIVE_LETTERS,
             Letters::Descending => &DESCENDING_LETTERS,
             Letters::Wide => &WIDE_LETTERS,
+            Letters::Symbols => &SYMBOL_LETTERS,
+        }
+    }
+
+    // What a built-in alphabet has of two.
+    pub(crate) fn of_two<T: Drop>(self, standard: T, alternative: T) -> T {
+        match self {
+            Letters::Alternative => alternative,
+            _ => standard,
         }
     }
 
@@ -215,16 +230,16 @@ const NUMBERS: [(u128, &str, &str); 19] = [
     ),
 ];
 
-// Numbers with their texts in both alphabets, of each length. A text becomes one letter longer at 62^k, which is a
-// `1` and k zeros: the number before it is k times the highest letter, and the one after it ends with a `1`.
+// Numbers with their texts in a built-in alphabet, of each length. A text becomes one letter longer at 62^k, which is
+// a `1` and k zeros: the number before it is k times the highest letter, and the one after it ends with a `1`.
 pub(crate) fn texts(
     rt: &(impl Abort + AllocGlobal),
-) -> Result<Vec<(Letters, u128, String)>, AllocError> {
+    alphabet: Letters,
+) -> Result<Vec<(u128, String)>, AllocError> {
     let mut texts = Vec::new(rt.alloc());
     for (number, standard, alternative) in NUMBERS {
-        for (alphabet, text) in in_both(standard, alternative) {
-            texts.push((alphabet, number, String::from_str(rt.alloc(), text)?))?;
-        }
+        let text = alphabet.of_two(standard, alternative);
+        texts.push((number, String::from_str(rt.alloc(), text)?))?;
     }
     for exponent in 1..=21_usize {
         let power = 62_u128
@@ -234,13 +249,11 @@ pub(crate) fn texts(
         let after = power
             .checked_add(1)
             .expect(rt, "a power of 62 is not the largest number");
-        for (alphabet, highest) in in_both("z", "Z") {
-            let highest_letters = highest.repeat(rt.alloc(), exponent)?;
-            let zeros = "0".repeat(rt.alloc(), exponent - 1)?;
-            texts.push((alphabet, before, highest_letters))?;
-            texts.push((alphabet, power, format!(in rt.alloc(); "1{zeros}0")?))?;
-            texts.push((alphabet, after, format!(in rt.alloc(); "1{zeros}1")?))?;
-        }
+        let zeros = "0".repeat(rt.alloc(), exponent - 1)?;
+        let highest = alphabet.of_two("z", "Z");
+        texts.push((before, highest.repeat(rt.alloc(), exponent)?))?;
+        texts.push((power, format!(in rt.alloc(); "1{zeros}0")?))?;
+        texts.push((after, format!(in rt.alloc(); "1{zeros}1")?))?;
     }
     Ok(texts)
 }

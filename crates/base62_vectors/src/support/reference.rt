@@ -1,4 +1,5 @@
-//! The digit loop and the table of cases over any list of 62 letters, a digit or a byte at a time.
+//! A plain digit loop, and a plain decoder by the table of cases, over any list of 62 letters: a digit or a byte at
+//! a time.
 
 use base62::DecodeError;
 use base62::DecodeError::{ArithmeticOverflow, EmptyInput, InvalidBase62Byte};

@@ -82,20 +82,34 @@ class Package(unittest.TestCase):
         self.assertFalse(hasattr(extension, "base62_encode"))
 
 
+def made_again() -> Any:
+    """The package as another interpreter has it."""
+    names = [name for name in sys.modules if name.split(".")[0] == "base62"]
+    stored = {name: sys.modules.pop(name) for name in names}
+    try:
+        return importlib.import_module("base62")
+    finally:
+        sys.modules.update(stored)
+
+
 class Modules(unittest.TestCase):
     def test_made_again(self) -> None:
-        """A module that is made again has classes of its own, as that of another interpreter has."""
-        names = [name for name in sys.modules if name.split(".")[0] == "base62"]
-        kept = {name: sys.modules.pop(name) for name in names}
-        try:
-            again = importlib.import_module("base62")
-        finally:
-            sys.modules.update(kept)
+        again = made_again()
         self.assertIsNot(again.encode, base62.encode)
         self.assertIsNot(again.InvalidByteError, base62.InvalidByteError)
         for module in (again, base62):
             self.assertEqual(module.encode(1337, module.Alphabet.ALTERNATIVE), "lz")
             self.assertRaises(module.InvalidByteError, module.decode, "-")
+
+    def test_let_go(self) -> None:
+        """A module that is gone leaves nothing of what it held."""
+        blocks = []
+        for _ in range(20):
+            made_again()
+            gc.collect()
+            blocks.append(sys.getallocatedblocks())
+        # Any import keeps a few.
+        self.assertLess(blocks[-1] - blocks[0], 1000)
 
     def test_subinterpreter(self) -> None:
         try:
@@ -108,6 +122,17 @@ class Modules(unittest.TestCase):
             interpreters.run_string(other, said)
             interpreters.destroy(other)
         self.assertEqual(base62.encode(1337), "LZ")
+
+
+def refused(call: Callable[..., object]) -> Callable[..., None]:
+    def run(*given: object, **named: object) -> None:
+        try:
+            call(*given, **named)
+        except (TypeError, ValueError, OverflowError):
+            return
+        raise AssertionError(f"{call} takes {given} and {named}")
+
+    return run
 
 
 class Kept(unittest.TestCase):
@@ -124,15 +149,9 @@ class Kept(unittest.TestCase):
     SHARED += [base62.AlphabetError, base62.EmptyInputError, base62.InvalidByteError, base62.TooLargeError]
 
     def kept(self, call: Callable[..., object], *given: object, **named: object) -> None:
-        raised: List[bool] = []
-
         def run(times: int) -> None:
             for _ in range(times):
-                try:
-                    call(*given, **named)
-                except (TypeError, ValueError, OverflowError):
-                    if not raised:
-                        raised.append(True)
+                call(*given, **named)
 
         def state() -> List[int]:
             gc.collect()
@@ -143,7 +162,6 @@ class Kept(unittest.TestCase):
         run(self.RUNS)
         for was, now in zip(before, state()):
             self.assertLess(abs(now - was), self.RUNS // 100, f"{call} of {given} and {named}")
-        self.refused = bool(raised)
 
     def test_calls(self) -> None:
         for number in (1337, self.WIDE, uuid.UUID(int=self.WIDE), True):
@@ -158,7 +176,7 @@ class Kept(unittest.TestCase):
             self.kept(base62.decode, text)
             self.kept(base62.key_range, text[:2])
         self.kept(base62.encode, number=self.WIDE, alphabet=self.LETTERS)
-        self.kept(base62.decode, self.TEXT, alphabet=self.LETTERS)
+        self.kept(base62.decode, "LZ", alphabet=self.LETTERS)
         self.kept(base62.Alphabet, OWN)
         self.kept(base62.key_bounds, "8")
         self.kept(base62.key_bounds, "7n")
@@ -178,14 +196,12 @@ class Kept(unittest.TestCase):
         ]
         for call, rows in refusals:
             for given in rows:
-                self.kept(call, *given)
-                self.assertTrue(self.refused, f"{call} of {given}")
-        self.kept(base62.encode, 1, other=1)
-        self.assertTrue(self.refused)
+                self.kept(refused(call), *given)
+        self.kept(refused(base62.encode), 1, other=1)
 
 
 def load_tests(loader: unittest.TestLoader, tests: unittest.TestSuite, pattern: object) -> unittest.TestSuite:
     names = {**vars(base62), "uuid": uuid}
-    for module in (base62, _base62, sys.modules["base62._types"]):
+    for module in (base62, _base62):
         tests.addTests(doctest.DocTestSuite(module, globs=dict(names)))
     return tests

@@ -135,6 +135,7 @@ def refused(call: Callable[..., object]) -> Callable[..., None]:
     return run
 
 
+@unittest.skipUnless(sys.getallocatedblocks(), "Python counts no blocks of memory of another malloc")
 class Kept(unittest.TestCase):
     """A hundred thousand runs of each call, and of each refusal, leave memory and counts of references as they were."""
 

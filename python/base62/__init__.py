@@ -11,7 +11,6 @@ Texts and numbers are made by the library for C, which is proved and part of thi
 from __future__ import annotations
 
 import uuid
-from typing import Optional, Tuple
 
 from base62._base62 import __version__ as __version__, decode, digit_count, encode, encode_key, key_range
 from base62._types import (
@@ -64,7 +63,7 @@ def decode_uuid(text: Text, alphabet: AnyAlphabet = Alphabet.STANDARD) -> uuid.U
     return uuid.UUID(int=decode(text, alphabet))
 
 
-def key_bounds(front: Text) -> Optional[Tuple[str, str]]:
+def key_bounds(front: Text) -> tuple[str, str] | None:
     """The least and the greatest key that begins so, or None if there is none: what a database looks between.
 
     Raises an InvalidByteError.

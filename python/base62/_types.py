@@ -3,12 +3,8 @@
 from __future__ import annotations
 
 import operator
-from typing import ClassVar, SupportsIndex, Union
+from typing import ClassVar, Self, SupportsIndex
 from uuid import UUID
-
-Number = Union[SupportsIndex, UUID]
-Text = Union[str, bytes, bytearray, memoryview]
-AnyAlphabet = Union["Alphabet", str, bytes]
 
 
 class Alphabet(bytes):
@@ -29,7 +25,7 @@ class Alphabet(bytes):
     STANDARD: ClassVar[Alphabet]
     ALTERNATIVE: ClassVar[Alphabet]
 
-    def __new__(cls, letters: Union[str, bytes]) -> Alphabet:
+    def __new__(cls, letters: str | bytes) -> Self:
         from base62._base62 import check_alphabet
 
         return super().__new__(cls, check_alphabet(letters))
@@ -39,6 +35,10 @@ class Alphabet(bytes):
 
     __str__ = __repr__
 
+
+Number = SupportsIndex | UUID
+Text = str | bytes | bytearray | memoryview
+AnyAlphabet = Alphabet | str | bytes
 
 # The library has these for itself, and they are known by being these objects.
 Alphabet.STANDARD = bytes.__new__(Alphabet, b"0123456789ABCDEFGHIJKLMNOPQRSTUVWXYZabcdefghijklmnopqrstuvwxyz")

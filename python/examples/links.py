@@ -17,7 +17,6 @@ from __future__ import annotations
 
 import sqlite3
 import uuid
-from typing import List, Optional, Tuple, Union
 
 import base62
 
@@ -33,14 +32,14 @@ def opened(place: str) -> sqlite3.Connection:
     return links
 
 
-def add(links: sqlite3.Connection, number: Union[int, uuid.UUID], where: str) -> str:
+def add(links: sqlite3.Connection, number: int | uuid.UUID, where: str) -> str:
     """The text of a new link."""
     with links:
         links.execute("INSERT INTO link VALUES (?, ?)", (base62.encode_key(number), where))
     return base62.encode(number)
 
 
-def target(links: sqlite3.Connection, text: str, strict: bool = False) -> Optional[str]:
+def target(links: sqlite3.Connection, text: str, strict: bool = False) -> str | None:
     """Where a link leads. Zeros in front are fine, unless only the text that was given out is."""
     number = base62.decode(text)
     if strict and base62.encode(number) != text:
@@ -49,7 +48,7 @@ def target(links: sqlite3.Connection, text: str, strict: bool = False) -> Option
     return row and str(row[0])
 
 
-def with_front(links: sqlite3.Connection, front: str) -> List[Tuple[str, str]]:
+def with_front(links: sqlite3.Connection, front: str) -> list[tuple[str, str]]:
     """The links whose keys begin so, in the order of their numbers."""
     bounds = base62.key_bounds(front)
     return [] if bounds is None else links.execute(BETWEEN, bounds).fetchall()

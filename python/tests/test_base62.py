@@ -10,7 +10,8 @@ import threading
 import unittest
 import uuid
 from array import array
-from typing import Any, Callable, List, SupportsIndex, Tuple, Type, Union
+from collections.abc import Callable
+from typing import Any, SupportsIndex
 
 import base62
 from base62 import Alphabet
@@ -22,7 +23,7 @@ CONTROLS = "".join(map(chr, range(62)))
 HIGH = bytes(range(194, 256))
 
 # Each alphabet in each form that calls take, with its letters.
-ALPHABETS: List[Tuple[Union[str, bytes], str]] = [
+ALPHABETS: list[tuple[str | bytes, str]] = [
     (Alphabet.STANDARD, STANDARD),
     (Alphabet.ALTERNATIVE, STANDARD.swapcase()),
     (OWN, OWN),
@@ -34,8 +35,8 @@ ALPHABETS: List[Tuple[Union[str, bytes], str]] = [
 ]
 
 Call = Callable[..., Any]
-OF_NUMBERS: List[Call] = [base62.encode, base62.digit_count, base62.encode_key]
-OF_TEXTS: List[Call] = [base62.decode, base62.decode_uuid, base62.key_range, base62.key_bounds]
+OF_NUMBERS: list[Call] = [base62.encode, base62.digit_count, base62.encode_key]
+OF_TEXTS: list[Call] = [base62.decode, base62.decode_uuid, base62.key_range, base62.key_bounds]
 
 
 def value(text: str, letters: str = STANDARD) -> int:
@@ -45,14 +46,14 @@ def value(text: str, letters: str = STANDARD) -> int:
     return total
 
 
-def numbers(count: int) -> List[int]:
+def numbers(count: int) -> list[int]:
     choice = random.Random(count)
     edges = [0, 1, 61, 62, 2**63 - 1, 2**63, 2**64 - 1, 2**64, LARGEST]
     return edges + [choice.getrandbits(choice.randint(1, 128)) for _ in range(count)]
 
 
 class Refusing(unittest.TestCase):
-    def refused(self, kind: Type[BaseException], call: Call, *arguments: object) -> Any:
+    def refused(self, kind: type[BaseException], call: Call, *arguments: object) -> Any:
         """The exception of exactly this type that a call raises."""
         with self.assertRaises(kind) as caught:
             call(*arguments)
@@ -101,7 +102,7 @@ class Texts(unittest.TestCase):
             pass
 
         views = [memoryview(b"x1a")[1:], memoryview(b"1xa")[::2], memoryview(b"a1")[::-1]]
-        items: List[Any] = [array("B", b"1a"), array("b", b"1a")]
+        items: list[Any] = [array("B", b"1a"), array("b", b"1a")]
         for text in ("1a", Own("1a"), b"1a", bytearray(b"1a"), *views, *items):
             self.assertEqual(base62.decode(text), 98)
             self.assertEqual(base62.key_range(text), (98 * 62**20, 99 * 62**20 - 1))
@@ -118,7 +119,7 @@ class Texts(unittest.TestCase):
         kinds = enum.IntEnum("kinds", {"one": 1337})
         self.assertEqual(base62.encode(True), "1")
         self.assertEqual(base62.encode(kinds(1337)), "LZ")
-        largest: List[SupportsIndex] = [Own(LARGEST), Indexed()]
+        largest: list[SupportsIndex] = [Own(LARGEST), Indexed()]
         for number in largest:
             self.assertEqual(value(base62.encode(number)), LARGEST)
             self.assertEqual(base62.digit_count(number), 22)
@@ -127,7 +128,7 @@ class Texts(unittest.TestCase):
 
 class Threads(unittest.TestCase):
     def test_four(self) -> None:
-        wrong: List[int] = []
+        wrong: list[int] = []
 
         def round_trips(seed: int) -> None:
             for number in numbers(3000 + seed):
@@ -164,7 +165,7 @@ class Alphabets(Refusing):
 
     def test_repeated(self) -> None:
         # Alphabets that repeat a letter, with it and its place.
-        calls: List[Call] = [
+        calls: list[Call] = [
             Alphabet,
             lambda letters: base62.encode(1, letters),
             lambda letters: base62.decode("9", letters),
@@ -188,7 +189,7 @@ class Alphabets(Refusing):
         self.assertFalse(issubclass(base62.AlphabetError, base62.DecodeError))
 
     def test_other_letters(self) -> None:
-        lengths: List[Any] = ["", "standard", STANDARD[:-1], STANDARD + "-", b"", STANDARD[:-1].encode()]
+        lengths: list[Any] = ["", "standard", STANDARD[:-1], STANDARD + "-", b"", STANDARD[:-1].encode()]
         for letters in (*lengths, bytes.__new__(Alphabet, b"0")):
             error = self.refused(ValueError, Alphabet, letters)
             self.assertEqual(str(error), "an alphabet has 62 letters")

@@ -13,7 +13,8 @@ import sys
 import unittest
 import uuid
 from array import array
-from typing import Any, Callable, List, Tuple
+from collections.abc import Callable
+from typing import Any
 
 import base62
 from base62 import _base62
@@ -66,7 +67,7 @@ class Package(unittest.TestCase):
         self.assertEqual(base62.key_range(front="00000000000000000000L"), (1302, 1363))
 
     def test_wrong_arguments(self) -> None:
-        calls: List[Any] = [base62.encode, base62.decode, base62.digit_count, base62.encode_key, base62.key_range]
+        calls: list[Any] = [base62.encode, base62.decode, base62.digit_count, base62.encode_key, base62.key_range]
         for call in calls:
             for placed, named in (((), {}), (("1", OWN, 1), {}), (("1",), {"other": 1}), ((), {"alphabet": OWN})):
                 with self.assertRaisesRegex(TypeError, call.__name__ + r"\(\)"):
@@ -118,7 +119,7 @@ class Modules(unittest.TestCase):
             self.skipTest("this Python has no such module")
         said = "import base62\nassert base62.decode(base62.encode(2**128 - 1)) == 2**128 - 1"
         for _ in range(3):
-            other = interpreters.create()
+            other = interpreters.create(isolated=False)
             interpreters.run_string(other, said)
             interpreters.destroy(other)
         self.assertEqual(base62.encode(1337), "LZ")
@@ -145,7 +146,7 @@ class Kept(unittest.TestCase):
     LETTERS = base62.Alphabet(OWN)
     REPEATED = "0" * 62
     # What calls borrow, besides what they are given.
-    SHARED: List[object] = [None, 0, 64, uuid.UUID, base62.Alphabet]
+    SHARED: list[object] = [None, 0, 64, uuid.UUID, base62.Alphabet]
     SHARED += [base62.Alphabet.STANDARD, base62.Alphabet.ALTERNATIVE]
     SHARED += [base62.AlphabetError, base62.EmptyInputError, base62.InvalidByteError, base62.TooLargeError]
 
@@ -154,7 +155,7 @@ class Kept(unittest.TestCase):
             for _ in range(times):
                 call(*given, **named)
 
-        def state() -> List[int]:
+        def state() -> list[int]:
             gc.collect()
             return [sys.getallocatedblocks(), *map(sys.getrefcount, [*self.SHARED, *given, *named.values()])]
 
@@ -172,7 +173,7 @@ class Kept(unittest.TestCase):
         for letters in (base62.Alphabet.ALTERNATIVE, self.LETTERS, OWN, OWN.encode()):
             self.kept(base62.encode, self.WIDE, letters)
             self.kept(base62.decode, "LZ", letters)
-        buffers: List[Any] = [self.TEXT.encode(), bytearray(self.TEXT, "ascii"), memoryview(b"0L0Z")[::2]]
+        buffers: list[Any] = [self.TEXT.encode(), bytearray(self.TEXT, "ascii"), memoryview(b"0L0Z")[::2]]
         for text in ("LZ", self.TEXT, *buffers):
             self.kept(base62.decode, text)
             self.kept(base62.key_range, text[:2])
@@ -185,7 +186,7 @@ class Kept(unittest.TestCase):
         self.kept(base62.decode_uuid, self.TEXT)
 
     def test_refusals(self) -> None:
-        refusals: List[Tuple[Callable[..., object], List[Tuple[object, ...]]]] = [
+        refusals: list[tuple[Callable[..., object], list[tuple[object, ...]]]] = [
             (base62.encode, [(-1,), (self.WIDE + 1,), (10**100,), (1.0,), (), (1, OWN, 1)]),
             (base62.encode, [(1, None), (1, "short"), (1, self.REPEATED), (1, bytes(range(194, 256))), (1, "é" * 62)]),
             (base62.digit_count, [(-1,), ("1",)]),

@@ -14,6 +14,7 @@ if not archive.exists():
 extension = Extension(
     "base62._base62",
     ["base62/_base62.c"],
+    depends=[str(archive)],
     include_dirs=[str(library / "include")],
     extra_objects=[str(archive)],
     # A libbase62.so beside it is not to be mixed up with what is linked in.

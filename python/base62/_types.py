@@ -26,6 +26,7 @@ class Alphabet(bytes):
     ALTERNATIVE: ClassVar[Alphabet]
 
     def __new__(cls, letters: str | bytes) -> Self:
+        # The extension is made with this class at hand.
         from base62._base62 import check_alphabet
 
         return super().__new__(cls, check_alphabet(letters))
@@ -40,7 +41,7 @@ Number = SupportsIndex | UUID
 Text = str | bytes | bytearray | memoryview
 AnyAlphabet = Alphabet | str | bytes
 
-# The library has these for itself, and they are known by being these objects.
+# The library has these two built in, and the extension knows them as these objects.
 Alphabet.STANDARD = bytes.__new__(Alphabet, b"0123456789ABCDEFGHIJKLMNOPQRSTUVWXYZabcdefghijklmnopqrstuvwxyz")
 Alphabet.ALTERNATIVE = bytes.__new__(Alphabet, b"0123456789abcdefghijklmnopqrstuvwxyzABCDEFGHIJKLMNOPQRSTUVWXYZ")
 

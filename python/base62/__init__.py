@@ -1,0 +1,75 @@
+"""Base62 texts of numbers below 2**128, and back.
+
+>>> encode(1337)
+'LZ'
+>>> decode("LZ")
+1337
+
+Texts and numbers are made by the library for C, which is proved and part of this package.
+"""
+
+from __future__ import annotations
+
+import uuid
+
+from base62._base62 import __version__ as __version__, decode, digit_count, encode, encode_key, key_range
+from base62._types import (
+    Alphabet,
+    AlphabetError,
+    AnyAlphabet as AnyAlphabet,
+    DecodeError,
+    EmptyInputError,
+    InvalidByteError,
+    Number as Number,
+    Text as Text,
+    TooLargeError,
+)
+
+__all__ = [
+    "Alphabet",
+    "AlphabetError",
+    "DecodeError",
+    "EmptyInputError",
+    "InvalidByteError",
+    "TooLargeError",
+    "decode",
+    "decode_uuid",
+    "digit_count",
+    "encode",
+    "encode_key",
+    "encode_uuid",
+    "key_bounds",
+    "key_range",
+]
+
+
+def encode_uuid(value: uuid.UUID, alphabet: AnyAlphabet = Alphabet.STANDARD) -> str:
+    """The text of the number of a UUID, as encode gives it.
+
+    >>> encode_uuid(uuid.UUID("12345678-1234-5678-1234-567812345678"))
+    'YLmNWW2NwaipfRR50HIPA'
+    """
+    if not isinstance(value, uuid.UUID):
+        raise TypeError(f"a UUID is a uuid.UUID, not {type(value)}")
+    return encode(value, alphabet)
+
+
+def decode_uuid(text: Text, alphabet: AnyAlphabet = Alphabet.STANDARD) -> uuid.UUID:
+    """The UUID of the number that a text denotes, as decode gives it.
+
+    >>> decode_uuid("YLmNWW2NwaipfRR50HIPA")
+    UUID('12345678-1234-5678-1234-567812345678')
+    """
+    return uuid.UUID(int=decode(text, alphabet))
+
+
+def key_bounds(front: Text) -> tuple[str, str] | None:
+    """The least and the greatest key that begins so, or None if there is none: what a database looks between.
+
+    Raises an InvalidByteError.
+
+    >>> key_bounds("00000000000000000000L")
+    ('00000000000000000000L0', '00000000000000000000Lz')
+    """
+    ends = key_range(front)
+    return ends and (encode_key(ends[0]), encode_key(ends[1]))

@@ -1,0 +1,395 @@
+/* The calls of base62.h for Python: numbers to halves and back, texts in and out, and exceptions. */
+#define PY_SSIZE_T_CLEAN
+#include <Python.h>
+#include <base62.h>
+
+/* What is held of base62._types, and of its alphabet. */
+enum {
+    ALPHABET,
+    WHOLE_OF,
+    BYTES_OF,
+    LETTERS_OF,
+    EMPTY_INPUT,
+    INVALID_BYTE,
+    TOO_LARGE,
+    REPEATED_LETTER,
+    STANDARD,
+    ALTERNATIVE,
+    HELD
+};
+
+struct state {
+    PyObject *held[HELD];
+};
+
+struct halves {
+    uint64_t high, low;
+};
+
+/* Bytes, which stand as long as what is held or, where that is NULL, as the str that they are of. */
+struct text {
+    const char *bytes;
+    Py_ssize_t length;
+    PyObject *held;
+};
+
+static PyObject *held(PyObject *module, int which) {
+    return ((struct state *)PyModule_GetState(module))->held[which];
+}
+
+/* What Python makes of an argument that is not of the usual type. */
+static PyObject *converted(PyObject *module, int by, PyObject *given) {
+    return PyObject_CallFunctionObjArgs(held(module, by), given, NULL);
+}
+
+/* Arguments */
+
+struct parameters {
+    const char *format, *names[3];
+    Py_ssize_t most;
+};
+
+/* Borrows the arguments from the caller. Python's own parser is slow: it has the rare cases, and all faults. */
+static int unpack(const struct parameters *of, PyObject *const *given, Py_ssize_t count, PyObject *keywords,
+                  PyObject *found[2]) {
+    found[1] = NULL;
+    if (keywords == NULL && count >= 1 && count <= of->most) {
+        found[0] = given[0];
+        if (count == 2)
+            found[1] = given[1];
+        return 0;
+    }
+    Py_ssize_t named = keywords == NULL ? 0 : PyTuple_Size(keywords);
+    PyObject *in_row = PyTuple_New(count), *by_name = PyDict_New();
+    int ok = in_row != NULL && by_name != NULL;
+    for (Py_ssize_t i = 0; ok && i < count; i++)
+        ok = PyTuple_SetItem(in_row, i, Py_NewRef(given[i])) == 0;
+    for (Py_ssize_t i = 0; ok && i < named; i++)
+        ok = PyDict_SetItem(by_name, PyTuple_GetItem(keywords, i), given[count + i]) == 0;
+    ok = ok && PyArg_ParseTupleAndKeywords(in_row, by_name, of->format, (char **)of->names, &found[0], &found[1]);
+    Py_XDECREF(in_row);
+    Py_XDECREF(by_name);
+    return ok ? 0 : -1;
+}
+
+static int out_of_range(void) {
+    PyErr_SetString(PyExc_OverflowError, "the number is not from 0 to 2**128 - 1");
+    return -1;
+}
+
+static int wide_halves(PyObject *whole, struct halves *number) {
+    PyObject *width = PyLong_FromLong(64), *high = width == NULL ? NULL : PyNumber_Rshift(whole, width);
+    Py_XDECREF(width);
+    if (high == NULL)
+        return -1;
+    number->high = PyLong_AsUnsignedLongLong(high);
+    Py_DECREF(high);
+    if (number->high == UINT64_MAX && PyErr_Occurred())
+        return out_of_range();
+    number->low = PyLong_AsUnsignedLongLongMask(whole);
+    return 0;
+}
+
+static int halves_of(PyObject *module, PyObject *given, struct halves *number) {
+    PyObject *whole = PyLong_CheckExact(given) ? Py_NewRef(given) : converted(module, WHOLE_OF, given);
+    if (whole == NULL)
+        return -1;
+    int beyond, fault = 0;
+    long long narrow = PyLong_AsLongLongAndOverflow(whole, &beyond);
+    if (beyond > 0)
+        fault = wide_halves(whole, number);
+    else if (narrow < 0)
+        fault = out_of_range();
+    else
+        *number = (struct halves){0, (uint64_t)narrow};
+    Py_DECREF(whole);
+    return fault;
+}
+
+static int text_of(PyObject *module, PyObject *given, struct text *text) {
+    text->held = NULL;
+    if (PyUnicode_Check(given)) {
+        text->bytes = PyUnicode_AsUTF8AndSize(given, &text->length);
+        if (text->bytes != NULL)
+            return 0;
+        PyErr_Clear();
+    }
+    text->held = PyBytes_Check(given) ? Py_NewRef(given) : converted(module, BYTES_OF, given);
+    if (text->held == NULL)
+        return -1;
+    text->bytes = PyBytes_AsString(text->held);
+    text->length = PyBytes_Size(text->held);
+    return 0;
+}
+
+/* The 62 bytes of an alphabet of the caller's own. */
+static PyObject *letters_of(PyObject *module, PyObject *alphabet) {
+    PyObject *letters = PyBytes_Check(alphabet) ? Py_NewRef(alphabet) : converted(module, LETTERS_OF, alphabet);
+    if (letters != NULL && PyBytes_Size(letters) != BASE62_ALPHABET_LENGTH) {
+        PyErr_SetString(PyExc_ValueError, "an alphabet has 62 letters");
+        Py_CLEAR(letters);
+    }
+    return letters;
+}
+
+/* Answers */
+
+static PyObject *number_of(struct halves halves) {
+    if (halves.high == 0)
+        return PyLong_FromUnsignedLongLong(halves.low);
+    PyObject *high = PyLong_FromUnsignedLongLong(halves.high), *low = PyLong_FromUnsignedLongLong(halves.low);
+    PyObject *width = PyLong_FromLong(64), *front = NULL, *number = NULL;
+    if (high != NULL && low != NULL && width != NULL)
+        front = PyNumber_Lshift(high, width);
+    if (front != NULL)
+        number = PyNumber_Or(front, low);
+    Py_XDECREF(high);
+    Py_XDECREF(low);
+    Py_XDECREF(width);
+    Py_XDECREF(front);
+    return number;
+}
+
+static PyObject *refuse(PyObject *module, base62_status status, unsigned char byte, size_t index) {
+    char said[BASE62_MAX_FAULT_TEXT];
+    size_t length;
+    base62_fault_text(status, byte, index, said, sizeof said, &length);
+    int kind = status == BASE62_EMPTY_INPUT    ? EMPTY_INPUT
+               : status == BASE62_OVERFLOW     ? TOO_LARGE
+               : status == BASE62_INVALID_BYTE ? INVALID_BYTE
+                                               : REPEATED_LETTER;
+    const char *fields = kind == EMPTY_INPUT || kind == TOO_LARGE ? "(s#)" : "(s#Bn)";
+    PyObject *told = Py_BuildValue(fields, said, (Py_ssize_t)length, byte, (Py_ssize_t)index);
+    if (told != NULL)
+        PyErr_SetObject(held(module, kind), told);
+    Py_XDECREF(told);
+    return NULL;
+}
+
+/* Calls */
+
+PyDoc_STRVAR(check_alphabet_doc, "check_alphabet($module, letters, /)\n--\n\n"
+                                 "The bytes of letters that are an alphabet.");
+
+static PyObject *check_alphabet(PyObject *module, PyObject *alphabet) {
+    PyObject *letters = letters_of(module, alphabet);
+    if (letters == NULL)
+        return NULL;
+    unsigned char byte = 0;
+    size_t index = 0;
+    base62_status status = base62_check_alphabet(PyBytes_AsString(letters), &byte, &index);
+    if (status == BASE62_OK)
+        return letters;
+    Py_DECREF(letters);
+    return refuse(module, status, byte, index);
+}
+
+static PyObject *encode_with(PyObject *module, PyObject *alphabet, struct halves number) {
+    PyObject *letters = letters_of(module, alphabet);
+    if (letters == NULL)
+        return NULL;
+    const char *bytes = PyBytes_AsString(letters);
+    char text[BASE62_MAX_DIGITS];
+    size_t length;
+    /* Letters that no str has are refused, also where the text has none of them. */
+    PyObject *answer = PyUnicode_DecodeASCII(bytes, BASE62_ALPHABET_LENGTH, NULL);
+    if (answer != NULL) {
+        Py_DECREF(answer);
+        if (base62_encode_with(bytes, number.high, number.low, text, sizeof text, &length) == BASE62_OK)
+            answer = PyUnicode_DecodeASCII(text, (Py_ssize_t)length, NULL);
+        else
+            answer = check_alphabet(module, letters);
+    }
+    Py_DECREF(letters);
+    return answer;
+}
+
+PyDoc_STRVAR(encode_doc, "encode($module, /, number, alphabet=Alphabet.STANDARD)\n--\n\n"
+                         "The text of a number: the shortest one that denotes it.\n\n"
+                         "Raises an OverflowError if the number is negative, or 2**128 or more.\n\n"
+                         ">>> encode(1337), encode(1337, Alphabet.ALTERNATIVE), encode(0)\n"
+                         "('LZ', 'lz', '0')\n"
+                         ">>> encode(uuid.UUID(\"12345678-1234-5678-1234-567812345678\"))\n"
+                         "'YLmNWW2NwaipfRR50HIPA'");
+
+static PyObject *encode(PyObject *module, PyObject *const *given, Py_ssize_t count, PyObject *keywords) {
+    static const struct parameters of = {"O|O:encode", {"number", "alphabet", NULL}, 2};
+    PyObject *found[2];
+    struct halves number;
+    if (unpack(&of, given, count, keywords, found) != 0 || halves_of(module, found[0], &number) != 0)
+        return NULL;
+    char text[BASE62_MAX_DIGITS];
+    size_t length;
+    if (found[1] == NULL || found[1] == held(module, STANDARD))
+        base62_encode(number.high, number.low, text, sizeof text, &length);
+    else if (found[1] == held(module, ALTERNATIVE))
+        base62_encode_alternative(number.high, number.low, text, sizeof text, &length);
+    else
+        return encode_with(module, found[1], number);
+    return PyUnicode_DecodeASCII(text, (Py_ssize_t)length, NULL);
+}
+
+static PyObject *decode_over(PyObject *module, PyObject *alphabet, struct text text) {
+    struct halves number;
+    unsigned char byte = 0;
+    size_t index = 0, length = (size_t)text.length;
+    base62_status status;
+    if (alphabet == NULL || alphabet == held(module, STANDARD))
+        status = base62_decode(text.bytes, length, &number.high, &number.low, &byte, &index);
+    else if (alphabet == held(module, ALTERNATIVE))
+        status = base62_decode_alternative(text.bytes, length, &number.high, &number.low, &byte, &index);
+    else {
+        PyObject *letters = letters_of(module, alphabet);
+        if (letters == NULL)
+            return NULL;
+        status = base62_decode_with(PyBytes_AsString(letters), text.bytes, length, &number.high, &number.low, &byte,
+                                    &index);
+        Py_DECREF(letters);
+    }
+    return status == BASE62_OK ? number_of(number) : refuse(module, status, byte, index);
+}
+
+PyDoc_STRVAR(decode_doc, "decode($module, /, text, alphabet=Alphabet.STANDARD)\n--\n\n"
+                         "The number that a text denotes, whatever zeros are in front.\n\n"
+                         "Raises an EmptyInputError, an InvalidByteError or a TooLargeError.\n\n"
+                         ">>> decode(\"00LZ\"), decode(b\"lz\", Alphabet.ALTERNATIVE)\n"
+                         "(1337, 1337)\n"
+                         ">>> decode(\"7n42DGM5Tflk9n8mt7Fhc8\")\n"
+                         "Traceback (most recent call last):\n"
+                         "base62.TooLargeError: Decoded number cannot fit into a `u128`");
+
+static PyObject *decode(PyObject *module, PyObject *const *given, Py_ssize_t count, PyObject *keywords) {
+    static const struct parameters of = {"O|O:decode", {"text", "alphabet", NULL}, 2};
+    PyObject *found[2];
+    struct text text;
+    if (unpack(&of, given, count, keywords, found) != 0 || text_of(module, found[0], &text) != 0)
+        return NULL;
+    PyObject *answer = decode_over(module, found[1], text);
+    Py_XDECREF(text.held);
+    return answer;
+}
+
+PyDoc_STRVAR(digit_count_doc, "digit_count($module, /, number)\n--\n\n"
+                              "The length of the text of a number, from 1 to 22.\n\n"
+                              "Raises an OverflowError as encode.\n\n"
+                              ">>> digit_count(61), digit_count(62)\n"
+                              "(1, 2)");
+
+static PyObject *digit_count(PyObject *module, PyObject *const *given, Py_ssize_t count, PyObject *keywords) {
+    static const struct parameters of = {"O:digit_count", {"number", NULL}, 1};
+    PyObject *found[2];
+    struct halves number;
+    if (unpack(&of, given, count, keywords, found) != 0 || halves_of(module, found[0], &number) != 0)
+        return NULL;
+    return PyLong_FromSize_t(base62_digit_count(number.high, number.low));
+}
+
+PyDoc_STRVAR(encode_key_doc,
+             "encode_key($module, /, number)\n--\n\n"
+             "The standard text of 22 letters, with zeros in front. Keys sort as their numbers, and decode reads "
+             "them.\n\n"
+             "Raises an OverflowError as encode.\n\n"
+             ">>> encode_key(1337)\n"
+             "'00000000000000000000LZ'");
+
+static PyObject *encode_key(PyObject *module, PyObject *const *given, Py_ssize_t count, PyObject *keywords) {
+    static const struct parameters of = {"O:encode_key", {"number", NULL}, 1};
+    PyObject *found[2];
+    struct halves number;
+    if (unpack(&of, given, count, keywords, found) != 0 || halves_of(module, found[0], &number) != 0)
+        return NULL;
+    char key[BASE62_KEY_LENGTH];
+    base62_encode_key(number.high, number.low, key);
+    return PyUnicode_DecodeASCII(key, sizeof key, NULL);
+}
+
+PyDoc_STRVAR(key_range_doc, "key_range($module, /, front)\n--\n\n"
+                            "The least and the greatest number whose key begins so, or None if there is none.\n\n"
+                            "Raises an InvalidByteError.\n\n"
+                            ">>> key_range(\"00000000000000000000L\")\n"
+                            "(1302, 1363)\n"
+                            ">>> key_range(\"8\")");
+
+static PyObject *key_range(PyObject *module, PyObject *const *given, Py_ssize_t count, PyObject *keywords) {
+    static const struct parameters of = {"O:key_range", {"front", NULL}, 1};
+    PyObject *found[2];
+    struct text front;
+    if (unpack(&of, given, count, keywords, found) != 0 || text_of(module, found[0], &front) != 0)
+        return NULL;
+    struct halves least, greatest;
+    unsigned char byte = 0;
+    size_t index = 0;
+    base62_status status = base62_key_range(front.bytes, (size_t)front.length, &least.high, &least.low,
+                                            &greatest.high, &greatest.low, &byte, &index);
+    Py_XDECREF(front.held);
+    if (status == BASE62_NO_KEY)
+        return Py_NewRef(Py_None);
+    if (status != BASE62_OK)
+        return refuse(module, status, byte, index);
+    return Py_BuildValue("NN", number_of(least), number_of(greatest));
+}
+
+/* The module */
+
+#define CALL(name) {#name, (PyCFunction)(void (*)(void))name, METH_FASTCALL | METH_KEYWORDS, name##_doc}
+
+static PyMethodDef methods[] = {
+    CALL(encode),
+    CALL(decode),
+    CALL(digit_count),
+    CALL(encode_key),
+    CALL(key_range),
+    {"check_alphabet", check_alphabet, METH_O, check_alphabet_doc},
+    {NULL, NULL, 0, NULL},
+};
+
+static int execute(PyObject *module) {
+    static const char *const names[HELD] = {
+        "Alphabet",         "whole_of",      "bytes_of",      "letters_of", "EmptyInputError",
+        "InvalidByteError", "TooLargeError", "AlphabetError", "STANDARD",   "ALTERNATIVE",
+    };
+    PyObject **own = ((struct state *)PyModule_GetState(module))->held;
+    PyObject *types = PyImport_ImportModule("base62._types");
+    int ok = types != NULL;
+    for (int i = 0; ok && i < HELD; i++) {
+        own[i] = PyObject_GetAttrString(i < STANDARD ? types : own[ALPHABET], names[i]);
+        ok = own[i] != NULL;
+    }
+    Py_XDECREF(types);
+    /* The signatures of the calls name the class. */
+    ok = ok && PyModule_AddObjectRef(module, names[ALPHABET], own[ALPHABET]) == 0;
+    return ok ? PyModule_AddStringConstant(module, "__version__", PACKAGE_VERSION) : -1;
+}
+
+static int traverse(PyObject *module, visitproc visit, void *arg) {
+    for (int i = 0; i < HELD; i++)
+        Py_VISIT(held(module, i));
+    return 0;
+}
+
+static int clear(PyObject *module) {
+    for (int i = 0; i < HELD; i++)
+        Py_CLEAR(((struct state *)PyModule_GetState(module))->held[i]);
+    return 0;
+}
+
+static void release(void *module) {
+    clear(module);
+}
+
+static PyModuleDef_Slot slots[] = {{Py_mod_exec, execute}, {0, NULL}};
+
+static struct PyModuleDef definition = {
+    .m_base = PyModuleDef_HEAD_INIT,
+    .m_name = "base62._base62",
+    .m_size = sizeof(struct state),
+    .m_methods = methods,
+    .m_slots = slots,
+    .m_traverse = traverse,
+    .m_clear = clear,
+    .m_free = release,
+};
+
+PyMODINIT_FUNC PyInit__base62(void) {
+    return PyModuleDef_Init(&definition);
+}

@@ -1,0 +1,315 @@
+"""Tests of the calls, by Python's own integers."""
+
+from __future__ import annotations
+
+import copy
+import enum
+import pickle
+import random
+import threading
+import unittest
+import uuid
+from array import array
+from collections.abc import Callable
+from typing import Any, SupportsIndex
+
+import base62
+from base62 import Alphabet
+
+LARGEST = 2**128 - 1
+STANDARD = "0123456789ABCDEFGHIJKLMNOPQRSTUVWXYZabcdefghijklmnopqrstuvwxyz"
+OWN = STANDARD[::-1]
+CONTROLS = "".join(map(chr, range(62)))
+HIGH = bytes(range(194, 256))
+
+# Each alphabet in each form that calls take, with its letters.
+ALPHABETS: list[tuple[str | bytes, str]] = [
+    (Alphabet.STANDARD, STANDARD),
+    (Alphabet.ALTERNATIVE, STANDARD.swapcase()),
+    (OWN, OWN),
+    (OWN.encode(), OWN),
+    (Alphabet(OWN), OWN),
+    (Alphabet(STANDARD), STANDARD),
+    (CONTROLS, CONTROLS),
+    (CONTROLS.encode(), CONTROLS),
+]
+
+Call = Callable[..., Any]
+OF_NUMBERS: list[Call] = [base62.encode, base62.digit_count, base62.encode_key]
+OF_TEXTS: list[Call] = [base62.decode, base62.decode_uuid, base62.key_range, base62.key_bounds]
+
+
+def value(text: str, letters: str = STANDARD) -> int:
+    total = 0
+    for letter in text:
+        total = total * 62 + letters.index(letter)
+    return total
+
+
+def numbers(count: int) -> list[int]:
+    choice = random.Random(count)
+    edges = [0, 1, 61, 62, 2**63 - 1, 2**63, 2**64 - 1, 2**64, LARGEST]
+    return edges + [choice.getrandbits(choice.randint(1, 128)) for _ in range(count)]
+
+
+class Refusing(unittest.TestCase):
+    def refused(self, kind: type[BaseException], call: Call, *arguments: object) -> Any:
+        """The exception of exactly this type that a call raises."""
+        with self.assertRaises(kind) as caught:
+            call(*arguments)
+        self.assertIs(type(caught.exception), kind)
+        return caught.exception
+
+
+class Texts(unittest.TestCase):
+    def test_round_trips(self) -> None:
+        for alphabet, letters in ALPHABETS:
+            for number in numbers(1500):
+                text = base62.encode(number, alphabet)
+                self.assertEqual(value(text, letters), number)
+                self.assertTrue(text[0] != letters[0] or len(text) == 1)
+                self.assertEqual(base62.digit_count(number), len(text))
+                self.assertEqual(base62.decode(text, alphabet), number)
+                self.assertEqual(base62.decode(letters[0] * 3 + text, alphabet), number)
+                self.assertEqual(base62.decode(text.encode(), alphabet), number)
+
+    def test_default(self) -> None:
+        for number in numbers(300):
+            text = base62.encode(number)
+            self.assertEqual(value(text), number)
+            self.assertEqual(base62.decode(text), number)
+
+    def test_bytes_above_ascii(self) -> None:
+        for number in numbers(300):
+            text = bytes(HIGH[STANDARD.index(letter)] for letter in base62.encode(number))
+            self.assertEqual(base62.decode(text, HIGH), number)
+            self.assertEqual(base62.decode(text, Alphabet(HIGH)), number)
+
+    def test_uuids(self) -> None:
+        for number in numbers(100):
+            name = uuid.UUID(int=number)
+            for alphabet, letters in ALPHABETS:
+                text = base62.encode_uuid(name, alphabet)
+                self.assertEqual(value(text, letters), number)
+                self.assertEqual(base62.encode(name, alphabet), text)
+                self.assertEqual(base62.decode_uuid(text, alphabet), name)
+            self.assertEqual(base62.decode_uuid(base62.encode_uuid(name)), name)
+            self.assertEqual(base62.encode_key(name), base62.encode_key(number))
+            self.assertEqual(base62.digit_count(name), base62.digit_count(number))
+
+    def test_kinds_of_texts(self) -> None:
+        class Own(str):
+            pass
+
+        views = [memoryview(b"x1a")[1:], memoryview(b"1xa")[::2], memoryview(b"a1")[::-1]]
+        items: list[Any] = [array("B", b"1a"), array("b", b"1a")]
+        for text in ("1a", Own("1a"), b"1a", bytearray(b"1a"), *views, *items):
+            self.assertEqual(base62.decode(text), 98)
+            self.assertEqual(base62.key_range(text), (98 * 62**20, 99 * 62**20 - 1))
+
+    def test_kinds_of_numbers(self) -> None:
+        class Own(int):
+            def __rshift__(self, width: int) -> int:
+                return 0
+
+        class Indexed:
+            def __index__(self) -> int:
+                return LARGEST
+
+        kinds = enum.IntEnum("kinds", {"one": 1337})
+        self.assertEqual(base62.encode(True), "1")
+        self.assertEqual(base62.encode(kinds(1337)), "LZ")
+        largest: list[SupportsIndex] = [Own(LARGEST), Indexed()]
+        for number in largest:
+            self.assertEqual(value(base62.encode(number)), LARGEST)
+            self.assertEqual(base62.digit_count(number), 22)
+            self.assertEqual(value(base62.encode_key(number)), LARGEST)
+
+
+class Threads(unittest.TestCase):
+    def test_four(self) -> None:
+        wrong: list[int] = []
+
+        def round_trips(seed: int) -> None:
+            for number in numbers(3000 + seed):
+                for alphabet, letters in ALPHABETS[:5]:
+                    text = base62.encode(number, alphabet)
+                    if value(text, letters) != number or base62.decode(text, alphabet) != number:
+                        wrong.append(number)
+                try:
+                    base62.decode("0" * seed + "-")
+                except base62.InvalidByteError as error:
+                    if error.index != seed:
+                        wrong.append(number)
+
+        threads = [threading.Thread(target=round_trips, args=(seed,)) for seed in range(4)]
+        for thread in threads:
+            thread.start()
+        for thread in threads:
+            thread.join()
+        self.assertEqual(wrong, [])
+
+
+class Alphabets(Refusing):
+    def test_built_in(self) -> None:
+        self.assertEqual(Alphabet.STANDARD, STANDARD.encode())
+        self.assertEqual(Alphabet.ALTERNATIVE, STANDARD.swapcase().encode())
+
+    def test_own(self) -> None:
+        own = Alphabet(OWN)
+        self.assertEqual(bytes(own), OWN.encode())
+        self.assertEqual(eval(repr(own)), own)
+        for again in (pickle.loads(pickle.dumps(own)), copy.deepcopy(own), Alphabet(own), Alphabet(OWN.encode())):
+            self.assertIs(type(again), Alphabet)
+            self.assertEqual((again, hash(again)), (own, hash(own)))
+
+    def test_repeated(self) -> None:
+        # Alphabets that repeat a letter, with it and its place.
+        calls: list[Call] = [
+            Alphabet,
+            lambda letters: base62.encode(1, letters),
+            lambda letters: base62.decode("9", letters),
+            lambda letters: base62.encode_uuid(uuid.UUID(int=1), letters),
+            lambda letters: base62.decode_uuid("", letters),
+        ]
+        for letters, byte, index in (
+            (STANDARD[:-1] + "7", ord("7"), 61),
+            ("aa" + STANDARD[:60], ord("a"), 1),
+            (b"\0" + STANDARD[:60].encode() + b"\0", 0, 61),
+            ("\0" * 62, 0, 1),
+        ):
+            for call in calls:
+                error = self.refused(base62.AlphabetError, call, letters)
+                self.assertEqual((error.byte, error.index), (byte, index))
+        self.assertEqual(
+            str(self.refused(base62.AlphabetError, Alphabet, STANDARD[:-1] + "7")),
+            "Alphabet repeats the byte b'7' at index 61",
+        )
+        self.assertTrue(issubclass(base62.AlphabetError, ValueError))
+        self.assertFalse(issubclass(base62.AlphabetError, base62.DecodeError))
+
+    def test_other_letters(self) -> None:
+        lengths: list[Any] = ["", "standard", STANDARD[:-1], STANDARD + "-", b"", STANDARD[:-1].encode()]
+        for letters in (*lengths, bytes.__new__(Alphabet, b"0")):
+            error = self.refused(ValueError, Alphabet, letters)
+            self.assertEqual(str(error), "an alphabet has 62 letters")
+            self.refused(ValueError, base62.encode, 1, letters)
+            self.refused(ValueError, base62.decode, "9", letters)
+        for letters in ("é" + STANDARD[1:], "é" + STANDARD[2:], "\ud800" + STANDARD[1:]):
+            self.refused(UnicodeEncodeError, Alphabet, letters)
+            self.refused(UnicodeEncodeError, base62.encode, 1, letters)
+            self.refused(UnicodeEncodeError, base62.decode, "9", letters)
+
+    def test_encoding_wants_ascii(self) -> None:
+        mixed = STANDARD[:61].encode() + b"\xff"
+        for letters in (HIGH, Alphabet(HIGH), mixed, Alphabet(mixed)):
+            with self.assertRaises(ValueError):
+                base62.encode(1, letters)
+        self.assertEqual(base62.decode("1", mixed), 1)
+
+    def test_types(self) -> None:
+        for letters in (None, 62, [*STANDARD], bytearray(STANDARD.encode()), Alphabet):
+            for call in (Alphabet, lambda own: base62.encode(1, own), lambda own: base62.decode("1", own)):
+                error = self.refused(TypeError, call, letters)
+                self.assertRegex(str(error), "an alphabet is an Alphabet, a str or bytes, not <class '[a-zA-Z]+'>")
+
+
+class Keys(unittest.TestCase):
+    def test_keys(self) -> None:
+        keys = [base62.encode_key(number) for number in numbers(2000)]
+        for number, key in zip(numbers(2000), keys):
+            self.assertEqual(len(key), 22)
+            self.assertEqual(value(key), number)
+        self.assertEqual(sorted(keys), [base62.encode_key(number) for number in sorted(numbers(2000))])
+
+    def test_ranges(self) -> None:
+        for number in numbers(200):
+            key = base62.encode_key(number)
+            for length in range(23):
+                span = 62 ** (22 - length)
+                least = value(key[:length]) * span
+                ends = (least, min(least + span - 1, LARGEST))
+                self.assertEqual(base62.key_range(key[:length]), ends)
+                self.assertEqual(base62.key_range(key[:length].encode()), ends)
+                bounds = base62.key_bounds(key[:length])
+                assert bounds is not None
+                self.assertEqual((len(bounds[0]), len(bounds[1])), (22, 22))
+                self.assertEqual((value(bounds[0]), value(bounds[1])), ends)
+
+    def test_no_key(self) -> None:
+        for front in ("0" * 23, "0" * 5000, "8", "7n42DGM5Tflk9n8mt7Fhc8", "z" * 30):
+            self.assertIsNone(base62.key_range(front.encode()))
+            self.assertIsNone(base62.key_range(front))
+            self.assertIsNone(base62.key_bounds(front))
+
+
+class Faults(Refusing):
+    def test_numbers(self) -> None:
+        for call in OF_NUMBERS:
+            for number in (-1, -(2**63) - 1, -(2**64), -(10**100), LARGEST + 1, 10**100):
+                error = self.refused(OverflowError, call, number)
+                self.assertEqual(str(error), "the number is not from 0 to 2**128 - 1")
+            for other in (1.0, "1", None, b"1", uuid.UUID):
+                error = self.refused(TypeError, call, other)
+                self.assertRegex(str(error), r"^a number is an int, has __index__, or is a uuid\.UUID, not <class")
+        for given in (5, "12345678-1234-5678-1234-567812345678", None):
+            error = self.refused(TypeError, base62.encode_uuid, given)
+            self.assertRegex(str(error), r"^a UUID is a uuid\.UUID, not <class '\w+'>$")
+
+    def test_own_index(self) -> None:
+        class Failing:
+            def __index__(self) -> int:
+                raise LookupError("none")
+
+        self.refused(LookupError, base62.encode, Failing())
+
+    def test_types_of_texts(self) -> None:
+        for call in OF_TEXTS:
+            for text in (5, None, [1], {"0"}, 1.0):
+                error = self.refused(TypeError, call, text)
+                self.assertRegex(str(error), r"^a text is a str, bytes, bytearray or memoryview, not <class '\w+'>$")
+            for code in "HiIqQfd":
+                wide = array(code, [48, 49])
+                for items in (wide, memoryview(wide), memoryview(wide)[::2]):
+                    error = self.refused(TypeError, call, items)
+                    self.assertIn(f"items of one byte, not of {wide.itemsize}", str(error))
+
+    def test_texts(self) -> None:
+        for empty in ("", b"", bytearray(), memoryview(b"")):
+            error = self.refused(base62.EmptyInputError, base62.decode, empty)
+            self.assertEqual(str(error), "Encoded input is an empty string")
+        largest = "7n42DGM5Tflk9n8mt7Fhc7"
+        self.assertEqual(base62.decode("0" * 5000 + largest), LARGEST)
+        for text in (largest + "0", largest[:-1] + "8", "1" * 5000, "z" * 10 + "-" * 12, "é" * 12):
+            error = self.refused(base62.TooLargeError, base62.decode, text)
+            self.assertEqual(str(error), "Decoded number cannot fit into a `u128`")
+        for kind in (base62.EmptyInputError, base62.InvalidByteError, base62.TooLargeError):
+            self.assertTrue(issubclass(kind, base62.DecodeError))
+        self.assertTrue(issubclass(base62.DecodeError, ValueError))
+
+    def test_bad_bytes(self) -> None:
+        texts = [("00LZ-", 45, 4), ("a\0b", 0, 1), ("Zoë", 0xC3, 2), ("\ud800", 0xED, 0), (b"LZ\xff", 255, 2)]
+        spaces = [(" 7", 32, 0), ("7 ", 32, 1), ("7\n", 10, 1), ("7 7", 32, 1), ("\t7", 9, 0)]
+        spaces += [("_7", 95, 0), ("1_0", 95, 1), ("1_", 95, 1)]
+        far = [("0" * 100 + "-", 45, 100), ("0" * 5000 + "\xff", 0xC3, 5000)]
+        for call in OF_TEXTS:
+            for text, byte, index in texts + spaces + far:
+                error = self.refused(base62.InvalidByteError, call, text)
+                self.assertEqual((error.byte, error.index), (byte, index))
+                said = repr(bytes([byte]))
+                self.assertEqual(str(error), f"Encoded input contains the invalid byte {said} at index {index}")
+        self.assertGreater(len(str(error)), 60)
+
+    def test_by_hand(self) -> None:
+        caught = self.refused(base62.InvalidByteError, base62.decode, "00LZ-")
+        made = [kind("said", 45, 4) for kind in (base62.InvalidByteError, base62.AlphabetError)]
+        self.assertEqual((made[0].byte, made[0].index), (45, 4))
+        self.assertEqual(str(made[0]), "said")
+        self.assertEqual((base62.InvalidByteError("said").byte, base62.AlphabetError("said").index), (0, 0))
+        for error in (caught, *made):
+            for again in (pickle.loads(pickle.dumps(error)), copy.copy(error)):
+                self.assertIs(type(again), type(error))
+                self.assertEqual((str(again), again.byte, again.index), (str(error), error.byte, error.index))
+        for kind in (base62.EmptyInputError, base62.TooLargeError, base62.DecodeError):
+            again = pickle.loads(pickle.dumps(kind("said")))
+            self.assertEqual((type(again), str(again)), (kind, "said"))

@@ -1,0 +1,209 @@
+"""Tests of the package: what it exports, what it keeps, and what it shares."""
+
+from __future__ import annotations
+
+import ctypes
+import doctest
+import gc
+import importlib
+import importlib.metadata
+import inspect
+import pathlib
+import sys
+import unittest
+import uuid
+from array import array
+from collections.abc import Callable
+from typing import Any
+
+import base62
+from base62 import _base62
+
+EXPORTED = """
+    Alphabet AlphabetError DecodeError EmptyInputError InvalidByteError TooLargeError
+    decode decode_uuid digit_count encode encode_key encode_uuid key_bounds key_range
+""".split()
+OWN = "zyxwvutsrqponmlkjihgfedcbaZYXWVUTSRQPONMLKJIHGFEDCBA9876543210"
+
+
+class Package(unittest.TestCase):
+    def test_exports(self) -> None:
+        names: dict[str, object] = {}
+        exec("from base62 import *", names)
+        self.assertEqual(sorted(set(names) - {"__builtins__"}), sorted(EXPORTED))
+        for name in EXPORTED:
+            self.assertTrue(inspect.getdoc(names[name]), name)
+
+    def test_version(self) -> None:
+        file = pathlib.Path(__file__).parents[2] / "VERSION"
+        self.assertEqual(base62.__version__, file.read_text().strip())
+        self.assertEqual(base62.__version__, importlib.metadata.version("base62-proved"))
+
+    def test_signatures(self) -> None:
+        for name, names in (
+            ("encode", ["number", "alphabet"]),
+            ("decode", ["text", "alphabet"]),
+            ("encode_uuid", ["value", "alphabet"]),
+            ("decode_uuid", ["text", "alphabet"]),
+            ("digit_count", ["number"]),
+            ("encode_key", ["number"]),
+            ("key_range", ["front"]),
+            ("key_bounds", ["front"]),
+        ):
+            parameters = inspect.signature(getattr(base62, name)).parameters
+            self.assertEqual([*parameters], names)
+            if "alphabet" in parameters:
+                self.assertIs(parameters["alphabet"].default, base62.Alphabet.STANDARD)
+
+    def test_keywords(self) -> None:
+        letters = base62.Alphabet.ALTERNATIVE
+        self.assertEqual(base62.encode(number=1337), "LZ")
+        self.assertEqual(base62.encode(1337, alphabet=letters), "lz")
+        self.assertEqual(base62.encode(alphabet=letters, number=1337), "lz")
+        self.assertEqual(base62.decode("lz", alphabet=letters), 1337)
+        self.assertEqual(base62.decode(alphabet=letters, text="lz"), 1337)
+        self.assertEqual(base62.digit_count(number=62), 2)
+        self.assertEqual(base62.encode_key(number=1337), "00000000000000000000LZ")
+        self.assertEqual(base62.key_range(front="00000000000000000000L"), (1302, 1363))
+
+    def test_wrong_arguments(self) -> None:
+        calls: list[Any] = [base62.encode, base62.decode, base62.digit_count, base62.encode_key, base62.key_range]
+        for call in calls:
+            for placed, named in (((), {}), (("1", OWN, 1), {}), (("1",), {"other": 1}), ((), {"alphabet": OWN})):
+                with self.assertRaisesRegex(TypeError, call.__name__ + r"\(\)"):
+                    call(*placed, **named)
+        for call in calls[2:]:
+            self.assertRaises(TypeError, call, 1, OWN)
+        self.assertRaises(TypeError, base62.encode, 1, number=1)
+
+    def test_private_library(self) -> None:
+        """The library's own calls are not seen by other libraries of the process."""
+        extension = ctypes.CDLL(_base62.__file__)
+        self.assertTrue(hasattr(extension, "PyInit__base62"))
+        self.assertFalse(hasattr(extension, "base62_encode"))
+
+
+def made_again() -> Any:
+    """The package as another interpreter has it."""
+    names = [name for name in sys.modules if name.split(".")[0] == "base62"]
+    stored = {name: sys.modules.pop(name) for name in names}
+    try:
+        return importlib.import_module("base62")
+    finally:
+        sys.modules.update(stored)
+
+
+class Modules(unittest.TestCase):
+    def test_made_again(self) -> None:
+        again = made_again()
+        self.assertIsNot(again.encode, base62.encode)
+        self.assertIsNot(again.InvalidByteError, base62.InvalidByteError)
+        for module in (again, base62):
+            self.assertEqual(module.encode(1337, module.Alphabet.ALTERNATIVE), "lz")
+            self.assertRaises(module.InvalidByteError, module.decode, "-")
+
+    def test_let_go(self) -> None:
+        """A module that is gone leaves nothing of what it held."""
+        blocks = []
+        for _ in range(20):
+            made_again()
+            gc.collect()
+            blocks.append(sys.getallocatedblocks())
+        # Any import keeps a few.
+        self.assertLess(blocks[-1] - blocks[0], 1000)
+
+    def test_subinterpreter(self) -> None:
+        try:
+            interpreters = importlib.import_module("_xxsubinterpreters")
+        except ImportError:
+            self.skipTest("this Python has no such module")
+        said = "import base62\nassert base62.decode(base62.encode(2**128 - 1)) == 2**128 - 1"
+        for _ in range(3):
+            other = interpreters.create(isolated=False)
+            interpreters.run_string(other, said)
+            interpreters.destroy(other)
+        self.assertEqual(base62.encode(1337), "LZ")
+
+
+def refused(call: Callable[..., object]) -> Callable[..., None]:
+    def run(*given: object, **named: object) -> None:
+        try:
+            call(*given, **named)
+        except (TypeError, ValueError, OverflowError):
+            return
+        raise AssertionError(f"{call} takes {given} and {named}")
+
+    return run
+
+
+@unittest.skipUnless(sys.getallocatedblocks(), "Python counts no blocks of memory of another malloc")
+class Kept(unittest.TestCase):
+    """A hundred thousand runs of each call, and of each refusal, leave memory and counts of references as they were."""
+
+    RUNS = 100_000
+    WIDE = 2**128 - 1
+    TEXT = "7n42DGM5Tflk9n8mt7Fhc7"
+    LETTERS = base62.Alphabet(OWN)
+    REPEATED = "0" * 62
+    # What calls borrow, besides what they are given.
+    SHARED: list[object] = [None, 0, 64, uuid.UUID, base62.Alphabet]
+    SHARED += [base62.Alphabet.STANDARD, base62.Alphabet.ALTERNATIVE]
+    SHARED += [base62.AlphabetError, base62.EmptyInputError, base62.InvalidByteError, base62.TooLargeError]
+
+    def kept(self, call: Callable[..., object], *given: object, **named: object) -> None:
+        def run(times: int) -> None:
+            for _ in range(times):
+                call(*given, **named)
+
+        def state() -> list[int]:
+            gc.collect()
+            return [sys.getallocatedblocks(), *map(sys.getrefcount, [*self.SHARED, *given, *named.values()])]
+
+        run(100)
+        before = state()
+        run(self.RUNS)
+        for was, now in zip(before, state()):
+            self.assertLess(abs(now - was), self.RUNS // 100, f"{call} of {given} and {named}")
+
+    def test_calls(self) -> None:
+        for number in (1337, self.WIDE, uuid.UUID(int=self.WIDE), True):
+            self.kept(base62.encode, number)
+            self.kept(base62.digit_count, number)
+            self.kept(base62.encode_key, number)
+        for letters in (base62.Alphabet.ALTERNATIVE, self.LETTERS, OWN, OWN.encode()):
+            self.kept(base62.encode, self.WIDE, letters)
+            self.kept(base62.decode, "LZ", letters)
+        buffers: list[Any] = [self.TEXT.encode(), bytearray(self.TEXT, "ascii"), memoryview(b"0L0Z")[::2]]
+        for text in ("LZ", self.TEXT, *buffers):
+            self.kept(base62.decode, text)
+            self.kept(base62.key_range, text[:2])
+        self.kept(base62.encode, number=self.WIDE, alphabet=self.LETTERS)
+        self.kept(base62.decode, "LZ", alphabet=self.LETTERS)
+        self.kept(base62.Alphabet, OWN)
+        self.kept(base62.key_bounds, "8")
+        self.kept(base62.key_bounds, "7n")
+        self.kept(base62.encode_uuid, uuid.UUID(int=self.WIDE))
+        self.kept(base62.decode_uuid, self.TEXT)
+
+    def test_refusals(self) -> None:
+        refusals: list[tuple[Callable[..., object], list[tuple[object, ...]]]] = [
+            (base62.encode, [(-1,), (self.WIDE + 1,), (10**100,), (1.0,), (), (1, OWN, 1)]),
+            (base62.encode, [(1, None), (1, "short"), (1, self.REPEATED), (1, bytes(range(194, 256))), (1, "é" * 62)]),
+            (base62.digit_count, [(-1,), ("1",)]),
+            (base62.encode_key, [(self.WIDE + 1,), (None,)]),
+            (base62.decode, [("",), ("-",), (b"-",), (bytearray(b"-"),), ("é",), ("\ud800",), ("z" * 22,), (5,)]),
+            (base62.decode, [(array("H", [48]),), (memoryview(array("H", [48])),), ("1", None), ("1", self.REPEATED)]),
+            (base62.key_range, [("-",), (bytearray(b"-"),), (5,), ()]),
+            (base62.Alphabet, [(self.REPEATED,), (b"short",), (5,)]),
+        ]
+        for call, rows in refusals:
+            for given in rows:
+                self.kept(refused(call), *given)
+        self.kept(refused(base62.encode), 1, other=1)
+
+
+def load_tests(loader: unittest.TestLoader, tests: unittest.TestSuite, pattern: object) -> unittest.TestSuite:
+    names = {**vars(base62), "uuid": uuid}
+    for module in (base62, _base62):
+        tests.addTests(doctest.DocTestSuite(module, globs=dict(names)))
+    return tests

@@ -58,3 +58,5 @@ places-lt base (d ∷ ds) h =
     let ih = places-lt base ds (All-tail (λ d. d < base) d ds h) in
     let first : d < base = All-head (λ d. d < base) d ds h in
     rw (places-cons base d ds, pow-suc base (length ds)) (mul-add-lt d (base ^ length ds) (sum_over_places base ds) base first ih)
+
+pub ruleset one_at_a_time = (places-nil, places-cons)

@@ -1,12 +1,13 @@
 //! What follows from the definitions alone. No call here takes part in a run.
 
-ghost use Rattle.std.specs.Prelude.{◌≡◌, ◌+◌, ◌-◌, ◌*◌, ◌<◌, ◌≤◌, ◌^◌, ◌↔◌, ◌∷◌, ◌++◌, ℕ, List, length, map, nat_lt, replicate, true, Ok, Some, None};
+ghost use Rattle.std.specs.Prelude.{◌≡◌, ◌+◌, ◌-◌, ◌*◌, ◌<◌, ◌≤◌, ◌^◌, ◌↔◌, [], ◌∷◌, ◌++◌, ℕ, List, length, map, nat_lt, replicate, true, Ok, Some, None};
 ghost use Rattle.std.specs.List.{list_all, range_with_len};
 ghost use Rattle.std.specs.Ordering.{nat_cmp};
 ghost use Rattle.std.specs.Str.{IsAscii};
 ghost use Rattle.std.specs.declared.cmp.Ordering.TheVariants.{Equal};
 ghost use Rattle.std.specs.declared.fmt.Alignment.TheVariants.{Right};
 ghost use Rattle.base62.specs.Alphabet.{IsAlphabet, AreLetters, digit_of, zero_letter, standard, alternative};
+ghost use Rattle.base62.specs.Places.{sum_over_places};
 ghost use Rattle.base62.specs.Value.{value};
 ghost use Rattle.base62.specs.Canonical.{Denotes, IsCanonical};
 ghost use Rattle.base62.specs.Decoding.{decoding};
@@ -212,4 +213,13 @@ pub fn clones_of_errors()
     ensures alphabet_error { (d e : AlphabetError) → ⟦<fault::AlphabetError as Clone>⟧.is_clone d e → e ≡ d }
     ensures alphabet_error_always { (d : AlphabetError)
         → ⟦<fault::AlphabetError as Clone>⟧.is_infallible d }
+{}
+
+/// What digits denote in a base, one at a time: no digits denote 0, and a digit in front adds itself times the base to
+/// the number of digits after it.
+#[tactic(auto, using(crate::proofs::PlacesLemmas::one_at_a_time))]
+pub fn sums_over_places()
+    ensures none { (base : ℕ) → sum_over_places base [] ≡ 0 }
+    ensures front { (base digit : ℕ) (digits : List ℕ)
+        → sum_over_places base (digit ∷ digits) ≡ digit * base ^ length digits + sum_over_places base digits }
 {}

@@ -7,20 +7,22 @@ use Rattle.std.specs.Str.{all_ascii_digits}
 use Rattle.std.proofs.lemmas.Bool.{true≢false, false≢true, ltb-true, lt-ltb, eqb-true, and_parts, false_from_ne_true}
 use Rattle.std.proofs.lemmas.List.{length-map}
 use Rattle.std.proofs.lemmas.Str.Parse.{IsNumeralModel, WeighsDigits, numerals_by_weight, tells_all_ascii_digits}
-use Rattle.base62.proofs.PlacesLemmas.{places-nil, places-cons}
+use Rattle.base62.specs.Places.{sum_over_places}
 use Rattle.base62_cli.specs.Reply.{decimal_value, is_number}
 
--- a digit in front adds its place
-weighs : WeighsDigits decimal_value
-unfolding decimal_value
-weighs = record {
-  empty = places-nil 10;
-  more = λ c cs _. places-cons 10 (c - 48) (map (λ b. b - 48) cs) ∙ ap (λ k. (c - 48) * 10 ^ k + decimal_value cs) (length-map cs (λ b. b - 48));
-}
+-- the texts of digits, and what they denote, by the law of sums over places
+module _ (none : (base : ℕ) → sum_over_places base [] ≡ 0)
+    (front : (base digit : ℕ) (digits : List ℕ) → sum_over_places base (digit ∷ digits) ≡ digit * base ^ length digits + sum_over_places base digits) where
+  -- a digit in front adds its place
+  weighs : WeighsDigits decimal_value
+  unfolding decimal_value
+  weighs = record {
+    empty = none 10;
+    more = λ c cs _. front 10 (c - 48) (map (λ b. b - 48) cs) ∙ ap (λ k. (c - 48) * 10 ^ k + decimal_value cs) (length-map cs (λ b. b - 48));
+  }
 
--- the texts of digits, and what they denote
-pub numerals : IsNumeralModel (λ text. all_ascii_digits text ≡ true) decimal_value
-numerals = numerals_by_weight _ tells_all_ascii_digits decimal_value weighs
+  pub numerals : IsNumeralModel (λ text. all_ascii_digits text ≡ true) decimal_value
+  numerals = numerals_by_weight _ tells_all_ascii_digits decimal_value weighs
 
 -- what a number is made of
 pub number_parts : (text : List ℕ) → is_number text ≡ true → (0 < length text) × (all_ascii_digits text ≡ true) × (decimal_value text < 2 ^ 128)

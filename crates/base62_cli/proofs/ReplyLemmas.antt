@@ -1,13 +1,10 @@
 -- An input has one output, and what the reply to each command is.
-use Rattle.std.proofs.Common.{◌≡◌, ℕ, Some, None, Result, Ok, Err, is_ok, OnOk, if◌then◌else◌, Bool, true, false, List, [], ◌∷◌, ◌++◌, drop, codes, nat_eq, refl, sym, ◌∙◌}
+use Rattle.std.proofs.Common.{◌≡◌, ℕ, ◌^◌, ◌<◌, Some, None, Result, Ok, Err, is_ok, OnOk, if◌then◌else◌, Bool, true, false, List, [], ◌∷◌, ◌++◌, drop, codes, nat_eq, refl, sym, ◌∙◌}
 use Rattle.std.specs.Bool.{MatchBool}
 use Rattle.std.specs.List.{starts_with}
 use Rattle.std.proofs.lemmas.Option.{none-some}
-use Rattle.base62.specs.Alphabet.{IsAlphabet, standard, alternative}
+use Rattle.base62.specs.Alphabet.{standard, alternative}
 use Rattle.base62.specs.Canonical.{IsCanonical}
-use Rattle.base62.proofs.AlphabetLemmas.{standard_is_alphabet, alternative_is_alphabet}
-use Rattle.base62.proofs.CanonicalLemmas.{one_canonical}
-use Rattle.base62.proofs.FixedLemmas.{some_canonical}
 use Rattle.base62_cli.specs.Reply.{IsReply, IsEncodeReply, decimal_value, decode_reply, is_number}
 use Rattle.base62_cli.specs.Output.{AreReplies}
 use Rattle.base62_cli.proofs.NumberLemmas.{number_parts}
@@ -26,38 +23,39 @@ one_of_two false F G f g = g
 stated : (text : List ℕ) → ExactlyOne (λ x. x ≡ text)
 stated text = record { exists = (text, refl); only = λ a b p q. p ∙ sym q }
 
--- a text to be encoded has one reply
-one_encode_reply : (B : List ℕ) → IsAlphabet B → (text : List ℕ) → ExactlyOne (IsEncodeReply B text)
-one_encode_reply B ok text =
-    let n = decimal_value text in
-    let canonical : is_number text ≡ true → ExactlyOne (λ r. IsCanonical B r n) =
-    λ e. record { exists = some_canonical B ok n (number_parts text e).2; only = one_canonical B ok n } in
-    one_of_two (is_number text) (λ r. IsCanonical B r n) (λ r. r ≡ codes "fault: not a number") canonical (stated (codes "fault: not a number"))
-
 -- a line begins with a command
 abbrev pub begins : List ℕ → List ℕ → Bool
 begins line command = starts_with nat_eq line command
 
--- so has each line
-one_reply : (line : List ℕ) → ExactlyOne (IsReply line)
-unfolding IsReply
-one_reply line =
-    let text : List ℕ = drop 4 line in
-    one_of_two (begins line (codes "enc ")) (IsEncodeReply standard text) _ (λ _. one_encode_reply standard standard_is_alphabet text)
-    (one_of_two (begins line (codes "alt ")) (IsEncodeReply alternative text) _ (λ _. one_encode_reply alternative alternative_is_alphabet text)
-    (one_of_two (begins line (codes "dec ")) _ _ (λ _. stated (decode_reply standard text))
-    (one_of_two (begins line (codes "adc ")) _ _ (λ _. stated (decode_reply alternative text)) (stated (codes "fault: unknown command")))))
+-- a line and an input have one reply, where a number below 2^128 has one text over each built-in alphabet
+module _ (standard_text : (n : ℕ) → n < 2 ^ 128 → ExactlyOne (λ text. IsCanonical standard text n))
+    (alternative_text : (n : ℕ) → n < 2 ^ 128 → ExactlyOne (λ text. IsCanonical alternative text n)) where
+  -- a text to be encoded has one reply
+  one_encode_reply : (B text : List ℕ) → ((n : ℕ) → n < 2 ^ 128 → ExactlyOne (λ t. IsCanonical B t n)) → ExactlyOne (IsEncodeReply B text)
+  one_encode_reply B text one =
+      let n = decimal_value text in
+      one_of_two (is_number text) (λ r. IsCanonical B r n) (λ r. r ≡ codes "fault: not a number") (λ e. one n (number_parts text e).2) (stated (codes "fault: not a number"))
 
--- and so have the lines of an input, in order
-pub one_replies : (lines : List (List ℕ)) → ExactlyOne (AreReplies lines)
-unfolding AreReplies
-one_replies [] = stated []
-one_replies (line ∷ lines) =
-    let r = one_reply line in
-    let o = one_replies lines in record {
-      exists = (r.exists.0 ++ 10 ∷ o.exists.0, (r.exists.0, o.exists.0, r.exists.1, o.exists.1, refl));
-      only = λ a b p q. p.4 ∙ rw (r.only p.0 q.0 p.2 q.2, o.only p.1 q.1 p.3 q.3) refl ∙ sym q.4;
-    }
+  -- so has each line
+  one_reply : (line : List ℕ) → ExactlyOne (IsReply line)
+  unfolding IsReply
+  one_reply line =
+      let text : List ℕ = drop 4 line in
+      one_of_two (begins line (codes "enc ")) (IsEncodeReply standard text) _ (λ _. one_encode_reply standard text standard_text)
+      (one_of_two (begins line (codes "alt ")) (IsEncodeReply alternative text) _ (λ _. one_encode_reply alternative text alternative_text)
+      (one_of_two (begins line (codes "dec ")) _ _ (λ _. stated (decode_reply standard text))
+      (one_of_two (begins line (codes "adc ")) _ _ (λ _. stated (decode_reply alternative text)) (stated (codes "fault: unknown command")))))
+
+  -- and so have the lines of an input, in order
+  pub one_replies : (lines : List (List ℕ)) → ExactlyOne (AreReplies lines)
+  unfolding AreReplies
+  one_replies [] = stated []
+  one_replies (line ∷ lines) =
+      let r = one_reply line in
+      let o = one_replies lines in record {
+        exists = (r.exists.0 ++ 10 ∷ o.exists.0, (r.exists.0, o.exists.0, r.exists.1, o.exists.1, refl));
+        only = λ a b p q. p.4 ∙ rw (r.only p.0 q.0 p.2 q.2, o.only p.1 q.1 p.3 q.3) refl ∙ sym q.4;
+      }
 
 -- the reply to each command
 module _ (line reply : List ℕ) where

@@ -9,7 +9,10 @@ ghost use Rattle.base62_cli.specs.Output.{IsOutput};
 pub fn one_output()
     ensures exists { (input : List ℕ) → (output : List ℕ) × IsOutput input output }
     ensures only { (input a b : List ℕ) → IsOutput input a → IsOutput input b → a ≡ b }
-{}
+{
+    base62::laws::built_in_alphabets();
+    base62::laws::one_text();
+}
 
 /// Where lines end: an empty input has none, a byte 10 ends what stands before it, and a nonempty rest that
 /// has no byte 10 is one line. These three say what the lines of every input are.

@@ -98,6 +98,7 @@ fn decode(alphabet: BuiltIn, text: &[u8]) -> Result<u128, DecodeError>
 fn number_of(text: &[u8]) -> Option<u128>
     ensures { result ≡ (if is_number text.now then Some (decimal_value text.now) else None) }
 {
+    base62::laws::sums_over_places();
     // `parse` takes a plus sign.
     if text.starts_with(b"+") {
         return None;

@@ -1,3 +1,4 @@
+-- Tables, Fixed and Parts have what private contracts alone cite; public ones cite the others.
 pub mod Alphabet
 pub mod Tables
 pub mod Places

@@ -39,7 +39,7 @@ pub use codec::{
     decode_with_counted, encode_alternative_bytes, encode_alternative_bytes_counted, encode_bytes,
     encode_bytes_counted, encode_bytes_with, encode_bytes_with_counted,
 };
-pub use count::digit_count;
+pub use count::{MAX_DIGITS, digit_count};
 pub use fault::{AlphabetError, DecodeError, EncodeError, MAX_FAULT_TEXT};
 pub use key::{encode_key, key_range};
 pub use number::Number;

@@ -6,24 +6,25 @@ use Rattle.base62.specs.Alphabet.{IsAlphabet}
 use Rattle.base62.specs.Canonical.{Denotes, IsCanonical}
 use Rattle.base62.proofs.ValueLemmas.{value-lt, same_text}
 
--- a shorter text cannot denote n, where one letter less cannot hold it
-too_short : (B : List ℕ) → IsAlphabet B → (k n : ℕ) → (k ≡ 1) ⊎ (62 ^ (k - 1) ≤ n) → (other : List ℕ) → Denotes B other n → length other < k → ⊥
-too_short B ok k n (inl one) other d less = omega (arith, d.nonempty)
-too_short B ok k n (inr big) other d less =
-    let below = value-lt B ok other in
-    let grows : 62 ^ length other ≤ 62 ^ (k - 1) = pow-le-pow_right {n = 62} (omega arith) (omega arith) in
-    omega (arith, d.value_is)
+module _ (B : List ℕ) (ok : IsAlphabet B) where
+  -- a shorter text cannot denote n, where one letter less cannot hold it
+  too_short : (k n : ℕ) → (k ≡ 1) ⊎ (62 ^ (k - 1) ≤ n) → (other : List ℕ) → Denotes B other n → length other < k → ⊥
+  too_short k n (inl one) other d less = omega (arith, d.nonempty)
+  too_short k n (inr big) other d less =
+      let below = value-lt B ok other in
+      let grows : 62 ^ length other ≤ 62 ^ (k - 1) = pow-le-pow_right {n = 62} (omega arith) (omega arith) in
+      omega (arith, d.value_is)
 
--- a text that denotes n is canonical where it has one letter, or one letter less can't hold n
-pub canonical_is : (B : List ℕ) → IsAlphabet B → (text : List ℕ) (n : ℕ) → Denotes B text n → (length text ≡ 1) ⊎ (62 ^ (length text - 1) ≤ n) → IsCanonical B text n
-canonical_is B ok text n d least = record {
-  denotes = d;
-  shortest = λ other e. elim (cases_lt (length other) (length text)) [ inl less ↦ absurd (too_short B ok (length text) n least other e less) | inr more ↦ more ];
-}
+  -- a text that denotes n is canonical where it has one letter, or one letter less can't hold n
+  pub canonical_is : (text : List ℕ) (n : ℕ) → Denotes B text n → (length text ≡ 1) ⊎ (62 ^ (length text - 1) ≤ n) → IsCanonical B text n
+  canonical_is text n d least = record {
+    denotes = d;
+    shortest = λ other e. elim (cases_lt (length other) (length text)) [ inl less ↦ absurd (too_short (length text) n least other e less) | inr more ↦ more ];
+  }
 
--- a number has one canonical text
-pub one_canonical : (B : List ℕ) → IsAlphabet B → (n : ℕ) (a b : List ℕ) → IsCanonical B a n → IsCanonical B b n → a ≡ b
-one_canonical B ok n a b p q =
-    let le = p.shortest b q.denotes in
-    let ge = q.shortest a p.denotes in
-    same_text B ok a b (omega arith) p.denotes.letters q.denotes.letters (p.denotes.value_is ∙ sym q.denotes.value_is)
+  -- a number has one canonical text
+  pub one_canonical : (n : ℕ) (a b : List ℕ) → IsCanonical B a n → IsCanonical B b n → a ≡ b
+  one_canonical n a b p q =
+      let le = p.shortest b q.denotes in
+      let ge = q.shortest a p.denotes in
+      same_text B ok a b (omega arith) p.denotes.letters q.denotes.letters (p.denotes.value_is ∙ sym q.denotes.value_is)

@@ -34,7 +34,7 @@ module _ (B : List ℕ) (ok : IsAlphabet B) (n count : ℕ) (has : DigitCount n 
   pub encodes_none : (old : List ℕ) (before : ℕ) → length old < count → EncodesCounted B n old old before before (Err BufferTooSmall)
   encodes_none old before short = record {
     answer = record {
-      fits = (λ e. absurd (false≢true e), λ fits. absurd (omega (arith, letters_exact n count has B fits.0 ok fits.1, fits.2)));
+      fits = (λ e. absurd (false≢true e), λ fits. absurd (omega (arith, letters_exact B ok n count has fits.0 fits.1, fits.2)));
       text = tt;
       others = tt;
       short = tt;

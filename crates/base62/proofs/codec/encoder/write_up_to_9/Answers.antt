@@ -20,6 +20,6 @@ pub returns-then-places-gt4-clause-written : goal.returns-then-places-gt4-clause
 returns-then-places-gt4-clause-written c =
     let n = c.args.n in
     let places = c.args.places in
-    let remainder = remainder_is n 14776336 in
-    let join = back_first c.args.tables.now.letters (places - 4) 4 places n (n / 14776336) _ (omega arith) refl remainder in
+    let remainder = remainder_is n (62 ^ 4) in
+    let join = back_first c.args.tables.now.letters (places - 4) 4 places n (n / 62 ^ 4) _ (omega arith) refl remainder in
     join c.args.buf.now c.write_4.new.buf _ c.requires.room c.write_4.ensures.written c.write_up_to_5.ensures.written

@@ -1,3 +1,4 @@
+pub mod RangeLemmas
 pub mod PlacesLemmas
 pub mod AlphabetLemmas
 pub mod TableLemmas

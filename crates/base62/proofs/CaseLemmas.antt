@@ -1,25 +1,20 @@
 -- Exchange of case turns the alternative alphabet into the standard one.
 use Rattle.std.proofs.Common.{◌≡◌, ℕ, ◌<◌, ◌≤◌, ◌==◌, ◌&&◌, ◌||◌, Bool, true, false, leb, List, [], ◌∷◌, length, get_or, map, take, drop}
 use Rattle.std.proofs.Common.{Option, Some, None, is_some, unwrap_or, refl, sym, ap, ◌∙◌, subst, inl, inr, arith}
-use Rattle.std.specs.List.{range_with_len, prefix_len, list_all}
+use Rattle.std.specs.List.{prefix_len, list_all}
 use Rattle.std.specs.Str.{IsAscii}
-use Rattle.std.proofs.lemmas.Bool.{agree_below_at, cases_lt, lt-leb, and_right, eqb-true}
+use Rattle.std.proofs.lemmas.Bool.{cases_lt, lt-leb, and_right, eqb-true}
 use Rattle.std.proofs.Math.ListN.{get_or-map}
 use Rattle.std.proofs.lemmas.List.{length-map, take-map, drop-map, get_or_past}
-use Rattle.std.proofs.lemmas.List.FromFn.{get_or-map-range_with_len}
 use Rattle.std.proofs.lemmas.List.Sums.{AllPass-from_list_all, list_all-from_AllPass, prefix_len_stops}
 use Rattle.base62.specs.Alphabet.{AreLetters, standard, alternative, digit_of, is_letter, zero_letter}
 use Rattle.base62.specs.Places.{sum_over_places}
 use Rattle.base62.specs.Value.{value, digit_or_zero}
 use Rattle.base62.specs.Canonical.{Denotes, IsCanonical}
-use Rattle.base62.specs.Decoding.{decoding, leading_zeros, rest, first_invalid}
+use Rattle.base62.specs.Decoding.{decoding, leading_zeros, rest, invalid_index, first_invalid}
 use Rattle.base62.specs.Case.{other_case, exchange_case}
+use Rattle.base62.proofs.RangeLemmas.{same_on_range}
 use Rattle.base62.proofs.AlphabetLemmas.{letter-digit_of, standard_is_ascii, alternative_is_ascii}
-
--- two functions that give one list over the numbers below n agree there
-same_on_range : {Y : Type 0} (f g : ℕ → Y) (n : ℕ) → map f (range_with_len 0 n) ≡ map g (range_with_len 0 n) → (b : ℕ) → b < n → f b ≡ g b
-same_on_range f g n e b h =
-    sym (get_or-map-range_with_len f 0 n b b (f b) h (omega arith)) ∙ ap (λ xs. get_or xs b (f b)) e ∙ get_or-map-range_with_len g 0 n b b (f b) h (omega arith)
 
 -- only letters of ASCII have another case
 other_case-past : (b : ℕ) → 128 ≤ b → other_case b ≡ b
@@ -31,7 +26,7 @@ other_case-past b h =
 
 other_case-below : (b : ℕ) → b < 128 → other_case (other_case b) ≡ b
 unfolding other_case
-other_case-below b h = same_on_range (λ b. other_case (other_case b)) (λ b. b) 128 refl b h
+other_case-below b h = same_on_range (λ b. other_case (other_case b)) (λ b. b) 0 128 refl b (omega arith) h
 
 other_case_twice : (b : ℕ) → other_case (other_case b) ≡ b
 other_case_twice b = elim (cases_lt b 128) [
@@ -53,10 +48,10 @@ none_above B ascii b h (Some d) e =
 -- a byte of ASCII has the digit of its other case in the other alphabet
 digits_below : (b : ℕ) → b < 128 → digit_of alternative b ≡ digit_of standard (other_case b)
 unfolding standard alternative digit_of other_case
-digits_below b h = same_on_range (digit_of alternative) (λ b. digit_of standard (other_case b)) 128 refl b h
+digits_below b h = same_on_range (digit_of alternative) (λ b. digit_of standard (other_case b)) 0 128 refl b (omega arith) h
 
 -- a byte has the digit in A that it has in B with its case exchanged
-abbrev pub Exchanges : List ℕ → List ℕ → Type 0
+abbrev Exchanges : List ℕ → List ℕ → Type 0
 Exchanges A B = (b : ℕ) → digit_of A b ≡ digit_of B (other_case b)
 
 digit_in_standard : Exchanges alternative standard
@@ -129,7 +124,7 @@ canonical_in_standard text n canonical =
 -- the zero letter of both alphabets is the digit 0, which has no case
 zero_below : (b : ℕ) → b < 128 → (b == zero_letter alternative) ≡ (other_case b == zero_letter standard)
 unfolding standard alternative other_case
-zero_below b h = agree_below_at (λ b. b == zero_letter alternative) (λ b. other_case b == zero_letter standard) 128 b refl h
+zero_below b h = same_on_range (λ b. b == zero_letter alternative) (λ b. other_case b == zero_letter standard) 0 128 refl b (omega arith) h
 
 same_zero : (b : ℕ) → (b == zero_letter alternative) ≡ (b == zero_letter standard)
 unfolding standard alternative
@@ -151,7 +146,7 @@ rest_exchanged text = sym (drop-map other_case (leading_zeros alternative text) 
 -- a byte that is no letter has no other case
 stays_below : (b : ℕ) → b < 128 → (is_letter alternative b || other_case b == b) ≡ true
 unfolding alternative digit_of other_case
-stays_below b h = agree_below_at (λ b. is_letter alternative b || other_case b == b) (λ b. true) 128 b refl h
+stays_below b h = same_on_range (λ b. is_letter alternative b || other_case b == b) (λ b. true) 0 128 refl b (omega arith) h
 
 stays : (b : ℕ) → is_letter alternative b ≡ false → other_case b ≡ b
 stays b bad = elim (cases_lt b 128) [
@@ -169,9 +164,9 @@ unfolding alternative digit_of
 no_letter_past = refl
 
 -- what stands where the letters end is no letter
-bad_or_past : (text : List ℕ) → is_letter alternative (get_or text (prefix_len (is_letter alternative) text) 0) ≡ false
+bad_or_past : (text : List ℕ) → is_letter alternative (get_or text (invalid_index alternative text) 0) ≡ false
 bad_or_past text =
-    let i = prefix_len (is_letter alternative) text in
+    let i = invalid_index alternative text in
     elim (cases_lt i (length text)) [
       | inl less ↦ prefix_len_stops (is_letter alternative) text 0 less
       | inr more ↦ ap (is_letter alternative) (get_or_past text i 0 more) ∙ no_letter_past
@@ -180,8 +175,8 @@ bad_or_past text =
 -- so the first bad byte is the same
 first_invalid_exchanged : (text : List ℕ) → first_invalid alternative text ≡ first_invalid standard (exchange_case text)
 first_invalid_exchanged text =
-    let i = prefix_len (is_letter alternative) text in
-    let place : i ≡ prefix_len (is_letter standard) (exchange_case text) =
+    let i = invalid_index alternative text in
+    let place : i ≡ invalid_index standard (exchange_case text) =
     prefix_len-changed (is_letter alternative) (is_letter standard) other_case (letter_exchanged alternative standard digit_in_standard) text in
     let byte : get_or (exchange_case text) i 0 ≡ get_or text i 0 = at_exchanged text i ∙ stays (get_or text i 0) (bad_or_past text) in
     rw (← place, byte)

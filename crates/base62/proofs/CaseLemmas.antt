@@ -24,13 +24,10 @@ other_case-past b h =
     let second : (leb 97 b && leb b 122) ≡ false = and_right _ _ (lt-leb b 122 (omega arith)) in
     rw (first, second)
 
-other_case-below : (b : ℕ) → b < 128 → other_case (other_case b) ≡ b
-unfolding other_case
-other_case-below b h = same_on_range (λ b. other_case (other_case b)) (λ b. b) 0 128 refl b (omega arith) h
-
 other_case_twice : (b : ℕ) → other_case (other_case b) ≡ b
+unfolding other_case
 other_case_twice b = elim (cases_lt b 128) [
-  | inl less ↦ other_case-below b less
+  | inl less ↦ same_on_range (λ b. other_case (other_case b)) (λ b. b) 0 128 refl b (omega arith) less
   | inr more ↦ ap other_case (other_case-past b more) ∙ other_case-past b more
 ]
 
@@ -45,18 +42,14 @@ none_above B ascii b h (Some d) e =
     let at = letter-digit_of B b d e in
     let below : b < 128 = subst (λ l. l < 128) at.1 (ascii d) in absurd (omega arith)
 
--- a byte of ASCII has the digit of its other case in the other alphabet
-digits_below : (b : ℕ) → b < 128 → digit_of alternative b ≡ digit_of standard (other_case b)
-unfolding standard alternative digit_of other_case
-digits_below b h = same_on_range (digit_of alternative) (λ b. digit_of standard (other_case b)) 0 128 refl b (omega arith) h
-
 -- a byte has the digit in A that it has in B with its case exchanged
 abbrev Exchanges : List ℕ → List ℕ → Type 0
 Exchanges A B = (b : ℕ) → digit_of A b ≡ digit_of B (other_case b)
 
 digit_in_standard : Exchanges alternative standard
+unfolding standard alternative digit_of other_case
 digit_in_standard b = elim (cases_lt b 128) [
-  | inl less ↦ digits_below b less
+  | inl less ↦ same_on_range (digit_of alternative) (λ b. digit_of standard (other_case b)) 0 128 refl b (omega arith) less
   | inr more ↦
       let none = none_above standard standard_is_ascii b more (digit_of standard b) refl in
       none_above alternative alternative_is_ascii b more (digit_of alternative b) refl
@@ -121,20 +114,12 @@ pub canonical_in_standard : (text : List ℕ) (n : ℕ) → IsCanonical alternat
 canonical_in_standard text n canonical =
     rw exchange_case_twice at (canonical_exchanged alternative standard digit_in_standard digit_in_alternative (exchange_case text) n canonical)
 
--- the zero letter of both alphabets is the digit 0, which has no case
-zero_below : (b : ℕ) → b < 128 → (b == zero_letter alternative) ≡ (other_case b == zero_letter standard)
-unfolding standard alternative other_case
-zero_below b h = same_on_range (λ b. b == zero_letter alternative) (λ b. other_case b == zero_letter standard) 0 128 refl b (omega arith) h
-
-same_zero : (b : ℕ) → (b == zero_letter alternative) ≡ (b == zero_letter standard)
-unfolding standard alternative
-same_zero b = refl
-
--- so a byte is the zero letter where the exchanged one is
+-- a byte is the zero letter where the exchanged one is, since both alphabets have the digit 0, which has no case
 zero_exchanged : (b : ℕ) → (b == zero_letter alternative) ≡ (other_case b == zero_letter standard)
+unfolding standard alternative other_case
 zero_exchanged b = elim (cases_lt b 128) [
-  | inl less ↦ zero_below b less
-  | inr more ↦ same_zero b ∙ ap (λ k. k == zero_letter standard) (sym (other_case-past b more))
+  | inl less ↦ same_on_range (λ b. b == zero_letter alternative) (λ b. other_case b == zero_letter standard) 0 128 refl b (omega arith) less
+  | inr more ↦ ap (λ k. k == zero_letter standard) (sym (other_case-past b more))
 ]
 
 zeros_exchanged : (text : List ℕ) → leading_zeros alternative text ≡ leading_zeros standard (exchange_case text)
@@ -144,13 +129,10 @@ rest_exchanged : (text : List ℕ) → exchange_case (rest alternative text) ≡
 rest_exchanged text = sym (drop-map other_case (leading_zeros alternative text) text) ∙ ap (λ z. drop z (exchange_case text)) (zeros_exchanged text)
 
 -- a byte that is no letter has no other case
-stays_below : (b : ℕ) → b < 128 → (is_letter alternative b || other_case b == b) ≡ true
-unfolding alternative digit_of other_case
-stays_below b h = same_on_range (λ b. is_letter alternative b || other_case b == b) (λ b. true) 0 128 refl b (omega arith) h
-
 stays : (b : ℕ) → is_letter alternative b ≡ false → other_case b ≡ b
+unfolding alternative digit_of other_case
 stays b bad = elim (cases_lt b 128) [
-  | inl less ↦ eqb-true _ _ (rw bad at (stays_below b less))
+  | inl less ↦ eqb-true _ _ (rw bad at (same_on_range (λ b. is_letter alternative b || other_case b == b) (λ b. true) 0 128 refl b (omega arith) less))
   | inr more ↦ other_case-past b more
 ]
 

@@ -20,7 +20,7 @@ module _ (B : List ℕ) (ok : IsAlphabet B) (n count : ℕ) (has : DigitCount n 
       record {
         answer = record {
           fits = (λ _. (fixed B count n, canonical, omega (arith, length-fixed B count n)), λ _. refl);
-          text = (omega (arith, written_length B count n old new room writes), rw text canonical);
+          text = (omega (arith, written_length B count n old new writes room), rw text canonical);
           others = written_rest B count n old new writes;
           short = (some, few);
           refused = tt;

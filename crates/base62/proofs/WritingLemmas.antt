@@ -29,16 +29,18 @@ module _ (B : List ℕ) (v w m : ℕ) (old part : List ℕ) (room : v + w ≤ le
       ∙ length-append (take v old) (fixed B w m ++ drop (v + w) old)
       ∙ omega (arith, room, front, back, length-fixed B w m, length-drop (v + w) old)
 
--- what is written at the front stands there, and nothing after it changes
-pub written_front : (B : List ℕ) (v n : ℕ) (old new : List ℕ) → WritesFixed B v n old new → take v new ≡ fixed B v n
-written_front B v n old new writes = ap (take v) writes ∙ take_at (fixed B v n) (drop v old) v (length-fixed B v n)
+-- what is written at the front
+module _ (B : List ℕ) (v n : ℕ) (old new : List ℕ) (writes : WritesFixed B v n old new) where
+  -- stands there
+  pub written_front : take v new ≡ fixed B v n
+  written_front = ap (take v) writes ∙ take_at (fixed B v n) (drop v old) v (length-fixed B v n)
 
-pub written_rest : (B : List ℕ) (v n : ℕ) (old new : List ℕ) → WritesFixed B v n old new → drop v new ≡ drop v old
-written_rest B v n old new writes = ap (drop v) writes ∙ drop_at (fixed B v n) (drop v old) v (length-fixed B v n)
+  -- and nothing after it changes
+  pub written_rest : drop v new ≡ drop v old
+  written_rest = ap (drop v) writes ∙ drop_at (fixed B v n) (drop v old) v (length-fixed B v n)
 
-pub written_length : (B : List ℕ) (v n : ℕ) (old new : List ℕ) → v ≤ length old → WritesFixed B v n old new → length new ≡ length old
-written_length B v n old new room writes =
-    ap length writes ∙ length-append (fixed B v n) (drop v old) ∙ omega (arith, room, length-fixed B v n, length-drop v old)
+  pub written_length : v ≤ length old → length new ≡ length old
+  written_length room = ap length writes ∙ length-append (fixed B v n) (drop v old) ∙ omega (arith, room, length-fixed B v n, length-drop v old)
 
 -- a text of t letters is written in two parts, of v and of w letters, from the quotient q and the remainder m
 module _ (B : List ℕ) (v w t n q m : ℕ) (both : v + w ≡ t) (quotient : q ≡ n / 62 ^ w) (remainder : m ≡ n % 62 ^ w) where
@@ -56,7 +58,7 @@ module _ (B : List ℕ) (v w t n q m : ℕ) (both : v + w ≡ t) (quotient : q �
 
     pub written_on : WritesFixed B v q old mid → WritesFixed B t n old (put_from v mid part)
     written_on front =
-        let same = written_length B v q old mid (omega (arith, room, both)) front in
+        let same = written_length B v q old mid front (omega (arith, room, both)) in
         let behind = sym (drop-drop w v mid) ∙ ap (drop w) (written_rest B v q old mid front) ∙ drop-drop w v old in
         let others : drop t mid ≡ drop t old = rw (← both) behind in
         front_first same (written_front B v q old mid front) others

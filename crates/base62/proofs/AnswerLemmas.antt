@@ -14,12 +14,13 @@ use Rattle.base62.specs.Value.{value}
 use Rattle.base62.specs.Canonical.{Denotes, IsCanonical}
 use Rattle.base62.specs.Decoding.{decoding, leading_zeros, rest, first_invalid, IsFirstInvalid}
 use Rattle.base62.specs.Laws.{AgreesAtLetters, AnswerTells, number_or_overflow, without_zeros}
-use Rattle.base62.proofs.AlphabetLemmas.{IsLetter, is_letter-letter, digit_or_zero-letter}
+use Rattle.base62.proofs.AlphabetLemmas.{IsLetter}
 use Rattle.base62.proofs.ValueLemmas.{value-nil, value-append, value-one}
 use Rattle.base62.proofs.DecodingLemmas.{letter_before, value-rest}
+use Rattle.base62.proofs.ZeroLemmas.{rest_first, zero_is_letter, zero_digit}
 use Rattle.base62.proofs.CanonicalLemmas.{canonical_is}
 use Rattle.base62.proofs.LengthLemmas.{first_weighs}
-use Rattle.base62.proofs.OverflowLemmas.{rest_first, over_long, over_first, over_rest}
+use Rattle.base62.proofs.OverflowLemmas.{over_long, over_first, over_rest}
 
 -- a list whose front does not all pass does not all pass
 not_all-take : (p : ℕ → Bool) (xs : List ℕ) (n : ℕ) → list_all p (take n xs) ≡ false → list_all p xs ≡ false
@@ -140,8 +141,8 @@ decoding-append B ok a b m n p q =
 zero_canonical : (B text : List ℕ) → IsAlphabet B → (n : ℕ) → Denotes B text n → length (rest B text) ≡ 0 → IsCanonical B (zero_letter B ∷ []) n
 zero_canonical B text ok n denotes none =
     let zero_value : value B text ≡ 0 = value-rest B text ok ∙ ap (value B) (nil_from_length (rest B text) none) ∙ value-nil B in
-    let same : value B (zero_letter B ∷ []) ≡ n = value-one B (zero_letter B) ∙ digit_or_zero-letter B ok 0 (omega arith) ∙ sym zero_value ∙ denotes.value_is in
-    let letters : AreLetters B (zero_letter B ∷ []) = All-cons (IsLetter B) (zero_letter B) [] (is_letter-letter B ok 0 (omega arith)) (All-nil (IsLetter B)) in
+    let same : value B (zero_letter B ∷ []) ≡ n = value-one B (zero_letter B) ∙ zero_digit B ok ∙ sym zero_value ∙ denotes.value_is in
+    let letters : AreLetters B (zero_letter B ∷ []) = All-cons (IsLetter B) (zero_letter B) [] (zero_is_letter B ok) (All-nil (IsLetter B)) in
     canonical_is B ok (zero_letter B ∷ []) n (record { nonempty = omega arith; letters = letters; value_is = same }) (inl refl)
 
 -- what follows the leading zeros, if anything does, is canonical

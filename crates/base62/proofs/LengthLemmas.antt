@@ -7,8 +7,9 @@ use Rattle.base62.specs.Alphabet.{IsAlphabet, AreLetters, zero_letter}
 use Rattle.base62.specs.Value.{value, digit_or_zero}
 use Rattle.base62.specs.Canonical.{IsCanonical}
 use Rattle.base62.specs.Laws.{HasNoNeedlessZero}
-use Rattle.base62.proofs.AlphabetLemmas.{IsLetter, is_letter-letter, digit_or_zero-letter, same_letter}
+use Rattle.base62.proofs.AlphabetLemmas.{IsLetter, same_letter}
 use Rattle.base62.proofs.ValueLemmas.{value-cons}
+use Rattle.base62.proofs.ZeroLemmas.{zero_is_letter, zero_digit, value_front}
 use Rattle.base62.proofs.CanonicalLemmas.{canonical_is}
 use Rattle.base62.specs.Fixed.{fixed}
 use Rattle.base62.proofs.FixedLemmas.{length-fixed, denotes-fixed}
@@ -17,8 +18,7 @@ module _ (B : List ℕ) (ok : IsAlphabet B) where
   -- a canonical text of two or more letters does not begin with the zero letter, since the others would do
   first_differs : (b : ℕ) (text : List ℕ) (n : ℕ) → IsCanonical B (b ∷ text) n → 0 < length text → b ≢ zero_letter B
   first_differs b text n canonical more e =
-      let digit : digit_or_zero B b ≡ 0 = ap (digit_or_zero B) e ∙ digit_or_zero-letter B ok 0 (omega arith) in
-      let same : value B (b ∷ text) ≡ value B text = value-cons B b text ∙ rw digit (omega arith) in
+      let same : value B (b ∷ text) ≡ value B text = rw e (value_front B ok text) in
       let least = canonical.shortest text (record { nonempty = more; letters = All-tail (IsLetter B) b text canonical.denotes.letters; value_is = sym same ∙ canonical.denotes.value_is }) in
       omega (arith, least)
 
@@ -31,7 +31,7 @@ module _ (B : List ℕ) (ok : IsAlphabet B) where
   -- a letter other than the zero letter has a digit of at least 1
   digit_some : (b : ℕ) → IsLetter B b → b ≢ zero_letter B → 0 < digit_or_zero B b
   digit_some b letter other = elim (cases_eq (digit_or_zero B b) 0) [
-    | inl none ↦ absurd (other (same_letter B b (zero_letter B) letter (is_letter-letter B ok 0 (omega arith)) (none ∙ sym (digit_or_zero-letter B ok 0 (omega arith)))))
+    | inl none ↦ absurd (other (same_letter B b (zero_letter B) letter (zero_is_letter B ok) (none ∙ sym (zero_digit B ok))))
     | inr some ↦ omega arith
   ]
 

@@ -11,15 +11,8 @@ use Rattle.base62.specs.Decoding.{leading_zeros, rest}
 use Rattle.base62.specs.Laws.{AgreesAtLetters}
 use Rattle.base62.proofs.AlphabetLemmas.{IsLetter}
 use Rattle.base62.proofs.ValueLemmas.{value-append}
+use Rattle.base62.proofs.ZeroLemmas.{rest_first}
 use Rattle.base62.proofs.LengthLemmas.{first_weighs}
-
--- the first byte after the leading zeros is not the zero letter
-pub rest_first : (B text : List ℕ) → 0 < length (rest B text) → get_or (rest B text) 0 0 ≢ zero_letter B
-rest_first B text some same =
-    let z = leading_zeros B text in
-    let place : get_or (rest B text) 0 0 ≡ get_or text z 0 = get_or-drop z text 0 0 ∙ ap (λ k. get_or text k 0) (omega arith) in
-    let stops = prefix_len_stops (λ b. b == zero_letter B) text 0 (omega (arith, length-drop z text)) in
-    eqb-false _ _ stops (sym place ∙ same)
 
 -- a text denotes at least what any end of it does
 value-drop-le : (B text : List ℕ) (k : ℕ) → value B (drop k text) ≤ value B text

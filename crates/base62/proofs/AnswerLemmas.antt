@@ -98,10 +98,10 @@ pub answer_cases : (B text : List ℕ) → IsAlphabet B → (P : Result ℕ Deco
     → P (decoding B text)
 answer_cases B text ok P empty over bad fine = decoding_cases B text P
     empty
-    (λ long. over (omega arith) (λ letter other a. over_long B text other a ok long letter))
+    (λ long. over (omega arith) (λ letter other a. over_long B ok text other a long letter))
     (λ t. bad _ _ (first_invalid_is B text (leading_zeros B text) t))
-    (λ full letters big. over (omega arith) (λ letter other a. over_first B text other a full letters big))
-    (λ letters big. over (rest_some B text (omega arith)) (λ letter other a. over_rest B text other a letters big))
+    (λ full letters big. over (omega arith) (λ letter other a. over_first B ok text other a full letters big))
+    (λ letters big. over (rest_some B text (omega arith)) (λ letter other a. over_rest B ok text other a letters big))
     (λ some letters small. fine (record { nonempty = some; letters = letters_from_rest B text ok letters; value_is = refl }) (omega (arith, value-rest B text ok)))
 
 -- what is accepted is a nonempty text of letters that denotes the answer, a number below 2^128

@@ -7,7 +7,7 @@ use Rattle.std.proofs.lemmas.List.Elements.{All-drop, All-take}
 use Rattle.std.proofs.lemmas.List.Sums.{prefix_len_stops}
 use Rattle.base62.specs.Alphabet.{IsAlphabet, AreLetters, is_letter, zero_letter}
 use Rattle.base62.specs.Value.{value}
-use Rattle.base62.specs.Decoding.{leading_zeros, rest}
+use Rattle.base62.specs.Decoding.{leading_zeros, rest, first_ten}
 use Rattle.base62.specs.Laws.{AgreesAtLetters}
 use Rattle.base62.proofs.AlphabetLemmas.{IsLetter}
 use Rattle.base62.proofs.ValueLemmas.{value-append}
@@ -21,38 +21,40 @@ value-drop-le B text k =
     let whole = ap (value B) (take-append-drop k text) in
     omega arith
 
--- texts that agree at letters do so from any place on
-agrees-drop : (B text other : List ℕ) (k : ℕ) → AgreesAtLetters B text other → AgreesAtLetters B (drop k text) (drop k other)
-agrees-drop B text other k a = record {
-  size = length-drop k other ∙ ap (λ n. n - k) a.size ∙ sym (length-drop k text);
-  letters = All-drop (IsLetter B) k other a.letters;
-  agrees = λ i h p.
-      let same = get_or-drop k text i 0 in
-      get_or-drop k other i 0 ∙ a.agrees (k + i) (omega (arith, length-drop k text)) (ap (is_letter B) (sym same) ∙ p) ∙ sym same;
-}
-
--- and up to any place
-agrees-take : (B text other : List ℕ) (k : ℕ) → AgreesAtLetters B text other → AgreesAtLetters B (take k text) (take k other)
-agrees-take B text other k a = record {
-  size = length-take k other ∙ ap (min k) a.size ∙ sym (length-take k text);
-  letters = All-take (IsLetter B) k other a.letters;
-  agrees = λ i h p.
-      let within : i < k = omega (arith, length-take k text) in
-      let same = get_or-take k text i 0 within in
-      get_or-take k other i 0 within ∙ a.agrees i (omega (arith, length-take k text)) (ap (is_letter B) (sym same) ∙ p) ∙ sym same;
-}
-
--- no other letters can stand in a text of letters
-agrees_same : (B text other : List ℕ) → AgreesAtLetters B text other → AreLetters B text → other ≡ text
-agrees_same B text other a letters = ext_get_or 0 other text a.size (λ i h. a.agrees i (omega (arith, a.size)) (letters i 0 (omega (arith, a.size))))
-
+-- texts that agree at letters
 module _ (B text other : List ℕ) (a : AgreesAtLetters B text other) where
+  -- do so from any place on
+  agrees-drop : (k : ℕ) → AgreesAtLetters B (drop k text) (drop k other)
+  agrees-drop k = record {
+    size = length-drop k other ∙ ap (λ n. n - k) a.size ∙ sym (length-drop k text);
+    letters = All-drop (IsLetter B) k other a.letters;
+    agrees = λ i h p.
+        let same = get_or-drop k text i 0 in
+        get_or-drop k other i 0 ∙ a.agrees (k + i) (omega (arith, length-drop k text)) (ap (is_letter B) (sym same) ∙ p) ∙ sym same;
+  }
+
+  -- and up to any place
+  agrees-take : (k : ℕ) → AgreesAtLetters B (take k text) (take k other)
+  agrees-take k = record {
+    size = length-take k other ∙ ap (min k) a.size ∙ sym (length-take k text);
+    letters = All-take (IsLetter B) k other a.letters;
+    agrees = λ i h p.
+        let within : i < k = omega (arith, length-take k text) in
+        let same = get_or-take k text i 0 within in
+        get_or-take k other i 0 within ∙ a.agrees i (omega (arith, length-take k text)) (ap (is_letter B) (sym same) ∙ p) ∙ sym same;
+  }
+
+  -- and no other letters can stand in a text of letters
+  agrees_same : AreLetters B text → other ≡ text
+  agrees_same letters = ext_get_or 0 other text a.size (λ i h. a.agrees i (omega (arith, a.size)) (letters i 0 (omega (arith, a.size))))
+
+module _ (B : List ℕ) (ok : IsAlphabet B) (text other : List ℕ) (a : AgreesAtLetters B text other) where
   other_rest : AgreesAtLetters B (rest B text) (drop (leading_zeros B text) other)
-  other_rest = agrees-drop B text other (leading_zeros B text) a
+  other_rest = agrees-drop B text other a (leading_zeros B text)
 
   -- more than 22 bytes after the leading zeros, of which the first is a letter
-  pub over_long : IsAlphabet B → 22 < length (rest B text) → is_letter B (get_or (rest B text) 0 0) ≡ true → 2 ^ 128 ≤ value B other
-  over_long ok long letter =
+  pub over_long : 22 < length (rest B text) → IsLetter B (get_or (rest B text) 0 0) → 2 ^ 128 ≤ value B other
+  over_long long letter =
       let o : List ℕ = drop (leading_zeros B text) other in
       let size : length o ≡ length (rest B text) = other_rest.size in
       let same : get_or o 0 0 ≡ get_or (rest B text) 0 0 = other_rest.agrees 0 (omega arith) letter in
@@ -61,10 +63,10 @@ module _ (B text other : List ℕ) (a : AgreesAtLetters B text other) where
       omega (arith, value-drop-le B other (leading_zeros B text))
 
   -- 22 bytes after the leading zeros, of which the first ten are letters and show it
-  pub over_first : length (rest B text) ≡ 22 → AreLetters B (take 10 (rest B text)) → 2 ^ 128 ≤ value B (take 10 (rest B text)) * 62 ^ 12 → 2 ^ 128 ≤ value B other
+  pub over_first : length (rest B text) ≡ 22 → AreLetters B (first_ten B text) → 2 ^ 128 ≤ value B (first_ten B text) * 62 ^ 12 → 2 ^ 128 ≤ value B other
   over_first full letters big =
       let o : List ℕ = drop (leading_zeros B text) other in
-      let same = agrees_same B (take 10 (rest B text)) (take 10 o) (agrees-take B (rest B text) o 10 other_rest) letters in
+      let same = agrees_same B (first_ten B text) (take 10 o) (agrees-take B (rest B text) o other_rest 10) letters in
       let parts = value-append B (take 10 o) (drop 10 o) in
       let whole = ap (value B) (take-append-drop 10 o) in
       let twelve : length (drop 10 o) ≡ 12 = length-drop 10 o ∙ omega (arith, other_rest.size) in

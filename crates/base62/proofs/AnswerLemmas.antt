@@ -18,8 +18,7 @@ use Rattle.base62.proofs.AlphabetLemmas.{IsLetter}
 use Rattle.base62.proofs.ValueLemmas.{value-nil, value-append, value-one}
 use Rattle.base62.proofs.DecodingLemmas.{letter_before, value-rest}
 use Rattle.base62.proofs.ZeroLemmas.{rest_first, zero_is_letter, zero_digit}
-use Rattle.base62.proofs.CanonicalLemmas.{canonical_is}
-use Rattle.base62.proofs.LengthLemmas.{first_weighs}
+use Rattle.base62.proofs.LengthLemmas.{canonical_of_value}
 use Rattle.base62.proofs.OverflowLemmas.{over_long, over_first, over_rest}
 
 -- a list whose front does not all pass does not all pass
@@ -46,7 +45,7 @@ decoding_cases B text P empty long bad first_over over fine =
     cond_both _ _ _ P (λ t. let both = and_parts _ _ t in first_over (eqb-true _ _ both.0) (letters (first_ten B text) (not-false _ f3)) (leb-true _ _ both.1)) (λ f4.
     cond_both _ _ _ P (λ t. bad (not-true _ t)) (λ f5.
     cond_both _ _ _ P (λ t. over (letters r (not-false _ f5)) (leb-true _ _ t)) (λ f6.
-    fine (elim (cases_eq (length text) 0) [ inl e ↦ absurd (eqb-false _ _ f1 e) | inr e ↦ omega arith ]) (letters r (not-false _ f5)) (leb-false _ _ f6)))))))
+    fine (omega (arith, eqb-false (length text) 0 f1)) (letters r (not-false _ f5)) (leb-false _ _ f6)))))))
 
 -- a text with a bad byte has a first one
 pub first_invalid_is : (B text : List ℕ) (k : ℕ) → list_all (is_letter B) (drop k text) ≡ false → IsFirstInvalid B text (get_or text (invalid_index B text) 0) (invalid_index B text)
@@ -151,7 +150,7 @@ module _ (B : List ℕ) (ok : IsAlphabet B) where
       let zero_value : value B text ≡ 0 = value-rest B text ok ∙ ap (value B) (nil_from_length (rest B text) none) ∙ value-nil B in
       let same : value B (zero_letter B ∷ []) ≡ n = value-one B (zero_letter B) ∙ zero_digit B ok ∙ sym zero_value ∙ denotes.value_is in
       let letters : AreLetters B (zero_letter B ∷ []) = All-cons (IsLetter B) (zero_letter B) [] (zero_is_letter B ok) (All-nil (IsLetter B)) in
-      canonical_is B ok (zero_letter B ∷ []) n (record { nonempty = omega arith; letters = letters; value_is = same }) (inl refl)
+      rw same at (canonical_of_value B ok (zero_letter B ∷ []) letters (omega arith, inl refl))
 
   -- what follows the leading zeros, if anything does, is canonical
   rest_canonical : (text : List ℕ) (n : ℕ) → Denotes B text n → 0 < length (rest B text) → IsCanonical B (rest B text) n
@@ -159,14 +158,13 @@ module _ (B : List ℕ) (ok : IsAlphabet B) where
       let r : List ℕ = rest B text in
       let letters : AreLetters B r = All-drop (IsLetter B) (leading_zeros B text) text denotes.letters in
       let same : value B r ≡ n = sym (value-rest B text ok) ∙ denotes.value_is in
-      let weighs = first_weighs B ok r some (letters 0 0 some) (rest_first B text some) in
-      canonical_is B ok r n (record { nonempty = some; letters = letters; value_is = same }) (inr (rw same at weighs))
+      rw same at (canonical_of_value B ok r letters (some, inr (rest_first B text some)))
 
   -- a text without its needless zeros is canonical
   without_zeros_canonical : (text : List ℕ) (n : ℕ) → Denotes B text n → IsCanonical B (without_zeros B text) n
   without_zeros_canonical text n denotes = cond_both _ _ _ (λ xs. IsCanonical B xs n)
       (λ t. zero_canonical text n denotes (eqb-true _ _ t))
-      (λ f. rest_canonical text n denotes (elim (cases_eq (length (rest B text)) 0) [ inl none ↦ absurd (eqb-false _ _ f none) | inr some ↦ omega arith ]))
+      (λ f. rest_canonical text n denotes (omega (arith, eqb-false (length (rest B text)) 0 f)))
 
   -- which texts are accepted
   decoding_accepts_iff : (text : List ℕ) → (IsOk (decoding B text) ↔ ((0 < length text) × AreLetters B text × (value B text < 2 ^ 128)))

@@ -22,14 +22,12 @@ unfolding digit_of
 letter-digit_of B b d e =
     let at = position-Some (λ l. eqb l b) B d 0 e in (at.0, eqb-true _ _ at.1)
 
--- an option that holds a digit is a `Some` of it
-some_from_test : (o : Option ℕ) → is_some o ≡ true → o ≡ Some (unwrap_or o 0)
-some_from_test None h = cc
-some_from_test (Some d) h = refl
-
 -- a letter has its digit
 pub digit_of-is : (B : List ℕ) (b : ℕ) → IsLetter B b → digit_of B b ≡ Some (digit_or_zero B b)
-digit_of-is B b h = some_from_test (digit_of B b) h
+digit_of-is B b = elim (digit_of B b) as (λ o. is_some o ≡ true → o ≡ Some (unwrap_or o 0)) [
+  | None ↦ λ h. cc
+  | Some d ↦ λ h. refl
+]
 
 -- what each digit is below, the 0 in place of none is too
 bounded : (o : Option ℕ) → ((d : ℕ) → o ≡ Some d → d < 62) → unwrap_or o 0 < 62

@@ -1,9 +1,11 @@
--- Which texts are canonical, and that a number has no two.
+-- Which texts are canonical, that a number has no two, and that they are ASCII where the letters are.
 use Rattle.std.proofs.Common.{◌≡◌, ℕ, ◌-◌, ◌^◌, ◌<◌, ◌≤◌, ◌⊎◌, List, length, sym, ◌∙◌, inl, inr, arith}
 use Rattle.std.proofs.Math.Nat.{pow-le-pow_right}
 use Rattle.std.proofs.lemmas.Bool.{cases_lt}
+use Rattle.std.specs.Str.{IsAscii}
 use Rattle.base62.specs.Alphabet.{IsAlphabet}
-use Rattle.base62.specs.Canonical.{Denotes, IsCanonical}
+use Rattle.base62.specs.Canonical.{Denotes, IsCanonical, CanonicalFits}
+use Rattle.base62.proofs.AlphabetLemmas.{standard_is_ascii, alternative_is_ascii, letters_ascii}
 use Rattle.base62.proofs.ValueLemmas.{value-lt, same_text}
 
 module _ (B : List ℕ) (ok : IsAlphabet B) where
@@ -28,3 +30,14 @@ module _ (B : List ℕ) (ok : IsAlphabet B) where
       let le = p.shortest b q.denotes in
       let ge = q.shortest a p.denotes in
       same_text B ok a b (omega arith) p.denotes.letters q.denotes.letters (p.denotes.value_is ∙ sym q.denotes.value_is)
+
+-- where some canonical text fits, each does
+pub canonical_fits : (B text : List ℕ) (n room : ℕ) → IsCanonical B text n → CanonicalFits B n room → length text ≤ room
+canonical_fits B text n room canonical other =
+    let most = canonical.shortest other.0 other.1.denotes in omega (arith, most, other.2)
+
+-- over an alphabet of ASCII a canonical text is ASCII
+pub canonical_is_ascii : (B : List ℕ) → IsAscii B → (text : List ℕ) (n : ℕ) → IsCanonical B text n → IsAscii text
+canonical_is_ascii B ascii text n canonical = letters_ascii B ascii text canonical.denotes.letters
+
+pub ruleset ascii_texts = (canonical_is_ascii, standard_is_ascii, alternative_is_ascii)

@@ -16,7 +16,6 @@ pub mod WritingLemmas
 pub mod StepsLemmas
 pub mod EncodingLemmas
 pub mod PaddingLemmas
-pub mod TextLemmas
 pub mod CaseLemmas
 pub mod OverflowLemmas
 pub mod AnswerLemmas

@@ -3,7 +3,7 @@ use Rattle.std.proofs.lemmas.List.{take_at}
 use Rattle.std.proofs.lemmas.Str.{IsUtf8-from_ascii}
 use Rattle.base62.specs.Fixed.{fixed, WritesFixed}
 use Rattle.base62.proofs.FixedLemmas.{length-fixed, canonical_has}
-use Rattle.base62.proofs.TextLemmas.{canonical_is_ascii}
+use Rattle.base62.proofs.CanonicalLemmas.{canonical_is_ascii}
 use Rattle.base62.proofs.target.string_over.Goals as goal
 
 -- what was written is all that the bytes have

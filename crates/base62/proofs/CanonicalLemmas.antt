@@ -1,24 +1,25 @@
 -- Which texts are canonical, that a number has no two, and that they are ASCII where the letters are.
 use Rattle.std.proofs.Common.{◌≡◌, ℕ, ◌-◌, ◌^◌, ◌<◌, ◌≤◌, ◌⊎◌, List, length, sym, ◌∙◌, inl, inr, arith}
-use Rattle.std.proofs.Math.Nat.{pow-le-pow_right}
 use Rattle.std.proofs.lemmas.Bool.{cases_lt}
 use Rattle.std.specs.Str.{IsAscii}
 use Rattle.base62.specs.Alphabet.{IsAlphabet}
 use Rattle.base62.specs.Canonical.{Denotes, IsCanonical, CanonicalFits}
 use Rattle.base62.proofs.AlphabetLemmas.{standard_is_ascii, alternative_is_ascii, letters_ascii}
-use Rattle.base62.proofs.ValueLemmas.{value-lt, same_text}
+use Rattle.base62.proofs.ValueLemmas.{value-lt_most, same_text}
+
+-- n takes k letters at least: it is 1, or one letter less cannot hold n
+abbrev pub NeedsLetters : ℕ → ℕ → Type 0
+NeedsLetters k n = (k ≡ 1) ⊎ (62 ^ (k - 1) ≤ n)
 
 module _ (B : List ℕ) (ok : IsAlphabet B) where
-  -- a shorter text cannot denote n, where one letter less cannot hold it
-  too_short : (k n : ℕ) → (k ≡ 1) ⊎ (62 ^ (k - 1) ≤ n) → (other : List ℕ) → Denotes B other n → length other < k → ⊥
+  -- so a text of fewer cannot denote it
+  too_short : (k n : ℕ) → NeedsLetters k n → (other : List ℕ) → Denotes B other n → length other < k → ⊥
   too_short k n (inl one) other d less = omega (arith, d.nonempty)
   too_short k n (inr big) other d less =
-      let below = value-lt B ok other in
-      let grows : 62 ^ length other ≤ 62 ^ (k - 1) = pow-le-pow_right {n = 62} (omega arith) (omega arith) in
-      omega (arith, d.value_is)
+      let below = value-lt_most B ok other (k - 1) (omega arith) in omega (arith, d.value_is)
 
   -- a text that denotes n is canonical where it has one letter, or one letter less can't hold n
-  pub canonical_is : (text : List ℕ) (n : ℕ) → Denotes B text n → (length text ≡ 1) ⊎ (62 ^ (length text - 1) ≤ n) → IsCanonical B text n
+  pub canonical_is : (text : List ℕ) (n : ℕ) → Denotes B text n → NeedsLetters (length text) n → IsCanonical B text n
   canonical_is text n d least = record {
     denotes = d;
     shortest = λ other e. elim (cases_lt (length other) (length text)) [ inl less ↦ absurd (too_short (length text) n least other e less) | inr more ↦ more ];

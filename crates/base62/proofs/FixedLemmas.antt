@@ -1,5 +1,5 @@
 -- Texts of a fixed number of letters, and which of them are canonical.
-use Rattle.std.proofs.Common.{◌≡◌, ℕ, zero, suc, ◌+◌, ◌-◌, ◌*◌, ◌/◌, ◌%◌, ◌^◌, ◌<◌, ◌≤◌, ◌⊎◌}
+use Rattle.std.proofs.Common.{◌≡◌, ℕ, zero, suc, ◌+◌, ◌-◌, ◌*◌, ◌/◌, ◌%◌, ◌^◌, ◌<◌, ◌≤◌}
 use Rattle.std.proofs.Common.{List, [], ◌∷◌, ◌++◌, length, refl, sym, ap, ◌∙◌, slice_index, inl, inr, arith, add-zero, add-suc, append_assoc}
 use Rattle.std.proofs.Math.Nat.{pow-suc, pow-succ', one-le-pow, div-one, div-div-eq-div-mul}
 use Rattle.std.proofs.Math.Arith.{mod-mul}
@@ -13,7 +13,7 @@ use Rattle.base62.specs.Canonical.{Denotes, IsCanonical, DigitCount}
 use Rattle.base62.specs.Fixed.{fixed}
 use Rattle.base62.proofs.AlphabetLemmas.{IsLetter, is_letter-letter, digit_or_zero-letter}
 use Rattle.base62.proofs.ValueLemmas.{value-nil, value_push, value-lt}
-use Rattle.base62.proofs.CanonicalLemmas.{canonical_is, one_canonical}
+use Rattle.base62.proofs.CanonicalLemmas.{NeedsLetters, canonical_is, one_canonical}
 
 pub length-fixed : (B : List ℕ) (w n : ℕ) → length (fixed B w n) ≡ w
 unfolding fixed
@@ -42,7 +42,7 @@ pub fixed-join : (B : List ℕ) (v w n : ℕ) → fixed B (v + w) n ≡ fixed B 
 fixed-join B v w n = fixed-cut B v w n ∙ ap (λ text. fixed B v (n / 62 ^ w) ++ text) (sym (fixed-remainder B w n))
 
 -- the least number of letters from 1 on that holds n
-some_width : (k n : ℕ) → n < 62 ^ suc k → (w : ℕ) × (0 < w) × (n < 62 ^ w) × ((w ≡ 1) ⊎ (62 ^ (w - 1) ≤ n))
+some_width : (k n : ℕ) → n < 62 ^ suc k → (w : ℕ) × (0 < w) × (n < 62 ^ w) × NeedsLetters w n
 some_width zero n h = (1, omega arith, h, inl refl)
 some_width (suc k) n h = elim (cases_lt n (62 ^ suc k)) [
   | inl less ↦ some_width k n less
@@ -71,7 +71,7 @@ module _ (B : List ℕ) (ok : IsAlphabet B) where
       record { nonempty = omega (arith, length-fixed B w n); letters = letters-fixed w n; value_is = value-fixed w n fits }
 
   -- n in the least number of letters from 1 on that holds it
-  canonical-fixed : (w n : ℕ) → 0 < w → n < 62 ^ w → (w ≡ 1) ⊎ (62 ^ (w - 1) ≤ n) → IsCanonical B (fixed B w n) n
+  canonical-fixed : (w n : ℕ) → 0 < w → n < 62 ^ w → NeedsLetters w n → IsCanonical B (fixed B w n) n
   canonical-fixed w n some fits least =
       let size = length-fixed B w n in canonical_is B ok (fixed B w n) n (denotes-fixed w n some fits) (rw size least)
 
@@ -93,7 +93,7 @@ module _ (B : List ℕ) (ok : IsAlphabet B) where
         let one = has B ok in omega (arith, one.1.shortest (fixed B k n) (denotes-fixed k n some small), one.2, length-fixed B k n)
 
     -- and one letter less would not hold it
-    has_letters_least : (w ≡ 1) ⊎ (62 ^ (w - 1) ≤ n)
+    has_letters_least : NeedsLetters w n
     has_letters_least = elim (cases_lt n (62 ^ (w - 1))) [
       | inr more ↦ inr more
       | inl less ↦ elim (cases_lt 1 w) [
@@ -117,5 +117,5 @@ module _ (B : List ℕ) (ok : IsAlphabet B) where
       (fixed B w.0 n, canonical-fixed w.0 n w.1 w.2 w.3)
 
 -- n has a canonical text of the least number of letters from 1 on that holds it
-pub has_letters : (n w : ℕ) → 0 < w → n < 62 ^ w → (w ≡ 1) ⊎ (62 ^ (w - 1) ≤ n) → DigitCount n w
+pub has_letters : (n w : ℕ) → 0 < w → n < 62 ^ w → NeedsLetters w n → DigitCount n w
 has_letters n w some fits least = λ B ok. (fixed B w n, canonical-fixed B ok w n some fits least, length-fixed B w n)

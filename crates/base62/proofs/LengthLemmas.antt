@@ -1,5 +1,5 @@
 -- A text of letters is canonical exactly where it has no needless zero letter, and how long it is.
-use Rattle.std.proofs.Common.{◌≡◌, ◌≢◌, ◌⊎◌, ℕ, suc, ◌-◌, ◌*◌, ◌^◌, ◌<◌, ◌≤◌, List, [], ◌∷◌, length, get_or, refl, sym, ap, ◌∙◌, inl, inr, arith}
+use Rattle.std.proofs.Common.{◌≡◌, ◌≢◌, ℕ, suc, ◌-◌, ◌*◌, ◌^◌, ◌<◌, ◌≤◌, List, [], ◌∷◌, length, get_or, refl, sym, ap, ◌∙◌, inl, inr, arith}
 use Rattle.std.proofs.Math.Nat.{le-mul_of_pos_right}
 use Rattle.std.proofs.lemmas.Bool.{cases_eq}
 use Rattle.std.proofs.lemmas.List.Elements.{All-tail}
@@ -10,7 +10,7 @@ use Rattle.base62.specs.Laws.{HasNoNeedlessZero}
 use Rattle.base62.proofs.AlphabetLemmas.{IsLetter, same_letter}
 use Rattle.base62.proofs.ValueLemmas.{value-cons}
 use Rattle.base62.proofs.ZeroLemmas.{zero_is_letter, zero_digit, value_front}
-use Rattle.base62.proofs.CanonicalLemmas.{canonical_is}
+use Rattle.base62.proofs.CanonicalLemmas.{NeedsLetters, canonical_is}
 use Rattle.base62.specs.Fixed.{fixed}
 use Rattle.base62.proofs.FixedLemmas.{length-fixed, denotes-fixed}
 
@@ -44,7 +44,7 @@ module _ (B : List ℕ) (ok : IsAlphabet B) where
       rw (back, value-cons B b text) (omega arith)
 
   -- one letter less could not hold the value of a text that has no needless zero letter
-  pub needs_each : (text : List ℕ) → AreLetters B text → HasNoNeedlessZero B text → (length text ≡ 1) ⊎ (62 ^ (length text - 1) ≤ value B text)
+  pub needs_each : (text : List ℕ) → AreLetters B text → HasNoNeedlessZero B text → NeedsLetters (length text) (value B text)
   needs_each text letters has = elim has.1 [
     | inl one ↦ inl one
     | inr differs ↦ inr (first_weighs text has.0 (letters 0 0 has.0) differs)

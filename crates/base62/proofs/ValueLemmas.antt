@@ -1,12 +1,12 @@
 -- The value of a text, one letter or one part at a time.
 use Rattle.std.proofs.Common.{◌≡◌, ℕ, ◌+◌, ◌*◌, ◌^◌, ◌<◌, List, [], ◌∷◌, ◌++◌, length, get_or, map, take, ◌≤◌, refl, ap, ◌∙◌, arith}
 use Rattle.std.specs.List.{All}
-use Rattle.std.proofs.Math.Nat.{pow-le-pow_right}
 use Rattle.std.proofs.lemmas.List.{length-map, map-append, take_more}
 use Rattle.std.proofs.lemmas.List.Elements.{All-nil, All-cons, All-head, All-tail}
 use Rattle.std.proofs.lemmas.Nat.{same_from_place}
 use Rattle.base62.specs.Alphabet.{IsAlphabet, AreLetters}
 use Rattle.base62.specs.Value.{value, digit_or_zero}
+use Rattle.base62.proofs.PowerLemmas.{fits_more}
 use Rattle.base62.proofs.PlacesLemmas.{places-nil, places-cons, places-append, places_push, places-lt}
 use Rattle.base62.proofs.AlphabetLemmas.{IsLetter, digit_or_zero-lt, same_letter}
 
@@ -56,10 +56,7 @@ module _ (B : List ℕ) (ok : IsAlphabet B) where
 
   -- the value of a text of at most k letters is below 62^k
   pub value-lt_most : (text : List ℕ) (k : ℕ) → length text ≤ k → value B text < 62 ^ k
-  value-lt_most text k h =
-      let below = value-lt text in
-      let grows : 62 ^ length text ≤ 62 ^ k = pow-le-pow_right {n = 62} (omega arith) h in
-      omega arith
+  value-lt_most text k h = fits_more (value B text) (length text) k (value-lt text) h
 
   -- two texts of one length and one value are one
   pub same_text : (a b : List ℕ) → length a ≡ length b → AreLetters B a → AreLetters B b → value B a ≡ value B b → a ≡ b

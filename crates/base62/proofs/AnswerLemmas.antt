@@ -17,7 +17,7 @@ use Rattle.base62.specs.Laws.{AgreesAtLetters, AnswerTells, number_or_overflow, 
 use Rattle.base62.proofs.AlphabetLemmas.{IsLetter}
 use Rattle.base62.proofs.ValueLemmas.{value-nil, value-append, value-one}
 use Rattle.base62.proofs.DecodingLemmas.{letter_before, value-rest}
-use Rattle.base62.proofs.ZeroLemmas.{rest_first, zero_is_letter, zero_digit}
+use Rattle.base62.proofs.ZeroLemmas.{rest_some, rest_first, zero_is_letter, zero_digit}
 use Rattle.base62.proofs.LengthLemmas.{canonical_of_value}
 use Rattle.base62.proofs.OverflowLemmas.{over_long, over_first, over_rest}
 
@@ -75,13 +75,6 @@ first_invalid_named B text byte index b i is first =
 -- leading zeros and the first byte after those is a letter
 abbrev MustOverflow : List ℕ → List ℕ → Type 0
 MustOverflow B text = IsLetter B (get_or (rest B text) 0 0) → (other : List ℕ) → AgreesAtLetters B text other → 2 ^ 128 ≤ value B other
-
--- a text that denotes a number above 0 has more than leading zeros
-rest_some : (B text : List ℕ) → 0 < value B (rest B text) → 0 < length (rest B text)
-rest_some B text h = elim (cases_eq (length (rest B text)) 0) [
-  | inl none ↦ let zero_value = ap (value B) (nil_from_length (rest B text) none) ∙ value-nil B in absurd (omega arith)
-  | inr some ↦ omega arith
-]
 
 module _ (B : List ℕ) (ok : IsAlphabet B) where
   -- leading zeros are letters, so a text is letters alone if what follows them is

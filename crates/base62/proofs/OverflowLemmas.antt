@@ -1,6 +1,5 @@
 -- That a text denotes 2^128 or more, whatever letters stand in place of its bad bytes.
 use Rattle.std.proofs.Common.{◌≡◌, ℕ, ◌+◌, ◌-◌, ◌*◌, ◌^◌, ◌<◌, ◌≤◌, List, length, get_or, take, drop, sym, ap, ◌∙◌, arith, min}
-use Rattle.std.proofs.Math.Nat.{pow-le-pow_right}
 use Rattle.std.proofs.lemmas.List.{take-append-drop, length-drop, length-take, get_or-drop, get_or-take, ext_get_or}
 use Rattle.std.proofs.lemmas.List.Elements.{All-drop, All-take}
 use Rattle.base62.specs.Alphabet.{IsAlphabet, AreLetters, is_letter}
@@ -8,16 +7,14 @@ use Rattle.base62.specs.Value.{value}
 use Rattle.base62.specs.Decoding.{leading_zeros, rest, first_ten}
 use Rattle.base62.specs.Laws.{AgreesAtLetters}
 use Rattle.base62.proofs.AlphabetLemmas.{IsLetter}
-use Rattle.base62.proofs.ValueLemmas.{value-append}
+use Rattle.base62.proofs.PowerLemmas.{power_grows}
+use Rattle.base62.proofs.ValueLemmas.{value-cut}
 use Rattle.base62.proofs.ZeroLemmas.{rest_first}
 use Rattle.base62.proofs.LengthLemmas.{first_weighs}
 
 -- a text denotes at least what any end of it does
 value-drop-le : (B text : List ℕ) (k : ℕ) → value B (drop k text) ≤ value B text
-value-drop-le B text k =
-    let parts = value-append B (take k text) (drop k text) in
-    let whole = ap (value B) (take-append-drop k text) in
-    omega arith
+value-drop-le B text k = omega (arith, value-cut B text k)
 
 -- texts that agree at letters
 module _ (B text other : List ℕ) (a : AgreesAtLetters B text other) where
@@ -57,7 +54,7 @@ module _ (B : List ℕ) (ok : IsAlphabet B) (text other : List ℕ) (a : AgreesA
       let size : length o ≡ length (rest B text) = other_rest.size in
       let same : get_or o 0 0 ≡ get_or (rest B text) 0 0 = other_rest.agrees 0 (omega arith) letter in
       let weighs = first_weighs B ok o (omega arith) (ap (is_letter B) same ∙ letter) (λ e. rest_first B text (omega arith) (sym same ∙ e)) in
-      let grows : 62 ^ 22 ≤ 62 ^ (length o - 1) = pow-le-pow_right {n = 62} (omega arith) {i = 22} {j = length o - 1} (omega arith) in
+      let grows = power_grows 22 (length o - 1) (omega arith) in
       omega (arith, value-drop-le B other (leading_zeros B text))
 
   -- 22 bytes after the leading zeros, of which the first ten are letters and show it
@@ -65,11 +62,9 @@ module _ (B : List ℕ) (ok : IsAlphabet B) (text other : List ℕ) (a : AgreesA
   over_first full letters big =
       let o : List ℕ = drop (leading_zeros B text) other in
       let same = agrees_same B (first_ten B text) (take 10 o) (agrees-take B (rest B text) o other_rest 10) letters in
-      let parts = value-append B (take 10 o) (drop 10 o) in
-      let whole = ap (value B) (take-append-drop 10 o) in
       let twelve : length (drop 10 o) ≡ 12 = length-drop 10 o ∙ omega (arith, other_rest.size) in
       let first : 2 ^ 128 ≤ value B (take 10 o) * 62 ^ length (drop 10 o) = rw (same, twelve) big in
-      omega (arith, value-drop-le B other (leading_zeros B text))
+      omega (arith, value-cut B o 10, value-drop-le B other (leading_zeros B text))
 
   -- letters alone after the leading zeros
   pub over_rest : AreLetters B (rest B text) → 2 ^ 128 ≤ value B (rest B text) → 2 ^ 128 ≤ value B other

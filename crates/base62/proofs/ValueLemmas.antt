@@ -1,7 +1,7 @@
 -- The value of a text, one letter or one part at a time.
-use Rattle.std.proofs.Common.{◌≡◌, ℕ, ◌+◌, ◌*◌, ◌^◌, ◌<◌, List, [], ◌∷◌, ◌++◌, length, get_or, map, take, ◌≤◌, refl, ap, ◌∙◌, arith}
+use Rattle.std.proofs.Common.{◌≡◌, ℕ, ◌+◌, ◌*◌, ◌^◌, ◌<◌, List, [], ◌∷◌, ◌++◌, length, get_or, map, take, drop, ◌≤◌, refl, sym, ap, ◌∙◌, arith}
 use Rattle.std.specs.List.{All}
-use Rattle.std.proofs.lemmas.List.{length-map, map-append, take_more}
+use Rattle.std.proofs.lemmas.List.{length-map, map-append, take_more, take-append-drop}
 use Rattle.std.proofs.lemmas.List.Elements.{All-nil, All-cons, All-head, All-tail}
 use Rattle.std.proofs.lemmas.Nat.{same_from_place}
 use Rattle.base62.specs.Alphabet.{IsAlphabet, AreLetters}
@@ -27,6 +27,10 @@ unfolding value
 value-append B a b =
     let f : ℕ → ℕ = digit_or_zero B in
     rw (map-append f a b, places-append 62 (map f a) (map f b), length-map b f)
+
+-- so is a text that is cut at any place
+pub value-cut : (B text : List ℕ) (k : ℕ) → value B text ≡ value B (take k text) * 62 ^ length (drop k text) + value B (drop k text)
+value-cut B text k = ap (value B) (sym (take-append-drop k text)) ∙ value-append B (take k text) (drop k text)
 
 -- one letter behind moves each other one place on
 pub value_push : (B text : List ℕ) (b : ℕ) → value B (text ++ b ∷ []) ≡ value B text * 62 + digit_or_zero B b

@@ -1,7 +1,7 @@
 -- Zero letters in front of a text.
-use Rattle.std.proofs.Common.{◌≡◌, ◌≢◌, ℕ, suc, ◌+◌, ◌<◌, ◌==◌, Bool, true, false, List, ◌∷◌, length, get_or, drop, Result, if◌then◌else◌, refl, sym, ap, ◌∙◌, arith}
-use Rattle.std.proofs.lemmas.Bool.{eq-eqb, ne_eqb, eqb-false}
-use Rattle.std.proofs.lemmas.List.{get_or-drop, length-drop}
+use Rattle.std.proofs.Common.{◌≡◌, ◌≢◌, ℕ, suc, ◌+◌, ◌<◌, ◌==◌, Bool, true, false, List, ◌∷◌, length, get_or, drop, Result, if◌then◌else◌, refl, sym, ap, ◌∙◌, inl, inr, arith}
+use Rattle.std.proofs.lemmas.Bool.{cases_eq, eq-eqb, ne_eqb, eqb-false}
+use Rattle.std.proofs.lemmas.List.{get_or-drop, length-drop, nil_from_length}
 use Rattle.std.proofs.lemmas.List.Sums.{prefix_len_stops}
 use Rattle.base62.specs.declared.fault.DecodeError.{DecodeError}
 use Rattle.base62.specs.declared.fault.DecodeError.TheVariants.{InvalidBase62Byte}
@@ -10,7 +10,14 @@ use Rattle.base62.specs.Value.{value, digit_or_zero}
 use Rattle.base62.specs.Decoding.{decoding, leading_zeros, rest, invalid_index, first_invalid}
 use Rattle.base62.specs.Laws.{one_place_on}
 use Rattle.base62.proofs.AlphabetLemmas.{IsLetter, is_letter-letter, digit_or_zero-letter}
-use Rattle.base62.proofs.ValueLemmas.{value-cons}
+use Rattle.base62.proofs.ValueLemmas.{value-nil, value-cons}
+
+-- a text that denotes a number above 0 has more than leading zeros
+pub rest_some : (B text : List ℕ) → 0 < value B (rest B text) → 0 < length (rest B text)
+rest_some B text h = elim (cases_eq (length (rest B text)) 0) [
+  | inl none ↦ let zero_value = ap (value B) (nil_from_length (rest B text) none) ∙ value-nil B in absurd (omega arith)
+  | inr some ↦ omega arith
+]
 
 -- the first byte after the leading zeros is not the zero letter
 pub rest_first : (B text : List ℕ) → 0 < length (rest B text) → get_or (rest B text) 0 0 ≢ zero_letter B

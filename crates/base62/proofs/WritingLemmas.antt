@@ -1,9 +1,10 @@
 -- Writing a text of a fixed number of letters: one or two at once, and one part after another.
-use Rattle.std.proofs.Common.{◌≡◌, ℕ, zero, suc, ◌+◌, ◌-◌, ◌/◌, ◌%◌, ◌^◌, ◌<◌, ◌≤◌, List, [], ◌∷◌, ◌++◌}
+use Rattle.std.proofs.Common.{◌≡◌, ℕ, zero, suc, ◌+◌, ◌-◌, ◌*◌, ◌/◌, ◌%◌, ◌^◌, ◌<◌, ◌≤◌, List, [], ◌∷◌, ◌++◌}
 use Rattle.std.proofs.Common.{length, get_or, set, take, drop, refl, sym, ap, ◌∙◌, arith, append_assoc}
 use Rattle.std.proofs.lemmas.List.{append-nil, take_all, drop_all, drop-drop, length-take-le, length-drop, length-append, take_at, drop_at}
 use borrow.Rule.Slice.PartMut.{put_mid, mid_of, post_of}
 use Rattle.base62.specs.Fixed.{fixed, WritesFixed}
+use Rattle.base62.proofs.PowerLemmas.{remainder_is}
 use Rattle.base62.proofs.FixedLemmas.{length-fixed, fixed-join}
 
 -- the places from v on, and a buffer with those written
@@ -64,12 +65,17 @@ module _ (B : List ℕ) (v w t n q m : ℕ) (both : v + w ≡ t) (quotient : q �
         front_first same (written_front B v q old mid front) others
 
   -- the back first
-  pub back_first : (old part new : List ℕ) → t ≤ length old → WritesFixed B w m (places_from v old) part → WritesFixed B v q (put_from v old part) new → WritesFixed B t n old new
-  back_first old part new room back front =
+  back_written : (old part new : List ℕ) → t ≤ length old → WritesFixed B w m (places_from v old) part → WritesFixed B v q (put_from v old part) new → WritesFixed B t n old new
+  back_written old part new room back front =
       let size : length (take v old) ≡ v = length-take-le v old (omega (arith, room, both)) in
       let written = part_written B v w m old part (omega (arith, room, both)) back in
       let rest : drop v (put_from v old part) ≡ fixed B w m ++ drop (v + w) old = ap (drop v) written ∙ drop_at (take v old) _ v size in
       front ∙ rw rest (joined old)
+
+-- the back first, where the code cuts n by 62^w
+pub back_first : (B : List ℕ) (v w t n : ℕ) → v + w ≡ t → (old part new : List ℕ) → t ≤ length old → WritesFixed B w (n - n / 62 ^ w * 62 ^ w) (places_from v old) part
+    → WritesFixed B v (n / 62 ^ w) (put_from v old part) new → WritesFixed B t n old new
+back_first B v w t n both = back_written B v w t n (n / 62 ^ w) _ both refl (remainder_is n (62 ^ w))
 
 -- a letter
 pub letter_written : (B old : List ℕ) (x letter : ℕ) → 1 ≤ length old → x < 62 → letter ≡ get_or B x 0

@@ -64,18 +64,14 @@ module _ (B : List ℕ) (v w t n q m : ℕ) (both : v + w ≡ t) (quotient : q �
         let others : drop t mid ≡ drop t old = rw (← both) behind in
         front_first same (written_front B v q old mid front) others
 
-  -- the back first
-  back_written : (old part new : List ℕ) → t ≤ length old → WritesFixed B w m (places_from v old) part → WritesFixed B v q (put_from v old part) new → WritesFixed B t n old new
-  back_written old part new room back front =
-      let size : length (take v old) ≡ v = length-take-le v old (omega (arith, room, both)) in
-      let written = part_written B v w m old part (omega (arith, room, both)) back in
-      let rest : drop v (put_from v old part) ≡ fixed B w m ++ drop (v + w) old = ap (drop v) written ∙ drop_at (take v old) _ v size in
-      front ∙ rw rest (joined old)
-
 -- the back first, where the code cuts n by 62^w
 pub back_first : (B : List ℕ) (v w t n : ℕ) → v + w ≡ t → (old part new : List ℕ) → t ≤ length old → WritesFixed B w (n - n / 62 ^ w * 62 ^ w) (places_from v old) part
     → WritesFixed B v (n / 62 ^ w) (put_from v old part) new → WritesFixed B t n old new
-back_first B v w t n both = back_written B v w t n (n / 62 ^ w) _ both refl (remainder_is n (62 ^ w))
+back_first B v w t n both old part new room back front =
+    let size : length (take v old) ≡ v = length-take-le v old (omega (arith, room, both)) in
+    let written = part_written B v w _ old part (omega (arith, room, both)) back in
+    let rest : drop v (put_from v old part) ≡ fixed B w (n - n / 62 ^ w * 62 ^ w) ++ drop (v + w) old = ap (drop v) written ∙ drop_at (take v old) _ v size in
+    front ∙ rw rest (joined B v w t n (n / 62 ^ w) _ both refl (remainder_is n (62 ^ w)) old)
 
 -- a letter
 pub letter_written : (B old : List ℕ) (x letter : ℕ) → 1 ≤ length old → x < 62 → letter ≡ get_or B x 0

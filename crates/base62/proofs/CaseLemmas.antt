@@ -13,7 +13,7 @@ use Rattle.base62.specs.Value.{value, digit_or_zero}
 use Rattle.base62.specs.Canonical.{Denotes, IsCanonical}
 use Rattle.base62.specs.Decoding.{decoding, leading_zeros, rest, invalid_index, first_invalid}
 use Rattle.base62.specs.Case.{other_case, exchange_case}
-use Rattle.base62.proofs.RangeLemmas.{same_on_range}
+use Rattle.base62.proofs.ComputedLemmas.{same_on_range}
 use Rattle.base62.proofs.AlphabetLemmas.{letter-digit_of, standard_is_ascii, alternative_is_ascii}
 
 -- only letters of ASCII have another case

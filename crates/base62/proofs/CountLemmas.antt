@@ -3,7 +3,7 @@ use Rattle.std.proofs.Common.{◌≡◌, ℕ, ◌+◌, ◌-◌, ◌*◌, ◌/◌
 use Rattle.std.proofs.Math.Nat.{pow-le-pow_left}
 use Rattle.base62.specs.declared.powers.TheConstants.{GREATEST, GREATEST_NARROW}
 use Rattle.base62.specs.Canonical.{DigitCount}
-use Rattle.base62.proofs.RangeLemmas.{same_on_range, at_most_on_range}
+use Rattle.base62.proofs.ComputedLemmas.{same_on_range, at_most_on_range}
 use Rattle.base62.proofs.FixedLemmas.{has_letters}
 
 -- a count by six bits a letter, which a power of 2 shows, as 64 is 2^6

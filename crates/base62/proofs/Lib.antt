@@ -1,4 +1,4 @@
-pub mod RangeLemmas
+pub mod ComputedLemmas
 pub mod PlacesLemmas
 pub mod AlphabetLemmas
 pub mod TableLemmas

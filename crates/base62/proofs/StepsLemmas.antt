@@ -1,7 +1,7 @@
 -- The steps of encoding, as the encoder takes them.
 use Rattle.std.proofs.Common.{◌≡◌, ℕ, ◌+◌, ◌-◌, ◌/◌, ◌≤◌, refl, arith}
 use Rattle.base62.specs.Steps.{encoding_steps}
-use Rattle.base62.proofs.RangeLemmas.{same_on_range, at_most_on_range}
+use Rattle.base62.proofs.ComputedLemmas.{same_on_range, at_most_on_range}
 
 -- one for two letters, and one for a letter that is left
 pub short_steps : (d : ℕ) → 1 ≤ d → d ≤ 9 → encoding_steps d ≡ (d + 1) / 2

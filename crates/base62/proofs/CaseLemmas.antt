@@ -1,12 +1,15 @@
 -- Exchange of case turns the alternative alphabet into the standard one.
 use Rattle.std.proofs.Common.{◌≡◌, ℕ, ◌<◌, ◌≤◌, ◌==◌, ◌&&◌, ◌||◌, Bool, true, false, leb, List, [], ◌∷◌, length, get_or, map, take, drop}
 use Rattle.std.proofs.Common.{Option, Some, None, is_some, unwrap_or, refl, sym, ap, ◌∙◌, subst, inl, inr, arith}
+use Rattle.std.proofs.Math.Path.{fun_ext}
 use Rattle.std.specs.List.{prefix_len, list_all}
 use Rattle.std.specs.Str.{IsAscii}
 use Rattle.std.proofs.lemmas.Bool.{cases_lt, lt-leb, and_right, eqb-true}
 use Rattle.std.proofs.Math.ListN.{get_or-map}
 use Rattle.std.proofs.lemmas.List.{length-map, take-map, drop-map, get_or_past}
 use Rattle.std.proofs.lemmas.List.Sums.{AllPass-from_list_all, list_all-from_AllPass, prefix_len_stops}
+use Rattle.std.proofs.lemmas.List.Folds.{list_all-map}
+use Rattle.std.proofs.lemmas.Simd.{map-map}
 use Rattle.base62.specs.Alphabet.{AreLetters, standard, alternative, digit_of, is_letter, zero_letter}
 use Rattle.base62.specs.Places.{sum_over_places}
 use Rattle.base62.specs.Value.{value, digit_or_zero}
@@ -59,34 +62,24 @@ digit_in_standard b = elim (cases_lt b 128) [
 digit_in_alternative : Exchanges standard alternative
 digit_in_alternative b = sym (digit_in_standard (other_case b) ∙ ap (digit_of standard) (other_case_twice b))
 
--- a test of each byte, before and after a change of the bytes
-module _ {X Y : Type 0} (p : X → Bool) (q : Y → Bool) (f : X → Y) (same : (x : X) → p x ≡ q (f x)) where
-  list_all-changed : (xs : List X) → list_all p xs ≡ list_all q (map f xs)
-  list_all-changed [] = refl
-  list_all-changed (x ∷ xs) = rw (same x, list_all-changed xs)
-
-  prefix_len-changed : (xs : List X) → prefix_len p xs ≡ prefix_len q (map f xs)
-  prefix_len-changed [] = refl
-  prefix_len-changed (x ∷ xs) = rw (same x, prefix_len-changed xs)
+-- how many elements pass a test from the first on, before and after they are changed
+prefix_len-changed : (p q : ℕ → Bool) (f : ℕ → ℕ) → ((x : ℕ) → p x ≡ q (f x)) → (xs : List ℕ) → prefix_len p xs ≡ prefix_len q (map f xs)
+prefix_len-changed p q f same [] = refl
+prefix_len-changed p q f same (x ∷ xs) = rw (same x, prefix_len-changed p q f same xs)
 
 module _ (A B : List ℕ) (same : Exchanges A B) where
-  digit_exchanged : (b : ℕ) → digit_or_zero A b ≡ digit_or_zero B (other_case b)
-  digit_exchanged b = ap (λ o. unwrap_or o 0) (same b)
-
   letter_exchanged : (b : ℕ) → is_letter A b ≡ is_letter B (other_case b)
   letter_exchanged b = ap is_some (same b)
 
-  digits_exchanged : (text : List ℕ) → map (digit_or_zero A) text ≡ map (digit_or_zero B) (exchange_case text)
-  digits_exchanged [] = refl
-  digits_exchanged (b ∷ text) = rw (digit_exchanged b, digits_exchanged text)
+  all_exchanged : (text : List ℕ) → list_all (is_letter A) text ≡ list_all (is_letter B) (exchange_case text)
+  all_exchanged text = ap (λ p. list_all p text) (fun_ext letter_exchanged) ∙ sym (list_all-map (is_letter B) other_case text)
 
   -- a text has the value of the exchanged one
   value_exchanged : (text : List ℕ) → value A text ≡ value B (exchange_case text)
   unfolding value
-  value_exchanged text = ap (sum_over_places 62) (digits_exchanged text)
-
-  all_exchanged : (text : List ℕ) → list_all (is_letter A) text ≡ list_all (is_letter B) (exchange_case text)
-  all_exchanged text = list_all-changed (is_letter A) (is_letter B) other_case letter_exchanged text
+  value_exchanged text =
+      let digits : digit_or_zero A ≡ (λ b. digit_or_zero B (other_case b)) = fun_ext (λ b. ap (λ o. unwrap_or o 0) (same b)) in
+      ap (λ f. sum_over_places 62 (map f text)) digits ∙ sym (ap (sum_over_places 62) (map-map (digit_or_zero B) other_case text))
 
   -- letters are letters of the other alphabet, exchanged
   letters_exchanged : (text : List ℕ) → AreLetters A text → AreLetters B (exchange_case text)

@@ -2,7 +2,7 @@
 use Rattle.std.proofs.Common.{◌≡◌, ℕ, ◌+◌, ◌-◌, ◌*◌, ◌^◌, ◌<◌, ◌≤◌, ◌↔◌, Bool, false, List, [], ◌∷◌, ◌++◌, length, get_or, take, drop}
 use Rattle.std.proofs.Common.{Result, Ok, Err, IsOk, refl, sym, ap, ◌∙◌, subst, arith, inl, inr}
 use Rattle.std.specs.List.{list_all}
-use Rattle.std.proofs.lemmas.Bool.{cases_lt, cases_eq, cond_both, ltb-true, leb-true, leb-false, eqb-true, eqb-false, lt-ltb, le-ltb, not-true, not-false, and_parts, and_left, false≢true}
+use Rattle.std.proofs.lemmas.Bool.{cases_lt, cond_both, ltb-true, leb-true, leb-false, eqb-true, eqb-false, lt-ltb, le-ltb, not-true, not-false, and_parts, and_left, false≢true}
 use Rattle.std.proofs.lemmas.List.{take-append-drop, get_or-drop, length-append, length-drop, nil_from_length}
 use Rattle.std.proofs.lemmas.List.Sums.{prefix_len_passes, prefix_len_stops, AllPass-from_list_all, list_all-from_AllPass}
 use Rattle.std.proofs.lemmas.List.Folds.{list_all-append}

@@ -1,6 +1,6 @@
 -- That a text denotes 2^128 or more, whatever letters stand in place of its bad bytes.
 use Rattle.std.proofs.Common.{◌≡◌, ℕ, ◌+◌, ◌-◌, ◌*◌, ◌^◌, ◌<◌, ◌≤◌, List, length, get_or, take, drop, sym, ap, ◌∙◌, arith, min}
-use Rattle.std.proofs.lemmas.List.{take-append-drop, length-drop, length-take, get_or-drop, get_or-take, ext_get_or}
+use Rattle.std.proofs.lemmas.List.{length-drop, length-take, get_or-drop, get_or-take, ext_get_or}
 use Rattle.std.proofs.lemmas.List.Elements.{All-drop, All-take}
 use Rattle.base62.specs.Alphabet.{IsAlphabet, AreLetters, is_letter}
 use Rattle.base62.specs.Value.{value}

@@ -1,4 +1,4 @@
-use Rattle.std.proofs.Common.{◌-◌, ◌/◌, ◌^◌, refl, arith}
+use Rattle.std.proofs.Common.{◌-◌, arith}
 use Rattle.base62.proofs.PowerLemmas.{quotient_fits}
 use Rattle.base62.proofs.WritingLemmas.{back_first}
 use Rattle.base62.proofs.codec.encoder.write_up_to_5.Goals as goal

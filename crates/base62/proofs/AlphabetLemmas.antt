@@ -16,57 +16,56 @@ use Rattle.base62.specs.Value.{digit_or_zero}
 abbrev pub IsLetter : List ℕ → ℕ → Type 0
 IsLetter B b = is_letter B b ≡ true
 
--- the letter at place d has digit d
-pub digit_of-letter : (B : List ℕ) → IsAlphabet B → (d : ℕ) → d < 62 → digit_of B (get_or B d 0) ≡ Some d
-unfolding digit_of
-digit_of-letter B ok d h =
-    let test : ℕ → Bool = λ l. eqb l (get_or B d 0) in
-    let inside : d ≤ length B = omega (arith, ok.size) in
-    let before = λ (k : ℕ) (below : k < d). ne_eqb (get_or B k 0) (get_or B d 0) (λ e. let same : k ≡ d = ok.distinct k d (omega arith) h e in omega arith) in
-    let place : position_or_len test B ≡ d = position_or_len_is test B d 0 inside before (λ _. eq-eqb _ _ refl) in
-    let found : ltb d (length B) ≡ true = lt-ltb d (length B) (omega (arith, ok.size)) in
-    rw (place, found)
-
 -- a byte that has digit d is the letter at place d
 pub letter-digit_of : (B : List ℕ) (b d : ℕ) → digit_of B b ≡ Some d → (d < length B) × (get_or B d 0 ≡ b)
 unfolding digit_of
 letter-digit_of B b d e =
     let at = position-Some (λ l. eqb l b) B d 0 e in (at.0, eqb-true _ _ at.1)
 
--- an option that holds a digit is a `Some` of it
-some_from_test : (o : Option ℕ) → is_some o ≡ true → o ≡ Some (unwrap_or o 0)
-some_from_test None h = cc
-some_from_test (Some d) h = refl
-
 -- a letter has its digit
-pub digit_of-is : (B : List ℕ) (b : ℕ) → is_letter B b ≡ true → digit_of B b ≡ Some (digit_or_zero B b)
-digit_of-is B b h = some_from_test (digit_of B b) h
+pub digit_of-is : (B : List ℕ) (b : ℕ) → IsLetter B b → digit_of B b ≡ Some (digit_or_zero B b)
+digit_of-is B b = elim (digit_of B b) as (λ o. is_some o ≡ true → o ≡ Some (unwrap_or o 0)) [
+  | None ↦ λ h. cc
+  | Some d ↦ λ h. refl
+]
 
 -- what each digit is below, the 0 in place of none is too
 bounded : (o : Option ℕ) → ((d : ℕ) → o ≡ Some d → d < 62) → unwrap_or o 0 < 62
 bounded None h = omega arith
 bounded (Some d) h = h d refl
 
--- a digit is below 62
-pub digit_or_zero-lt : (B : List ℕ) → IsAlphabet B → (b : ℕ) → digit_or_zero B b < 62
-digit_or_zero-lt B ok b = bounded (digit_of B b) (λ d e. let at = letter-digit_of B b d e in omega (arith, at.0, ok.size))
+module _ (B : List ℕ) (ok : IsAlphabet B) where
+  -- the letter at place d has digit d
+  pub digit_of-letter : (d : ℕ) → d < 62 → digit_of B (get_or B d 0) ≡ Some d
+  unfolding digit_of
+  digit_of-letter d h =
+      let test : ℕ → Bool = λ l. eqb l (get_or B d 0) in
+      let inside : d ≤ length B = omega (arith, ok.size) in
+      let before = λ (k : ℕ) (below : k < d). ne_eqb (get_or B k 0) (get_or B d 0) (λ e. let same : k ≡ d = ok.distinct k d (omega arith) h e in omega arith) in
+      let place : position_or_len test B ≡ d = position_or_len_is test B d 0 inside before (λ _. eq-eqb _ _ refl) in
+      let found : ltb d (length B) ≡ true = lt-ltb d (length B) (omega (arith, ok.size)) in
+      rw (place, found)
 
--- the letter at a place of the alphabet is a letter, and its digit is the place
-pub is_letter-letter : (B : List ℕ) → IsAlphabet B → (d : ℕ) → d < 62 → is_letter B (get_or B d 0) ≡ true
-is_letter-letter B ok d h = ap is_some (digit_of-letter B ok d h)
+  -- so it is a letter, and its digit is the place
+  pub is_letter-letter : (d : ℕ) → d < 62 → IsLetter B (get_or B d 0)
+  is_letter-letter d h = ap is_some (digit_of-letter d h)
 
-pub digit_or_zero-letter : (B : List ℕ) → IsAlphabet B → (d : ℕ) → d < 62 → digit_or_zero B (get_or B d 0) ≡ d
-digit_or_zero-letter B ok d h = ap (λ o. unwrap_or o 0) (digit_of-letter B ok d h)
+  pub digit_or_zero-letter : (d : ℕ) → d < 62 → digit_or_zero B (get_or B d 0) ≡ d
+  digit_or_zero-letter d h = ap (λ o. unwrap_or o 0) (digit_of-letter d h)
+
+  -- a digit is below 62
+  pub digit_or_zero-lt : (b : ℕ) → digit_or_zero B b < 62
+  digit_or_zero-lt b = bounded (digit_of B b) (λ d e. let at = letter-digit_of B b d e in omega (arith, at.0, ok.size))
 
 -- two letters of one digit are one
-pub same_letter : (B : List ℕ) (a b : ℕ) → is_letter B a ≡ true → is_letter B b ≡ true → digit_or_zero B a ≡ digit_or_zero B b → a ≡ b
+pub same_letter : (B : List ℕ) (a b : ℕ) → IsLetter B a → IsLetter B b → digit_or_zero B a ≡ digit_or_zero B b → a ≡ b
 same_letter B a b p q e =
     let at = letter-digit_of B a _ (digit_of-is B a p) in
     let bt = letter-digit_of B b _ (digit_of-is B b q) in
     sym at.1 ∙ ap (λ d. get_or B d 0) e ∙ bt.1
 
 -- a list in which each place is the first place of its byte has no byte twice
-pub distinct_from_places : (B : List ℕ) (n : ℕ) → map (digit_of B) B ≡ map (λ i. Some i) (range_with_len 0 n) → length B ≡ n
+distinct_from_places : (B : List ℕ) (n : ℕ) → map (digit_of B) B ≡ map (λ i. Some i) (range_with_len 0 n) → length B ≡ n
     → (i j : ℕ) → i < n → j < n → get_or B i 0 ≡ get_or B j 0 → i ≡ j
 distinct_from_places B n e len i j p q same =
     let first = λ (k : ℕ) (h : k < n).
@@ -105,6 +104,6 @@ alternative_is_ascii = IsAscii-from_all alternative (all_below 128 alternative r
 -- over an alphabet of ASCII bytes a text of letters is ASCII
 pub letters_ascii : (B : List ℕ) → IsAscii B → (text : List ℕ) → AreLetters B text → IsAscii text
 letters_ascii B ascii text letters =
-    let below = λ (b : ℕ) (h : is_letter B b ≡ true).
+    let below = λ (b : ℕ) (h : IsLetter B b).
     let at = letter-digit_of B b _ (digit_of-is B b h) in subst (λ l. l < 128) at.1 (ascii (digit_or_zero B b)) in
     IsAscii-from_all text (All-weaker (IsLetter B) (λ b. b < 128) below text letters)

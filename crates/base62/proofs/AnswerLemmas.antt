@@ -1,9 +1,9 @@
 -- What the answers of decoding tell of the text.
-use Rattle.std.proofs.Common.{◌≡◌, ℕ, ◌+◌, ◌-◌, ◌*◌, ◌^◌, ◌<◌, ◌≤◌, ◌↔◌, Bool, true, false, List, [], ◌∷◌, ◌++◌, length, get_or, take, drop}
+use Rattle.std.proofs.Common.{◌≡◌, ℕ, ◌+◌, ◌*◌, ◌^◌, ◌<◌, ◌≤◌, ◌↔◌, Bool, false, List, [], ◌∷◌, ◌++◌, length, get_or, take, drop}
 use Rattle.std.proofs.Common.{Result, Ok, Err, IsOk, refl, sym, ap, ◌∙◌, subst, arith, inl, inr}
-use Rattle.std.specs.List.{prefix_len, list_all}
-use Rattle.std.proofs.lemmas.Bool.{cases_lt, cases_eq, cond_both, ltb-true, leb-true, leb-false, eqb-true, eqb-false, lt-ltb, le-ltb, not-true, not-false, and_parts, and_left, false≢true}
-use Rattle.std.proofs.lemmas.List.{take-append-drop, get_or-drop, length-append, length-drop, nil_from_length}
+use Rattle.std.specs.List.{list_all}
+use Rattle.std.proofs.lemmas.Bool.{cases_lt, cond_both, ltb-true, leb-true, leb-false, eqb-true, eqb-false, lt-ltb, le-ltb, not-true, not-false, and_parts, and_left, false≢true}
+use Rattle.std.proofs.lemmas.List.{take-append-drop, length-append, nil_from_length}
 use Rattle.std.proofs.lemmas.List.Sums.{prefix_len_passes, prefix_len_stops, AllPass-from_list_all, list_all-from_AllPass}
 use Rattle.std.proofs.lemmas.List.Folds.{list_all-append}
 use Rattle.std.proofs.lemmas.List.Elements.{All-nil, All-cons, All-append, All-drop, All-from_get_or}
@@ -12,14 +12,13 @@ use Rattle.base62.specs.declared.fault.DecodeError.TheVariants.{ArithmeticOverfl
 use Rattle.base62.specs.Alphabet.{IsAlphabet, AreLetters, is_letter, zero_letter}
 use Rattle.base62.specs.Value.{value}
 use Rattle.base62.specs.Canonical.{Denotes, IsCanonical}
-use Rattle.base62.specs.Decoding.{decoding, leading_zeros, rest, first_invalid, IsFirstInvalid}
+use Rattle.base62.specs.Decoding.{decoding, leading_zeros, rest, first_ten, invalid_index, first_invalid, IsFirstInvalid}
 use Rattle.base62.specs.Laws.{AgreesAtLetters, AnswerTells, number_or_overflow, without_zeros}
-use Rattle.base62.proofs.AlphabetLemmas.{IsLetter, is_letter-letter, digit_or_zero-letter}
+use Rattle.base62.proofs.AlphabetLemmas.{IsLetter}
 use Rattle.base62.proofs.ValueLemmas.{value-nil, value-append, value-one}
-use Rattle.base62.proofs.DecodingLemmas.{letter_before, value-rest}
-use Rattle.base62.proofs.CanonicalLemmas.{canonical_is}
-use Rattle.base62.proofs.LengthLemmas.{first_weighs}
-use Rattle.base62.proofs.OverflowLemmas.{rest_first, over_long, over_first, over_rest}
+use Rattle.base62.proofs.ZeroLemmas.{letters_from_rest, value-rest, rest_some, rest_first, zero_is_letter, zero_digit}
+use Rattle.base62.proofs.LengthLemmas.{canonical_of_value}
+use Rattle.base62.proofs.OverflowLemmas.{over_long, over_first, over_rest}
 
 -- a list whose front does not all pass does not all pass
 not_all-take : (p : ℕ → Bool) (xs : List ℕ) (n : ℕ) → list_all p (take n xs) ≡ false → list_all p xs ≡ false
@@ -31,7 +30,7 @@ decoding_cases : (B text : List ℕ) (P : Result ℕ DecodeError → Type 0)
     → (length text ≡ 0 → P (Err EmptyInput))
     → (22 < length (rest B text) → P (Err ArithmeticOverflow))
     → (list_all (is_letter B) (rest B text) ≡ false → P (Err (first_invalid B text)))
-    → (length (rest B text) ≡ 22 → AreLetters B (take 10 (rest B text)) → 2 ^ 128 ≤ value B (take 10 (rest B text)) * 62 ^ 12 → P (Err ArithmeticOverflow))
+    → (length (rest B text) ≡ 22 → AreLetters B (first_ten B text) → 2 ^ 128 ≤ value B (first_ten B text) * 62 ^ 12 → P (Err ArithmeticOverflow))
     → (AreLetters B (rest B text) → 2 ^ 128 ≤ value B (rest B text) → P (Err ArithmeticOverflow))
     → (0 < length text → AreLetters B (rest B text) → value B (rest B text) < 2 ^ 128 → P (Ok (value B text)))
     → P (decoding B text)
@@ -42,16 +41,16 @@ decoding_cases B text P empty long bad first_over over fine =
     cond_both _ _ _ P (λ t. empty (eqb-true _ _ t)) (λ f1.
     cond_both _ _ _ P (λ t. long (ltb-true _ _ t)) (λ f2.
     cond_both _ _ _ P (λ t. bad (not_all-take (is_letter B) r 10 (not-true _ t))) (λ f3.
-    cond_both _ _ _ P (λ t. let both = and_parts _ _ t in first_over (eqb-true _ _ both.0) (letters (take 10 r) (not-false _ f3)) (leb-true _ _ both.1)) (λ f4.
+    cond_both _ _ _ P (λ t. let both = and_parts _ _ t in first_over (eqb-true _ _ both.0) (letters (first_ten B text) (not-false _ f3)) (leb-true _ _ both.1)) (λ f4.
     cond_both _ _ _ P (λ t. bad (not-true _ t)) (λ f5.
     cond_both _ _ _ P (λ t. over (letters r (not-false _ f5)) (leb-true _ _ t)) (λ f6.
-    fine (elim (cases_eq (length text) 0) [ inl e ↦ absurd (eqb-false _ _ f1 e) | inr e ↦ omega arith ]) (letters r (not-false _ f5)) (leb-false _ _ f6)))))))
+    fine (omega (arith, eqb-false (length text) 0 f1)) (letters r (not-false _ f5)) (leb-false _ _ f6)))))))
 
 -- a text with a bad byte has a first one
-pub first_invalid_is : (B text : List ℕ) (k : ℕ) → list_all (is_letter B) (drop k text) ≡ false → IsFirstInvalid B text (get_or text (prefix_len (is_letter B) text) 0) (prefix_len (is_letter B) text)
+pub first_invalid_is : (B text : List ℕ) (k : ℕ) → list_all (is_letter B) (drop k text) ≡ false → IsFirstInvalid B text (get_or text (invalid_index B text) 0) (invalid_index B text)
 first_invalid_is B text k bad =
-    let index = prefix_len (is_letter B) text in
-    let before : (i : ℕ) → i < index → is_letter B (get_or text i 0) ≡ true = λ i h. prefix_len_passes (is_letter B) text i 0 h in
+    let index = invalid_index B text in
+    let before : (i : ℕ) → i < index → IsLetter B (get_or text i 0) = λ i h. prefix_len_passes (is_letter B) text i 0 h in
     let inside : index < length text = elim (cases_lt index (length text)) [
       | inl less ↦ less
       | inr all ↦
@@ -64,112 +63,6 @@ first_invalid_is B text k bad =
       letters_before = before;
     }
 
--- leading zeros are letters, so a text is letters alone if what follows them is
-letters_from_rest : (B text : List ℕ) → IsAlphabet B → AreLetters B (rest B text) → AreLetters B text
-letters_from_rest B text ok letters =
-    let z = leading_zeros B text in
-    All-from_get_or (IsLetter B) text 0 (λ i h. elim (cases_lt i z) [
-      | inl early ↦ letter_before B text ok i early
-      | inr late ↦
-          let back : z + (i - z) ≡ i = omega arith in
-          let place : get_or (rest B text) (i - z) 0 ≡ get_or text i 0 = get_or-drop z text (i - z) 0 ∙ ap (λ k. get_or text k 0) back in
-          ap (is_letter B) (sym place) ∙ letters (i - z) 0 (omega (arith, length-drop z text))
-    ])
-
--- whatever letters stand in place of its bad bytes, the text denotes 2^128 or more, if it has more than
--- leading zeros and the first byte after those is a letter
-abbrev pub MustOverflow : List ℕ → List ℕ → Type 0
-MustOverflow B text = is_letter B (get_or (rest B text) 0 0) ≡ true → (other : List ℕ) → AgreesAtLetters B text other → 2 ^ 128 ≤ value B other
-
--- a text that denotes a number above 0 has more than leading zeros
-rest_some : (B text : List ℕ) → 0 < value B (rest B text) → 0 < length (rest B text)
-rest_some B text h = elim (cases_eq (length (rest B text)) 0) [
-  | inl none ↦ let zero_value = ap (value B) (nil_from_length (rest B text) none) ∙ value-nil B in absurd (omega arith)
-  | inr some ↦ omega arith
-]
-
--- what holds of each answer, given what that answer tells of the text, holds of the one that is given
-pub answer_cases : (B text : List ℕ) → IsAlphabet B → (P : Result ℕ DecodeError → Type 0)
-    → (length text ≡ 0 → P (Err EmptyInput))
-    → (0 < length (rest B text) → MustOverflow B text → P (Err ArithmeticOverflow))
-    → ((byte index : ℕ) → IsFirstInvalid B text byte index → P (Err (InvalidBase62Byte byte index)))
-    → (Denotes B text (value B text) → value B text < 2 ^ 128 → P (Ok (value B text)))
-    → P (decoding B text)
-answer_cases B text ok P empty over bad fine = decoding_cases B text P
-    empty
-    (λ long. over (omega arith) (λ letter other a. over_long B text other a ok long letter))
-    (λ t. bad _ _ (first_invalid_is B text (leading_zeros B text) t))
-    (λ full letters big. over (omega arith) (λ letter other a. over_first B text other a full letters big))
-    (λ letters big. over (rest_some B text (omega arith)) (λ letter other a. over_rest B text other a letters big))
-    (λ some letters small. fine (record { nonempty = some; letters = letters_from_rest B text ok letters; value_is = refl }) (omega (arith, value-rest B text ok)))
-
--- what is accepted is a nonempty text of letters that denotes the answer, a number below 2^128
-pub decoding_accepts : (B text : List ℕ) → IsAlphabet B → (n : ℕ) → decoding B text ≡ Ok n → Denotes B text n × (n < 2 ^ 128)
-decoding_accepts B text ok = answer_cases B text ok (λ r. (n : ℕ) → r ≡ Ok n → Denotes B text n × (n < 2 ^ 128))
-    (λ e n is. cc)
-    (λ some over n is. cc)
-    (λ byte index first n is. cc)
-    (λ denotes small n is. let same : value B text ≡ n = cc in (subst (Denotes B text) same denotes, rw (← same) small))
-
--- a nonempty text of letters is accepted where its value is below 2^128, and else overflows
-pub decoding-letters : (B text : List ℕ) → IsAlphabet B → 0 < length text → AreLetters B text → decoding B text ≡ number_or_overflow (value B text)
-decoding-letters B text ok some letters =
-    let others : AreLetters B (rest B text) = All-drop (IsLetter B) (leading_zeros B text) text letters in
-    let itself : AgreesAtLetters B text text = record { size = refl; letters = letters; agrees = λ i h p. refl } in
-    answer_cases B text ok (λ r. r ≡ number_or_overflow (value B text))
-    (λ e. absurd (omega arith))
-    (λ more over. rw (le-ltb (value B text) (2 ^ 128) (over (others 0 0 more) text itself)))
-    (λ byte index first. absurd (false≢true (sym first.no_letter ∙ ap (is_letter B) first.byte_is ∙ letters index 0 first.within)))
-    (λ denotes small. rw (lt-ltb (value B text) (2 ^ 128) small))
-
--- a text that denotes a number below 2^128 decodes to it
-pub decoding-denotes : (B : List ℕ) → IsAlphabet B → (n : ℕ) → n < 2 ^ 128 → (text : List ℕ) → Denotes B text n → decoding B text ≡ Ok n
-decoding-denotes B ok n small text d =
-    decoding-letters B text ok d.nonempty d.letters ∙ rw (d.value_is, lt-ltb n (2 ^ 128) small)
-
--- one accepted text after another
-pub decoding-append : (B : List ℕ) → IsAlphabet B → (a b : List ℕ) (m n : ℕ) → decoding B a ≡ Ok m → decoding B b ≡ Ok n → decoding B (a ++ b) ≡ number_or_overflow (m * 62 ^ length b + n)
-decoding-append B ok a b m n p q =
-    let front = (decoding_accepts B a ok m p).0 in
-    let back = (decoding_accepts B b ok n q).0 in
-    let letters : AreLetters B (a ++ b) = All-append (IsLetter B) a b front.letters back.letters in
-    let sum : value B (a ++ b) ≡ m * 62 ^ length b + n = rw (value-append B a b, front.value_is, back.value_is) in
-    decoding-letters B (a ++ b) ok (omega (arith, length-append a b, front.nonempty)) letters ∙ ap number_or_overflow sum
-
--- the one zero letter that stands for a text of zeros alone is canonical
-zero_canonical : (B text : List ℕ) → IsAlphabet B → (n : ℕ) → Denotes B text n → length (rest B text) ≡ 0 → IsCanonical B (zero_letter B ∷ []) n
-zero_canonical B text ok n denotes none =
-    let zero_value : value B text ≡ 0 = value-rest B text ok ∙ ap (value B) (nil_from_length (rest B text) none) ∙ value-nil B in
-    let same : value B (zero_letter B ∷ []) ≡ n = value-one B (zero_letter B) ∙ digit_or_zero-letter B ok 0 (omega arith) ∙ sym zero_value ∙ denotes.value_is in
-    let letters : AreLetters B (zero_letter B ∷ []) = All-cons (IsLetter B) (zero_letter B) [] (is_letter-letter B ok 0 (omega arith)) (All-nil (IsLetter B)) in
-    canonical_is B ok (zero_letter B ∷ []) n (record { nonempty = omega arith; letters = letters; value_is = same }) (inl refl)
-
--- what follows the leading zeros, if anything does, is canonical
-rest_canonical : (B text : List ℕ) → IsAlphabet B → (n : ℕ) → Denotes B text n → 0 < length (rest B text) → IsCanonical B (rest B text) n
-rest_canonical B text ok n denotes some =
-    let r : List ℕ = rest B text in
-    let letters : AreLetters B r = All-drop (IsLetter B) (leading_zeros B text) text denotes.letters in
-    let same : value B r ≡ n = sym (value-rest B text ok) ∙ denotes.value_is in
-    let weighs = first_weighs B ok r some (letters 0 0 some) (rest_first B text some) in
-    canonical_is B ok r n (record { nonempty = some; letters = letters; value_is = same }) (inr (rw same at weighs))
-
--- a text without its needless zeros is canonical
-pub without_zeros_canonical : (B text : List ℕ) → IsAlphabet B → (n : ℕ) → Denotes B text n → IsCanonical B (without_zeros B text) n
-without_zeros_canonical B text ok n denotes = cond_both _ _ _ (λ xs. IsCanonical B xs n)
-    (λ t. zero_canonical B text ok n denotes (eqb-true _ _ t))
-    (λ f. rest_canonical B text ok n denotes (elim (cases_eq (length (rest B text)) 0) [ inl none ↦ absurd (eqb-false _ _ f none) | inr some ↦ omega arith ]))
-
--- which texts are accepted
-decoding_accepts_iff : (B text : List ℕ) → IsAlphabet B → (IsOk (decoding B text) ↔ ((0 < length text) × AreLetters B text × (value B text < 2 ^ 128)))
-decoding_accepts_iff B text ok = (
-  answer_cases B text ok (λ r. IsOk r → (0 < length text) × AreLetters B text × (value B text < 2 ^ 128))
-      (λ e is. cc)
-      (λ some over is. cc)
-      (λ byte index first is. cc)
-      (λ denotes small is. (denotes.nonempty, denotes.letters, small)),
-  λ h. rw (decoding-letters B text ok h.0 h.1, lt-ltb (value B text) (2 ^ 128) h.2) refl,
-)
-
 -- a fault that equals the one of the first bad byte names that byte and its index
 pub first_invalid_named : (B text : List ℕ) (byte index b i : ℕ) → InvalidBase62Byte byte index ≡ InvalidBase62Byte b i → IsFirstInvalid B text byte index → IsFirstInvalid B text b i
 first_invalid_named B text byte index b i is first =
@@ -177,17 +70,104 @@ first_invalid_named B text byte index b i is first =
     let index_same : index ≡ i = cc in
     subst (λ x. IsFirstInvalid B text x i) byte_same (subst (IsFirstInvalid B text byte) index_same first)
 
--- all that an answer tells
-pub answer_tells : (B : List ℕ) → IsAlphabet B → (text : List ℕ) → AnswerTells B text
-answer_tells B ok text = record {
-  accepted = decoding_accepts_iff B text ok;
-  value_is = λ n is. sym (decoding_accepts B text ok n is).0.value_is;
-  canonical = λ n is. without_zeros_canonical B text ok n (decoding_accepts B text ok n is).0;
-  empty = answer_cases B text ok (λ r. r ≡ Err EmptyInput → length text ≡ 0) (λ e is. e) (λ some over is. cc) (λ byte index first is. cc) (λ denotes small is. cc);
-  named = answer_cases B text ok (λ r. (byte index : ℕ) → r ≡ Err (InvalidBase62Byte byte index) → IsFirstInvalid B text byte index)
-      (λ e b i is. cc)
-      (λ some over b i is. cc)
-      (λ byte index first b i is. first_invalid_named B text byte index b i (cc) first)
-      (λ denotes small b i is. cc);
-  overflow = answer_cases B text ok (λ r. r ≡ Err ArithmeticOverflow → MustOverflow B text) (λ e is. cc) (λ some over is. over) (λ byte index first is. cc) (λ denotes small is. cc);
-}
+-- whatever letters stand in place of its bad bytes, the text denotes 2^128 or more, if it has more than
+-- leading zeros and the first byte after those is a letter
+abbrev MustOverflow : List ℕ → List ℕ → Type 0
+MustOverflow B text = IsLetter B (get_or (rest B text) 0 0) → (other : List ℕ) → AgreesAtLetters B text other → 2 ^ 128 ≤ value B other
+
+module _ (B : List ℕ) (ok : IsAlphabet B) where
+  -- what holds of each answer, given what that answer tells of the text, holds of the one that is given
+  pub answer_cases : (text : List ℕ) (P : Result ℕ DecodeError → Type 0)
+      → (length text ≡ 0 → P (Err EmptyInput))
+      → (0 < length (rest B text) → MustOverflow B text → P (Err ArithmeticOverflow))
+      → ((byte index : ℕ) → IsFirstInvalid B text byte index → P (Err (InvalidBase62Byte byte index)))
+      → (Denotes B text (value B text) → value B text < 2 ^ 128 → P (Ok (value B text)))
+      → P (decoding B text)
+  answer_cases text P empty over bad fine = decoding_cases B text P
+      empty
+      (λ long. over (omega arith) (λ letter other a. over_long B ok text other a long letter))
+      (λ t. bad _ _ (first_invalid_is B text (leading_zeros B text) t))
+      (λ full letters big. over (omega arith) (λ letter other a. over_first B ok text other a full letters big))
+      (λ letters big. over (rest_some B text (omega arith)) (λ letter other a. over_rest B ok text other a letters big))
+      (λ some letters small. fine (record { nonempty = some; letters = letters_from_rest B ok text letters; value_is = refl }) (omega (arith, value-rest B ok text)))
+
+  -- what is accepted is a nonempty text of letters that denotes the answer, a number below 2^128
+  pub decoding_accepts : (text : List ℕ) (n : ℕ) → decoding B text ≡ Ok n → Denotes B text n × (n < 2 ^ 128)
+  decoding_accepts text = answer_cases text (λ r. (n : ℕ) → r ≡ Ok n → Denotes B text n × (n < 2 ^ 128))
+      (λ e n is. cc)
+      (λ some over n is. cc)
+      (λ byte index first n is. cc)
+      (λ denotes small n is. let same : value B text ≡ n = cc in (subst (Denotes B text) same denotes, rw (← same) small))
+
+  -- a nonempty text of letters is accepted where its value is below 2^128, and else overflows
+  decoding-letters : (text : List ℕ) → 0 < length text → AreLetters B text → decoding B text ≡ number_or_overflow (value B text)
+  decoding-letters text some letters =
+      let others : AreLetters B (rest B text) = All-drop (IsLetter B) (leading_zeros B text) text letters in
+      let itself : AgreesAtLetters B text text = record { size = refl; letters = letters; agrees = λ i h p. refl } in
+      answer_cases text (λ r. r ≡ number_or_overflow (value B text))
+      (λ e. absurd (omega arith))
+      (λ more over. rw (le-ltb (value B text) (2 ^ 128) (over (others 0 0 more) text itself)))
+      (λ byte index first. absurd (false≢true (sym first.no_letter ∙ ap (is_letter B) first.byte_is ∙ letters index 0 first.within)))
+      (λ denotes small. rw (lt-ltb (value B text) (2 ^ 128) small))
+
+  -- a text that denotes a number below 2^128 decodes to it
+  pub decoding-denotes : (n : ℕ) → n < 2 ^ 128 → (text : List ℕ) → Denotes B text n → decoding B text ≡ Ok n
+  decoding-denotes n small text d =
+      decoding-letters text d.nonempty d.letters ∙ rw (d.value_is, lt-ltb n (2 ^ 128) small)
+
+  -- one accepted text after another
+  pub decoding-append : (a b : List ℕ) (m n : ℕ) → decoding B a ≡ Ok m → decoding B b ≡ Ok n → decoding B (a ++ b) ≡ number_or_overflow (m * 62 ^ length b + n)
+  decoding-append a b m n p q =
+      let front = (decoding_accepts a m p).0 in
+      let back = (decoding_accepts b n q).0 in
+      let letters : AreLetters B (a ++ b) = All-append (IsLetter B) a b front.letters back.letters in
+      let sum : value B (a ++ b) ≡ m * 62 ^ length b + n = rw (value-append B a b, front.value_is, back.value_is) in
+      decoding-letters (a ++ b) (omega (arith, length-append a b, front.nonempty)) letters ∙ ap number_or_overflow sum
+
+  -- the one zero letter that stands for a text of zeros alone is canonical
+  zero_canonical : (text : List ℕ) (n : ℕ) → Denotes B text n → length (rest B text) ≡ 0 → IsCanonical B (zero_letter B ∷ []) n
+  zero_canonical text n denotes none =
+      let zero_value : value B text ≡ 0 = value-rest B ok text ∙ ap (value B) (nil_from_length (rest B text) none) ∙ value-nil B in
+      let same : value B (zero_letter B ∷ []) ≡ n = value-one B (zero_letter B) ∙ zero_digit B ok ∙ sym zero_value ∙ denotes.value_is in
+      let letters : AreLetters B (zero_letter B ∷ []) = All-cons (IsLetter B) (zero_letter B) [] (zero_is_letter B ok) (All-nil (IsLetter B)) in
+      rw same at (canonical_of_value B ok (zero_letter B ∷ []) letters (omega arith, inl refl))
+
+  -- what follows the leading zeros, if anything does, is canonical
+  rest_canonical : (text : List ℕ) (n : ℕ) → Denotes B text n → 0 < length (rest B text) → IsCanonical B (rest B text) n
+  rest_canonical text n denotes some =
+      let r : List ℕ = rest B text in
+      let letters : AreLetters B r = All-drop (IsLetter B) (leading_zeros B text) text denotes.letters in
+      let same : value B r ≡ n = sym (value-rest B ok text) ∙ denotes.value_is in
+      rw same at (canonical_of_value B ok r letters (some, inr (rest_first B text some)))
+
+  -- a text without its needless zeros is canonical
+  without_zeros_canonical : (text : List ℕ) (n : ℕ) → Denotes B text n → IsCanonical B (without_zeros B text) n
+  without_zeros_canonical text n denotes = cond_both _ _ _ (λ xs. IsCanonical B xs n)
+      (λ t. zero_canonical text n denotes (eqb-true _ _ t))
+      (λ f. rest_canonical text n denotes (omega (arith, eqb-false (length (rest B text)) 0 f)))
+
+  -- which texts are accepted
+  decoding_accepts_iff : (text : List ℕ) → (IsOk (decoding B text) ↔ ((0 < length text) × AreLetters B text × (value B text < 2 ^ 128)))
+  decoding_accepts_iff text = (
+    answer_cases text (λ r. IsOk r → (0 < length text) × AreLetters B text × (value B text < 2 ^ 128))
+        (λ e is. cc)
+        (λ some over is. cc)
+        (λ byte index first is. cc)
+        (λ denotes small is. (denotes.nonempty, denotes.letters, small)),
+    λ h. rw (decoding-letters text h.0 h.1, lt-ltb (value B text) (2 ^ 128) h.2) refl,
+  )
+
+  -- all that an answer tells
+  pub answer_tells : (text : List ℕ) → AnswerTells B text
+  answer_tells text = record {
+    accepted = decoding_accepts_iff text;
+    value_is = λ n is. sym (decoding_accepts text n is).0.value_is;
+    canonical = λ n is. without_zeros_canonical text n (decoding_accepts text n is).0;
+    empty = answer_cases text (λ r. r ≡ Err EmptyInput → length text ≡ 0) (λ e is. e) (λ some over is. cc) (λ byte index first is. cc) (λ denotes small is. cc);
+    named = answer_cases text (λ r. (byte index : ℕ) → r ≡ Err (InvalidBase62Byte byte index) → IsFirstInvalid B text byte index)
+        (λ e b i is. cc)
+        (λ some over b i is. cc)
+        (λ byte index first b i is. first_invalid_named B text byte index b i (cc) first)
+        (λ denotes small b i is. cc);
+    overflow = answer_cases text (λ r. r ≡ Err ArithmeticOverflow → MustOverflow B text) (λ e is. cc) (λ some over is. over) (λ byte index first is. cc) (λ denotes small is. cc);
+  }

@@ -1,29 +1,44 @@
--- Which texts are canonical, and that a number has no two.
+-- Which texts are canonical, that a number has no two, and that they are ASCII where the letters are.
 use Rattle.std.proofs.Common.{◌≡◌, ℕ, ◌-◌, ◌^◌, ◌<◌, ◌≤◌, ◌⊎◌, List, length, sym, ◌∙◌, inl, inr, arith}
-use Rattle.std.proofs.Math.Nat.{pow-le-pow_right}
 use Rattle.std.proofs.lemmas.Bool.{cases_lt}
+use Rattle.std.specs.Str.{IsAscii}
 use Rattle.base62.specs.Alphabet.{IsAlphabet}
-use Rattle.base62.specs.Canonical.{Denotes, IsCanonical}
-use Rattle.base62.proofs.ValueLemmas.{value-lt, same_text}
+use Rattle.base62.specs.Canonical.{Denotes, IsCanonical, CanonicalFits}
+use Rattle.base62.proofs.AlphabetLemmas.{standard_is_ascii, alternative_is_ascii, letters_ascii}
+use Rattle.base62.proofs.ValueLemmas.{value-lt_most, same_text}
 
--- a shorter text cannot denote n, where one letter less cannot hold it
-too_short : (B : List ℕ) → IsAlphabet B → (k n : ℕ) → (k ≡ 1) ⊎ (62 ^ (k - 1) ≤ n) → (other : List ℕ) → Denotes B other n → length other < k → ⊥
-too_short B ok k n (inl one) other d less = omega (arith, d.nonempty)
-too_short B ok k n (inr big) other d less =
-    let below = value-lt B ok other in
-    let grows : 62 ^ length other ≤ 62 ^ (k - 1) = pow-le-pow_right {n = 62} (omega arith) (omega arith) in
-    omega (arith, d.value_is)
+-- n takes k letters at least: it is 1, or one letter less cannot hold n
+abbrev pub NeedsLetters : ℕ → ℕ → Type 0
+NeedsLetters k n = (k ≡ 1) ⊎ (62 ^ (k - 1) ≤ n)
 
--- a text that denotes n is canonical where it has one letter, or one letter less can't hold n
-pub canonical_is : (B : List ℕ) → IsAlphabet B → (text : List ℕ) (n : ℕ) → Denotes B text n → (length text ≡ 1) ⊎ (62 ^ (length text - 1) ≤ n) → IsCanonical B text n
-canonical_is B ok text n d least = record {
-  denotes = d;
-  shortest = λ other e. elim (cases_lt (length other) (length text)) [ inl less ↦ absurd (too_short B ok (length text) n least other e less) | inr more ↦ more ];
-}
+module _ (B : List ℕ) (ok : IsAlphabet B) where
+  -- so a text of fewer cannot denote it
+  too_short : (k n : ℕ) → NeedsLetters k n → (other : List ℕ) → Denotes B other n → length other < k → ⊥
+  too_short k n (inl one) other d less = omega (arith, d.nonempty)
+  too_short k n (inr big) other d less =
+      let below = value-lt_most B ok other (k - 1) (omega arith) in omega (arith, d.value_is)
 
--- a number has one canonical text
-pub one_canonical : (B : List ℕ) → IsAlphabet B → (n : ℕ) (a b : List ℕ) → IsCanonical B a n → IsCanonical B b n → a ≡ b
-one_canonical B ok n a b p q =
-    let le = p.shortest b q.denotes in
-    let ge = q.shortest a p.denotes in
-    same_text B ok a b (omega arith) p.denotes.letters q.denotes.letters (p.denotes.value_is ∙ sym q.denotes.value_is)
+  -- a text that denotes n is canonical where it has one letter, or one letter less can't hold n
+  pub canonical_is : (text : List ℕ) (n : ℕ) → Denotes B text n → NeedsLetters (length text) n → IsCanonical B text n
+  canonical_is text n d least = record {
+    denotes = d;
+    shortest = λ other e. elim (cases_lt (length other) (length text)) [ inl less ↦ absurd (too_short (length text) n least other e less) | inr more ↦ more ];
+  }
+
+  -- a number has one canonical text
+  pub one_canonical : (n : ℕ) (a b : List ℕ) → IsCanonical B a n → IsCanonical B b n → a ≡ b
+  one_canonical n a b p q =
+      let le = p.shortest b q.denotes in
+      let ge = q.shortest a p.denotes in
+      same_text B ok a b (omega arith) p.denotes.letters q.denotes.letters (p.denotes.value_is ∙ sym q.denotes.value_is)
+
+-- where some canonical text fits, each does
+pub canonical_fits : (B text : List ℕ) (n room : ℕ) → IsCanonical B text n → CanonicalFits B n room → length text ≤ room
+canonical_fits B text n room canonical other =
+    let most = canonical.shortest other.0 other.1.denotes in omega (arith, most, other.2)
+
+-- over an alphabet of ASCII a canonical text is ASCII
+pub canonical_is_ascii : (B : List ℕ) → IsAscii B → (text : List ℕ) (n : ℕ) → IsCanonical B text n → IsAscii text
+canonical_is_ascii B ascii text n canonical = letters_ascii B ascii text canonical.denotes.letters
+
+pub ruleset ascii_texts = (canonical_is_ascii, standard_is_ascii, alternative_is_ascii)

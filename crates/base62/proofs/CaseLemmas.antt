@@ -1,25 +1,23 @@
 -- Exchange of case turns the alternative alphabet into the standard one.
 use Rattle.std.proofs.Common.{◌≡◌, ℕ, ◌<◌, ◌≤◌, ◌==◌, ◌&&◌, ◌||◌, Bool, true, false, leb, List, [], ◌∷◌, length, get_or, map, take, drop}
 use Rattle.std.proofs.Common.{Option, Some, None, is_some, unwrap_or, refl, sym, ap, ◌∙◌, subst, inl, inr, arith}
-use Rattle.std.specs.List.{range_with_len, prefix_len, list_all}
+use Rattle.std.proofs.Math.Path.{fun_ext}
+use Rattle.std.specs.List.{prefix_len, list_all}
 use Rattle.std.specs.Str.{IsAscii}
-use Rattle.std.proofs.lemmas.Bool.{agree_below_at, cases_lt, lt-leb, and_right, eqb-true}
+use Rattle.std.proofs.lemmas.Bool.{cases_lt, lt-leb, and_right, eqb-true}
 use Rattle.std.proofs.Math.ListN.{get_or-map}
 use Rattle.std.proofs.lemmas.List.{length-map, take-map, drop-map, get_or_past}
-use Rattle.std.proofs.lemmas.List.FromFn.{get_or-map-range_with_len}
 use Rattle.std.proofs.lemmas.List.Sums.{AllPass-from_list_all, list_all-from_AllPass, prefix_len_stops}
+use Rattle.std.proofs.lemmas.List.Folds.{list_all-map}
+use Rattle.std.proofs.lemmas.Simd.{map-map}
 use Rattle.base62.specs.Alphabet.{AreLetters, standard, alternative, digit_of, is_letter, zero_letter}
 use Rattle.base62.specs.Places.{sum_over_places}
 use Rattle.base62.specs.Value.{value, digit_or_zero}
 use Rattle.base62.specs.Canonical.{Denotes, IsCanonical}
-use Rattle.base62.specs.Decoding.{decoding, leading_zeros, rest, first_invalid}
+use Rattle.base62.specs.Decoding.{decoding, leading_zeros, rest, invalid_index, first_invalid}
 use Rattle.base62.specs.Case.{other_case, exchange_case}
+use Rattle.base62.proofs.ComputedLemmas.{same_on_range}
 use Rattle.base62.proofs.AlphabetLemmas.{letter-digit_of, standard_is_ascii, alternative_is_ascii}
-
--- two functions that give one list over the numbers below n agree there
-same_on_range : {Y : Type 0} (f g : ℕ → Y) (n : ℕ) → map f (range_with_len 0 n) ≡ map g (range_with_len 0 n) → (b : ℕ) → b < n → f b ≡ g b
-same_on_range f g n e b h =
-    sym (get_or-map-range_with_len f 0 n b b (f b) h (omega arith)) ∙ ap (λ xs. get_or xs b (f b)) e ∙ get_or-map-range_with_len g 0 n b b (f b) h (omega arith)
 
 -- only letters of ASCII have another case
 other_case-past : (b : ℕ) → 128 ≤ b → other_case b ≡ b
@@ -29,13 +27,10 @@ other_case-past b h =
     let second : (leb 97 b && leb b 122) ≡ false = and_right _ _ (lt-leb b 122 (omega arith)) in
     rw (first, second)
 
-other_case-below : (b : ℕ) → b < 128 → other_case (other_case b) ≡ b
-unfolding other_case
-other_case-below b h = same_on_range (λ b. other_case (other_case b)) (λ b. b) 128 refl b h
-
 other_case_twice : (b : ℕ) → other_case (other_case b) ≡ b
+unfolding other_case
 other_case_twice b = elim (cases_lt b 128) [
-  | inl less ↦ other_case-below b less
+  | inl less ↦ same_on_range (λ b. other_case (other_case b)) (λ b. b) 0 128 refl b (omega arith) less
   | inr more ↦ ap other_case (other_case-past b more) ∙ other_case-past b more
 ]
 
@@ -50,18 +45,14 @@ none_above B ascii b h (Some d) e =
     let at = letter-digit_of B b d e in
     let below : b < 128 = subst (λ l. l < 128) at.1 (ascii d) in absurd (omega arith)
 
--- a byte of ASCII has the digit of its other case in the other alphabet
-digits_below : (b : ℕ) → b < 128 → digit_of alternative b ≡ digit_of standard (other_case b)
-unfolding standard alternative digit_of other_case
-digits_below b h = same_on_range (digit_of alternative) (λ b. digit_of standard (other_case b)) 128 refl b h
-
 -- a byte has the digit in A that it has in B with its case exchanged
-abbrev pub Exchanges : List ℕ → List ℕ → Type 0
+abbrev Exchanges : List ℕ → List ℕ → Type 0
 Exchanges A B = (b : ℕ) → digit_of A b ≡ digit_of B (other_case b)
 
 digit_in_standard : Exchanges alternative standard
+unfolding standard alternative digit_of other_case
 digit_in_standard b = elim (cases_lt b 128) [
-  | inl less ↦ digits_below b less
+  | inl less ↦ same_on_range (digit_of alternative) (λ b. digit_of standard (other_case b)) 0 128 refl b (omega arith) less
   | inr more ↦
       let none = none_above standard standard_is_ascii b more (digit_of standard b) refl in
       none_above alternative alternative_is_ascii b more (digit_of alternative b) refl
@@ -71,34 +62,24 @@ digit_in_standard b = elim (cases_lt b 128) [
 digit_in_alternative : Exchanges standard alternative
 digit_in_alternative b = sym (digit_in_standard (other_case b) ∙ ap (digit_of standard) (other_case_twice b))
 
--- a test of each byte, before and after a change of the bytes
-module _ {X Y : Type 0} (p : X → Bool) (q : Y → Bool) (f : X → Y) (same : (x : X) → p x ≡ q (f x)) where
-  list_all-changed : (xs : List X) → list_all p xs ≡ list_all q (map f xs)
-  list_all-changed [] = refl
-  list_all-changed (x ∷ xs) = rw (same x, list_all-changed xs)
-
-  prefix_len-changed : (xs : List X) → prefix_len p xs ≡ prefix_len q (map f xs)
-  prefix_len-changed [] = refl
-  prefix_len-changed (x ∷ xs) = rw (same x, prefix_len-changed xs)
+-- how many elements pass a test from the first on, before and after they are changed
+prefix_len-changed : (p q : ℕ → Bool) (f : ℕ → ℕ) → ((x : ℕ) → p x ≡ q (f x)) → (xs : List ℕ) → prefix_len p xs ≡ prefix_len q (map f xs)
+prefix_len-changed p q f same [] = refl
+prefix_len-changed p q f same (x ∷ xs) = rw (same x, prefix_len-changed p q f same xs)
 
 module _ (A B : List ℕ) (same : Exchanges A B) where
-  digit_exchanged : (b : ℕ) → digit_or_zero A b ≡ digit_or_zero B (other_case b)
-  digit_exchanged b = ap (λ o. unwrap_or o 0) (same b)
-
   letter_exchanged : (b : ℕ) → is_letter A b ≡ is_letter B (other_case b)
   letter_exchanged b = ap is_some (same b)
 
-  digits_exchanged : (text : List ℕ) → map (digit_or_zero A) text ≡ map (digit_or_zero B) (exchange_case text)
-  digits_exchanged [] = refl
-  digits_exchanged (b ∷ text) = rw (digit_exchanged b, digits_exchanged text)
+  all_exchanged : (text : List ℕ) → list_all (is_letter A) text ≡ list_all (is_letter B) (exchange_case text)
+  all_exchanged text = ap (λ p. list_all p text) (fun_ext letter_exchanged) ∙ sym (list_all-map (is_letter B) other_case text)
 
   -- a text has the value of the exchanged one
   value_exchanged : (text : List ℕ) → value A text ≡ value B (exchange_case text)
   unfolding value
-  value_exchanged text = ap (sum_over_places 62) (digits_exchanged text)
-
-  all_exchanged : (text : List ℕ) → list_all (is_letter A) text ≡ list_all (is_letter B) (exchange_case text)
-  all_exchanged text = list_all-changed (is_letter A) (is_letter B) other_case letter_exchanged text
+  value_exchanged text =
+      let digits : digit_or_zero A ≡ (λ b. digit_or_zero B (other_case b)) = fun_ext (λ b. ap (λ o. unwrap_or o 0) (same b)) in
+      ap (λ f. sum_over_places 62 (map f text)) digits ∙ sym (ap (sum_over_places 62) (map-map (digit_or_zero B) other_case text))
 
   -- letters are letters of the other alphabet, exchanged
   letters_exchanged : (text : List ℕ) → AreLetters A text → AreLetters B (exchange_case text)
@@ -126,20 +107,12 @@ pub canonical_in_standard : (text : List ℕ) (n : ℕ) → IsCanonical alternat
 canonical_in_standard text n canonical =
     rw exchange_case_twice at (canonical_exchanged alternative standard digit_in_standard digit_in_alternative (exchange_case text) n canonical)
 
--- the zero letter of both alphabets is the digit 0, which has no case
-zero_below : (b : ℕ) → b < 128 → (b == zero_letter alternative) ≡ (other_case b == zero_letter standard)
-unfolding standard alternative other_case
-zero_below b h = agree_below_at (λ b. b == zero_letter alternative) (λ b. other_case b == zero_letter standard) 128 b refl h
-
-same_zero : (b : ℕ) → (b == zero_letter alternative) ≡ (b == zero_letter standard)
-unfolding standard alternative
-same_zero b = refl
-
--- so a byte is the zero letter where the exchanged one is
+-- a byte is the zero letter where the exchanged one is, since both alphabets have the digit 0, which has no case
 zero_exchanged : (b : ℕ) → (b == zero_letter alternative) ≡ (other_case b == zero_letter standard)
+unfolding standard alternative other_case
 zero_exchanged b = elim (cases_lt b 128) [
-  | inl less ↦ zero_below b less
-  | inr more ↦ same_zero b ∙ ap (λ k. k == zero_letter standard) (sym (other_case-past b more))
+  | inl less ↦ same_on_range (λ b. b == zero_letter alternative) (λ b. other_case b == zero_letter standard) 0 128 refl b (omega arith) less
+  | inr more ↦ ap (λ k. k == zero_letter standard) (sym (other_case-past b more))
 ]
 
 zeros_exchanged : (text : List ℕ) → leading_zeros alternative text ≡ leading_zeros standard (exchange_case text)
@@ -149,13 +122,10 @@ rest_exchanged : (text : List ℕ) → exchange_case (rest alternative text) ≡
 rest_exchanged text = sym (drop-map other_case (leading_zeros alternative text) text) ∙ ap (λ z. drop z (exchange_case text)) (zeros_exchanged text)
 
 -- a byte that is no letter has no other case
-stays_below : (b : ℕ) → b < 128 → (is_letter alternative b || other_case b == b) ≡ true
-unfolding alternative digit_of other_case
-stays_below b h = agree_below_at (λ b. is_letter alternative b || other_case b == b) (λ b. true) 128 b refl h
-
 stays : (b : ℕ) → is_letter alternative b ≡ false → other_case b ≡ b
+unfolding alternative digit_of other_case
 stays b bad = elim (cases_lt b 128) [
-  | inl less ↦ eqb-true _ _ (rw bad at (stays_below b less))
+  | inl less ↦ eqb-true _ _ (rw bad at (same_on_range (λ b. is_letter alternative b || other_case b == b) (λ b. true) 0 128 refl b (omega arith) less))
   | inr more ↦ other_case-past b more
 ]
 
@@ -169,9 +139,9 @@ unfolding alternative digit_of
 no_letter_past = refl
 
 -- what stands where the letters end is no letter
-bad_or_past : (text : List ℕ) → is_letter alternative (get_or text (prefix_len (is_letter alternative) text) 0) ≡ false
+bad_or_past : (text : List ℕ) → is_letter alternative (get_or text (invalid_index alternative text) 0) ≡ false
 bad_or_past text =
-    let i = prefix_len (is_letter alternative) text in
+    let i = invalid_index alternative text in
     elim (cases_lt i (length text)) [
       | inl less ↦ prefix_len_stops (is_letter alternative) text 0 less
       | inr more ↦ ap (is_letter alternative) (get_or_past text i 0 more) ∙ no_letter_past
@@ -180,8 +150,8 @@ bad_or_past text =
 -- so the first bad byte is the same
 first_invalid_exchanged : (text : List ℕ) → first_invalid alternative text ≡ first_invalid standard (exchange_case text)
 first_invalid_exchanged text =
-    let i = prefix_len (is_letter alternative) text in
-    let place : i ≡ prefix_len (is_letter standard) (exchange_case text) =
+    let i = invalid_index alternative text in
+    let place : i ≡ invalid_index standard (exchange_case text) =
     prefix_len-changed (is_letter alternative) (is_letter standard) other_case (letter_exchanged alternative standard digit_in_standard) text in
     let byte : get_or (exchange_case text) i 0 ≡ get_or text i 0 = at_exchanged text i ∙ stays (get_or text i 0) (bad_or_past text) in
     rw (← place, byte)

@@ -1,73 +1,38 @@
 -- The count of a number's letters by the place b of its highest bit: it is b * 43 / 256 + 1, or one more.
-use Rattle.std.proofs.Common.{◌≡◌, ℕ, ◌+◌, ◌-◌, ◌*◌, ◌/◌, ◌^◌, ◌<◌, ◌≤◌, Bool, true, eqb, get_or, min, refl, inr, arith}
+use Rattle.std.proofs.Common.{◌≡◌, ℕ, ◌+◌, ◌-◌, ◌*◌, ◌/◌, ◌^◌, ◌<◌, ◌≤◌, get_or, min, refl, inr, arith}
 use Rattle.std.proofs.Math.Nat.{pow-le-pow_left}
-use Rattle.std.proofs.Math.Dec.{ltb}
-use Rattle.std.proofs.lemmas.Bool.{agree_below, agree_below_at, ltb-true, eqb-true}
 use Rattle.base62.specs.declared.powers.TheConstants.{GREATEST, GREATEST_NARROW}
 use Rattle.base62.specs.Canonical.{DigitCount}
+use Rattle.base62.proofs.ComputedLemmas.{same_on_range, at_most_on_range}
 use Rattle.base62.proofs.FixedLemmas.{has_letters}
 
 -- a count by six bits a letter, which a power of 2 shows, as 64 is 2^6
-abbrev pub estimate : ℕ → ℕ
+abbrev estimate : ℕ → ℕ
 estimate b = b * 43 / 256 + 1
 
-abbrev below_bit : ℕ → Bool
-below_bit b = ltb (64 ^ (b * 43 / 256)) (2 ^ b + 1)
-
-abbrev above_bit : ℕ → Bool
-above_bit b = ltb (2 * 2 ^ b) (64 ^ (b * 43 / 256 + 1) + 1)
-
-all_below : agree_below below_bit (λ _. true) 128 ≡ true
-all_below = refl
-
-all_above : agree_below above_bit (λ _. true) 128 ≡ true
-all_above = refl
-
 -- the number stands between two powers of 64
-pub from_power_of_64 : (n b : ℕ) → b < 128 → 2 ^ b ≤ n → 64 ^ (b * 43 / 256) ≤ n
+from_power_of_64 : (n b : ℕ) → b < 128 → 2 ^ b ≤ n → 64 ^ (b * 43 / 256) ≤ n
 from_power_of_64 n b few low =
-    let below : 64 ^ (b * 43 / 256) < 2 ^ b + 1 = ltb-true (64 ^ (b * 43 / 256)) (2 ^ b + 1) (agree_below_at below_bit (λ _. true) 128 b all_below few) in
-    omega (arith, low, below)
+    let below = at_most_on_range (λ b. 64 ^ (b * 43 / 256)) (λ b. 2 ^ b) 0 128 refl b (omega arith) few in omega (arith, low, below)
 
-pub below_power_of_64 : (n b : ℕ) → b < 128 → n < 2 * 2 ^ b → n < 64 ^ estimate b
+below_power_of_64 : (n b : ℕ) → b < 128 → n < 2 * 2 ^ b → n < 64 ^ estimate b
 below_power_of_64 n b few high =
-    let above : 2 * 2 ^ b < 64 ^ (b * 43 / 256 + 1) + 1 = ltb-true (2 * 2 ^ b) (64 ^ (b * 43 / 256 + 1) + 1) (agree_below_at above_bit (λ _. true) 128 b all_above few) in
-    omega (arith, high, above)
+    let above = at_most_on_range (λ b. 2 * 2 ^ b) (λ b. 64 ^ (b * 43 / 256 + 1)) 0 128 refl b (omega arith) few in omega (arith, high, above)
 
 -- a power of 62 is at most that of 64
-pub power_of_62_le_64 : (k : ℕ) → 62 ^ k ≤ 64 ^ k
+power_of_62_le_64 : (k : ℕ) → 62 ^ k ≤ 64 ^ k
 power_of_62_le_64 k = pow-le-pow_left {n = 62} {m = 64} (omega arith) k
 
 -- and up to 64^22 the next power of 62 is at least that of 64
-abbrev next_reaches : ℕ → Bool
-next_reaches e = ltb (64 ^ e) (62 ^ (e + 1) + 1)
-
-all_reach : agree_below next_reaches (λ _. true) 23 ≡ true
-all_reach = refl
-
-pub power_of_64_le_62 : (e : ℕ) → e ≤ 22 → 64 ^ e ≤ 62 ^ (e + 1)
-power_of_64_le_62 e few =
-    let reaches : 64 ^ e < 62 ^ (e + 1) + 1 = ltb-true (64 ^ e) (62 ^ (e + 1) + 1) (agree_below_at next_reaches (λ _. true) 23 e all_reach (omega arith)) in
-    omega (arith, reaches)
+power_of_64_le_62 : (e : ℕ) → e ≤ 22 → 64 ^ e ≤ 62 ^ (e + 1)
+power_of_64_le_62 e few = at_most_on_range (λ e. 64 ^ e) (λ e. 62 ^ (e + 1)) 0 23 refl e (omega arith) (omega arith)
 
 -- the written-out thresholds are the greatest numbers of so many letters, below the limit of their type
-abbrev is_greatest : ℕ → Bool
-is_greatest k = eqb (get_or GREATEST k 0 + 1) (min (62 ^ k) (2 ^ 128))
-
-abbrev is_greatest_narrow : ℕ → Bool
-is_greatest_narrow k = eqb (get_or GREATEST_NARROW k 0 + 1) (min (62 ^ k) (2 ^ 64))
-
-all_greatest : agree_below is_greatest (λ _. true) 23 ≡ true
-all_greatest = refl
-
-all_greatest_narrow : agree_below is_greatest_narrow (λ _. true) 12 ≡ true
-all_greatest_narrow = refl
-
 pub greatest_is : (k : ℕ) → k < 23 → get_or GREATEST k 0 + 1 ≡ min (62 ^ k) (2 ^ 128)
-greatest_is k few = eqb-true _ _ (agree_below_at is_greatest (λ _. true) 23 k all_greatest few)
+greatest_is k few = same_on_range (λ k. get_or GREATEST k 0 + 1) (λ k. min (62 ^ k) (2 ^ 128)) 0 23 refl k (omega arith) few
 
 pub greatest_narrow_is : (k : ℕ) → k < 12 → get_or GREATEST_NARROW k 0 + 1 ≡ min (62 ^ k) (2 ^ 64)
-greatest_narrow_is k few = eqb-true _ _ (agree_below_at is_greatest_narrow (λ _. true) 12 k all_greatest_narrow few)
+greatest_narrow_is k few = same_on_range (λ k. get_or GREATEST_NARROW k 0 + 1) (λ k. min (62 ^ k) (2 ^ 64)) 0 12 refl k (omega arith) few
 
 -- the estimate is right, or short by one
 module _ (n b limit greatest : ℕ) (few : b < 128) (low : 2 ^ b ≤ n) (high : n < 2 * 2 ^ b) (small : n < limit) (threshold : greatest + 1 ≡ min (62 ^ estimate b) limit) where

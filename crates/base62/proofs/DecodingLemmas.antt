@@ -1,66 +1,29 @@
 -- What decoding answers and how many steps it takes, by what is read of the bytes after the leading zeros.
-use Rattle.std.proofs.Common.{◌≡◌, ◌+◌, ◌-◌, ◌*◌, ◌^◌, ◌<◌, ◌≤◌, ◌==◌, ◌∙◌}
-use Rattle.std.proofs.Common.{ℕ, zero, suc, Bool, true, false, eqb, ltb, leb, List, length, get_or, take, drop, Result, Ok, Err, if◌then◌else◌, refl, sym, ap, arith, add-one, inl, inr}
+use Rattle.std.proofs.Common.{◌≡◌, ◌+◌, ◌-◌, ◌*◌, ◌^◌, ◌<◌, ◌≤◌, ◌∙◌}
+use Rattle.std.proofs.Common.{ℕ, Bool, true, false, eqb, ltb, leb, List, length, get_or, take, drop, Result, Ok, Err, if◌then◌else◌, refl, sym, ap, arith, inl, inr}
 use Rattle.std.specs.List.{prefix_len, list_all}
 use Rattle.std.proofs.Math.Nat.{pow-le-pow_right, mul-le-mul}
-use Rattle.std.proofs.lemmas.Bool.{cases_lt, eqb-true, ne_eqb, lt-ltb, le-ltb, lt-leb, le-leb, false≢true, eq-eqb, cases_eq}
-use Rattle.std.proofs.lemmas.List.{take-append-drop, length-take-le, length-drop, get_or-drop, get_or-take}
-use Rattle.std.proofs.lemmas.List.Sums.{prefix_len_passes, prefix_len-le-length, AllPass-from_list_all, list_all-from_AllPass}
+use Rattle.std.proofs.lemmas.Bool.{cases_lt, ne_eqb, lt-ltb, le-ltb, lt-leb, le-leb, false≢true, eq-eqb, cases_eq}
+use Rattle.std.proofs.lemmas.List.{take-append-drop, length-take-le, length-drop, get_or-drop}
+use Rattle.std.proofs.lemmas.List.Sums.{AllPass-from_list_all, list_all-from_AllPass}
 use Rattle.std.proofs.lemmas.List.Folds.{prefix_len-append}
-use Rattle.std.proofs.lemmas.List.Elements.{All-from_get_or, All-take}
+use Rattle.std.proofs.lemmas.List.Elements.{All-take}
 use Rattle.base62.specs.declared.fault.DecodeError.{DecodeError}
 use Rattle.base62.specs.declared.fault.DecodeError.TheVariants.{ArithmeticOverflow, EmptyInput, InvalidBase62Byte}
-use Rattle.base62.specs.Alphabet.{IsAlphabet, AreLetters, is_letter, zero_letter}
-use Rattle.base62.specs.Value.{value, digit_or_zero}
+use Rattle.base62.specs.Alphabet.{IsAlphabet, is_letter}
+use Rattle.base62.specs.Value.{value}
 use Rattle.base62.specs.Decoding.{decoding, leading_zeros, rest, first_ten, shows_overflow, invalid_index, first_invalid}
 use Rattle.base62.specs.Steps.{decoding_steps, DecodesCounted}
 use Rattle.base62.specs.Parts.{HasRead, HasRefused, ReadsPart, after_number}
 use Rattle.base62.specs.Laws.{number_or_overflow}
-use Rattle.base62.proofs.AlphabetLemmas.{is_letter-letter, digit_or_zero-letter}
-use Rattle.base62.proofs.ValueLemmas.{value-nil, value-append, value_more}
+use Rattle.base62.proofs.ZeroLemmas.{zeros_within, value-rest, zeros_letters}
 use Rattle.base62.proofs.PartLemmas.{prefix_len-letters, read_below, refuses_cut, reads_cut}
-
--- each byte of the leading zeros is the zero letter
-zero_before : (B text : List ℕ) (k : ℕ) → k < leading_zeros B text → get_or text k 0 ≡ zero_letter B
-zero_before B text k h = eqb-true _ _ (prefix_len_passes (λ b. b == zero_letter B) text k 0 h)
-
-pub letter_before : (B text : List ℕ) → IsAlphabet B → (k : ℕ) → k < leading_zeros B text → is_letter B (get_or text k 0) ≡ true
-letter_before B text ok k h = ap (is_letter B) (zero_before B text k h) ∙ is_letter-letter B ok 0 (omega arith)
-
-pub zeros_within : (B text : List ℕ) → leading_zeros B text ≤ length text
-zeros_within B text = prefix_len-le-length (λ b. b == zero_letter B) text
-
-zeros_value : (B text : List ℕ) → IsAlphabet B → (k : ℕ) → k ≤ leading_zeros B text → value B (take k text) ≡ 0
-zeros_value B text ok zero h = value-nil B
-zeros_value B text ok (suc k) h =
-    let within = zeros_within B text in
-    let more = value_more B text k (omega arith) in
-    let front = zeros_value B text ok k (omega arith) in
-    let digit : digit_or_zero B (get_or text k 0) ≡ 0 = ap (digit_or_zero B) (zero_before B text k (omega arith)) ∙ digit_or_zero-letter B ok 0 (omega arith) in
-    let e : take (suc k) text ≡ take (k + 1) text = ap (λ n. take n text) (sym (add-one k)) in
-    rw (e, more, front, digit) refl
-
--- leading zeros add nothing
-pub value-rest : (B text : List ℕ) → IsAlphabet B → value B text ≡ value B (rest B text)
-value-rest B text ok =
-    let z = leading_zeros B text in
-    let parts = value-append B (take z text) (drop z text) in
-    let none = zeros_value B text ok z (omega arith) in
-    ap (value B) (sym (take-append-drop z text)) ∙ parts ∙ rw none (omega arith)
-
--- leading zeros are letters
-zeros_letters : (B text : List ℕ) → IsAlphabet B → AreLetters B (take (leading_zeros B text) text)
-zeros_letters B text ok =
-    let z = leading_zeros B text in
-    All-from_get_or (λ b. is_letter B b ≡ true) (take z text) 0 (λ k h.
-    let below : k < z = omega (arith, h, length-take-le z text (zeros_within B text)) in
-    ap (is_letter B) (get_or-take z text k 0 below) ∙ letter_before B text ok k below)
 
 -- the first bad byte of the text stands among the bytes after the leading zeros
 invalid_index-rest : (B text : List ℕ) → IsAlphabet B → invalid_index B text ≡ leading_zeros B text + invalid_index B (rest B text)
 invalid_index-rest B text ok =
     let z = leading_zeros B text in
-    let front = prefix_len-letters B (take z text) (zeros_letters B text ok) in
+    let front = prefix_len-letters B (take z text) (zeros_letters B ok text) in
     let size = length-take-le z text (zeros_within B text) in
     ap (prefix_len (is_letter B)) (sym (take-append-drop z text)) ∙ prefix_len-append (is_letter B) (take z text) (rest B text) ∙ rw
     (eq-eqb (prefix_len (is_letter B) (take z text)) (length (take z text)) front, size) refl
@@ -136,7 +99,7 @@ module _ (B text : List ℕ) (ok : IsAlphabet B) (some : 0 < length text) (short
   read_answer number fits read over test =
       let all = list_all-from_AllPass (is_letter B) (rest B text) read.letters in
       let first = list_all-from_AllPass (is_letter B) (first_ten B text) (All-take (λ b. is_letter B b ≡ true) 10 (rest B text) read.letters) in
-      let same : number ≡ value B text = read.value_is ∙ sym (value-rest B text ok) in record {
+      let same : number ≡ value B text = read.value_is ∙ sym (value-rest B ok text) in record {
         answer = rw (not_empty text some, not_above, first, fits, all, test, same) refl;
         steps = rw (not_empty text some, not_above, first, fits, all) read.steps;
         most = omega (arith, read.steps);

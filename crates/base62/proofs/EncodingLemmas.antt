@@ -6,12 +6,12 @@ use Rattle.base62.specs.Alphabet.{IsAlphabet}
 use Rattle.base62.specs.Canonical.{IsCanonical, DigitCount}
 use Rattle.base62.specs.Fixed.{fixed, WritesFixed}
 use Rattle.base62.specs.Steps.{EncodesCounted, encoding_steps}
-use Rattle.base62.proofs.FixedLemmas.{length-fixed, letters_exact, canonical_has}
+use Rattle.base62.proofs.FixedLemmas.{length-fixed, has_letters_some, letters_exact, canonical_has}
 use Rattle.base62.proofs.WritingLemmas.{written_front, written_rest, written_length}
 use Rattle.base62.proofs.StepsLemmas.{most_steps}
 
 -- a number of so many letters
-module _ (B : List ℕ) (ok : IsAlphabet B) (n count : ℕ) (has : DigitCount n count) (some : 1 ≤ count) (few : count ≤ 22) where
+module _ (B : List ℕ) (ok : IsAlphabet B) (n count : ℕ) (has : DigitCount n count) (few : count ≤ 22) where
   -- where they fit, they are written
   pub encodes : (old new : List ℕ) (before after : ℕ) → count ≤ length old → WritesFixed B count n old new → after ≡ before + encoding_steps count → EncodesCounted B n old new before after (Ok count)
   encodes old new before after room writes steps =
@@ -20,9 +20,9 @@ module _ (B : List ℕ) (ok : IsAlphabet B) (n count : ℕ) (has : DigitCount n 
       record {
         answer = record {
           fits = (λ _. (fixed B count n, canonical, omega (arith, length-fixed B count n)), λ _. refl);
-          text = (omega (arith, written_length B count n old new room writes), rw text canonical);
+          text = (omega (arith, written_length B count n old new writes room), rw text canonical);
           others = written_rest B count n old new writes;
-          short = (some, few);
+          short = (has_letters_some B ok n count has, few);
           refused = tt;
           roomy = λ _. refl;
         };
@@ -34,7 +34,7 @@ module _ (B : List ℕ) (ok : IsAlphabet B) (n count : ℕ) (has : DigitCount n 
   pub encodes_none : (old : List ℕ) (before : ℕ) → length old < count → EncodesCounted B n old old before before (Err BufferTooSmall)
   encodes_none old before short = record {
     answer = record {
-      fits = (λ e. absurd (false≢true e), λ fits. absurd (omega (arith, letters_exact n count has B fits.0 ok fits.1, fits.2)));
+      fits = (λ e. absurd (false≢true e), λ fits. absurd (omega (arith, letters_exact B ok n count has fits.0 fits.1, fits.2)));
       text = tt;
       others = tt;
       short = tt;

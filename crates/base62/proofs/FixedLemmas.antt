@@ -1,5 +1,5 @@
 -- Texts of a fixed number of letters, and which of them are canonical.
-use Rattle.std.proofs.Common.{◌≡◌, ℕ, zero, suc, ◌+◌, ◌-◌, ◌*◌, ◌/◌, ◌%◌, ◌^◌, ◌<◌, ◌≤◌, ◌⊎◌}
+use Rattle.std.proofs.Common.{◌≡◌, ℕ, zero, suc, ◌+◌, ◌-◌, ◌*◌, ◌/◌, ◌%◌, ◌^◌, ◌<◌, ◌≤◌}
 use Rattle.std.proofs.Common.{List, [], ◌∷◌, ◌++◌, length, refl, sym, ap, ◌∙◌, slice_index, inl, inr, arith, add-zero, add-suc, append_assoc}
 use Rattle.std.proofs.Math.Nat.{pow-suc, pow-succ', one-le-pow, div-one, div-div-eq-div-mul}
 use Rattle.std.proofs.Math.Arith.{mod-mul}
@@ -13,7 +13,7 @@ use Rattle.base62.specs.Canonical.{Denotes, IsCanonical, DigitCount}
 use Rattle.base62.specs.Fixed.{fixed}
 use Rattle.base62.proofs.AlphabetLemmas.{IsLetter, is_letter-letter, digit_or_zero-letter}
 use Rattle.base62.proofs.ValueLemmas.{value-nil, value_push, value-lt}
-use Rattle.base62.proofs.CanonicalLemmas.{canonical_is, one_canonical}
+use Rattle.base62.proofs.CanonicalLemmas.{NeedsLetters, canonical_is, one_canonical}
 
 pub length-fixed : (B : List ℕ) (w n : ℕ) → length (fixed B w n) ≡ w
 unfolding fixed
@@ -41,80 +41,81 @@ fixed-cut B v (suc w) n =
 pub fixed-join : (B : List ℕ) (v w n : ℕ) → fixed B (v + w) n ≡ fixed B v (n / 62 ^ w) ++ fixed B w (n % 62 ^ w)
 fixed-join B v w n = fixed-cut B v w n ∙ ap (λ text. fixed B v (n / 62 ^ w) ++ text) (sym (fixed-remainder B w n))
 
-letters-fixed : (B : List ℕ) → IsAlphabet B → (w n : ℕ) → AreLetters B (fixed B w n)
-unfolding fixed
-letters-fixed B ok zero n = All-nil (IsLetter B)
-letters-fixed B ok (suc w) n =
-    All-push (IsLetter B) (fixed B w (n / 62)) _ (letters-fixed B ok w (n / 62)) (is_letter-letter B ok (n % 62) (omega arith))
-
--- it has the value n where w letters hold n
-value-fixed : (B : List ℕ) → IsAlphabet B → (w n : ℕ) → n < 62 ^ w → value B (fixed B w n) ≡ n
-unfolding fixed
-value-fixed B ok zero n h = value-nil B ∙ omega arith
-value-fixed B ok (suc w) n h =
-    let front = value-fixed B ok w (n / 62) (div_below n 62 (62 ^ w) (omega arith) (rw pow-suc at h)) in
-    let last = digit_or_zero-letter B ok (n % 62) (omega arith) in
-    rw (value_push B (fixed B w (n / 62)) (slice_index B (n % 62)), front, last) (omega arith)
-
--- a text of w letters denotes n where w letters hold it
-pub denotes-fixed : (B : List ℕ) → IsAlphabet B → (w n : ℕ) → 0 < w → n < 62 ^ w → Denotes B (fixed B w n) n
-denotes-fixed B ok w n some fits =
-    record { nonempty = omega (arith, length-fixed B w n); letters = letters-fixed B ok w n; value_is = value-fixed B ok w n fits }
-
--- n in the least number of letters from 1 on that holds it
-canonical-fixed : (B : List ℕ) → IsAlphabet B → (w n : ℕ) → 0 < w → n < 62 ^ w → (w ≡ 1) ⊎ (62 ^ (w - 1) ≤ n) → IsCanonical B (fixed B w n) n
-canonical-fixed B ok w n some fits least =
-    let size = length-fixed B w n in canonical_is B ok (fixed B w n) n (denotes-fixed B ok w n some fits) (rw size least)
-
--- so n has a canonical text of that many letters
-pub has_letters : (n w : ℕ) → 0 < w → n < 62 ^ w → (w ≡ 1) ⊎ (62 ^ (w - 1) ≤ n) → DigitCount n w
-has_letters n w some fits least = λ B ok. (fixed B w n, canonical-fixed B ok w n some fits least, length-fixed B w n)
-
--- those hold n
-pub has_letters_fits : (B : List ℕ) → IsAlphabet B → (n w : ℕ) → DigitCount n w → n < 62 ^ w
-has_letters_fits B ok n w has =
-    let one = has B ok in
-    let below = value-lt B ok one.0 in
-    rw (one.1.denotes.value_is, one.2) at below
-
-pub has_letters_some : (B : List ℕ) → IsAlphabet B → (n w : ℕ) → DigitCount n w → 1 ≤ w
-has_letters_some B ok n w has = let one = has B ok in omega (arith, one.1.denotes.nonempty, one.2)
-
--- a number below 62^k takes at most k letters
-pub has_letters_most : (B : List ℕ) → IsAlphabet B → (k n w : ℕ) → 1 ≤ k → DigitCount n w → n < 62 ^ k → w ≤ k
-has_letters_most B ok k n w some has small =
-    let one = has B ok in omega (arith, one.1.shortest (fixed B k n) (denotes-fixed B ok k n some small), one.2, length-fixed B k n)
-
--- and one letter less would not
-has_letters_least : (B : List ℕ) → IsAlphabet B → (n w : ℕ) → DigitCount n w → (w ≡ 1) ⊎ (62 ^ (w - 1) ≤ n)
-has_letters_least B ok n w has = elim (cases_lt n (62 ^ (w - 1))) [
-  | inr more ↦ inr more
-  | inl less ↦ elim (cases_lt 1 w) [
-    | inr one ↦ inl (omega (arith, one, has_letters_some B ok n w has))
-    | inl two ↦ absurd (omega (arith, two, has_letters_most B ok (w - 1) n w (omega arith) has less))
-  ]
-]
-
--- the canonical text is the one of that many letters
-pub canonical_has : (B : List ℕ) → IsAlphabet B → (n w : ℕ) → DigitCount n w → IsCanonical B (fixed B w n) n
-canonical_has B ok n w has =
-    canonical-fixed B ok w n (has_letters_some B ok n w has) (has_letters_fits B ok n w has) (has_letters_least B ok n w has)
-
--- each canonical text has as many letters
-pub letters_exact : (n w : ℕ) → DigitCount n w → (B text : List ℕ) → IsAlphabet B → IsCanonical B text n → length text ≡ w
-letters_exact n w has B text ok canonical =
-    let one = has B ok in ap length (one_canonical B ok n text one.0 canonical one.1) ∙ one.2
-
 -- the least number of letters from 1 on that holds n
-some_width : (k n : ℕ) → n < 62 ^ suc k → (w : ℕ) × (0 < w) × (n < 62 ^ w) × ((w ≡ 1) ⊎ (62 ^ (w - 1) ≤ n))
+some_width : (k n : ℕ) → n < 62 ^ suc k → (w : ℕ) × (0 < w) × (n < 62 ^ w) × NeedsLetters w n
 some_width zero n h = (1, omega arith, h, inl refl)
 some_width (suc k) n h = elim (cases_lt n (62 ^ suc k)) [
   | inl less ↦ some_width k n less
   | inr more ↦ let back : suc (suc k) - 1 ≡ suc k = omega arith in (suc (suc k), omega arith, h, inr (rw back more))
 ]
 
--- a number below 2^128 has a canonical text
-pub some_canonical : (B : List ℕ) → IsAlphabet B → (n : ℕ) → n < 2 ^ 128 → (text : List ℕ) × IsCanonical B text n
-some_canonical B ok n h =
-    let w = some_width 21 n (omega arith) in
-    (fixed B w.0 n, canonical-fixed B ok w.0 n w.1 w.2 w.3)
+module _ (B : List ℕ) (ok : IsAlphabet B) where
+  letters-fixed : (w n : ℕ) → AreLetters B (fixed B w n)
+  unfolding fixed
+  letters-fixed zero n = All-nil (IsLetter B)
+  letters-fixed (suc w) n =
+      All-push (IsLetter B) (fixed B w (n / 62)) _ (letters-fixed w (n / 62)) (is_letter-letter B ok (n % 62) (omega arith))
+
+  -- it has the value n where w letters hold n
+  value-fixed : (w n : ℕ) → n < 62 ^ w → value B (fixed B w n) ≡ n
+  unfolding fixed
+  value-fixed zero n h = value-nil B ∙ omega arith
+  value-fixed (suc w) n h =
+      let front = value-fixed w (n / 62) (div_below n 62 (62 ^ w) (omega arith) (rw pow-suc at h)) in
+      let last = digit_or_zero-letter B ok (n % 62) (omega arith) in
+      rw (value_push B (fixed B w (n / 62)) (slice_index B (n % 62)), front, last) (omega arith)
+
+  -- a text of w letters denotes n where w letters hold it
+  pub denotes-fixed : (w n : ℕ) → 0 < w → n < 62 ^ w → Denotes B (fixed B w n) n
+  denotes-fixed w n some fits =
+      record { nonempty = omega (arith, length-fixed B w n); letters = letters-fixed w n; value_is = value-fixed w n fits }
+
+  -- n in the least number of letters from 1 on that holds it
+  canonical-fixed : (w n : ℕ) → 0 < w → n < 62 ^ w → NeedsLetters w n → IsCanonical B (fixed B w n) n
+  canonical-fixed w n some fits least =
+      let size = length-fixed B w n in canonical_is B ok (fixed B w n) n (denotes-fixed w n some fits) (rw size least)
+
+  -- a number of w letters
+  module _ (n w : ℕ) (has : DigitCount n w) where
+    -- they hold it
+    pub has_letters_fits : n < 62 ^ w
+    has_letters_fits =
+        let one = has B ok in
+        let below = value-lt B ok one.0 in
+        rw (one.1.denotes.value_is, one.2) at below
+
+    pub has_letters_some : 1 ≤ w
+    has_letters_some = let one = has B ok in omega (arith, one.1.denotes.nonempty, one.2)
+
+    -- a number below 62^k takes at most k letters
+    pub has_letters_most : (k : ℕ) → 1 ≤ k → n < 62 ^ k → w ≤ k
+    has_letters_most k some small =
+        let one = has B ok in omega (arith, one.1.shortest (fixed B k n) (denotes-fixed k n some small), one.2, length-fixed B k n)
+
+    -- and one letter less would not hold it
+    has_letters_least : NeedsLetters w n
+    has_letters_least = elim (cases_lt n (62 ^ (w - 1))) [
+      | inr more ↦ inr more
+      | inl less ↦ elim (cases_lt 1 w) [
+        | inr one ↦ inl (omega (arith, one, has_letters_some))
+        | inl two ↦ absurd (omega (arith, two, has_letters_most (w - 1) (omega arith) less))
+      ]
+    ]
+
+    -- the canonical text is the one of that many letters
+    pub canonical_has : IsCanonical B (fixed B w n) n
+    canonical_has = canonical-fixed w n has_letters_some has_letters_fits has_letters_least
+
+    -- each canonical text has as many letters
+    pub letters_exact : (text : List ℕ) → IsCanonical B text n → length text ≡ w
+    letters_exact text canonical = let one = has B ok in ap length (one_canonical B ok n text one.0 canonical one.1) ∙ one.2
+
+  -- a number below 2^128 has a canonical text
+  pub some_canonical : (n : ℕ) → n < 2 ^ 128 → (text : List ℕ) × IsCanonical B text n
+  some_canonical n h =
+      let w = some_width 21 n (omega arith) in
+      (fixed B w.0 n, canonical-fixed w.0 n w.1 w.2 w.3)
+
+-- n has a canonical text of the least number of letters from 1 on that holds it
+pub has_letters : (n w : ℕ) → 0 < w → n < 62 ^ w → NeedsLetters w n → DigitCount n w
+has_letters n w some fits least = λ B ok. (fixed B w n, canonical-fixed B ok w n some fits least, length-fixed B w n)

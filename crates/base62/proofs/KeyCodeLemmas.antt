@@ -41,7 +41,7 @@ placed_key B ok part n count few size denotes =
 
 -- a byte alone is accepted exactly where it is a letter
 pub accepted_letter : (B : List ℕ) (b : ℕ) → IsAlphabet B → is_err (decoding B (b ∷ [])) ≡ false → is_letter B b ≡ true
-accepted_letter B b ok = answer_cases B (b ∷ []) ok (λ r. is_err r ≡ false → is_letter B b ≡ true)
+accepted_letter B b ok = answer_cases B ok (b ∷ []) (λ r. is_err r ≡ false → is_letter B b ≡ true)
     (λ none e. cc)
     (λ some over e. cc)
     (λ byte index first e. cc)
@@ -64,7 +64,7 @@ range_empty B front none = range_of-letters B front (λ k d h. absurd (omega ari
 
 -- the range of a front that is accepted
 pub range_number : (B front : List ℕ) → IsAlphabet B → (n : ℕ) → decoding B front ≡ Ok n → (value B front ≡ n) × (range_of B front ≡ Ok (interval_ends B front))
-range_number B front ok n is = let denotes = (decoding_accepts B front ok n is).0 in (denotes.value_is, range_of-letters B front denotes.letters)
+range_number B front ok n is = let denotes = (decoding_accepts B ok front n is).0 in (denotes.value_is, range_of-letters B front denotes.letters)
 
 -- of letters that are refused
 pub range_over : (B front : List ℕ) → IsAlphabet B → 0 < length front → AreLetters B front → (e : DecodeError) → decoding B front ≡ Err e → range_of B front ≡ Ok None
@@ -79,7 +79,7 @@ range_over B front ok some letters e refused = elim (cases_lt (value B front) (2
 
 -- of a front with another fault than an overflow
 pub range_fault : (B front : List ℕ) → IsAlphabet B → 0 < length front → (e : DecodeError) → decoding B front ≡ Err e → (e ≡ ArithmeticOverflow → ⊥) → range_of B front ≡ Err e
-range_fault B front ok some e = answer_cases B front ok (λ r. r ≡ Err e → (e ≡ ArithmeticOverflow → ⊥) → range_of B front ≡ Err e)
+range_fault B front ok some e = answer_cases B ok front (λ r. r ≡ Err e → (e ≡ ArithmeticOverflow → ⊥) → range_of B front ≡ Err e)
     (λ none is other. absurd (omega arith))
     (λ more over is other. absurd (other (cc)))
     (λ byte index first is other. let same : InvalidBase62Byte byte index ≡ e = cc in range_of-bad B front byte index first ∙ ap Err same)

@@ -36,7 +36,7 @@ key_decodes B ok n small key is = decoding-denotes B ok n small key is.denotes
 -- zero letters in front add nothing
 value-zeros : (B : List ℕ) → IsAlphabet B → (k : ℕ) (text : List ℕ) → value B (replicate k (zero_letter B) ++ text) ≡ value B text
 value-zeros B ok zero text = refl
-value-zeros B ok (suc k) text = value_front B (replicate k (zero_letter B) ++ text) ok ∙ value-zeros B ok k text
+value-zeros B ok (suc k) text = value_front B ok (replicate k (zero_letter B) ++ text) ∙ value-zeros B ok k text
 
 -- a text that denotes n is its key, once zero letters in front fill it up to 22
 pub padded_key : (B : List ℕ) → IsAlphabet B → (text : List ℕ) (n k : ℕ) → Denotes B text n → k + length text ≡ 22 → IsKey B (replicate k (zero_letter B) ++ text) n

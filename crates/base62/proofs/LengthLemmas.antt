@@ -1,62 +1,63 @@
 -- A text of letters is canonical exactly where it has no needless zero letter, and how long it is.
-use Rattle.std.proofs.Common.{true, ◌≡◌, ◌≢◌, ◌⊎◌, ℕ, suc, ◌-◌, ◌*◌, ◌^◌, ◌<◌, ◌≤◌, List, [], ◌∷◌, length, get_or, refl, sym, ap, ◌∙◌, inl, inr, arith}
+use Rattle.std.proofs.Common.{◌≡◌, ◌≢◌, ℕ, suc, ◌-◌, ◌*◌, ◌^◌, ◌<◌, ◌≤◌, List, [], ◌∷◌, length, get_or, refl, sym, ◌∙◌, inl, inr, arith}
 use Rattle.std.proofs.Math.Nat.{le-mul_of_pos_right}
 use Rattle.std.proofs.lemmas.Bool.{cases_eq}
 use Rattle.std.proofs.lemmas.List.Elements.{All-tail}
-use Rattle.base62.specs.Alphabet.{IsAlphabet, AreLetters, is_letter, zero_letter}
+use Rattle.base62.specs.Alphabet.{IsAlphabet, AreLetters, zero_letter}
 use Rattle.base62.specs.Value.{value, digit_or_zero}
 use Rattle.base62.specs.Canonical.{IsCanonical}
 use Rattle.base62.specs.Laws.{HasNoNeedlessZero}
-use Rattle.base62.proofs.AlphabetLemmas.{IsLetter, is_letter-letter, digit_or_zero-letter, same_letter}
+use Rattle.base62.proofs.AlphabetLemmas.{IsLetter, same_letter}
 use Rattle.base62.proofs.ValueLemmas.{value-cons}
-use Rattle.base62.proofs.CanonicalLemmas.{canonical_is}
+use Rattle.base62.proofs.ZeroLemmas.{zero_is_letter, zero_digit, value_front}
+use Rattle.base62.proofs.CanonicalLemmas.{NeedsLetters, canonical_is}
 use Rattle.base62.specs.Fixed.{fixed}
 use Rattle.base62.proofs.FixedLemmas.{length-fixed, denotes-fixed}
 
--- a canonical text of two or more letters does not begin with the zero letter, since the others would do
-first_differs : (B : List ℕ) → IsAlphabet B → (b : ℕ) (text : List ℕ) (n : ℕ) → IsCanonical B (b ∷ text) n → 0 < length text → b ≢ zero_letter B
-first_differs B ok b text n canonical more e =
-    let digit : digit_or_zero B b ≡ 0 = ap (digit_or_zero B) e ∙ digit_or_zero-letter B ok 0 (omega arith) in
-    let same : value B (b ∷ text) ≡ value B text = value-cons B b text ∙ rw digit (omega arith) in
-    let least = canonical.shortest text (record { nonempty = more; letters = All-tail (IsLetter B) b text canonical.denotes.letters; value_is = sym same ∙ canonical.denotes.value_is }) in
-    omega (arith, least)
+module _ (B : List ℕ) (ok : IsAlphabet B) where
+  -- a canonical text of two or more letters does not begin with the zero letter, since the others would do
+  first_differs : (b : ℕ) (text : List ℕ) (n : ℕ) → IsCanonical B (b ∷ text) n → 0 < length text → b ≢ zero_letter B
+  first_differs b text n canonical more e =
+      let same : value B (b ∷ text) ≡ value B text = rw e (value_front B ok text) in
+      let least = canonical.shortest text (record { nonempty = more; letters = All-tail (IsLetter B) b text canonical.denotes.letters; value_is = sym same ∙ canonical.denotes.value_is }) in
+      omega (arith, least)
 
--- a canonical text has no needless zero
-pub no_needless_zero : (B : List ℕ) → IsAlphabet B → (text : List ℕ) (n : ℕ) → IsCanonical B text n → HasNoNeedlessZero B text
-no_needless_zero B ok [] n canonical = absurd (omega (arith, canonical.denotes.nonempty))
-no_needless_zero B ok (b ∷ []) n canonical = (omega arith, inl refl)
-no_needless_zero B ok (b ∷ c ∷ text) n canonical = (omega arith, inr (first_differs B ok b (c ∷ text) n canonical (omega arith)))
+  -- a canonical text has no needless zero
+  pub no_needless_zero : (text : List ℕ) (n : ℕ) → IsCanonical B text n → HasNoNeedlessZero B text
+  no_needless_zero [] n canonical = absurd (omega (arith, canonical.denotes.nonempty))
+  no_needless_zero (b ∷ []) n canonical = (omega arith, inl refl)
+  no_needless_zero (b ∷ c ∷ text) n canonical = (omega arith, inr (first_differs b (c ∷ text) n canonical (omega arith)))
 
--- a letter other than the zero letter has a digit of at least 1
-digit_some : (B : List ℕ) → IsAlphabet B → (b : ℕ) → is_letter B b ≡ true → b ≢ zero_letter B → 0 < digit_or_zero B b
-digit_some B ok b letter other = elim (cases_eq (digit_or_zero B b) 0) [
-  | inl none ↦ absurd (other (same_letter B b (zero_letter B) letter (is_letter-letter B ok 0 (omega arith)) (none ∙ sym (digit_or_zero-letter B ok 0 (omega arith)))))
-  | inr some ↦ omega arith
-]
+  -- a letter other than the zero letter has a digit of at least 1
+  digit_some : (b : ℕ) → IsLetter B b → b ≢ zero_letter B → 0 < digit_or_zero B b
+  digit_some b letter other = elim (cases_eq (digit_or_zero B b) 0) [
+    | inl none ↦ absurd (other (same_letter B b (zero_letter B) letter (zero_is_letter B ok) (none ∙ sym (zero_digit B ok))))
+    | inr some ↦ omega arith
+  ]
 
--- such a letter in front alone weighs more than all that can come after it
-pub first_weighs : (B : List ℕ) → IsAlphabet B → (text : List ℕ) → 0 < length text → is_letter B (get_or text 0 0) ≡ true → get_or text 0 0 ≢ zero_letter B → 62 ^ (length text - 1) ≤ value B text
-first_weighs B ok [] some letter other = absurd (omega arith)
-first_weighs B ok (b ∷ text) some letter other =
-    let back : suc (length text) - 1 ≡ length text = omega arith in
-    let weight : 62 ^ length text ≤ digit_or_zero B b * 62 ^ length text = omega (arith, le-mul_of_pos_right (62 ^ length text) (digit_some B ok b letter other)) in
-    rw (back, value-cons B b text) (omega arith)
+  -- such a letter in front alone weighs more than all that can come after it
+  pub first_weighs : (text : List ℕ) → 0 < length text → IsLetter B (get_or text 0 0) → get_or text 0 0 ≢ zero_letter B → 62 ^ (length text - 1) ≤ value B text
+  first_weighs [] some letter other = absurd (omega arith)
+  first_weighs (b ∷ text) some letter other =
+      let back : suc (length text) - 1 ≡ length text = omega arith in
+      let weight : 62 ^ length text ≤ digit_or_zero B b * 62 ^ length text = omega (arith, le-mul_of_pos_right (62 ^ length text) (digit_some b letter other)) in
+      rw (back, value-cons B b text) (omega arith)
 
--- one letter less could not hold the value of a text that has no needless zero letter
-pub needs_each : (B : List ℕ) → IsAlphabet B → (text : List ℕ) → AreLetters B text → HasNoNeedlessZero B text → (length text ≡ 1) ⊎ (62 ^ (length text - 1) ≤ value B text)
-needs_each B ok text letters has = elim has.1 [
-  | inl one ↦ inl one
-  | inr differs ↦ inr (first_weighs B ok text has.0 (letters 0 0 has.0) differs)
-]
+  -- one letter less could not hold the value of a text that has no needless zero letter
+  pub needs_each : (text : List ℕ) → AreLetters B text → HasNoNeedlessZero B text → NeedsLetters (length text) (value B text)
+  needs_each text letters has = elim has.1 [
+    | inl one ↦ inl one
+    | inr differs ↦ inr (first_weighs text has.0 (letters 0 0 has.0) differs)
+  ]
 
--- a text of letters with no needless zero is canonical for its value
-pub canonical_of_value : (B : List ℕ) → IsAlphabet B → (text : List ℕ) → AreLetters B text → HasNoNeedlessZero B text → IsCanonical B text (value B text)
-canonical_of_value B ok text letters has =
-    canonical_is B ok text (value B text) (record { nonempty = has.0; letters = letters; value_is = refl }) (needs_each B ok text letters has)
+  -- a text of letters with no needless zero is canonical for its value
+  pub canonical_of_value : (text : List ℕ) → AreLetters B text → HasNoNeedlessZero B text → IsCanonical B text (value B text)
+  canonical_of_value text letters has =
+      canonical_is B ok text (value B text) (record { nonempty = has.0; letters = letters; value_is = refl }) (needs_each text letters has)
 
--- a canonical text of a number below 2^128 has at most 22 letters, since 22 are enough
-pub canonical_short : (B text : List ℕ) → IsAlphabet B → (n : ℕ) → n < 2 ^ 128 → IsCanonical B text n → length text ≤ 22
-canonical_short B text ok n small canonical =
-    let size = length-fixed B 22 n in
-    let le = canonical.shortest (fixed B 22 n) (denotes-fixed B ok 22 n (omega arith) (omega arith)) in
-    omega (arith, size, le)
+  -- a canonical text of a number below 2^128 has at most 22 letters, since 22 are enough
+  pub canonical_short : (text : List ℕ) (n : ℕ) → n < 2 ^ 128 → IsCanonical B text n → length text ≤ 22
+  canonical_short text n small canonical =
+      let size = length-fixed B 22 n in
+      let le = canonical.shortest (fixed B 22 n) (denotes-fixed B ok 22 n (omega arith) (omega arith)) in
+      omega (arith, size, le)

@@ -1,3 +1,4 @@
+pub mod ComputedLemmas
 pub mod PlacesLemmas
 pub mod AlphabetLemmas
 pub mod TableLemmas
@@ -15,7 +16,6 @@ pub mod WritingLemmas
 pub mod StepsLemmas
 pub mod EncodingLemmas
 pub mod PaddingLemmas
-pub mod TextLemmas
 pub mod CaseLemmas
 pub mod OverflowLemmas
 pub mod AnswerLemmas

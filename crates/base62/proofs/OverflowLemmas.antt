@@ -1,82 +1,70 @@
 -- That a text denotes 2^128 or more, whatever letters stand in place of its bad bytes.
-use Rattle.std.proofs.Common.{◌≡◌, ◌≢◌, ℕ, ◌+◌, ◌-◌, ◌*◌, ◌^◌, ◌<◌, ◌≤◌, ◌==◌, true, List, length, get_or, take, drop, sym, ap, ◌∙◌, arith, min}
-use Rattle.std.proofs.Math.Nat.{pow-le-pow_right}
-use Rattle.std.proofs.lemmas.Bool.{eqb-false}
-use Rattle.std.proofs.lemmas.List.{take-append-drop, length-drop, length-take, get_or-drop, get_or-take, ext_get_or}
+use Rattle.std.proofs.Common.{◌≡◌, ℕ, ◌+◌, ◌-◌, ◌*◌, ◌^◌, ◌<◌, ◌≤◌, List, length, get_or, take, drop, sym, ap, ◌∙◌, arith, min}
+use Rattle.std.proofs.lemmas.List.{length-drop, length-take, get_or-drop, get_or-take, ext_get_or}
 use Rattle.std.proofs.lemmas.List.Elements.{All-drop, All-take}
-use Rattle.std.proofs.lemmas.List.Sums.{prefix_len_stops}
-use Rattle.base62.specs.Alphabet.{IsAlphabet, AreLetters, is_letter, zero_letter}
+use Rattle.base62.specs.Alphabet.{IsAlphabet, AreLetters, is_letter}
 use Rattle.base62.specs.Value.{value}
-use Rattle.base62.specs.Decoding.{leading_zeros, rest}
+use Rattle.base62.specs.Decoding.{leading_zeros, rest, first_ten}
 use Rattle.base62.specs.Laws.{AgreesAtLetters}
 use Rattle.base62.proofs.AlphabetLemmas.{IsLetter}
-use Rattle.base62.proofs.ValueLemmas.{value-append}
+use Rattle.base62.proofs.PowerLemmas.{power_grows}
+use Rattle.base62.proofs.ValueLemmas.{value-cut}
+use Rattle.base62.proofs.ZeroLemmas.{rest_first}
 use Rattle.base62.proofs.LengthLemmas.{first_weighs}
-
--- the first byte after the leading zeros is not the zero letter
-pub rest_first : (B text : List ℕ) → 0 < length (rest B text) → get_or (rest B text) 0 0 ≢ zero_letter B
-rest_first B text some same =
-    let z = leading_zeros B text in
-    let place : get_or (rest B text) 0 0 ≡ get_or text z 0 = get_or-drop z text 0 0 ∙ ap (λ k. get_or text k 0) (omega arith) in
-    let stops = prefix_len_stops (λ b. b == zero_letter B) text 0 (omega (arith, length-drop z text)) in
-    eqb-false _ _ stops (sym place ∙ same)
 
 -- a text denotes at least what any end of it does
 value-drop-le : (B text : List ℕ) (k : ℕ) → value B (drop k text) ≤ value B text
-value-drop-le B text k =
-    let parts = value-append B (take k text) (drop k text) in
-    let whole = ap (value B) (take-append-drop k text) in
-    omega arith
+value-drop-le B text k = omega (arith, value-cut B text k)
 
--- texts that agree at letters do so from any place on
-agrees-drop : (B text other : List ℕ) (k : ℕ) → AgreesAtLetters B text other → AgreesAtLetters B (drop k text) (drop k other)
-agrees-drop B text other k a = record {
-  size = length-drop k other ∙ ap (λ n. n - k) a.size ∙ sym (length-drop k text);
-  letters = All-drop (IsLetter B) k other a.letters;
-  agrees = λ i h p.
-      let same = get_or-drop k text i 0 in
-      get_or-drop k other i 0 ∙ a.agrees (k + i) (omega (arith, length-drop k text)) (ap (is_letter B) (sym same) ∙ p) ∙ sym same;
-}
-
--- and up to any place
-agrees-take : (B text other : List ℕ) (k : ℕ) → AgreesAtLetters B text other → AgreesAtLetters B (take k text) (take k other)
-agrees-take B text other k a = record {
-  size = length-take k other ∙ ap (min k) a.size ∙ sym (length-take k text);
-  letters = All-take (IsLetter B) k other a.letters;
-  agrees = λ i h p.
-      let within : i < k = omega (arith, length-take k text) in
-      let same = get_or-take k text i 0 within in
-      get_or-take k other i 0 within ∙ a.agrees i (omega (arith, length-take k text)) (ap (is_letter B) (sym same) ∙ p) ∙ sym same;
-}
-
--- no other letters can stand in a text of letters
-agrees_same : (B text other : List ℕ) → AgreesAtLetters B text other → AreLetters B text → other ≡ text
-agrees_same B text other a letters = ext_get_or 0 other text a.size (λ i h. a.agrees i (omega (arith, a.size)) (letters i 0 (omega (arith, a.size))))
-
+-- texts that agree at letters
 module _ (B text other : List ℕ) (a : AgreesAtLetters B text other) where
+  -- do so from any place on
+  agrees-drop : (k : ℕ) → AgreesAtLetters B (drop k text) (drop k other)
+  agrees-drop k = record {
+    size = length-drop k other ∙ ap (λ n. n - k) a.size ∙ sym (length-drop k text);
+    letters = All-drop (IsLetter B) k other a.letters;
+    agrees = λ i h p.
+        let same = get_or-drop k text i 0 in
+        get_or-drop k other i 0 ∙ a.agrees (k + i) (omega (arith, length-drop k text)) (ap (is_letter B) (sym same) ∙ p) ∙ sym same;
+  }
+
+  -- and up to any place
+  agrees-take : (k : ℕ) → AgreesAtLetters B (take k text) (take k other)
+  agrees-take k = record {
+    size = length-take k other ∙ ap (min k) a.size ∙ sym (length-take k text);
+    letters = All-take (IsLetter B) k other a.letters;
+    agrees = λ i h p.
+        let within : i < k = omega (arith, length-take k text) in
+        let same = get_or-take k text i 0 within in
+        get_or-take k other i 0 within ∙ a.agrees i (omega (arith, length-take k text)) (ap (is_letter B) (sym same) ∙ p) ∙ sym same;
+  }
+
+  -- and no other letters can stand in a text of letters
+  agrees_same : AreLetters B text → other ≡ text
+  agrees_same letters = ext_get_or 0 other text a.size (λ i h. a.agrees i (omega (arith, a.size)) (letters i 0 (omega (arith, a.size))))
+
+module _ (B : List ℕ) (ok : IsAlphabet B) (text other : List ℕ) (a : AgreesAtLetters B text other) where
   other_rest : AgreesAtLetters B (rest B text) (drop (leading_zeros B text) other)
-  other_rest = agrees-drop B text other (leading_zeros B text) a
+  other_rest = agrees-drop B text other a (leading_zeros B text)
 
   -- more than 22 bytes after the leading zeros, of which the first is a letter
-  pub over_long : IsAlphabet B → 22 < length (rest B text) → is_letter B (get_or (rest B text) 0 0) ≡ true → 2 ^ 128 ≤ value B other
-  over_long ok long letter =
+  pub over_long : 22 < length (rest B text) → IsLetter B (get_or (rest B text) 0 0) → 2 ^ 128 ≤ value B other
+  over_long long letter =
       let o : List ℕ = drop (leading_zeros B text) other in
       let size : length o ≡ length (rest B text) = other_rest.size in
       let same : get_or o 0 0 ≡ get_or (rest B text) 0 0 = other_rest.agrees 0 (omega arith) letter in
       let weighs = first_weighs B ok o (omega arith) (ap (is_letter B) same ∙ letter) (λ e. rest_first B text (omega arith) (sym same ∙ e)) in
-      let grows : 62 ^ 22 ≤ 62 ^ (length o - 1) = pow-le-pow_right {n = 62} (omega arith) {i = 22} {j = length o - 1} (omega arith) in
+      let grows = power_grows 22 (length o - 1) (omega arith) in
       omega (arith, value-drop-le B other (leading_zeros B text))
 
   -- 22 bytes after the leading zeros, of which the first ten are letters and show it
-  pub over_first : length (rest B text) ≡ 22 → AreLetters B (take 10 (rest B text)) → 2 ^ 128 ≤ value B (take 10 (rest B text)) * 62 ^ 12 → 2 ^ 128 ≤ value B other
+  pub over_first : length (rest B text) ≡ 22 → AreLetters B (first_ten B text) → 2 ^ 128 ≤ value B (first_ten B text) * 62 ^ 12 → 2 ^ 128 ≤ value B other
   over_first full letters big =
       let o : List ℕ = drop (leading_zeros B text) other in
-      let same = agrees_same B (take 10 (rest B text)) (take 10 o) (agrees-take B (rest B text) o 10 other_rest) letters in
-      let parts = value-append B (take 10 o) (drop 10 o) in
-      let whole = ap (value B) (take-append-drop 10 o) in
+      let same = agrees_same B (first_ten B text) (take 10 o) (agrees-take B (rest B text) o other_rest 10) letters in
       let twelve : length (drop 10 o) ≡ 12 = length-drop 10 o ∙ omega (arith, other_rest.size) in
       let first : 2 ^ 128 ≤ value B (take 10 o) * 62 ^ length (drop 10 o) = rw (same, twelve) big in
-      omega (arith, value-drop-le B other (leading_zeros B text))
+      omega (arith, value-cut B o 10, value-drop-le B other (leading_zeros B text))
 
   -- letters alone after the leading zeros
   pub over_rest : AreLetters B (rest B text) → 2 ^ 128 ≤ value B (rest B text) → 2 ^ 128 ≤ value B other

@@ -95,7 +95,7 @@ by_numbers precision width fill number text short = elim (cases_eq precision (2 
 ]
 
 -- what a display of the text writes under a formatter's options
-abbrev pub displayed_by : {W : Type 0} → Formatter W → List ℕ → Option (List ℕ)
+abbrev displayed_by : {W : Type 0} → Formatter W → List ℕ → Option (List ℕ)
 displayed_by f text =
     let spec = formatter_spec f in displayed (spec_precision spec) (spec_width spec) (spec_fill spec) spec.align text
 

@@ -8,7 +8,7 @@ use Rattle.std.proofs.lemmas.List.Sums.{sum_by-cons}
 use Rattle.std.proofs.lemmas.Nat.{pow-add, mul-add-lt}
 use Rattle.base62.specs.Places.{at_place, sum_over_places}
 
-pub pow_one : (base : ℕ) → base ^ 1 ≡ base
+pow_one : (base : ℕ) → base ^ 1 ≡ base
 pow_one base = pow-suc base 0 ∙ rw (pow-zero base) (omega arith)
 
 -- a digit keeps its weight when another stands before it

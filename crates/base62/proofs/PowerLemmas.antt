@@ -3,9 +3,12 @@ use Rattle.std.proofs.Common.{◌≡◌, ℕ, ◌+◌, ◌-◌, ◌*◌, ◌/◌
 use Rattle.std.proofs.Math.Nat.{pow-le-pow_right, div-lt_iff_lt-mul, one-le-pow, mod-eq-sub-div-mul}
 use Rattle.std.proofs.lemmas.Nat.{pow-add}
 
+pub power_grows : (i j : ℕ) → i ≤ j → 62 ^ i ≤ 62 ^ j
+power_grows i j le = pow-le-pow_right {n = 62} (omega arith) {i = i} {j = j} le
+
 -- a number of few digits is one of more
 pub fits_more : (n p k : ℕ) → n < 62 ^ p → p ≤ k → n < 62 ^ k
-fits_more n p k fits le = let more : 62 ^ p ≤ 62 ^ k = pow-le-pow_right {n = 62} (omega arith) le in omega (arith, fits, more)
+fits_more n p k fits le = omega (arith, fits, power_grows p k le)
 
 -- the quotient by 62^w of a number of v + w digits has v
 pub quotient_fits : (n v w t : ℕ) → v + w ≡ t → n < 62 ^ t → n / 62 ^ w < 62 ^ v

@@ -18,27 +18,29 @@ pub record IsTableOfFirst (B T : List ℕ) (i : ℕ) : Type 0 where
 distinct_first : (B T : List ℕ) (i : ℕ) → IsTableOfFirst B T i → (j k : ℕ) → j < i → k < i → get_or B j 0 ≡ get_or B k 0 → j ≡ k
 distinct_first B T i held j k p q same = sym (held.digits j p) ∙ ap (λ x. get_or T x 0) same ∙ held.digits k q
 
-no_digit : (B T : List ℕ) → IsTableOfFirst B T 62 → length B ≡ 62 → (x : ℕ) → get_or T x 0 ≡ 255 → (o : Option ℕ) → digit_of B x ≡ o → unwrap_or o 255 ≡ 255
-no_digit B T held size x none None e = refl
-no_digit B T held size x none (Some d) e =
-    let at = letter-digit_of B x d e in
-    let is : get_or T x 0 ≡ d = sym (ap (λ y. get_or T y 0) at.1) ∙ held.digits d (omega (arith, at.0, size)) in
-    sym is ∙ none
+module _ (B : List ℕ) (ok : IsAlphabet B) (T : List ℕ) (held : IsTableOfFirst B T 62) where
+  -- where it has 255, the byte has no digit
+  no_digit : (x : ℕ) → get_or T x 0 ≡ 255 → (o : Option ℕ) → digit_of B x ≡ o → unwrap_or o 255 ≡ 255
+  no_digit x none None e = refl
+  no_digit x none (Some d) e =
+      let at = letter-digit_of B x d e in
+      let is : get_or T x 0 ≡ d = sym (ap (λ y. get_or T y 0) at.1) ∙ held.digits d (omega (arith, at.0, ok.size)) in
+      sym is ∙ none
 
--- once all letters are in it, it is the table of the letters
-table_of_all : (B T : List ℕ) → IsAlphabet B → IsTableOfFirst B T 62 → T ≡ digits_of_bytes B
-unfolding digits_of_bytes
-table_of_all B T ok held =
-    let size : length (digits_of_bytes B) ≡ 256 = length-map-range_with_len (digit_or_255 B) 0 256 in
-    ext_get_or 0 T (digits_of_bytes B) (held.size ∙ sym size) (λ x h.
-    let below : x < 256 = omega (arith, h, held.size) in
-    let entry : get_or (digits_of_bytes B) x 0 ≡ digit_or_255 B x = get_or-digits_of_bytes B x below in
-    elim (held.bytes x below) [
-      | inl none ↦ none ∙ sym (no_digit B T held ok.size x none (digit_of B x) refl) ∙ sym entry
-      | inr some ↦
-          let digit : digit_of B x ≡ Some (get_or T x 0) = ap (digit_of B) (sym some.1) ∙ digit_of-letter B ok (get_or T x 0) some.0 in
-          sym (ap (λ o. unwrap_or o 255) digit) ∙ sym entry
-    ])
+  -- once all letters are in it, it is the table of the letters
+  table_of_all : T ≡ digits_of_bytes B
+  unfolding digits_of_bytes
+  table_of_all =
+      let size : length (digits_of_bytes B) ≡ 256 = length-map-range_with_len (digit_or_255 B) 0 256 in
+      ext_get_or 0 T (digits_of_bytes B) (held.size ∙ sym size) (λ x h.
+      let below : x < 256 = omega (arith, h, held.size) in
+      let entry : get_or (digits_of_bytes B) x 0 ≡ digit_or_255 B x = get_or-digits_of_bytes B x below in
+      elim (held.bytes x below) [
+        | inl none ↦ none ∙ sym (no_digit x none (digit_of B x) refl) ∙ sym entry
+        | inr some ↦
+            let digit : digit_of B x ≡ Some (get_or T x 0) = ap (digit_of B) (sym some.1) ∙ digit_of-letter B ok (get_or T x 0) some.0 in
+            sym (ap (λ o. unwrap_or o 255) digit) ∙ sym entry
+      ])
 
 -- then the letters are an alphabet, and it is theirs
 pub alphabet_of_all : (B T : List ℕ) (i : ℕ) → length B ≡ 62 → ((k : ℕ) → get_or B k 0 < 256) → 62 ≤ i → i ≤ 62 → IsTableOfFirst B T i
@@ -51,4 +53,4 @@ alphabet_of_all B T i size fits low high held =
       bytes = All-from_get_or (λ b. b < 256) B 0 (λ k _. fits k);
       distinct = distinct_first B T 62 full;
     } in
-    (ok, table_of_all B T ok full)
+    (ok, table_of_all B ok T full)

@@ -1,9 +1,10 @@
 -- Writing a text of a fixed number of letters: one or two at once, and one part after another.
-use Rattle.std.proofs.Common.{◌≡◌, ℕ, zero, suc, ◌+◌, ◌-◌, ◌/◌, ◌%◌, ◌^◌, ◌<◌, ◌≤◌, List, [], ◌∷◌, ◌++◌}
+use Rattle.std.proofs.Common.{◌≡◌, ℕ, zero, suc, ◌+◌, ◌-◌, ◌*◌, ◌/◌, ◌%◌, ◌^◌, ◌<◌, ◌≤◌, List, [], ◌∷◌, ◌++◌}
 use Rattle.std.proofs.Common.{length, get_or, set, take, drop, refl, sym, ap, ◌∙◌, arith, append_assoc}
 use Rattle.std.proofs.lemmas.List.{append-nil, take_all, drop_all, drop-drop, length-take-le, length-drop, length-append, take_at, drop_at}
 use borrow.Rule.Slice.PartMut.{put_mid, mid_of, post_of}
 use Rattle.base62.specs.Fixed.{fixed, WritesFixed}
+use Rattle.base62.proofs.PowerLemmas.{remainder_is}
 use Rattle.base62.proofs.FixedLemmas.{length-fixed, fixed-join}
 
 -- the places from v on, and a buffer with those written
@@ -29,16 +30,18 @@ module _ (B : List ℕ) (v w m : ℕ) (old part : List ℕ) (room : v + w ≤ le
       ∙ length-append (take v old) (fixed B w m ++ drop (v + w) old)
       ∙ omega (arith, room, front, back, length-fixed B w m, length-drop (v + w) old)
 
--- what is written at the front stands there, and nothing after it changes
-pub written_front : (B : List ℕ) (v n : ℕ) (old new : List ℕ) → WritesFixed B v n old new → take v new ≡ fixed B v n
-written_front B v n old new writes = ap (take v) writes ∙ take_at (fixed B v n) (drop v old) v (length-fixed B v n)
+-- what is written at the front
+module _ (B : List ℕ) (v n : ℕ) (old new : List ℕ) (writes : WritesFixed B v n old new) where
+  -- stands there
+  pub written_front : take v new ≡ fixed B v n
+  written_front = ap (take v) writes ∙ take_at (fixed B v n) (drop v old) v (length-fixed B v n)
 
-pub written_rest : (B : List ℕ) (v n : ℕ) (old new : List ℕ) → WritesFixed B v n old new → drop v new ≡ drop v old
-written_rest B v n old new writes = ap (drop v) writes ∙ drop_at (fixed B v n) (drop v old) v (length-fixed B v n)
+  -- and nothing after it changes
+  pub written_rest : drop v new ≡ drop v old
+  written_rest = ap (drop v) writes ∙ drop_at (fixed B v n) (drop v old) v (length-fixed B v n)
 
-pub written_length : (B : List ℕ) (v n : ℕ) (old new : List ℕ) → v ≤ length old → WritesFixed B v n old new → length new ≡ length old
-written_length B v n old new room writes =
-    ap length writes ∙ length-append (fixed B v n) (drop v old) ∙ omega (arith, room, length-fixed B v n, length-drop v old)
+  pub written_length : v ≤ length old → length new ≡ length old
+  written_length room = ap length writes ∙ length-append (fixed B v n) (drop v old) ∙ omega (arith, room, length-fixed B v n, length-drop v old)
 
 -- a text of t letters is written in two parts, of v and of w letters, from the quotient q and the remainder m
 module _ (B : List ℕ) (v w t n q m : ℕ) (both : v + w ≡ t) (quotient : q ≡ n / 62 ^ w) (remainder : m ≡ n % 62 ^ w) where
@@ -56,18 +59,19 @@ module _ (B : List ℕ) (v w t n q m : ℕ) (both : v + w ≡ t) (quotient : q �
 
     pub written_on : WritesFixed B v q old mid → WritesFixed B t n old (put_from v mid part)
     written_on front =
-        let same = written_length B v q old mid (omega (arith, room, both)) front in
+        let same = written_length B v q old mid front (omega (arith, room, both)) in
         let behind = sym (drop-drop w v mid) ∙ ap (drop w) (written_rest B v q old mid front) ∙ drop-drop w v old in
         let others : drop t mid ≡ drop t old = rw (← both) behind in
         front_first same (written_front B v q old mid front) others
 
-  -- the back first
-  pub back_first : (old part new : List ℕ) → t ≤ length old → WritesFixed B w m (places_from v old) part → WritesFixed B v q (put_from v old part) new → WritesFixed B t n old new
-  back_first old part new room back front =
-      let size : length (take v old) ≡ v = length-take-le v old (omega (arith, room, both)) in
-      let written = part_written B v w m old part (omega (arith, room, both)) back in
-      let rest : drop v (put_from v old part) ≡ fixed B w m ++ drop (v + w) old = ap (drop v) written ∙ drop_at (take v old) _ v size in
-      front ∙ rw rest (joined old)
+-- the back first, where the code cuts n by 62^w
+pub back_first : (B : List ℕ) (v w t n : ℕ) → v + w ≡ t → (old part new : List ℕ) → t ≤ length old → WritesFixed B w (n - n / 62 ^ w * 62 ^ w) (places_from v old) part
+    → WritesFixed B v (n / 62 ^ w) (put_from v old part) new → WritesFixed B t n old new
+back_first B v w t n both old part new room back front =
+    let size : length (take v old) ≡ v = length-take-le v old (omega (arith, room, both)) in
+    let written = part_written B v w _ old part (omega (arith, room, both)) back in
+    let rest : drop v (put_from v old part) ≡ fixed B w (n - n / 62 ^ w * 62 ^ w) ++ drop (v + w) old = ap (drop v) written ∙ drop_at (take v old) _ v size in
+    front ∙ rw rest (joined B v w t n (n / 62 ^ w) _ both refl (remainder_is n (62 ^ w)) old)
 
 -- a letter
 pub letter_written : (B old : List ℕ) (x letter : ℕ) → 1 ≤ length old → x < 62 → letter ≡ get_or B x 0

@@ -1,6 +1,7 @@
 //! How many letters a number takes.
 
 ghost use Rattle.std.specs.Prelude.{◌≡◌, ◌≤◌, ◌^◌, ℕ, List, length};
+ghost use Rattle.base62.specs.declared.count.TheConstants.{MAX_DIGITS};
 ghost use Rattle.base62.specs.Alphabet.{IsAlphabet};
 ghost use Rattle.base62.specs.Canonical.{IsCanonical, DigitCount};
 
@@ -23,7 +24,7 @@ pub fn digit_count(n: u128) -> usize
     ensures counted { DigitCount n result }
     ensures exact { (B text : List ℕ) → IsAlphabet B → IsCanonical B text n → length text ≡ result }
     ensures least { 1 ≤ result }
-    ensures most { result ≤ 22 }
+    ensures most { result ≤ MAX_DIGITS }
 {
     if n <= 0xffffffff_ffffffff {
         narrow_count(n as u64)

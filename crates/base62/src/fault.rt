@@ -4,6 +4,7 @@ ghost use Rattle.std.specs.Prelude.{◌≡◌, ◌+◌, ◌<◌, ◌≤◌, [], 
 ghost use Rattle.std.specs.Char.{digit_char};
 ghost use Rattle.std.specs.Fmt.{WritesOnOk, WritesStyledOnOk};
 ghost use Rattle.std.specs.Fmt.InlineText.{inline_text};
+ghost use Rattle.base62.specs.declared.fault.TheConstants.{MAX_FAULT_TEXT};
 ghost use Rattle.base62.specs.Fault.{alphabet_error_text, byte_at_index, decode_error_text, encode_error_text, escaped};
 
 use std::fmt::InlineText;
@@ -200,7 +201,7 @@ fn hex_digit(digit: u8) -> char
 
 #[tactic(auto, using(crate::proofs::AppendLemmas::appends))]
 fn append_decimal(text: InlineText<MAX_FAULT_TEXT>, number: usize) -> InlineText<MAX_FAULT_TEXT>
-    requires { length (inline_text text) + length (decimal number) ≤ 77 }
+    requires { length (inline_text text) + length (decimal number) ≤ MAX_FAULT_TEXT }
     ensures { inline_text result ≡ inline_text text ++ decimal number }
 {
     if number < 10 {
@@ -211,7 +212,7 @@ fn append_decimal(text: InlineText<MAX_FAULT_TEXT>, number: usize) -> InlineText
 }
 
 fn append_char(text: InlineText<MAX_FAULT_TEXT>, c: char) -> InlineText<MAX_FAULT_TEXT>
-    requires roomy { length (inline_text text) < 77 }
+    requires roomy { length (inline_text text) < MAX_FAULT_TEXT }
     requires ascii { c < 128 }
     ensures { inline_text result ≡ inline_text text ++ c ∷ [] }
 {
@@ -221,7 +222,7 @@ fn append_char(text: InlineText<MAX_FAULT_TEXT>, c: char) -> InlineText<MAX_FAUL
 
 #[tactic(auto, using(crate::proofs::AppendLemmas::appends))]
 fn append(text: InlineText<MAX_FAULT_TEXT>, part: &str) -> InlineText<MAX_FAULT_TEXT>
-    requires { length (inline_text text) + length part.now ≤ 77 }
+    requires { length (inline_text text) + length part.now ≤ MAX_FAULT_TEXT }
     ensures { inline_text result ≡ inline_text text ++ part.now }
 {
     text.and_str(part, MAX_FAULT_TEXT)

@@ -60,7 +60,7 @@ impl fmt::Display for Fmt {
 /// println!(rt; "{}", base62::encode_fmt(1337_u64))?;     // LZ
 /// println!(rt; "{:0>5}", base62::encode_fmt(1337_u64))?; // 000LZ
 /// ```
-#[tactic(auto, using(crate::proofs::TextLemmas::ascii_texts))]
+#[tactic(auto, using(crate::proofs::CanonicalLemmas::ascii_texts))]
 pub fn encode_fmt<T: Number>(num: T) -> Fmt
     ensures { IsCanonical standard result (T.meaning num) }
 {
@@ -75,7 +75,7 @@ pub fn encode_fmt<T: Number>(num: T) -> Fmt
 /// println!(rt; "{}", base62::encode_fmt_alt(1337_u64))?;     // lz
 /// println!(rt; "{:0>5}", base62::encode_fmt_alt(1337_u64))?; // 000lz
 /// ```
-#[tactic(auto, using(crate::proofs::TextLemmas::ascii_texts))]
+#[tactic(auto, using(crate::proofs::CanonicalLemmas::ascii_texts))]
 pub fn encode_fmt_alt<T: Number>(num: T) -> FmtAlternative
     ensures { IsCanonical alternative result (T.meaning num) }
 {
@@ -93,7 +93,7 @@ pub fn encode_fmt_alt<T: Number>(num: T) -> FmtAlternative
 ///     println!(rt; "{:0>5}", base62::encode_fmt_with(&alphabet, 1337_u64))?; // 000lz
 /// }
 /// ```
-#[tactic(auto, using(crate::proofs::TextLemmas::ascii_texts))]
+#[tactic(auto, using(crate::proofs::CanonicalLemmas::ascii_texts))]
 pub fn encode_fmt_with<T: Number>(alphabet: &Alphabet, num: T) -> FmtWith
     requires { IsAscii alphabet.now }
     ensures { IsCanonical alphabet.now result (T.meaning num) }

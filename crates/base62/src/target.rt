@@ -25,7 +25,7 @@ use std::io::{self, Write};
 /// ```
 ///
 /// [`encode_bytes`]: crate::encode_bytes
-#[tactic(auto, using(crate::proofs::TextLemmas::ascii_texts))]
+#[tactic(auto, using(crate::proofs::CanonicalLemmas::ascii_texts))]
 pub fn encode<T: Number>(alloc: Global, num: T) -> Result<String, AllocError>
     ensures { AnswersCanonical standard (T.meaning num) result }
 {
@@ -38,7 +38,7 @@ pub fn encode<T: Number>(alloc: Global, num: T) -> Result<String, AllocError>
 /// let text = base62::encode_alternative(rt.alloc(), 1234567890_u64)?;
 /// assert_eq!(rt; text.as_str(), "1ly7vk");
 /// ```
-#[tactic(auto, using(crate::proofs::TextLemmas::ascii_texts))]
+#[tactic(auto, using(crate::proofs::CanonicalLemmas::ascii_texts))]
 pub fn encode_alternative<T: Number>(alloc: Global, num: T) -> Result<String, AllocError>
     ensures { AnswersCanonical alternative (T.meaning num) result }
 {
@@ -55,7 +55,7 @@ pub fn encode_alternative<T: Number>(alloc: Global, num: T) -> Result<String, Al
 ///     assert_eq!(rt; text.as_str(), "1ly7vk");
 /// }
 /// ```
-#[tactic(auto, using(crate::proofs::TextLemmas::ascii_texts))]
+#[tactic(auto, using(crate::proofs::CanonicalLemmas::ascii_texts))]
 pub fn encode_with<T: Number>(
     alloc: Global,
     alphabet: &Alphabet,
@@ -78,7 +78,7 @@ pub fn encode_with<T: Number>(
 /// base62::encode_buf(1337_u64, &mut link)?;
 /// assert_eq!(rt; link.as_str(), "https://example.org/LZ");
 /// ```
-#[tactic(auto, using(crate::proofs::TextLemmas::ascii_texts))]
+#[tactic(auto, using(crate::proofs::CanonicalLemmas::ascii_texts))]
 pub fn encode_buf<T: Number>(num: T, buf: &mut String) -> Result<(), AllocError>
     ensures { AppendsTo standard (T.meaning num) buf.old buf.new result }
 {
@@ -92,7 +92,7 @@ pub fn encode_buf<T: Number>(num: T, buf: &mut String) -> Result<(), AllocError>
 /// base62::encode_alternative_buf(1337_u64, &mut link)?;
 /// assert_eq!(rt; link.as_str(), "https://example.org/lz");
 /// ```
-#[tactic(auto, using(crate::proofs::TextLemmas::ascii_texts))]
+#[tactic(auto, using(crate::proofs::CanonicalLemmas::ascii_texts))]
 pub fn encode_alternative_buf<T: Number>(num: T, buf: &mut String) -> Result<(), AllocError>
     ensures { AppendsTo alternative (T.meaning num) buf.old buf.new result }
 {
@@ -109,7 +109,7 @@ pub fn encode_alternative_buf<T: Number>(num: T, buf: &mut String) -> Result<(),
 ///     assert_eq!(rt; link.as_str(), "https://example.org/lz");
 /// }
 /// ```
-#[tactic(auto, using(crate::proofs::TextLemmas::ascii_texts))]
+#[tactic(auto, using(crate::proofs::CanonicalLemmas::ascii_texts))]
 pub fn encode_buf_with<T: Number>(
     alphabet: &Alphabet,
     num: T,
@@ -136,7 +136,7 @@ fn string_over<T: Number>(alloc: Global, tables: &Tables, num: T) -> Result<Stri
 }
 
 // Appends the text over the alphabet of the tables.
-#[tactic(auto, using(crate::proofs::TextLemmas::ascii_texts, crate::proofs::TextLemmas::canonical_fits))]
+#[tactic(auto, using(crate::proofs::CanonicalLemmas::ascii_texts, crate::proofs::CanonicalLemmas::canonical_fits))]
 fn append_over<T: Number>(tables: &Tables, num: T, buf: &mut String) -> Result<(), AllocError>
     requires tables { AreTables tables.now }
     requires ascii { IsAscii tables.now.letters }

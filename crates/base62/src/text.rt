@@ -2,6 +2,7 @@
 
 ghost use Rattle.std.specs.Prelude.{◌≡◌, ◌≤◌, ℕ, List, length, take};
 ghost use Rattle.std.specs.Str.{IsAscii};
+ghost use Rattle.base62.specs.declared.count.TheConstants.{MAX_DIGITS};
 ghost use Rattle.base62.specs.Canonical.{IsCanonical};
 ghost use Rattle.base62.specs.Tables.{AreTables};
 
@@ -24,7 +25,7 @@ impl Model for Text {
 
     ghost view = { λ t. take t.len t.bytes };
 
-    ghost invariant = { λ t. t.len ≤ 22 };
+    ghost invariant = { λ t. t.len ≤ MAX_DIGITS };
 }
 
 impl Text {
@@ -55,7 +56,7 @@ impl Text {
 
     pub(crate) fn as_bytes(&self) -> &[u8]
         ensures bytes { result.now ≡ self.now }
-        ensures short { length result.now ≤ 22 }
+        ensures short { length result.now ≤ MAX_DIGITS }
     {
         &self.bytes[..self.len]
     }
@@ -63,7 +64,7 @@ impl Text {
     pub(crate) fn as_str(&self) -> &str
         requires { IsAscii self.now }
         ensures bytes { result.now ≡ self.now }
-        ensures short { length result.now ≤ 22 }
+        ensures short { length result.now ≤ MAX_DIGITS }
     {
         unsafe { str::from_utf8_unchecked(self.as_bytes()) }
     }

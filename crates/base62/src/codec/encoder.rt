@@ -4,6 +4,7 @@
 //! by powers of 62 cut a number into its parts.
 
 ghost use Rattle.std.specs.Prelude.{◌≡◌, ◌+◌, ◌-◌, ◌*◌, ◌/◌, ◌%◌, ◌<◌, ◌≤◌, ◌^◌, length};
+ghost use Rattle.base62.specs.declared.count.TheConstants.{MAX_DIGITS};
 ghost use Rattle.base62.specs.Canonical.{DigitCount};
 ghost use Rattle.base62.specs.Fixed.{WritesFixed};
 ghost use Rattle.base62.specs.Steps.{EncodesCounted, encoding_steps};
@@ -73,7 +74,7 @@ fn write_narrow(tables: &Tables, n: u64, count: usize, buf: &mut [u8], work: &mu
 fn write_wide(tables: &Tables, n: u128, count: usize, buf: &mut [u8], work: &mut Work)
     requires fits { n < 62 ^ count }
     requires least { 11 ≤ count }
-    requires most { count ≤ 22 }
+    requires most { count ≤ MAX_DIGITS }
     requires room { count ≤ length buf.old }
     ensures written { WritesFixed tables.now.letters count n buf.old buf.new }
     ensures steps { work.new ≡ work.old + encoding_steps count }

@@ -11,7 +11,7 @@ returns-then-n-le18446744073709551615-clause-least c = has_letters_some standard
 pub returns-then-n-le18446744073709551615-clause-most :
     goal.returns-then-n-le18446744073709551615-clause-most
 returns-then-n-le18446744073709551615-clause-most c =
-    has_letters_most standard standard_is_alphabet 22 _ _ (omega arith) c.narrow_count.ensures (omega arith)
+    has_letters_most standard standard_is_alphabet _ _ c.narrow_count.ensures 22 (omega arith) (omega arith)
 
 pub returns-else-n-le18446744073709551615-clause-least :
     goal.returns-else-n-le18446744073709551615-clause-least
@@ -20,4 +20,4 @@ returns-else-n-le18446744073709551615-clause-least c = has_letters_some standard
 pub returns-else-n-le18446744073709551615-clause-most :
     goal.returns-else-n-le18446744073709551615-clause-most
 returns-else-n-le18446744073709551615-clause-most c =
-    has_letters_most standard standard_is_alphabet 22 _ _ (omega arith) c.wide_count.ensures (omega (arith, c.ranges.n.fits))
+    has_letters_most standard standard_is_alphabet _ _ c.wide_count.ensures 22 (omega arith) (omega (arith, c.ranges.n.fits))

@@ -11,7 +11,7 @@ pub returns-clause-only : goal.returns-clause-only
 returns-clause-only c = one_canonical
 
 pub returns-clause-lengths : goal.returns-clause-lengths
-returns-clause-lengths c = λ B ok n small text canonical. (canonical.denotes.nonempty, canonical_short B text ok n small canonical)
+returns-clause-lengths c = λ B ok n small text canonical. (canonical.denotes.nonempty, canonical_short B ok text n small canonical)
 
 pub returns-clause-which : goal.returns-clause-which
 returns-clause-which c = λ B ok text letters. (no_needless_zero B ok text (value B text), canonical_of_value B ok text letters)

@@ -1,28 +1,27 @@
-use Rattle.std.proofs.Common.{◌≡◌, ℕ, List, ◌++◌, take, drop, length, append_assoc}
+use Rattle.std.proofs.Common.{◌≡◌, ℕ, List, ◌++◌, take, drop, append_assoc}
 use Rattle.std.proofs.lemmas.List.{take_at}
 use Rattle.std.proofs.lemmas.Str.{IsUtf8-from_ascii}
+use Rattle.base62.specs.Alphabet.{IsAlphabet}
+use Rattle.base62.specs.Canonical.{IsCanonical, DigitCount}
 use Rattle.base62.specs.Fixed.{fixed, WritesFixed}
 use Rattle.base62.proofs.FixedLemmas.{length-fixed, canonical_has}
-use Rattle.base62.proofs.TextLemmas.{canonical_is_ascii}
+use Rattle.base62.proofs.CanonicalLemmas.{canonical_is_ascii}
 use Rattle.base62.proofs.target.string_over.Goals as goal
 
--- what was written is all that the bytes have
-whole : (B : List ℕ) (count n len : ℕ) (old new behind : List ℕ) → WritesFixed B count n old new → len ≡ count → take len (new ++ behind) ≡ fixed B count n
-whole B count n len old new behind writes same =
-    rw (same, writes, append_assoc (fixed B count n) (drop count old) behind) (take_at (fixed B count n) (drop count old ++ behind) count (length-fixed B count n))
+-- what was written is all that the bytes have, and is canonical
+whole : (B : List ℕ) → IsAlphabet B → (n count len : ℕ) (old new behind : List ℕ) → DigitCount n count → WritesFixed B count n old new → len ≡ count
+    → IsCanonical B (take len (new ++ behind)) n
+whole B ok n count len old new behind has writes same =
+    let written = take_at (fixed B count n) (drop count old ++ behind) count (length-fixed B count n) in
+    rw (same, writes, append_assoc (fixed B count n) (drop count old) behind, written) (canonical_has B ok n count has)
 
 pub from_utf8_unchecked-requires : goal.from_utf8_unchecked-requires
 from_utf8_unchecked-requires g c =
     let B = c.args.tables.now.letters in
-    let canonical = canonical_has B c.requires.tables.alphabet _ _ c.digit_count-count.ensures.counted in
-    let new = c.write_text.new.buf in
-    let text = whole B _ _ _ _ new (drop (length new) c.in_ok-bytes.bytes.items) c.write_text.ensures.written c.in_ok-bytes.ensures.len in
-    IsUtf8-from_ascii _ (rw text (canonical_is_ascii B c.requires.ascii _ _ canonical))
+    let text = whole B c.requires.tables.alphabet _ _ _ _ c.write_text.new.buf _ c.digit_count-count.ensures.counted c.write_text.ensures.written c.in_ok-bytes.ensures.len in
+    IsUtf8-from_ascii _ (canonical_is_ascii B c.requires.ascii _ _ text)
 
 pub returns : goal.returns
 returns g c =
-    let B = c.args.tables.now.letters in
-    let canonical = canonical_has B c.requires.tables.alphabet _ _ c.digit_count-count.ensures.counted in
-    let new = c.write_text.new.buf in
-    let text = whole B _ _ _ _ new (drop (length new) c.in_ok-bytes.bytes.items) c.write_text.ensures.written c.in_ok-bytes.ensures.len in
-    rw (c.from_utf8_unchecked.ensures.value, text, ← c.number-n.ensures) canonical
+    let text = whole _ c.requires.tables.alphabet _ _ _ _ c.write_text.new.buf _ c.digit_count-count.ensures.counted c.write_text.ensures.written c.in_ok-bytes.ensures.len in
+    rw (c.from_utf8_unchecked.ensures.value, ← c.number-n.ensures) text

@@ -19,11 +19,11 @@ returns-else-count-lt10-clause-written c =
     let old = c.args.buf.now in
     let count = c.args.count in
     let letter = c.letter.result in
-    let q = n / 839299365868340224 in
+    let q = n / 62 ^ 10 in
     let few : n < 62 ^ 11 = fits_more n count 11 c.requires.fits c.requires.most in
     let small : q < 62 = omega (arith, few) in
     let one : count - 10 ≤ 1 = omega (arith, c.requires.most) in
     let front = letter_front B old (count - 10) q letter (omega (arith, c.requires.room)) one small c.letter.ensures.letter in
     let others = drop-set-lt count old 0 letter (omega arith) in
-    let join = front_first B (count - 10) 10 count n q _ (omega arith) refl (remainder_is n 839299365868340224) in
+    let join = front_first B (count - 10) 10 count n q _ (omega arith) refl (remainder_is n (62 ^ 10)) in
     join old (set old 0 letter) c.write_10.new.buf c.requires.room c.write_10.ensures.written (length-set old 0 letter) front others

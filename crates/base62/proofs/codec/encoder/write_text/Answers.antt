@@ -12,7 +12,7 @@ write_narrow-requires-clause-least c = has_letters_some _ c.requires.tables.alph
 
 pub write_narrow-requires-clause-most : goal.write_narrow-requires-clause-most
 write_narrow-requires-clause-most c =
-    has_letters_most _ c.requires.tables.alphabet 11 c.args.n c.args.count (omega arith) c.requires.count (omega arith)
+    has_letters_most _ c.requires.tables.alphabet c.args.n c.args.count c.requires.count 11 (omega arith) (omega arith)
 
 pub write_wide-requires-clause-fits : goal.write_wide-requires-clause-fits
 write_wide-requires-clause-fits c = has_letters_fits _ c.requires.tables.alphabet c.args.n c.args.count c.requires.count
@@ -28,4 +28,4 @@ write_wide-requires-clause-least c = elim (cases_lt c.args.count 11) [
 
 pub write_wide-requires-clause-most : goal.write_wide-requires-clause-most
 write_wide-requires-clause-most c =
-    has_letters_most _ c.requires.tables.alphabet 22 c.args.n c.args.count (omega arith) c.requires.count (omega (arith, c.ranges.n.fits))
+    has_letters_most _ c.requires.tables.alphabet c.args.n c.args.count c.requires.count 22 (omega arith) (omega (arith, c.ranges.n.fits))

@@ -6,16 +6,14 @@ use Rattle.base62.proofs.codec.encoder.write_wide.Goals as goal
 
 pub write_1_or_2-requires-clause-fits : goal.write_1_or_2-requires-clause-fits
 write_1_or_2-requires-clause-fits c =
-    let fits = quotient_fits c.args.n (c.args.count - 20) 20 c.args.count (omega arith) c.requires.fits in
-    rw (c.cut_by_20-top.ensures.quotient) fits
+    rw c.cut_by_20-top.ensures.quotient (quotient_fits c.args.n (c.args.count - 20) 20 c.args.count (omega arith) c.requires.fits)
 
 pub cut_by_10-high-requires-else-count-eq20 : goal.cut_by_10-high-requires-else-count-eq20
 cut_by_10-high-requires-else-count-eq20 c = fits_more c.args.n c.args.count 20 c.requires.fits (omega arith)
 
 pub write_up_to_9-requires-clause-fits : goal.write_up_to_9-requires-clause-fits
 write_up_to_9-requires-clause-fits c =
-    let fits = quotient_fits c.args.n (c.args.count - 10) 10 c.args.count (omega (arith, c.requires.least)) c.requires.fits in
-    rw (c.cut_by_10-high-else-count-eq20.ensures.quotient) fits
+    rw c.cut_by_10-high-else-count-eq20.ensures.quotient (quotient_fits c.args.n (c.args.count - 10) 10 c.args.count (omega (arith, c.requires.least)) c.requires.fits)
 
 pub returns-then-count-gt20-clause-written : goal.returns-then-count-gt20-clause-written
 returns-then-count-gt20-clause-written c =
@@ -35,8 +33,7 @@ returns-then-count-eq20-clause-steps c = rw (c.if-count-eq20.true, steps_of_20) 
 pub returns-else-count-eq20-clause-written : goal.returns-else-count-eq20-clause-written
 returns-else-count-eq20-clause-written c =
     let count = c.args.count in
-    let both : count - 10 + 10 ≡ count = omega (arith, c.requires.least) in
-    let join = written_on c.args.tables.now.letters (count - 10) 10 count c.args.n _ _ both c.cut_by_10-high-else-count-eq20.ensures.quotient c.cut_by_10-high-else-count-eq20.ensures.remainder in
+    let join = written_on c.args.tables.now.letters (count - 10) 10 count c.args.n _ _ (omega (arith, c.requires.least)) c.cut_by_10-high-else-count-eq20.ensures.quotient c.cut_by_10-high-else-count-eq20.ensures.remainder in
     join c.args.buf.now c.write_up_to_9.new.buf c.write_10.new.buf c.requires.room c.write_10.ensures.written c.write_up_to_9.ensures.written
 
 pub returns-else-count-eq20-clause-steps : goal.returns-else-count-eq20-clause-steps

@@ -20,7 +20,7 @@ pub mod CaseLemmas
 pub mod OverflowLemmas
 pub mod AnswerLemmas
 pub mod ZeroLemmas
-pub mod KeyLemmas
+pub mod WidthLemmas
 pub mod OrderLemmas
 pub mod FrontLemmas
-pub mod KeyCodeLemmas
+pub mod RangeLemmas

@@ -11,7 +11,8 @@ ghost use Rattle.base62.specs.Value.{value};
 ghost use Rattle.base62.specs.Canonical.{Denotes, IsCanonical};
 ghost use Rattle.base62.specs.Decoding.{decoding};
 ghost use Rattle.base62.specs.Case.{exchange_case};
-ghost use Rattle.base62.specs.Key.{IsKey, BeginsWith, IsInInterval, interval_ends};
+ghost use Rattle.base62.specs.Fixed.{IsFixed};
+ghost use Rattle.base62.specs.Key.{BeginsWith, BeginsTextsOf, BeginsTextsBetween, IsInInterval, interval_ends};
 ghost use Rattle.base62.specs.Order.{lexicographic_order, shortlex_order, Ascends};
 ghost use Rattle.base62.specs.Laws.{HasNoNeedlessZero, AnswerTells, number_or_overflow, one_place_on, without_zeros};
 ghost use Rattle.base62.specs.Fault.{alphabet_error_order, decode_error_order};
@@ -107,50 +108,54 @@ pub fn exchange_of_case()
         → decoding alternative text ≡ decoding standard (exchange_case text) }
 {}
 
-/// Over any alphabet each number below 62^22 has a key, and only one. Decoding gives back the number below 2^128
-/// of its key. A shorter text of a number is its key once zero letters in front fill it up.
-#[tactic(auto, using(crate::proofs::KeyLemmas::some_key, crate::proofs::KeyLemmas::one_key, crate::proofs::KeyLemmas::key_decodes))]
-pub fn keys()
-    ensures exists { (B : List ℕ) → IsAlphabet B → (n : ℕ) → n < 62 ^ 22
-        → (key : List ℕ) × IsKey B key n }
-    ensures only { (B : List ℕ) → IsAlphabet B → (n : ℕ) (a b : List ℕ)
-        → IsKey B a n → IsKey B b n → a ≡ b }
-    ensures decoded { (B : List ℕ) → IsAlphabet B → (n : ℕ) → n < 2 ^ 128 → (key : List ℕ)
-        → IsKey B key n → decoding B key ≡ Ok n }
-    ensures filled_up { (B : List ℕ) → IsAlphabet B → (n : ℕ) (text : List ℕ)
-        → Denotes B text n → length text ≤ 22
-        → IsKey B (replicate (22 - length text) (zero_letter B) ++ text) n }
+/// Over any alphabet a number has a text of exactly w letters, for w from 1 on, exactly where it is below 62^w, and
+/// only one. Decoding gives back the number below 2^128 of that text. A shorter text of a number is that text once
+/// zero letters in front fill it up. Keys are these texts for w = 22.
+#[tactic(auto, using(crate::proofs::WidthLemmas::one_fixed, crate::proofs::WidthLemmas::fixed_decodes))]
+pub fn fixed_widths()
+    ensures exists { (B : List ℕ) → IsAlphabet B → (w n : ℕ) → 0 < w
+        → (((text : List ℕ) × IsFixed B w text n) ↔ (n < 62 ^ w)) }
+    ensures only { (B : List ℕ) → IsAlphabet B → (w n : ℕ) (a b : List ℕ)
+        → IsFixed B w a n → IsFixed B w b n → a ≡ b }
+    ensures decoded { (B : List ℕ) → IsAlphabet B → (w n : ℕ) → n < 2 ^ 128 → (text : List ℕ)
+        → IsFixed B w text n → decoding B text ≡ Ok n }
+    ensures filled_up { (B : List ℕ) → IsAlphabet B → (w n : ℕ) (text : List ℕ)
+        → Denotes B text n → length text ≤ w
+        → IsFixed B w (replicate (w - length text) (zero_letter B) ++ text) n }
 {}
 
 /// Over an alphabet whose letters ascend by byte, as the standard ones do, texts of letters of one length
-/// compare by their bytes as their values, and so keys compare as their numbers. Canonical texts compare as
+/// compare by their bytes as their values, and so texts of w letters as their numbers. Canonical texts compare as
 /// their numbers where the shorter comes first and texts of one length go by their bytes.
-#[tactic(auto, using(crate::proofs::OrderLemmas::standard_ascends, crate::proofs::OrderLemmas::texts_compare, crate::proofs::OrderLemmas::keys_compare, crate::proofs::OrderLemmas::canonical_compare))]
+#[tactic(auto, using(crate::proofs::OrderLemmas::standard_ascends, crate::proofs::OrderLemmas::texts_compare, crate::proofs::OrderLemmas::fixed_compare, crate::proofs::OrderLemmas::canonical_compare))]
 pub fn order_of_texts()
     ensures standard { Ascends standard }
     ensures one_length { (B : List ℕ) → IsAlphabet B → Ascends B → (a b : List ℕ)
         → AreLetters B a → AreLetters B b → length a ≡ length b
         → lexicographic_order a b ≡ nat_cmp (value B a) (value B b) }
-    ensures keys { (B : List ℕ) → IsAlphabet B → Ascends B → (a b : List ℕ) (m n : ℕ)
-        → IsKey B a m → IsKey B b n → lexicographic_order a b ≡ nat_cmp m n }
+    ensures fixed { (B : List ℕ) → IsAlphabet B → Ascends B → (w : ℕ) (a b : List ℕ) (m n : ℕ)
+        → IsFixed B w a m → IsFixed B w b n → lexicographic_order a b ≡ nat_cmp m n }
     ensures canonical { (B : List ℕ) → IsAlphabet B → Ascends B → (a b : List ℕ) (m n : ℕ)
         → IsCanonical B a m → IsCanonical B b n → shortlex_order a b ≡ nat_cmp m n }
 {}
 
-/// Over any alphabet a front of a key is at most 22 letters. The key of a number below 2^128 begins with a front of
-/// at most 22 letters exactly where the number is in the front's interval. The numbers from the one end of an
-/// interval to the other are those in it, and there are no ends exactly where it is empty.
+/// Over any alphabet a front of a text of w letters is at most w letters. The text of w letters of a number below
+/// 2^128 begins with a front of at most w letters exactly where the number is in the front's interval. The numbers
+/// from the one end of an interval to the other are those in it, and there are no ends exactly where it is empty.
+/// Where letters ascend, the texts that begin with the front are those between the texts of the ends.
 pub fn fronts()
-    ensures letters { (B front key : List ℕ) (n : ℕ) → IsKey B key n → BeginsWith front key
-        → AreLetters B front × (length front ≤ 22) }
-    ensures begins { (B : List ℕ) → IsAlphabet B → (front key : List ℕ) (n : ℕ) → n < 2 ^ 128
-        → AreLetters B front → length front ≤ 22 → IsKey B key n
-        → (BeginsWith front key ↔ IsInInterval B front n) }
-    ensures none { (B : List ℕ) → IsAlphabet B → (front : List ℕ) → AreLetters B front
-        → (interval_ends B front ≡ None ↔ ((n : ℕ) → IsInInterval B front n → ⊥)) }
-    ensures ends { (B : List ℕ) → IsAlphabet B → (front : List ℕ) (least greatest : ℕ) → AreLetters B front
-        → interval_ends B front ≡ Some (least, greatest)
-        → (least ≤ greatest) × ((n : ℕ) → (IsInInterval B front n ↔ ((least ≤ n) × (n ≤ greatest)))) }
+    ensures letters { (B : List ℕ) → IsAlphabet B → (w : ℕ) (front text : List ℕ) (n : ℕ)
+        → IsFixed B w text n → BeginsWith front text → AreLetters B front × (length front ≤ w) }
+    ensures begins { (B : List ℕ) → IsAlphabet B → (w : ℕ) (front text : List ℕ) (n : ℕ) → n < 2 ^ 128
+        → AreLetters B front → IsFixed B w text n
+        → (BeginsWith front text ↔ IsInInterval B w front n) }
+    ensures none { (B : List ℕ) → IsAlphabet B → (w : ℕ) (front : List ℕ) → AreLetters B front
+        → (interval_ends B w front ≡ None ↔ ((n : ℕ) → IsInInterval B w front n → ⊥)) }
+    ensures ends { (B : List ℕ) → IsAlphabet B → (w : ℕ) (front : List ℕ) (least greatest : ℕ)
+        → AreLetters B front → interval_ends B w front ≡ Some (least, greatest)
+        → (least ≤ greatest) × ((n : ℕ) → (IsInInterval B w front n ↔ ((least ≤ n) × (n ≤ greatest)))) }
+    ensures between { (B : List ℕ) → IsAlphabet B → Ascends B → (w : ℕ) (front : List ℕ) (least greatest : ℕ)
+        → BeginsTextsOf B w front least greatest → BeginsTextsBetween B w front least greatest }
 {}
 
 /// The built-in alphabets are ASCII, and over an alphabet that is, so is each text of letters. A text of ASCII that

@@ -1,7 +1,8 @@
-use Rattle.std.proofs.Common.{◌≡◌, ℕ, List, ◌++◌, take, drop, length, append_assoc}
+use Rattle.std.proofs.Common.{◌≡◌, ℕ, ◌^◌, ◌<◌, List, ◌++◌, take, drop, length, append_assoc, arith}
 use Rattle.std.proofs.lemmas.List.{take_at}
 use Rattle.std.proofs.lemmas.Str.{IsUtf8-from_ascii}
 use Rattle.base62.specs.Fixed.{fixed, WritesFixed}
+use Rattle.base62.proofs.AnswerLemmas.{decoding-denotes}
 use Rattle.base62.proofs.FixedLemmas.{length-fixed, canonical_has}
 use Rattle.base62.proofs.TextLemmas.{canonical_is_ascii}
 use Rattle.base62.proofs.target.string_over.Goals as goal
@@ -25,4 +26,8 @@ returns g c =
     let canonical = canonical_has B c.requires.tables.alphabet _ _ c.digit_count-count.ensures.counted in
     let new = c.write_text.new.buf in
     let text = whole B _ _ _ _ new (drop (length new) c.in_ok-bytes.bytes.items) c.write_text.ensures.written c.in_ok-bytes.ensures.len in
-    rw (c.from_utf8_unchecked.ensures.value, text, ← c.number-n.ensures) canonical
+    let small : c.number-n.result < 2 ^ 128 = omega arith in
+    record {
+      text = rw (c.from_utf8_unchecked.ensures.value, text, ← c.number-n.ensures) canonical;
+      back = rw (c.from_utf8_unchecked.ensures.value, text, ← c.number-n.ensures) (decoding-denotes B c.requires.tables.alphabet _ small _ canonical.denotes);
+    }

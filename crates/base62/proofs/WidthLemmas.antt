@@ -1,0 +1,80 @@
+-- Texts of a fixed number of letters: a number has one exactly where so many letters hold it, and has only one, which decodes to it.
+use Rattle.std.proofs.Common.{◌≡◌, ℕ, zero, suc, ◌+◌, ◌-◌, ◌^◌, ◌<◌, ◌≤◌, ◌↔◌, List, [], ◌++◌, length, take, drop, replicate, Ok, refl, sym, ap, ◌∙◌, arith}
+use borrow.Rule.Slice.PartMut.{post_of}
+use Rattle.std.proofs.lemmas.List.{append-nil, take-replicate, drop_all, length-append, length-drop, length-replicate, length-take-le}
+use Rattle.std.proofs.lemmas.List.Elements.{All-append, All-replicate}
+use Rattle.base62.specs.Alphabet.{IsAlphabet, AreLetters, zero_letter}
+use Rattle.base62.specs.Value.{value}
+use Rattle.base62.specs.Canonical.{Denotes}
+use Rattle.base62.specs.Fixed.{fixed, IsFixed}
+use Rattle.base62.specs.Decoding.{decoding}
+use Rattle.base62.proofs.AlphabetLemmas.{IsLetter, is_letter-letter}
+use Rattle.base62.proofs.ValueLemmas.{value-lt, same_text}
+use Rattle.base62.proofs.FixedLemmas.{length-fixed, denotes-fixed}
+use Rattle.base62.proofs.AnswerLemmas.{decoding-denotes}
+use Rattle.base62.proofs.WritingLemmas.{places_from, put_from}
+use Rattle.base62.proofs.ZeroLemmas.{value_front}
+
+module _ (B : List ℕ) (ok : IsAlphabet B) where
+  -- the text of the last w digits is such a text of a number that w letters hold
+  pub is_fixed : (w n : ℕ) → 0 < w → n < 62 ^ w → IsFixed B w (fixed B w n) n
+  is_fixed w n some fits = record { size = length-fixed B w n; denotes = denotes-fixed B ok w n some fits }
+
+  -- so there is one exactly of those
+  pub has_fixed : (w n : ℕ) → 0 < w → (((text : List ℕ) × IsFixed B w text n) ↔ (n < 62 ^ w))
+  has_fixed w n some = (
+    λ has. rw (has.1.size, has.1.denotes.value_is) at (value-lt B ok has.0),
+    λ fits. (fixed B w n, is_fixed w n some fits),
+  )
+
+  -- and one alone
+  pub one_fixed : (w n : ℕ) (a b : List ℕ) → IsFixed B w a n → IsFixed B w b n → a ≡ b
+  one_fixed w n a b p q = same_text B ok a b (p.size ∙ sym q.size) p.denotes.letters q.denotes.letters (p.denotes.value_is ∙ sym q.denotes.value_is)
+
+  -- it decodes to its number, where that is below 2^128
+  pub fixed_decodes : (w n : ℕ) → n < 2 ^ 128 → (text : List ℕ) → IsFixed B w text n → decoding B text ≡ Ok n
+  fixed_decodes w n small text is = decoding-denotes B ok n small text is.denotes
+
+  -- ---- zero letters in front
+
+  abbrev zeros : ℕ → List ℕ
+  zeros k = replicate k (zero_letter B)
+
+  -- they add nothing
+  value-zeros : (k : ℕ) (text : List ℕ) → value B (zeros k ++ text) ≡ value B text
+  value-zeros zero text = refl
+  value-zeros (suc k) text = value_front B (zeros k ++ text) ok ∙ value-zeros k text
+
+  -- a text that they fill up to w letters
+  filled : (text : List ℕ) (w n k : ℕ) → Denotes B text n → k + length text ≡ w → IsFixed B w (zeros k ++ text) n
+  filled text w n k denotes full =
+      let letters : AreLetters B (zeros k) = All-replicate (IsLetter B) k (zero_letter B) (is_letter-letter B ok 0 (omega arith)) in
+      let size : length (zeros k ++ text) ≡ w =
+      length-append (zeros k) text ∙ ap (λ m. m + length text) (length-replicate k (zero_letter B)) ∙ full in
+      record {
+        size = size;
+        denotes = record {
+          nonempty = omega (arith, size, denotes.nonempty);
+          letters = All-append (IsLetter B) (zeros k) text letters denotes.letters;
+          value_is = value-zeros k text ∙ denotes.value_is;
+        };
+      }
+
+  pub filled_up : (w n : ℕ) (text : List ℕ) → Denotes B text n → length text ≤ w → IsFixed B w (zeros (w - length text) ++ text) n
+  filled_up w n text denotes short = filled text w n (w - length text) denotes (omega arith)
+
+  -- ---- a text in the last places of w zero letters
+
+  pub last_places : (w count : ℕ) → count ≤ w → length (places_from (w - count) (zeros w)) ≡ count
+  last_places w count few =
+      let size = length-replicate w (zero_letter B) in
+      let behind = length-drop (w - count) (zeros w) in
+      length-take-le (length (zeros w) - (w - count)) (drop (w - count) (zeros w)) (omega (arith, size, behind)) ∙ omega (arith, size)
+
+  pub placed : (part : List ℕ) (w n count : ℕ) → count ≤ w → length part ≡ count → Denotes B part n → IsFixed B w (put_from (w - count) (zeros w) part) n
+  placed part w n count few size denotes =
+      let v = w - count in
+      let none : post_of v (length (zeros w) - v) (zeros w) ≡ [] = drop_all (length (zeros w) - v) (drop v (zeros w)) (omega (arith, length-drop v (zeros w))) in
+      let front : take v (zeros w) ≡ zeros v = take-replicate v w (zero_letter B) (omega arith) in
+      let whole : put_from v (zeros w) part ≡ zeros v ++ part = rw (none, append-nil, front) refl in
+      rw whole (filled part w n v denotes (omega (arith, size)))

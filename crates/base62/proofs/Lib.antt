@@ -1,5 +1,6 @@
 pub mod PlacesLemmas
 pub mod AlphabetLemmas
+pub mod LetterLemmas
 pub mod TableLemmas
 pub mod TableFillLemmas
 pub mod ValueLemmas

@@ -5,13 +5,14 @@ use Rattle.std.proofs.lemmas.List.{append-nil, take-replicate, drop_all, length-
 use Rattle.std.proofs.lemmas.List.Elements.{All-append, All-replicate}
 use Rattle.base62.specs.Alphabet.{IsAlphabet, AreLetters, zero_letter}
 use Rattle.base62.specs.Value.{value}
-use Rattle.base62.specs.Canonical.{Denotes}
+use Rattle.base62.specs.Canonical.{Denotes, CanonicalFits}
 use Rattle.base62.specs.Fixed.{fixed, IsFixed}
 use Rattle.base62.specs.Decoding.{decoding}
+use Rattle.base62.specs.Laws.{without_zeros}
 use Rattle.base62.proofs.AlphabetLemmas.{IsLetter, is_letter-letter}
 use Rattle.base62.proofs.ValueLemmas.{value-lt, same_text}
 use Rattle.base62.proofs.FixedLemmas.{length-fixed, denotes-fixed}
-use Rattle.base62.proofs.AnswerLemmas.{decoding-denotes}
+use Rattle.base62.proofs.AnswerLemmas.{decoding-denotes, without_zeros_canonical}
 use Rattle.base62.proofs.WritingLemmas.{places_from, put_from}
 use Rattle.base62.proofs.ZeroLemmas.{value_front}
 
@@ -34,6 +35,13 @@ module _ (B : List ℕ) (ok : IsAlphabet B) where
   -- it decodes to its number, where that is below 2^128
   pub fixed_decodes : (w n : ℕ) → n < 2 ^ 128 → (text : List ℕ) → IsFixed B w text n → decoding B text ≡ Ok n
   fixed_decodes w n small text is = decoding-denotes B ok n small text is.denotes
+
+  -- so its canonical text has at most w letters
+  pub canonical_within : (w n : ℕ) → 0 < w → n < 62 ^ w → CanonicalFits B n w
+  canonical_within w n some fits =
+      let wide = denotes-fixed B ok w n some fits in
+      let canonical = without_zeros_canonical B (fixed B w n) ok n wide in
+      (without_zeros B (fixed B w n), canonical, omega (arith, canonical.shortest (fixed B w n) wide, length-fixed B w n))
 
   -- ---- zero letters in front
 

@@ -1,14 +1,14 @@
 //! What follows from the definitions alone. No call here takes part in a run.
 
-ghost use Rattle.std.specs.Prelude.{◌≡◌, ◌+◌, ◌-◌, ◌*◌, ◌<◌, ◌≤◌, ◌^◌, ◌↔◌, ◌∷◌, ◌++◌, ℕ, List, length, map, nat_lt, replicate, true, Ok, Some, None};
-ghost use Rattle.std.specs.List.{list_all, range_with_len};
+ghost use Rattle.std.specs.Prelude.{◌≡◌, ◌+◌, ◌-◌, ◌*◌, ◌<◌, ◌≤◌, ◌^◌, ◌↔◌, ◌∷◌, ◌++◌, ℕ, Bool, List, length, map, nat_lt, replicate, true, Ok, Some, None};
+ghost use Rattle.std.specs.List.{AllPass, list_all, range_with_len};
 ghost use Rattle.std.specs.Ordering.{nat_cmp};
 ghost use Rattle.std.specs.Str.{IsAscii};
 ghost use Rattle.std.specs.declared.cmp.Ordering.TheVariants.{Equal};
 ghost use Rattle.std.specs.declared.fmt.Alignment.TheVariants.{Right};
 ghost use Rattle.base62.specs.Alphabet.{IsAlphabet, AreLetters, digit_of, zero_letter, standard, alternative};
 ghost use Rattle.base62.specs.Value.{value};
-ghost use Rattle.base62.specs.Canonical.{Denotes, IsCanonical};
+ghost use Rattle.base62.specs.Canonical.{Denotes, IsCanonical, CanonicalFits};
 ghost use Rattle.base62.specs.Decoding.{decoding};
 ghost use Rattle.base62.specs.Case.{exchange_case};
 ghost use Rattle.base62.specs.Fixed.{IsFixed};
@@ -40,8 +40,8 @@ pub fn alphabets_by_computing()
         → IsAlphabet letters }
 {}
 
-/// Over any alphabet each number below 2^128 has a canonical text, and only one, of 1 to 22 letters. A text of letters is the canonical text
-/// of its value exactly where it has one letter, or more of which the first is not the zero letter.
+/// Over any alphabet each number below 2^128 has a canonical text, and only one, of 1 to 22 letters; that of a number
+/// below 62^k has at most k, for k from 1 on. A text of letters is the canonical text of its value exactly where it has one letter, or more of which the first is not the zero letter.
 pub fn one_text()
     ensures exists { (B : List ℕ) → IsAlphabet B → (n : ℕ) → n < 2 ^ 128
         → (text : List ℕ) × IsCanonical B text n }
@@ -49,6 +49,7 @@ pub fn one_text()
         → IsCanonical B a n → IsCanonical B b n → a ≡ b }
     ensures lengths { (B : List ℕ) → IsAlphabet B → (n : ℕ) → n < 2 ^ 128 → (text : List ℕ)
         → IsCanonical B text n → (1 ≤ length text) × (length text ≤ 22) }
+    ensures within { (B : List ℕ) → IsAlphabet B → (k n : ℕ) → 0 < k → n < 62 ^ k → CanonicalFits B n k }
     ensures which { (B : List ℕ) → IsAlphabet B → (text : List ℕ) → AreLetters B text
         → (IsCanonical B text (value B text) ↔ HasNoNeedlessZero B text) }
 {}
@@ -73,6 +74,23 @@ pub fn round_trip()
     ensures unshared { (B text : List ℕ) (m n : ℕ)
         → IsCanonical B text m → IsCanonical B text n → m ≡ n }
 {}
+
+/// Over any alphabet decoding answers a number exactly where the text denotes it and it is below 2^128.
+pub fn decoded_numbers()
+    ensures { (B : List ℕ) → IsAlphabet B → (text : List ℕ) (n : ℕ)
+        → (decoding B text ≡ Ok n ↔ (Denotes B text n × (n < 2 ^ 128))) }
+{}
+
+/// What is told of decoding over all texts, of one text, so that a caller's proof finds it.
+pub fn decoding_of(alphabet: &Alphabet, text: &[u8])
+    ensures number { (n : ℕ) → (decoding alphabet.now text.now ≡ Ok n ↔ (Denotes alphabet.now text.now n × (n < 2 ^ 128))) }
+    ensures canonical { (n : ℕ) → decoding alphabet.now text.now ≡ Ok n
+        → (IsCanonical alphabet.now text.now n ↔ HasNoNeedlessZero alphabet.now text.now) }
+    ensures tells { AnswerTells alphabet.now text.now }
+{
+    // Its contract says that they are an alphabet.
+    let _ = alphabet.letters();
+}
 
 /// Over any alphabet decoding accepts exactly the nonempty texts of letters of a value below 2^128, and the
 /// canonical text of that value is the text without its leading zeros. A fault that names a byte names the
@@ -156,6 +174,11 @@ pub fn fronts()
         → (least ≤ greatest) × ((n : ℕ) → (IsInInterval B w front n ↔ ((least ≤ n) × (n ≤ greatest)))) }
     ensures between { (B : List ℕ) → IsAlphabet B → Ascends B → (w : ℕ) (front : List ℕ) (least greatest : ℕ)
         → BeginsTextsOf B w front least greatest → BeginsTextsBetween B w front least greatest }
+{}
+
+/// What a test tells of each byte of an alphabet holds of each letter of a text.
+pub fn letters_of_a_kind()
+    ensures { (B text : List ℕ) (p : ℕ → Bool) → AllPass p B → AreLetters B text → AllPass p text }
 {}
 
 /// The built-in alphabets are ASCII, and over an alphabet that is, so is each text of letters. A text of ASCII that

@@ -81,14 +81,23 @@ pub fn decoded_numbers()
         → (decoding B text ≡ Ok n ↔ (Denotes B text n × (n < 2 ^ 128))) }
 {}
 
-/// What is told of decoding over all texts, of one text, so that a caller's proof finds it.
-pub fn decoding_of(alphabet: &Alphabet, text: &[u8])
-    ensures number { (n : ℕ) → (decoding alphabet.now text.now ≡ Ok n ↔ (Denotes alphabet.now text.now n × (n < 2 ^ 128))) }
-    ensures canonical { (n : ℕ) → decoding alphabet.now text.now ≡ Ok n
-        → (IsCanonical alphabet.now text.now n ↔ HasNoNeedlessZero alphabet.now text.now) }
-    ensures tells { AnswerTells alphabet.now text.now }
+/// The same of one text and one number, which a caller's proof finds, and where the text is canonical for the number.
+pub fn number_of_text(alphabet: &Alphabet, text: &[u8], number: u128)
+    ensures decoded { decoding alphabet.now text.now ≡ Ok number ↔ Denotes alphabet.now text.now number }
+    ensures canonical { IsCanonical alphabet.now text.now number
+        ↔ (decoding alphabet.now text.now ≡ Ok number × HasNoNeedlessZero alphabet.now text.now) }
 {
     // Its contract says that they are an alphabet.
+    let _ = alphabet.letters();
+}
+
+/// Two canonical texts are the same exactly where their numbers are.
+pub fn texts_of_two(alphabet: &Alphabet, first: &[u8], second: &[u8], m: u128, n: u128)
+    ensures texts { IsCanonical alphabet.now first.now m → IsCanonical alphabet.now second.now n
+        → m ≡ n → first.now ≡ second.now }
+    ensures numbers { IsCanonical alphabet.now first.now m → IsCanonical alphabet.now second.now n
+        → first.now ≡ second.now → m ≡ n }
+{
     let _ = alphabet.letters();
 }
 
@@ -99,6 +108,13 @@ pub fn decoding_of(alphabet: &Alphabet, text: &[u8])
 pub fn accepted_and_refused()
     ensures { (B : List ℕ) → IsAlphabet B → (text : List ℕ) → AnswerTells B text }
 {}
+
+/// The same of one text.
+pub fn decoding_of_text(alphabet: &Alphabet, text: &[u8])
+    ensures { AnswerTells alphabet.now text.now }
+{
+    let _ = alphabet.letters();
+}
 
 /// Over any alphabet a text of number m followed by one of k letters and number n denotes m * 62^k + n, or
 /// overflows where that is 2^128 or more.

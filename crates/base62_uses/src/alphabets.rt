@@ -58,6 +58,7 @@ fn code_alphabet() -> Alphabet
 /// The code of an id, in which no digit or letter looks like another. It never fails.
 pub fn code(id: u64, buf: &mut [u8; 22]) -> &[u8]
     ensures text { IsCanonical code_letters result.now id }
+    ensures back { decoding code_letters result.now ≡ Ok id }
     ensures clear { AllPass is_clear result.now }
 {
     let len = base62::encode_bytes_with(&code_alphabet(), id, buf).unwrap();
@@ -77,8 +78,6 @@ pub fn code_id(code: &[u8]) -> Option<u64>
 pub fn id_of_own_code(id: u64) -> Option<u64>
     ensures { result ≡ Some id }
 {
-    base62::laws::round_trip();
-    let _ = code_alphabet();
     let mut buf = [0u8; 22];
     code_id(code(id, &mut buf))
 }
@@ -103,11 +102,11 @@ pub fn own_text(alloc: Global, letters: [u8; 62], id: u64) -> Result<Option<Stri
 pub fn key_over(alphabet: &Alphabet, number: u128) -> [u8; 22]
     ensures { IsKey alphabet.now result number }
 {
-    base62::laws::keys();
+    base62::laws::fixed_widths();
     let zero = alphabet.letters()[0];
     let mut key = [zero; 22];
-    let len = base62::encode_bytes_with(alphabet, number, &mut key).unwrap();
-    key.rotate_right(22 - len);
+    let places = 22 - base62::digit_count(number);
+    base62::encode_bytes_with(alphabet, number, &mut key[places..]).unwrap();
     key
 }
 

@@ -34,6 +34,7 @@ pub use uuids::{short_uuid, uuid_of_own_short, uuid_of_short};
 /// The text of the short link for a row's id. It never fails.
 pub fn link_text(id: u64, buf: &mut [u8; 22]) -> &[u8]
     ensures text { IsCanonical standard result.now id }
+    ensures back { decoding standard result.now ≡ Ok id }
     ensures short { length result.now ≤ 22 }
 {
     let len = base62::encode_bytes(id, buf).unwrap();
@@ -42,8 +43,8 @@ pub fn link_text(id: u64, buf: &mut [u8; 22]) -> &[u8]
 
 /// The id that a link's text names. `None` says that the text names no number, or none below 2^64.
 pub fn link_id(text: &[u8]) -> Option<u64>
-    ensures { (id : ℕ) → id < 2 ^ 64
-        → ((result ≡ Some id) ↔ (decoding standard text.now ≡ Ok id)) }
+    ensures named { (id : ℕ) → id < 2 ^ 64 → decoding standard text.now ≡ Ok id → result ≡ Some id }
+    ensures names { (id : ℕ) → result ≡ Some id → decoding standard text.now ≡ Ok id }
 {
     let number = base62::decode(text).ok()?;
     u64::try_from(number).ok()
@@ -53,8 +54,6 @@ pub fn link_id(text: &[u8]) -> Option<u64>
 pub fn id_of_own_link(id: u64) -> Option<u64>
     ensures { result ≡ Some id }
 {
-    base62::laws::built_in_alphabets();
-    base62::laws::round_trip();
     let mut buf = [0u8; 22];
     link_id(link_text(id, &mut buf))
 }

@@ -57,11 +57,14 @@ place_compares x u y v w p q = elim (cases_order x y) [
 
 -- one number is at most another exactly where they compare so
 at_most_iff : (m n : ℕ) → (IsTrue (is_le (nat_cmp m n)) ↔ (m ≤ n))
-at_most_iff m n = (le_from_is_le m n, λ h. elim (cases_order m n) [
-  | inl e ↦ ap is_le (compared m n Equal e)
-  | inr (inl less) ↦ ap is_le (compared m n Less less)
-  | inr (inr more) ↦ absurd (omega arith)
-])
+at_most_iff m n = (
+  le_from_is_le m n,
+  λ h. elim (cases_order m n) [
+    | inl e ↦ ap is_le (compared m n Equal e)
+    | inr (inl less) ↦ ap is_le (compared m n Less less)
+    | inr (inr more) ↦ absurd (omega arith)
+  ],
+)
 
 module _ (B : List ℕ) (ok : IsAlphabet B) where
   -- the letters of an alphabet are distinct, so they ascend where they do not fall

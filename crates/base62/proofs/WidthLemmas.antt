@@ -1,17 +1,20 @@
 -- Texts of a fixed number of letters: a number has one exactly where so many letters hold it, and has only one, which decodes to it.
-use Rattle.std.proofs.Common.{◌≡◌, ℕ, zero, suc, ◌+◌, ◌-◌, ◌^◌, ◌<◌, ◌≤◌, ◌↔◌, List, [], ◌++◌, length, take, drop, replicate, Ok, refl, sym, ap, ◌∙◌, arith}
+use Rattle.std.proofs.Common.{◌≡◌, ℕ, zero, suc, ◌+◌, ◌-◌, ◌^◌, ◌<◌, ◌≤◌, ◌↔◌, List, [], ◌++◌, length, take, drop, replicate, Result, Ok, Err, refl, sym, ap, ◌∙◌, arith}
 use borrow.Rule.Slice.PartMut.{post_of}
-use Rattle.std.proofs.lemmas.List.{append-nil, take-replicate, drop_all, length-append, length-drop, length-replicate, length-take-le}
+use Rattle.std.proofs.lemmas.Bool.{false≢true}
+use Rattle.std.proofs.lemmas.List.{append-nil, take-replicate, take_all, drop_all, length-append, length-drop, length-replicate, length-take-le}
 use Rattle.std.proofs.lemmas.List.Elements.{All-append, All-replicate}
+use Rattle.base62.specs.declared.fault.EncodeError.{EncodeError}
 use Rattle.base62.specs.Alphabet.{IsAlphabet, AreLetters, zero_letter}
 use Rattle.base62.specs.Value.{value}
-use Rattle.base62.specs.Canonical.{Denotes, CanonicalFits}
+use Rattle.base62.specs.Canonical.{Denotes, CanonicalFits, DigitCount}
 use Rattle.base62.specs.Fixed.{fixed, IsFixed}
 use Rattle.base62.specs.Decoding.{decoding}
+use Rattle.base62.specs.Encoding.{EncodesInto}
 use Rattle.base62.specs.Laws.{without_zeros}
 use Rattle.base62.proofs.AlphabetLemmas.{IsLetter, is_letter-letter}
 use Rattle.base62.proofs.ValueLemmas.{value-lt, same_text}
-use Rattle.base62.proofs.FixedLemmas.{length-fixed, denotes-fixed}
+use Rattle.base62.proofs.FixedLemmas.{length-fixed, denotes-fixed, letters_exact}
 use Rattle.base62.proofs.AnswerLemmas.{decoding-denotes, without_zeros_canonical}
 use Rattle.base62.proofs.WritingLemmas.{places_from, put_from}
 use Rattle.base62.proofs.ZeroLemmas.{value_front}
@@ -86,3 +89,19 @@ module _ (B : List ℕ) (ok : IsAlphabet B) where
       let front : take v (zeros w) ≡ zeros v = take-replicate v w (zero_letter B) (omega arith) in
       let whole : put_from v (zeros w) part ≡ zeros v ++ part = rw (none, append-nil, front) refl in
       rw whole (filled part w n v denotes (omega (arith, size)))
+
+  -- an encoding into as many places as the number has letters takes them all
+  whole : (n count : ℕ) (before part : List ℕ) (answer : Result ℕ EncodeError) → EncodesInto B n before part answer
+      → DigitCount n count → length before ≡ count → length part ≡ count → Denotes B part n
+  whole n count before part (Ok len) into has room size =
+      let exact = letters_exact n count has B (take len part) ok into.text.1 in
+      let all : take len part ≡ part = take_all len part (omega (arith, into.text.0, exact, size, length-take-le len part into.text.0)) in
+      rw all at into.text.1.denotes
+  whole n count before part (Err e) into has room size =
+      let text = has B ok in absurd (false≢true (into.fits.1 (text.0, text.1, omega (arith, text.2, room))))
+
+  pub zeros_and_text : (n count w : ℕ) (front before part : List ℕ) (answer : Result ℕ EncodeError) → front ≡ zeros (length front)
+      → EncodesInto B n before part answer → DigitCount n count → length before ≡ count → length part ≡ count → length front + count ≡ w
+      → IsFixed B w (front ++ part) n
+  zeros_and_text n count w front before part answer is into has room size total =
+      rw is (filled part w n (length front) (whole n count before part answer into has room size) (omega (arith, size, total)))

@@ -1,6 +1,6 @@
 //! What follows from the definitions alone. No call here takes part in a run.
 
-ghost use Rattle.std.specs.Prelude.{◌≡◌, ◌+◌, ◌-◌, ◌*◌, ◌<◌, ◌≤◌, ◌^◌, ◌↔◌, ◌∷◌, ◌++◌, ℕ, Bool, List, length, map, nat_lt, replicate, true, Ok, Some, None};
+ghost use Rattle.std.specs.Prelude.{◌≡◌, ◌+◌, ◌-◌, ◌*◌, ◌<◌, ◌≤◌, ◌^◌, ◌↔◌, ◌∷◌, ◌++◌, ℕ, Bool, List, length, map, nat_lt, replicate, true, Result, Ok, Some, None};
 ghost use Rattle.std.specs.List.{AllPass, list_all, range_with_len};
 ghost use Rattle.std.specs.Ordering.{nat_cmp};
 ghost use Rattle.std.specs.Str.{IsAscii};
@@ -8,12 +8,13 @@ ghost use Rattle.std.specs.declared.cmp.Ordering.TheVariants.{Equal};
 ghost use Rattle.std.specs.declared.fmt.Alignment.TheVariants.{Right};
 ghost use Rattle.base62.specs.Alphabet.{IsAlphabet, AreLetters, digit_of, zero_letter, standard, alternative};
 ghost use Rattle.base62.specs.Value.{value};
-ghost use Rattle.base62.specs.Canonical.{Denotes, IsCanonical, CanonicalFits};
+ghost use Rattle.base62.specs.Canonical.{Denotes, IsCanonical, CanonicalFits, DigitCount};
 ghost use Rattle.base62.specs.Decoding.{decoding};
 ghost use Rattle.base62.specs.Case.{exchange_case};
+ghost use Rattle.base62.specs.Encoding.{EncodesInto};
 ghost use Rattle.base62.specs.Fixed.{IsFixed};
-ghost use Rattle.base62.specs.Key.{BeginsWith, BeginsTextsOf, BeginsTextsBetween, IsInInterval, interval_ends};
-ghost use Rattle.base62.specs.Order.{lexicographic_order, shortlex_order, Ascends};
+ghost use Rattle.base62.specs.Key.{BeginsWith, BeginsTextsOf, BeginsTextsBetween, IsInInterval, interval_ends, range_of};
+ghost use Rattle.base62.specs.Order.{lexicographic_order, IsNotAfter, shortlex_order, Ascends};
 ghost use Rattle.base62.specs.Laws.{HasNoNeedlessZero, AnswerTells, number_or_overflow, one_place_on, without_zeros};
 ghost use Rattle.base62.specs.Fault.{alphabet_error_order, decode_error_order};
 ghost use Rattle.base62.specs.Padding.{padded_to};
@@ -50,8 +51,10 @@ pub fn one_text()
     ensures lengths { (B : List ℕ) → IsAlphabet B → (n : ℕ) → n < 2 ^ 128 → (text : List ℕ)
         → IsCanonical B text n → (1 ≤ length text) × (length text ≤ 22) }
     ensures within { (B : List ℕ) → IsAlphabet B → (k n : ℕ) → 0 < k → n < 62 ^ k → CanonicalFits B n k }
-    ensures which { (B : List ℕ) → IsAlphabet B → (text : List ℕ) → AreLetters B text
-        → (IsCanonical B text (value B text) ↔ HasNoNeedlessZero B text) }
+    ensures plain { (B : List ℕ) → IsAlphabet B → (text : List ℕ) (n : ℕ)
+        → Denotes B text n → HasNoNeedlessZero B text → IsCanonical B text n }
+    ensures needless { (B : List ℕ) → IsAlphabet B → (text : List ℕ) (n : ℕ)
+        → IsCanonical B text n → HasNoNeedlessZero B text }
 {}
 
 /// A text without needless zeros is the only canonical text of the number that decoding gives for it. Where text and
@@ -77,19 +80,13 @@ pub fn round_trip()
 
 /// Over any alphabet decoding answers a number exactly where the text denotes it and it is below 2^128.
 pub fn decoded_numbers()
-    ensures { (B : List ℕ) → IsAlphabet B → (text : List ℕ) (n : ℕ)
-        → (decoding B text ≡ Ok n ↔ (Denotes B text n × (n < 2 ^ 128))) }
+    ensures decoded { (B : List ℕ) → IsAlphabet B → (text : List ℕ) (n : ℕ)
+        → Denotes B text n → n < 2 ^ 128 → decoding B text ≡ Ok n }
+    ensures denotes { (B : List ℕ) → IsAlphabet B → (text : List ℕ) (n : ℕ)
+        → decoding B text ≡ Ok n → Denotes B text n }
+    ensures bounded { (B : List ℕ) → IsAlphabet B → (text : List ℕ) (n : ℕ)
+        → decoding B text ≡ Ok n → n < 2 ^ 128 }
 {}
-
-/// The same of one text and one number, which a caller's proof finds, and where the text is canonical for the number.
-pub fn number_of_text(alphabet: &Alphabet, text: &[u8], number: u128)
-    ensures decoded { decoding alphabet.now text.now ≡ Ok number ↔ Denotes alphabet.now text.now number }
-    ensures canonical { IsCanonical alphabet.now text.now number
-        ↔ (decoding alphabet.now text.now ≡ Ok number × HasNoNeedlessZero alphabet.now text.now) }
-{
-    // Its contract says that they are an alphabet.
-    let _ = alphabet.letters();
-}
 
 /// Two canonical texts are the same exactly where their numbers are.
 pub fn texts_of_two(alphabet: &Alphabet, first: &[u8], second: &[u8], m: u128, n: u128)
@@ -98,6 +95,7 @@ pub fn texts_of_two(alphabet: &Alphabet, first: &[u8], second: &[u8], m: u128, n
     ensures numbers { IsCanonical alphabet.now first.now m → IsCanonical alphabet.now second.now n
         → first.now ≡ second.now → m ≡ n }
 {
+    // Its contract says that they are an alphabet.
     let _ = alphabet.letters();
 }
 
@@ -108,13 +106,6 @@ pub fn texts_of_two(alphabet: &Alphabet, first: &[u8], second: &[u8], m: u128, n
 pub fn accepted_and_refused()
     ensures { (B : List ℕ) → IsAlphabet B → (text : List ℕ) → AnswerTells B text }
 {}
-
-/// The same of one text.
-pub fn decoding_of_text(alphabet: &Alphabet, text: &[u8])
-    ensures { AnswerTells alphabet.now text.now }
-{
-    let _ = alphabet.letters();
-}
 
 /// Over any alphabet a text of number m followed by one of k letters and number n denotes m * 62^k + n, or
 /// overflows where that is 2^128 or more.
@@ -158,6 +149,18 @@ pub fn fixed_widths()
         → IsFixed B w (replicate (w - length text) (zero_letter B) ++ text) n }
 {}
 
+/// What is encoded into as many places as the number has letters, behind zero letters, is its text of so many letters.
+pub fn zeros_in_front(alphabet: &Alphabet, zeros: &[u8], text: &[u8], number: u128)
+    ensures { (before : List ℕ) (answer : Result ℕ EncodeError) (count w : ℕ)
+        → zeros.now ≡ replicate (length zeros.now) (zero_letter alphabet.now)
+        → EncodesInto alphabet.now number before text.now answer → DigitCount number count
+        → length before ≡ count → length text.now ≡ count → length zeros.now + count ≡ w
+        → IsFixed alphabet.now w (zeros.now ++ text.now) number }
+{
+    // Its contract says that they are an alphabet.
+    let _ = alphabet.letters();
+}
+
 /// Over an alphabet whose letters ascend by byte, as the standard ones do, texts of letters of one length
 /// compare by their bytes as their values, and so texts of w letters as their numbers. Canonical texts compare as
 /// their numbers where the shorter comes first and texts of one length go by their bytes.
@@ -191,6 +194,34 @@ pub fn fronts()
     ensures between { (B : List ℕ) → IsAlphabet B → Ascends B → (w : ℕ) (front : List ℕ) (least greatest : ℕ)
         → BeginsTextsOf B w front least greatest → BeginsTextsBetween B w front least greatest }
 {}
+
+/// Over an alphabet that ascends, a text of so many letters begins with a front exactly where it stands from the text
+/// of the least to the text of the greatest number of the front's range, and its value is below 2^128.
+pub fn scan_of_front(
+    alphabet: &Alphabet,
+    width: usize,
+    front: &[u8],
+    ends: (u128, u128),
+    low: &[u8],
+    text: &[u8],
+    high: &[u8],
+)
+    ensures from { Ascends alphabet.now → range_of alphabet.now width front.now ≡ Ok (Some ends)
+        → IsFixed alphabet.now width low.now ends.0 → IsFixed alphabet.now width high.now ends.1
+        → length text.now ≡ width → AreLetters alphabet.now text.now → value alphabet.now text.now < 2 ^ 128
+        → BeginsWith front.now text.now → IsNotAfter low.now text.now }
+    ensures to { Ascends alphabet.now → range_of alphabet.now width front.now ≡ Ok (Some ends)
+        → IsFixed alphabet.now width low.now ends.0 → IsFixed alphabet.now width high.now ends.1
+        → length text.now ≡ width → AreLetters alphabet.now text.now → value alphabet.now text.now < 2 ^ 128
+        → BeginsWith front.now text.now → IsNotAfter text.now high.now }
+    ensures taken { Ascends alphabet.now → range_of alphabet.now width front.now ≡ Ok (Some ends)
+        → IsFixed alphabet.now width low.now ends.0 → IsFixed alphabet.now width high.now ends.1
+        → length text.now ≡ width → AreLetters alphabet.now text.now → value alphabet.now text.now < 2 ^ 128
+        → IsNotAfter low.now text.now → IsNotAfter text.now high.now → BeginsWith front.now text.now }
+{
+    // Its contract says that they are an alphabet.
+    let _ = alphabet.letters();
+}
 
 /// What a test tells of each byte of an alphabet holds of each letter of a text.
 pub fn letters_of_a_kind()

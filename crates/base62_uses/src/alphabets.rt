@@ -61,14 +61,15 @@ pub fn code(id: u64, buf: &mut [u8; 22]) -> &[u8]
     ensures back { decoding code_letters result.now ≡ Ok id }
     ensures clear { AllPass is_clear result.now }
 {
+    base62::laws::letters_of_a_kind();
     let len = base62::encode_bytes_with(&code_alphabet(), id, buf).unwrap();
     &buf[..len]
 }
 
 /// The id that a code names. `None` says that it names no number, or none below 2^64.
 pub fn code_id(code: &[u8]) -> Option<u64>
-    ensures { (id : ℕ) → id < 2 ^ 64
-        → ((result ≡ Some id) ↔ (decoding code_letters code.now ≡ Ok id)) }
+    ensures named { (id : ℕ) → id < 2 ^ 64 → decoding code_letters code.now ≡ Ok id → result ≡ Some id }
+    ensures names { (id : ℕ) → result ≡ Some id → decoding code_letters code.now ≡ Ok id }
 {
     let number = base62::decode_with(&code_alphabet(), code).ok()?;
     u64::try_from(number).ok()
@@ -102,11 +103,8 @@ pub fn own_text(alloc: Global, letters: [u8; 62], id: u64) -> Result<Option<Stri
 pub fn key_over(alphabet: &Alphabet, number: u128) -> [u8; 22]
     ensures { IsKey alphabet.now result number }
 {
-    base62::laws::fixed_widths();
-    let zero = alphabet.letters()[0];
-    let mut key = [zero; 22];
-    let places = 22 - base62::digit_count(number);
-    base62::encode_bytes_with(alphabet, number, &mut key[places..]).unwrap();
+    let mut key = [0u8; 22];
+    crate::columns::put_fixed(alphabet, number, &mut key);
     key
 }
 

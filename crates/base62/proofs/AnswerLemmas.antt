@@ -141,7 +141,7 @@ module _ (B : List ℕ) (ok : IsAlphabet B) where
       rw same at (canonical_of_value B ok r letters (some, inr (rest_first B text some)))
 
   -- a text without its needless zeros is canonical
-  without_zeros_canonical : (text : List ℕ) (n : ℕ) → Denotes B text n → IsCanonical B (without_zeros B text) n
+  pub without_zeros_canonical : (text : List ℕ) (n : ℕ) → Denotes B text n → IsCanonical B (without_zeros B text) n
   without_zeros_canonical text n denotes = cond_both _ _ _ (λ xs. IsCanonical B xs n)
       (λ t. zero_canonical text n denotes (eqb-true _ _ t))
       (λ f. rest_canonical text n denotes (omega (arith, eqb-false (length (rest B text)) 0 f)))

@@ -1,5 +1,5 @@
 -- The answer of encoding into a buffer.
-use Rattle.std.proofs.Common.{◌≡◌, ℕ, ◌+◌, ◌<◌, ◌≤◌, List, length, take, Ok, Err, refl, arith}
+use Rattle.std.proofs.Common.{◌≡◌, ℕ, ◌+◌, ◌^◌, ◌<◌, ◌≤◌, List, length, take, Ok, Err, refl, arith}
 use Rattle.std.proofs.lemmas.Bool.{false≢true}
 use Rattle.base62.specs.declared.fault.EncodeError.TheVariants.{BufferTooSmall}
 use Rattle.base62.specs.Alphabet.{IsAlphabet}
@@ -7,11 +7,12 @@ use Rattle.base62.specs.Canonical.{IsCanonical, DigitCount}
 use Rattle.base62.specs.Fixed.{fixed, WritesFixed}
 use Rattle.base62.specs.Steps.{EncodesCounted, encoding_steps}
 use Rattle.base62.proofs.FixedLemmas.{length-fixed, has_letters_some, letters_exact, canonical_has}
+use Rattle.base62.proofs.AnswerLemmas.{decoding-denotes}
 use Rattle.base62.proofs.WritingLemmas.{written_front, written_rest, written_length}
 use Rattle.base62.proofs.StepsLemmas.{most_steps}
 
 -- a number of so many letters
-module _ (B : List ℕ) (ok : IsAlphabet B) (n count : ℕ) (has : DigitCount n count) (few : count ≤ 22) where
+module _ (B : List ℕ) (ok : IsAlphabet B) (n count : ℕ) (small : n < 2 ^ 128) (has : DigitCount n count) (few : count ≤ 22) where
   -- where they fit, they are written
   pub encodes : (old new : List ℕ) (before after : ℕ) → count ≤ length old → WritesFixed B count n old new → after ≡ before + encoding_steps count → EncodesCounted B n old new before after (Ok count)
   encodes old new before after room writes steps =
@@ -21,6 +22,7 @@ module _ (B : List ℕ) (ok : IsAlphabet B) (n count : ℕ) (has : DigitCount n 
         answer = record {
           fits = (λ _. (fixed B count n, canonical, omega (arith, length-fixed B count n)), λ _. refl);
           text = (omega (arith, written_length B count n old new writes room), rw text canonical);
+          back = rw text (decoding-denotes B ok n small (fixed B count n) canonical.denotes);
           others = written_rest B count n old new writes;
           short = (has_letters_some B ok n count has, few);
           refused = tt;
@@ -36,6 +38,7 @@ module _ (B : List ℕ) (ok : IsAlphabet B) (n count : ℕ) (has : DigitCount n 
     answer = record {
       fits = (λ e. absurd (false≢true e), λ fits. absurd (omega (arith, letters_exact B ok n count has fits.0 fits.1, fits.2)));
       text = tt;
+      back = tt;
       others = tt;
       short = tt;
       refused = refl;

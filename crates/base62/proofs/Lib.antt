@@ -1,6 +1,7 @@
 pub mod ComputedLemmas
 pub mod PlacesLemmas
 pub mod AlphabetLemmas
+pub mod LetterLemmas
 pub mod TableLemmas
 pub mod TableFillLemmas
 pub mod ValueLemmas
@@ -20,7 +21,7 @@ pub mod CaseLemmas
 pub mod OverflowLemmas
 pub mod AnswerLemmas
 pub mod ZeroLemmas
-pub mod KeyLemmas
+pub mod WidthLemmas
 pub mod OrderLemmas
 pub mod FrontLemmas
-pub mod KeyCodeLemmas
+pub mod RangeLemmas

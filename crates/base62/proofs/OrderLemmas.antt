@@ -1,19 +1,18 @@
 -- Texts over an alphabet whose letters ascend compare as the numbers that they denote.
-use Rattle.std.proofs.Common.{Bool, true, false, Ordering, ◌≡◌, ◌≢◌, ◌↔◌, ℕ, ◌+◌, ◌-◌, ◌*◌, ◌^◌, ◌<◌, ◌≤◌, ltb, List, [], ◌∷◌, length, get_or, refl, sym, ◌∙◌, inl, inr, arith}
-use Rattle.std.specs.Prelude.{MatchBool}
+use Rattle.std.proofs.Common.{Bool, true, false, Ordering, ◌≡◌, ◌↔◌, ℕ, ◌+◌, ◌-◌, ◌*◌, ◌^◌, ◌<◌, ◌≤◌, ltb, List, [], ◌∷◌, length, get_or, refl, sym, ap, ◌∙◌, inl, inr, arith}
+use Rattle.std.specs.Prelude.{IsTrue, MatchBool}
 use Rattle.std.specs.List.Sorted.{IsNonDecreasing}
-use Rattle.std.specs.Ordering.{nat_cmp, ordering_then, MatchOrdering}
+use Rattle.std.specs.Ordering.{is_le, nat_cmp, ordering_then, MatchOrdering}
 use Rattle.std.specs.Cmp.{nat_cmp_is}
 use Rattle.std.specs.declared.cmp.Ordering.TheVariants.{Less, Equal, Greater}
 use Rattle.std.proofs.Math.Nat.{mul-le-mul_right}
-use Rattle.std.proofs.lemmas.Bool.{agree_below, agree_below_at, cases_lt, cases_order, ltb-true}
-use Rattle.std.proofs.lemmas.Cmp.{ranked}
+use Rattle.std.proofs.lemmas.Bool.{agree_below, agree_below_at, cases_order, ltb-true}
 use Rattle.std.proofs.lemmas.List.Elements.{All-head, All-tail}
-use Rattle.std.proofs.lemmas.Map.Keys.{sorted_from_strictly_increasing, below_from_sorted}
+use Rattle.std.proofs.lemmas.Map.Keys.{le_from_is_le, sorted_from_strictly_increasing, below_from_sorted}
 use Rattle.base62.specs.Alphabet.{IsAlphabet, AreLetters, standard, is_letter}
 use Rattle.base62.specs.Value.{value, digit_or_zero}
 use Rattle.base62.specs.Canonical.{IsCanonical}
-use Rattle.base62.specs.Key.{IsKey}
+use Rattle.base62.specs.Fixed.{IsFixed}
 use Rattle.base62.specs.Order.{lexicographic_order, IsNotAfter, shortlex_order, Ascends}
 use Rattle.base62.proofs.AlphabetLemmas.{IsLetter, letter-digit_of, digit_of-is, same_letter}
 use Rattle.base62.proofs.ValueLemmas.{value-cons, value-lt, value-lt_most}
@@ -31,19 +30,6 @@ ascends_by B all d h = ltb-true _ _ (agree_below_at (rises B) (λ d. true) 61 d 
 pub standard_ascends : Ascends standard
 unfolding standard
 standard_ascends = ascends_by standard refl
-
--- the letters of an alphabet are distinct, so they ascend where they do not fall
-pub ascends_where_sorted : (B : List ℕ) (r : Bool) → IsAlphabet B
-    → MatchBool r (IsNonDecreasing B) ((k : ℕ) × (k + 1 < length B) × ((d : ℕ) → get_or B (k + 1) d < get_or B k d)) → (r ≡ true) ↔ Ascends B
-ascends_where_sorted B true ok steps =
-    let above : Ascends B = λ d h. elim (cases_order (get_or B d 0) (get_or B (d + 1) 0)) [
-      | inl e ↦ let same : d ≡ d + 1 = ok.distinct d (d + 1) (omega arith) (omega arith) e in omega (arith, same)
-      | inr (inl less) ↦ less
-      | inr (inr greater) ↦ let most = steps d (d + 1) 0 (omega arith) (omega (arith, h, ok.size)) in omega (arith, most, greater)
-    ] in
-    (λ _. above, λ _. refl)
-ascends_where_sorted B false ok falls =
-    (λ e. cc, λ ascends. absurd (let above = ascends falls.0 (omega (arith, falls.1, ok.size)) in omega (arith, above, falls.2 0)))
 
 -- what a comparison of two numbers answers
 compared : (m n : ℕ) (answer : Ordering) → MatchOrdering answer (m < n) (m ≡ n) (n < m) → nat_cmp m n ≡ answer
@@ -69,63 +55,82 @@ place_compares x u y v w p q = elim (cases_order x y) [
   | inr (inr h) ↦ rw (compared x y Greater h) (compared _ _ Greater (place-lt y v x u w h q))
 ]
 
--- a later letter of an alphabet that ascends is a greater byte
-later_greater : (B : List ℕ) → IsAlphabet B → Ascends B → (i j : ℕ) → i < j → j < 62 → get_or B i 0 < get_or B j 0
-later_greater B ok up i j more inside =
-    below_from_sorted B i j 0 (sorted_from_strictly_increasing B (λ d h. up d (omega (arith, ok.size)))) more (omega (arith, ok.size))
+-- one number is at most another exactly where they compare so
+at_most_iff : (m n : ℕ) → (IsTrue (is_le (nat_cmp m n)) ↔ (m ≤ n))
+at_most_iff m n = (
+  le_from_is_le m n,
+  λ h. elim (cases_order m n) [
+    | inl e ↦ ap is_le (compared m n Equal e)
+    | inr (inl less) ↦ ap is_le (compared m n Less less)
+    | inr (inr more) ↦ absurd (omega arith)
+  ],
+)
 
--- a letter of a greater digit is a greater byte
-greater_letter : (B : List ℕ) → IsAlphabet B → Ascends B → (x y : ℕ) → is_letter B x ≡ true → is_letter B y ≡ true → digit_or_zero B x < digit_or_zero B y → x < y
-greater_letter B ok up x y p q more =
-    let at = letter-digit_of B x _ (digit_of-is B x p) in
-    let bt = letter-digit_of B y _ (digit_of-is B y q) in
-    let less = later_greater B ok up (digit_or_zero B x) (digit_or_zero B y) more (omega (arith, bt.0, ok.size)) in
-    omega (arith, at.1, bt.1)
+module _ (B : List ℕ) (ok : IsAlphabet B) where
+  -- the letters of an alphabet are distinct, so they ascend where they do not fall
+  pub ascends_where_sorted : (r : Bool)
+      → MatchBool r (IsNonDecreasing B) ((k : ℕ) × (k + 1 < length B) × ((d : ℕ) → get_or B (k + 1) d < get_or B k d)) → (r ≡ true) ↔ Ascends B
+  ascends_where_sorted true steps =
+      let above : Ascends B = λ d h. elim (cases_order (get_or B d 0) (get_or B (d + 1) 0)) [
+        | inl e ↦ let same : d ≡ d + 1 = ok.distinct d (d + 1) (omega arith) (omega arith) e in omega (arith, same)
+        | inr (inl less) ↦ less
+        | inr (inr greater) ↦ let most = steps d (d + 1) 0 (omega arith) (omega (arith, h, ok.size)) in omega (arith, most, greater)
+      ] in
+      (λ _. above, λ _. refl)
+  ascends_where_sorted false falls =
+      (λ e. cc, λ ascends. absurd (let above = ascends falls.0 (omega (arith, falls.1, ok.size)) in omega (arith, above, falls.2 0)))
 
--- letters compare as their digits
-letters_compare : (B : List ℕ) → IsAlphabet B → Ascends B → (x y : ℕ) → is_letter B x ≡ true → is_letter B y ≡ true → nat_cmp x y ≡ nat_cmp (digit_or_zero B x) (digit_or_zero B y)
-letters_compare B ok up x y p q =
-    compared_alike (digit_or_zero B x) (digit_or_zero B y) x y (greater_letter B ok up x y p q) (same_letter B x y p q) (greater_letter B ok up y x q p)
+  -- the shorter of two canonical texts has the smaller number
+  shorter-lt : (a b : List ℕ) (m n : ℕ) → IsCanonical B a m → IsCanonical B b n → length a < length b → m < n
+  shorter-lt a b m n p q less = elim (needs_each B ok b q.denotes.letters (no_needless_zero B ok b n q)) [
+    | inl one ↦ absurd (omega (arith, p.denotes.nonempty))
+    | inr weighs ↦ let below = value-lt_most B ok a (length b - 1) (omega arith) in omega (arith, p.denotes.value_is, q.denotes.value_is)
+  ]
 
--- texts of one length compare by their bytes as their values
-pub texts_compare : (B : List ℕ) → IsAlphabet B → Ascends B → (a b : List ℕ) → AreLetters B a → AreLetters B b → length a ≡ length b → lexicographic_order a b ≡ nat_cmp (value B a) (value B b)
-texts_compare B ok up [] [] p q len = sym (compared (value B []) (value B []) Equal refl)
-texts_compare B ok up [] (y ∷ ys) p q len = absurd (omega arith)
-texts_compare B ok up (x ∷ xs) [] p q len = absurd (omega arith)
-texts_compare B ok up (x ∷ xs) (y ∷ ys) p q len =
-    let tails : length xs ≡ length ys = omega arith in
-    let first = letters_compare B ok up x y (All-head (IsLetter B) x xs p) (All-head (IsLetter B) y ys q) in
-    let later = texts_compare B ok up xs ys (All-tail (IsLetter B) x xs p) (All-tail (IsLetter B) y ys q) tails in
-    let places = place_compares (digit_or_zero B x) (value B xs) (digit_or_zero B y) (value B ys) (62 ^ length xs) (value-lt B ok xs) (rw tails (value-lt B ok ys)) in
-    rw (value-cons B x xs, value-cons B y ys, ← tails, places, first, later)
+  module _ (up : Ascends B) where
+    -- a later letter of an alphabet that ascends is a greater byte
+    later_greater : (i j : ℕ) → i < j → j < 62 → get_or B i 0 < get_or B j 0
+    later_greater i j more inside =
+        below_from_sorted B i j 0 (sorted_from_strictly_increasing B (λ d h. up d (omega (arith, ok.size)))) more (omega (arith, ok.size))
 
--- keys compare by their bytes as their numbers
-pub keys_compare : (B : List ℕ) → IsAlphabet B → Ascends B → (a b : List ℕ) (m n : ℕ) → IsKey B a m → IsKey B b n → lexicographic_order a b ≡ nat_cmp m n
-keys_compare B ok up a b m n p q =
-    rw (p.denotes.value_is, q.denotes.value_is) at (texts_compare B ok up a b p.denotes.letters q.denotes.letters (p.size ∙ sym q.size))
+    -- a letter of a greater digit is a greater byte
+    greater_letter : (x y : ℕ) → is_letter B x ≡ true → is_letter B y ≡ true → digit_or_zero B x < digit_or_zero B y → x < y
+    greater_letter x y p q more =
+        let at = letter-digit_of B x _ (digit_of-is B x p) in
+        let bt = letter-digit_of B y _ (digit_of-is B y q) in
+        let less = later_greater (digit_or_zero B x) (digit_or_zero B y) more (omega (arith, bt.0, ok.size)) in
+        omega (arith, at.1, bt.1)
 
--- the shorter of two canonical texts has the smaller number
-shorter-lt : (B : List ℕ) → IsAlphabet B → (a b : List ℕ) (m n : ℕ) → IsCanonical B a m → IsCanonical B b n → length a < length b → m < n
-shorter-lt B ok a b m n p q less = elim (needs_each B ok b q.denotes.letters (no_needless_zero B ok b n q)) [
-  | inl one ↦ absurd (omega (arith, p.denotes.nonempty))
-  | inr weighs ↦ let below = value-lt_most B ok a (length b - 1) (omega arith) in omega (arith, p.denotes.value_is, q.denotes.value_is)
-]
+    -- letters compare as their digits
+    letters_compare : (x y : ℕ) → is_letter B x ≡ true → is_letter B y ≡ true → nat_cmp x y ≡ nat_cmp (digit_or_zero B x) (digit_or_zero B y)
+    letters_compare x y p q =
+        compared_alike (digit_or_zero B x) (digit_or_zero B y) x y (greater_letter x y p q) (same_letter B x y p q) (greater_letter y x q p)
 
--- canonical texts compare as their numbers where the shorter comes first
-pub canonical_compare : (B : List ℕ) → IsAlphabet B → Ascends B → (a b : List ℕ) (m n : ℕ) → IsCanonical B a m → IsCanonical B b n → shortlex_order a b ≡ nat_cmp m n
-canonical_compare B ok up a b m n p q = elim (cases_order (length a) (length b)) [
-  | inl e ↦ rw (compared (length a) (length b) Equal e) (rw (p.denotes.value_is, q.denotes.value_is) at (texts_compare B ok up a b p.denotes.letters q.denotes.letters e))
-  | inr (inl h) ↦ rw (compared (length a) (length b) Less h) (sym (compared m n Less (shorter-lt B ok a b m n p q h)))
-  | inr (inr h) ↦ rw (compared (length a) (length b) Greater h) (sym (compared m n Greater (shorter-lt B ok b a n m q p h)))
-]
+    -- texts of one length compare by their bytes as their values
+    pub texts_compare : (a b : List ℕ) → AreLetters B a → AreLetters B b → length a ≡ length b → lexicographic_order a b ≡ nat_cmp (value B a) (value B b)
+    texts_compare [] [] p q len = sym (compared (value B []) (value B []) Equal refl)
+    texts_compare [] (y ∷ ys) p q len = absurd (omega arith)
+    texts_compare (x ∷ xs) [] p q len = absurd (omega arith)
+    texts_compare (x ∷ xs) (y ∷ ys) p q len =
+        let tails : length xs ≡ length ys = omega arith in
+        let first = letters_compare x y (All-head (IsLetter B) x xs p) (All-head (IsLetter B) y ys q) in
+        let later = texts_compare xs ys (All-tail (IsLetter B) x xs p) (All-tail (IsLetter B) y ys q) tails in
+        let places = place_compares (digit_or_zero B x) (value B xs) (digit_or_zero B y) (value B ys) (62 ^ length xs) (value-lt B ok xs) (rw tails (value-lt B ok ys)) in
+        rw (value-cons B x xs, value-cons B y ys, ← tails, places, first, later)
 
--- one number is at most another exactly where they do not compare as greater
-at_most_iff : (m n : ℕ) → ((nat_cmp m n ≢ Greater) ↔ (m ≤ n))
-at_most_iff m n = elim (cases_lt n m) [
-  | inl more ↦ (λ h. absurd (h (compared m n Greater more)), λ h. absurd (omega arith))
-  | inr less ↦ (λ h. less, λ h e. let more : n < m = ranked m n Greater (sym e) in absurd (omega arith))
-]
+    -- texts of w letters compare by their bytes as their numbers
+    pub fixed_compare : (w : ℕ) (a b : List ℕ) (m n : ℕ) → IsFixed B w a m → IsFixed B w b n → lexicographic_order a b ≡ nat_cmp m n
+    fixed_compare w a b m n p q =
+        rw (p.denotes.value_is, q.denotes.value_is) at (texts_compare a b p.denotes.letters q.denotes.letters (p.size ∙ sym q.size))
 
--- one key is before another, or is the same, exactly where its number is at most the other's
-pub not_after_iff : (B : List ℕ) → IsAlphabet B → Ascends B → (a b : List ℕ) (m n : ℕ) → IsKey B a m → IsKey B b n → (IsNotAfter a b ↔ (m ≤ n))
-not_after_iff B ok up a b m n p q = rw (keys_compare B ok up a b m n p q) (at_most_iff m n)
+    -- canonical texts compare as their numbers where the shorter comes first
+    pub canonical_compare : (a b : List ℕ) (m n : ℕ) → IsCanonical B a m → IsCanonical B b n → shortlex_order a b ≡ nat_cmp m n
+    canonical_compare a b m n p q = elim (cases_order (length a) (length b)) [
+      | inl e ↦ rw (compared (length a) (length b) Equal e) (rw (p.denotes.value_is, q.denotes.value_is) at (texts_compare a b p.denotes.letters q.denotes.letters e))
+      | inr (inl h) ↦ rw (compared (length a) (length b) Less h) (sym (compared m n Less (shorter-lt a b m n p q h)))
+      | inr (inr h) ↦ rw (compared (length a) (length b) Greater h) (sym (compared m n Greater (shorter-lt b a n m q p h)))
+    ]
+
+    -- one is before another, or is the same, exactly where its number is at most the other's
+    pub not_after_iff : (w : ℕ) (a b : List ℕ) (m n : ℕ) → IsFixed B w a m → IsFixed B w b n → (IsNotAfter a b ↔ (m ≤ n))
+    not_after_iff w a b m n p q = rw (fixed_compare w a b m n p q) (at_most_iff m n)

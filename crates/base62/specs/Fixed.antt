@@ -1,5 +1,11 @@
 -- Texts of a fixed number of letters, and the writing of one.
-use Rattle.std.specs.Prelude.{◌≡◌, ℕ, zero, suc, ◌/◌, ◌%◌, List, [], ◌∷◌, ◌++◌, drop, slice_index}
+use Rattle.std.specs.Prelude.{◌≡◌, ℕ, zero, suc, ◌/◌, ◌%◌, List, [], ◌∷◌, ◌++◌, length, drop, slice_index}
+use Rattle.base62.specs.Canonical.{Denotes}
+
+-- a text of exactly w letters that denotes n
+pub record IsFixed (B : List ℕ) (w : ℕ) (text : List ℕ) (n : ℕ) : Type 0 where
+  pub size : length text ≡ w
+  pub denotes : Denotes B text n
 
 -- the text of exactly w letters for the last w digits of n, with zeros in front where n has fewer
 unfoldable pub fixed : List ℕ → ℕ → ℕ → List ℕ

@@ -1,9 +1,8 @@
 -- Orders of texts.
-use Rattle.std.specs.Prelude.{◌≢◌, ℕ, ◌+◌, ◌<◌, List, length, slice_index}
-use Rattle.std.specs.Ordering.{nat_cmp, ordering_then}
+use Rattle.std.specs.Prelude.{ℕ, ◌+◌, ◌<◌, IsTrue, List, length, slice_index}
+use Rattle.std.specs.Ordering.{is_le, nat_cmp, ordering_then}
 use Rattle.std.specs.Cmp.Lexicographic.{slice_cmp}
 use Rattle.std.specs.declared.cmp.Ordering.{Ordering}
-use Rattle.std.specs.declared.cmp.Ordering.TheVariants.{Greater}
 
 -- byte order: at the first place where two texts differ the lesser byte decides, and a proper beginning is less
 abbrev pub lexicographic_order : List ℕ → List ℕ → Ordering
@@ -11,7 +10,7 @@ lexicographic_order a b = slice_cmp nat_cmp a b
 
 -- one text is before another in byte order, or is the same
 abbrev pub IsNotAfter : List ℕ → List ℕ → Type 0
-IsNotAfter a b = lexicographic_order a b ≢ Greater
+IsNotAfter a b = IsTrue (is_le (lexicographic_order a b))
 
 -- length-first order: the shorter text is less, and texts of one length go by byte order
 abbrev pub shortlex_order : List ℕ → List ℕ → Ordering

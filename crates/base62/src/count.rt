@@ -1,6 +1,6 @@
 //! How many letters a number takes.
 
-ghost use Rattle.std.specs.Prelude.{◌≡◌, ◌≤◌, ◌^◌, ℕ, List, length};
+ghost use Rattle.std.specs.Prelude.{◌≡◌, ◌<◌, ◌≤◌, ◌^◌, ℕ, List, length};
 ghost use Rattle.base62.specs.declared.count.TheConstants.{MAX_DIGITS};
 ghost use Rattle.base62.specs.Alphabet.{IsAlphabet};
 ghost use Rattle.base62.specs.Canonical.{IsCanonical, DigitCount};
@@ -23,6 +23,7 @@ pub const MAX_DIGITS: usize = 22;
 pub fn digit_count(n: u128) -> usize
     ensures counted { DigitCount n result }
     ensures exact { (B text : List ℕ) → IsAlphabet B → IsCanonical B text n → length text ≡ result }
+    ensures within { (k : ℕ) → 0 < k → n < 62 ^ k → result ≤ k }
     ensures least { 1 ≤ result }
     ensures most { result ≤ MAX_DIGITS }
 {

@@ -2,7 +2,7 @@
 
 ghost use Rattle.std.specs.Prelude.{◌≡◌, ◌↔◌, ◌<◌, ℕ, List, length, Ok, Err, Some, None, IsOk, OnOk, IfErr};
 ghost use Rattle.base62.specs.Alphabet.{AreLetters, standard};
-ghost use Rattle.base62.specs.Key.{IsKey, BeginsNoKey, BeginsKeysOf, BeginsKeysBetween, interval_ends, range_of};
+ghost use Rattle.base62.specs.Key.{IsKey, BeginsNone, BeginsTextsOf, BeginsTextsBetween, interval_ends, range_of};
 ghost use Rattle.base62.specs.Value.{value};
 ghost use Rattle.base62.specs.Decoding.{IsFirstInvalid};
 ghost use Rattle.base62.specs.declared.fault.DecodeError.TheVariants.{InvalidBase62Byte};
@@ -48,24 +48,24 @@ pub fn encode_key<T: Number>(num: T) -> [u8; 22]
 /// assert_eq!(rt; base62::key_range(b"8"), Ok(None));
 /// ```
 pub fn key_range(front: &[u8]) -> Result<Option<(u128, u128)>, DecodeError>
-    ensures exact { result ≡ range_of standard front.now }
+    ensures exact { result ≡ range_of standard 22 front.now }
     ensures accepted { IsOk result ↔ AreLetters standard front.now }
     ensures named { (byte index : ℕ) → result ≡ Err (InvalidBase62Byte byte index)
         → IsFirstInvalid standard front.now byte index }
     ensures none { AreLetters standard front.now
-        → (result ≡ Ok None ↔ BeginsNoKey standard front.now) }
+        → (result ≡ Ok None ↔ BeginsNone standard 22 front.now) }
     ensures ends { (least greatest : ℕ) → result ≡ Ok (Some (least, greatest))
-        → BeginsKeysOf standard front.now least greatest }
+        → BeginsTextsOf standard 22 front.now least greatest }
     ensures scan { (least greatest : ℕ) → result ≡ Ok (Some (least, greatest))
-        → BeginsKeysBetween standard front.now least greatest }
+        → BeginsTextsBetween standard 22 front.now least greatest }
 {
     range_found(front)
 }
 
 // The range alone, of which the clauses of the public call follow.
-#[tactic(auto, using(crate::proofs::KeyCodeLemmas::range_computed))]
+#[tactic(auto, using(crate::proofs::RangeLemmas::range_computed))]
 fn range_found(front: &[u8]) -> Result<Option<(u128, u128)>, DecodeError>
-    ensures { result ≡ range_of standard front.now }
+    ensures { result ≡ range_of standard 22 front.now }
 {
     // 62^22 is no u128, so the empty front, with which all keys begin, stands apart.
     if front.is_empty() {
@@ -85,7 +85,7 @@ fn range_found(front: &[u8]) -> Result<Option<(u128, u128)>, DecodeError>
 // The ends of the interval of a front of that value and length, if it has any.
 fn ends_of(number: u128, len: usize) -> Option<(u128, u128)>
     requires { 0 < len }
-    ensures { (front : List ℕ) → length front ≡ len → value standard front ≡ number → result ≡ interval_ends standard front }
+    ensures { (front : List ℕ) → length front ≡ len → value standard front ≡ number → result ≡ interval_ends standard 22 front }
 {
     if len > KEY_LEN {
         return None;
@@ -99,7 +99,7 @@ fn ends_of(number: u128, len: usize) -> Option<(u128, u128)>
 }
 
 // Refuses a front that has a byte which is no letter, and names the first.
-#[tactic(auto, using(crate::proofs::KeyCodeLemmas::letters_alone))]
+#[tactic(auto, using(crate::proofs::RangeLemmas::letters_alone))]
 fn check_letters(front: &[u8]) -> Result<(), DecodeError>
     ensures ok { OnOk result (AreLetters standard front.now) }
     ensures err { IfErr result (λ e. (byte index : ℕ) × (e ≡ InvalidBase62Byte byte index)

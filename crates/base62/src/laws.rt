@@ -1,7 +1,7 @@
 //! What follows from the definitions alone. No call here takes part in a run.
 
-ghost use Rattle.std.specs.Prelude.{◌≡◌, ◌+◌, ◌-◌, ◌*◌, ◌<◌, ◌≤◌, ◌^◌, ◌↔◌, [], ◌∷◌, ◌++◌, ℕ, List, length, map, nat_lt, replicate, true, Ok, Some, None};
-ghost use Rattle.std.specs.List.{list_all, range_with_len};
+ghost use Rattle.std.specs.Prelude.{◌≡◌, ◌+◌, ◌-◌, ◌*◌, ◌<◌, ◌≤◌, ◌^◌, ◌↔◌, [], ◌∷◌, ◌++◌, ℕ, Bool, List, length, map, nat_lt, replicate, true, Result, Ok, Some, None};
+ghost use Rattle.std.specs.List.{AllPass, list_all, range_with_len};
 ghost use Rattle.std.specs.Ordering.{nat_cmp};
 ghost use Rattle.std.specs.Str.{IsAscii};
 ghost use Rattle.std.specs.declared.cmp.Ordering.TheVariants.{Equal};
@@ -9,11 +9,13 @@ ghost use Rattle.std.specs.declared.fmt.Alignment.TheVariants.{Right};
 ghost use Rattle.base62.specs.Alphabet.{IsAlphabet, AreLetters, digit_of, zero_letter, standard, alternative};
 ghost use Rattle.base62.specs.Places.{sum_over_places};
 ghost use Rattle.base62.specs.Value.{value};
-ghost use Rattle.base62.specs.Canonical.{Denotes, IsCanonical};
+ghost use Rattle.base62.specs.Canonical.{Denotes, IsCanonical, CanonicalFits, DigitCount};
 ghost use Rattle.base62.specs.Decoding.{decoding};
 ghost use Rattle.base62.specs.Case.{exchange_case};
-ghost use Rattle.base62.specs.Key.{IsKey, BeginsWith, IsInInterval, interval_ends};
-ghost use Rattle.base62.specs.Order.{lexicographic_order, shortlex_order, Ascends};
+ghost use Rattle.base62.specs.Encoding.{EncodesInto};
+ghost use Rattle.base62.specs.Fixed.{IsFixed};
+ghost use Rattle.base62.specs.Key.{BeginsWith, BeginsTextsOf, BeginsTextsBetween, IsInInterval, interval_ends, range_of};
+ghost use Rattle.base62.specs.Order.{lexicographic_order, IsNotAfter, shortlex_order, Ascends};
 ghost use Rattle.base62.specs.Laws.{HasNoNeedlessZero, AnswerTells, number_or_overflow, one_place_on, without_zeros};
 ghost use Rattle.base62.specs.Fault.{alphabet_error_order, decode_error_order};
 ghost use Rattle.base62.specs.Padding.{padded_to};
@@ -40,8 +42,8 @@ pub fn alphabets_by_computing()
         → IsAlphabet letters }
 {}
 
-/// Over any alphabet each number below 2^128 has a canonical text, and only one, of 1 to 22 letters. A text of letters is the canonical text
-/// of its value exactly where it has one letter, or more of which the first is not the zero letter.
+/// Over any alphabet each number below 2^128 has a canonical text, and only one, of 1 to 22 letters; that of a number
+/// below 62^k has at most k, for k from 1 on. A text of letters is the canonical text of its value exactly where it has one letter, or more of which the first is not the zero letter.
 pub fn one_text()
     ensures exists { (B : List ℕ) → IsAlphabet B → (n : ℕ) → n < 2 ^ 128
         → (text : List ℕ) × IsCanonical B text n }
@@ -49,8 +51,11 @@ pub fn one_text()
         → IsCanonical B a n → IsCanonical B b n → a ≡ b }
     ensures lengths { (B : List ℕ) → IsAlphabet B → (n : ℕ) → n < 2 ^ 128 → (text : List ℕ)
         → IsCanonical B text n → (1 ≤ length text) × (length text ≤ 22) }
-    ensures which { (B : List ℕ) → IsAlphabet B → (text : List ℕ) → AreLetters B text
-        → (IsCanonical B text (value B text) ↔ HasNoNeedlessZero B text) }
+    ensures within { (B : List ℕ) → IsAlphabet B → (k n : ℕ) → 0 < k → n < 62 ^ k → CanonicalFits B n k }
+    ensures plain { (B : List ℕ) → IsAlphabet B → (text : List ℕ) (n : ℕ)
+        → Denotes B text n → HasNoNeedlessZero B text → IsCanonical B text n }
+    ensures needless { (B : List ℕ) → IsAlphabet B → (text : List ℕ) (n : ℕ)
+        → IsCanonical B text n → HasNoNeedlessZero B text }
 {}
 
 /// A text without needless zeros is the only canonical text of the number that decoding gives for it. Where text and
@@ -73,6 +78,27 @@ pub fn round_trip()
     ensures unshared { (B text : List ℕ) (m n : ℕ)
         → IsCanonical B text m → IsCanonical B text n → m ≡ n }
 {}
+
+/// Over any alphabet decoding answers a number exactly where the text denotes it and it is below 2^128.
+pub fn decoded_numbers()
+    ensures decoded { (B : List ℕ) → IsAlphabet B → (text : List ℕ) (n : ℕ)
+        → Denotes B text n → n < 2 ^ 128 → decoding B text ≡ Ok n }
+    ensures denotes { (B : List ℕ) → IsAlphabet B → (text : List ℕ) (n : ℕ)
+        → decoding B text ≡ Ok n → Denotes B text n }
+    ensures bounded { (B : List ℕ) → IsAlphabet B → (text : List ℕ) (n : ℕ)
+        → decoding B text ≡ Ok n → n < 2 ^ 128 }
+{}
+
+/// Two canonical texts are the same exactly where their numbers are.
+pub fn texts_of_two(alphabet: &Alphabet, first: &[u8], second: &[u8], m: u128, n: u128)
+    ensures texts { IsCanonical alphabet.now first.now m → IsCanonical alphabet.now second.now n
+        → m ≡ n → first.now ≡ second.now }
+    ensures numbers { IsCanonical alphabet.now first.now m → IsCanonical alphabet.now second.now n
+        → first.now ≡ second.now → m ≡ n }
+{
+    // Its contract says that they are an alphabet.
+    let _ = alphabet.letters();
+}
 
 /// Over any alphabet decoding accepts exactly the nonempty texts of letters of a value below 2^128, and the
 /// canonical text of that value is the text without its leading zeros. A fault that names a byte names the
@@ -108,50 +134,99 @@ pub fn exchange_of_case()
         → decoding alternative text ≡ decoding standard (exchange_case text) }
 {}
 
-/// Over any alphabet each number below 62^22 has a key, and only one. Decoding gives back the number below 2^128
-/// of its key. A shorter text of a number is its key once zero letters in front fill it up.
-#[tactic(auto, using(crate::proofs::KeyLemmas::some_key, crate::proofs::KeyLemmas::one_key, crate::proofs::KeyLemmas::key_decodes))]
-pub fn keys()
-    ensures exists { (B : List ℕ) → IsAlphabet B → (n : ℕ) → n < 62 ^ 22
-        → (key : List ℕ) × IsKey B key n }
-    ensures only { (B : List ℕ) → IsAlphabet B → (n : ℕ) (a b : List ℕ)
-        → IsKey B a n → IsKey B b n → a ≡ b }
-    ensures decoded { (B : List ℕ) → IsAlphabet B → (n : ℕ) → n < 2 ^ 128 → (key : List ℕ)
-        → IsKey B key n → decoding B key ≡ Ok n }
-    ensures filled_up { (B : List ℕ) → IsAlphabet B → (n : ℕ) (text : List ℕ)
-        → Denotes B text n → length text ≤ 22
-        → IsKey B (replicate (22 - length text) (zero_letter B) ++ text) n }
+/// Over any alphabet a number has a text of exactly w letters, for w from 1 on, exactly where it is below 62^w, and
+/// only one. Decoding gives back the number below 2^128 of that text. A shorter text of a number is that text once
+/// zero letters in front fill it up. Keys are these texts for w = 22.
+#[tactic(auto, using(crate::proofs::WidthLemmas::one_fixed, crate::proofs::WidthLemmas::fixed_decodes))]
+pub fn fixed_widths()
+    ensures exists { (B : List ℕ) → IsAlphabet B → (w n : ℕ) → 0 < w
+        → (((text : List ℕ) × IsFixed B w text n) ↔ (n < 62 ^ w)) }
+    ensures only { (B : List ℕ) → IsAlphabet B → (w n : ℕ) (a b : List ℕ)
+        → IsFixed B w a n → IsFixed B w b n → a ≡ b }
+    ensures decoded { (B : List ℕ) → IsAlphabet B → (w n : ℕ) → n < 2 ^ 128 → (text : List ℕ)
+        → IsFixed B w text n → decoding B text ≡ Ok n }
+    ensures filled_up { (B : List ℕ) → IsAlphabet B → (w n : ℕ) (text : List ℕ)
+        → Denotes B text n → length text ≤ w
+        → IsFixed B w (replicate (w - length text) (zero_letter B) ++ text) n }
 {}
 
+/// What is encoded into as many places as the number has letters, behind zero letters, is its text of so many letters.
+pub fn zeros_in_front(alphabet: &Alphabet, zeros: &[u8], text: &[u8], number: u128)
+    ensures { (before : List ℕ) (answer : Result ℕ EncodeError) (count w : ℕ)
+        → zeros.now ≡ replicate (length zeros.now) (zero_letter alphabet.now)
+        → EncodesInto alphabet.now number before text.now answer → DigitCount number count
+        → length before ≡ count → length text.now ≡ count → length zeros.now + count ≡ w
+        → IsFixed alphabet.now w (zeros.now ++ text.now) number }
+{
+    // Its contract says that they are an alphabet.
+    let _ = alphabet.letters();
+}
+
 /// Over an alphabet whose letters ascend by byte, as the standard ones do, texts of letters of one length
-/// compare by their bytes as their values, and so keys compare as their numbers. Canonical texts compare as
+/// compare by their bytes as their values, and so texts of w letters as their numbers. Canonical texts compare as
 /// their numbers where the shorter comes first and texts of one length go by their bytes.
-#[tactic(auto, using(crate::proofs::OrderLemmas::standard_ascends, crate::proofs::OrderLemmas::texts_compare, crate::proofs::OrderLemmas::keys_compare, crate::proofs::OrderLemmas::canonical_compare))]
+#[tactic(auto, using(crate::proofs::OrderLemmas::standard_ascends, crate::proofs::OrderLemmas::texts_compare, crate::proofs::OrderLemmas::fixed_compare, crate::proofs::OrderLemmas::canonical_compare))]
 pub fn order_of_texts()
     ensures standard { Ascends standard }
     ensures one_length { (B : List ℕ) → IsAlphabet B → Ascends B → (a b : List ℕ)
         → AreLetters B a → AreLetters B b → length a ≡ length b
         → lexicographic_order a b ≡ nat_cmp (value B a) (value B b) }
-    ensures keys { (B : List ℕ) → IsAlphabet B → Ascends B → (a b : List ℕ) (m n : ℕ)
-        → IsKey B a m → IsKey B b n → lexicographic_order a b ≡ nat_cmp m n }
+    ensures fixed { (B : List ℕ) → IsAlphabet B → Ascends B → (w : ℕ) (a b : List ℕ) (m n : ℕ)
+        → IsFixed B w a m → IsFixed B w b n → lexicographic_order a b ≡ nat_cmp m n }
     ensures canonical { (B : List ℕ) → IsAlphabet B → Ascends B → (a b : List ℕ) (m n : ℕ)
         → IsCanonical B a m → IsCanonical B b n → shortlex_order a b ≡ nat_cmp m n }
 {}
 
-/// Over any alphabet a front of a key is at most 22 letters. The key of a number below 2^128 begins with a front of
-/// at most 22 letters exactly where the number is in the front's interval. The numbers from the one end of an
-/// interval to the other are those in it, and there are no ends exactly where it is empty.
+/// Over any alphabet a front of a text of w letters is at most w letters. The text of w letters of a number below
+/// 2^128 begins with a front of at most w letters exactly where the number is in the front's interval. The numbers
+/// from the one end of an interval to the other are those in it, and there are no ends exactly where it is empty.
+/// Where letters ascend, the texts that begin with the front are those between the texts of the ends.
 pub fn fronts()
-    ensures letters { (B front key : List ℕ) (n : ℕ) → IsKey B key n → BeginsWith front key
-        → AreLetters B front × (length front ≤ 22) }
-    ensures begins { (B : List ℕ) → IsAlphabet B → (front key : List ℕ) (n : ℕ) → n < 2 ^ 128
-        → AreLetters B front → length front ≤ 22 → IsKey B key n
-        → (BeginsWith front key ↔ IsInInterval B front n) }
-    ensures none { (B : List ℕ) → IsAlphabet B → (front : List ℕ) → AreLetters B front
-        → (interval_ends B front ≡ None ↔ ((n : ℕ) → IsInInterval B front n → ⊥)) }
-    ensures ends { (B : List ℕ) → IsAlphabet B → (front : List ℕ) (least greatest : ℕ) → AreLetters B front
-        → interval_ends B front ≡ Some (least, greatest)
-        → (least ≤ greatest) × ((n : ℕ) → (IsInInterval B front n ↔ ((least ≤ n) × (n ≤ greatest)))) }
+    ensures letters { (B : List ℕ) → IsAlphabet B → (w : ℕ) (front text : List ℕ) (n : ℕ)
+        → IsFixed B w text n → BeginsWith front text → AreLetters B front × (length front ≤ w) }
+    ensures begins { (B : List ℕ) → IsAlphabet B → (w : ℕ) (front text : List ℕ) (n : ℕ) → n < 2 ^ 128
+        → AreLetters B front → IsFixed B w text n
+        → (BeginsWith front text ↔ IsInInterval B w front n) }
+    ensures none { (B : List ℕ) → IsAlphabet B → (w : ℕ) (front : List ℕ) → AreLetters B front
+        → (interval_ends B w front ≡ None ↔ ((n : ℕ) → IsInInterval B w front n → ⊥)) }
+    ensures ends { (B : List ℕ) → IsAlphabet B → (w : ℕ) (front : List ℕ) (least greatest : ℕ)
+        → AreLetters B front → interval_ends B w front ≡ Some (least, greatest)
+        → (least ≤ greatest) × ((n : ℕ) → (IsInInterval B w front n ↔ ((least ≤ n) × (n ≤ greatest)))) }
+    ensures between { (B : List ℕ) → IsAlphabet B → Ascends B → (w : ℕ) (front : List ℕ) (least greatest : ℕ)
+        → BeginsTextsOf B w front least greatest → BeginsTextsBetween B w front least greatest }
+{}
+
+/// Over an alphabet that ascends, a text of so many letters begins with a front exactly where it stands from the text
+/// of the least to the text of the greatest number of the front's range, and its value is below 2^128.
+pub fn scan_of_front(
+    alphabet: &Alphabet,
+    width: usize,
+    front: &[u8],
+    ends: (u128, u128),
+    low: &[u8],
+    text: &[u8],
+    high: &[u8],
+)
+    ensures from { Ascends alphabet.now → range_of alphabet.now width front.now ≡ Ok (Some ends)
+        → IsFixed alphabet.now width low.now ends.0 → IsFixed alphabet.now width high.now ends.1
+        → length text.now ≡ width → AreLetters alphabet.now text.now → value alphabet.now text.now < 2 ^ 128
+        → BeginsWith front.now text.now → IsNotAfter low.now text.now }
+    ensures to { Ascends alphabet.now → range_of alphabet.now width front.now ≡ Ok (Some ends)
+        → IsFixed alphabet.now width low.now ends.0 → IsFixed alphabet.now width high.now ends.1
+        → length text.now ≡ width → AreLetters alphabet.now text.now → value alphabet.now text.now < 2 ^ 128
+        → BeginsWith front.now text.now → IsNotAfter text.now high.now }
+    ensures taken { Ascends alphabet.now → range_of alphabet.now width front.now ≡ Ok (Some ends)
+        → IsFixed alphabet.now width low.now ends.0 → IsFixed alphabet.now width high.now ends.1
+        → length text.now ≡ width → AreLetters alphabet.now text.now → value alphabet.now text.now < 2 ^ 128
+        → IsNotAfter low.now text.now → IsNotAfter text.now high.now → BeginsWith front.now text.now }
+{
+    // Its contract says that they are an alphabet.
+    let _ = alphabet.letters();
+}
+
+/// What a test tells of each byte of an alphabet holds of each letter of a text.
+pub fn letters_of_a_kind()
+    ensures { (B text : List ℕ) (p : ℕ → Bool) → AllPass p B → AreLetters B text → AllPass p text }
 {}
 
 /// The built-in alphabets are ASCII, and over an alphabet that is, so is each text of letters. A text of ASCII that

@@ -172,15 +172,15 @@ pub fn laws_by_example()
 /// Keys and ranges of fronts; 48 is `0` and 33 is `!`.
 pub fn ranges_by_example()
     ensures key { IsKey standard (replicate 20 48 ++ codes "LZ") 1337 }
-    ensures whole_key { range_of standard (replicate 20 48 ++ codes "LZ") ≡ Ok (Some (1337, 1337)) }
-    ensures all_but_one { range_of standard (replicate 20 48 ++ codes "L") ≡ Ok (Some (1302, 1363)) }
-    ensures no_letter { range_of standard [] ≡ Ok (Some (0, 2 ^ 128 - 1)) }
-    ensures first_zero { range_of standard (codes "0")
+    ensures whole_key { range_of standard 22 (replicate 20 48 ++ codes "LZ") ≡ Ok (Some (1337, 1337)) }
+    ensures all_but_one { range_of standard 22 (replicate 20 48 ++ codes "L") ≡ Ok (Some (1302, 1363)) }
+    ensures no_letter { range_of standard 22 [] ≡ Ok (Some (0, 2 ^ 128 - 1)) }
+    ensures first_zero { range_of standard 22 (codes "0")
         ≡ Ok (Some (0, 43674252383913877424036476406214950911)) }
-    ensures cut_at_the_greatest { range_of standard (codes "7n")
+    ensures cut_at_the_greatest { range_of standard 22 (codes "7n")
         ≡ Ok (Some (340236514539200045093703517809706795008, 2 ^ 128 - 1)) }
-    ensures above { range_of standard (codes "7o") ≡ Ok None }
-    ensures overlong { range_of standard (replicate 23 48) ≡ Ok None }
-    ensures bad_byte { range_of standard (codes "7o!") ≡ Err (InvalidBase62Byte 33 2) }
-    ensures bad_in_overlong { range_of standard (replicate 23 48 ++ 33 ∷ []) ≡ Err (InvalidBase62Byte 33 23) }
+    ensures above { range_of standard 22 (codes "7o") ≡ Ok None }
+    ensures overlong { range_of standard 22 (replicate 23 48) ≡ Ok None }
+    ensures bad_byte { range_of standard 22 (codes "7o!") ≡ Err (InvalidBase62Byte 33 2) }
+    ensures bad_in_overlong { range_of standard 22 (replicate 23 48 ++ 33 ∷ []) ≡ Err (InvalidBase62Byte 33 23) }
 {}

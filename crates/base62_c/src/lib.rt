@@ -154,7 +154,7 @@ pub extern "C" fn base62_key_range(
     byte: &mut u8,
     index: &mut usize,
 ) -> u32
-    ensures { TellsRange (range_of standard front.now) result
+    ensures { TellsRange (range_of standard 22 front.now) result
         (least_high.old, least_low.old) (least_high.new, least_low.new)
         (greatest_high.old, greatest_low.old) (greatest_high.new, greatest_low.new)
         (byte.old, index.old) (byte.new, index.new) }

@@ -58,16 +58,18 @@ fn code_alphabet() -> Alphabet
 /// The code of an id, in which no digit or letter looks like another. It never fails.
 pub fn code(id: u64, buf: &mut [u8; 22]) -> &[u8]
     ensures text { IsCanonical code_letters result.now id }
+    ensures back { decoding code_letters result.now ≡ Ok id }
     ensures clear { AllPass is_clear result.now }
 {
+    base62::laws::letters_of_a_kind();
     let len = base62::encode_bytes_with(&code_alphabet(), id, buf).unwrap();
     &buf[..len]
 }
 
 /// The id that a code names. `None` says that it names no number, or none below 2^64.
 pub fn code_id(code: &[u8]) -> Option<u64>
-    ensures { (id : ℕ) → id < 2 ^ 64
-        → ((result ≡ Some id) ↔ (decoding code_letters code.now ≡ Ok id)) }
+    ensures named { (id : ℕ) → id < 2 ^ 64 → decoding code_letters code.now ≡ Ok id → result ≡ Some id }
+    ensures names { (id : ℕ) → result ≡ Some id → decoding code_letters code.now ≡ Ok id }
 {
     let number = base62::decode_with(&code_alphabet(), code).ok()?;
     u64::try_from(number).ok()
@@ -77,8 +79,6 @@ pub fn code_id(code: &[u8]) -> Option<u64>
 pub fn id_of_own_code(id: u64) -> Option<u64>
     ensures { result ≡ Some id }
 {
-    base62::laws::round_trip();
-    let _ = code_alphabet();
     let mut buf = [0u8; 22];
     code_id(code(id, &mut buf))
 }
@@ -103,11 +103,8 @@ pub fn own_text(alloc: Global, letters: [u8; 62], id: u64) -> Result<Option<Stri
 pub fn key_over(alphabet: &Alphabet, number: u128) -> [u8; 22]
     ensures { IsKey alphabet.now result number }
 {
-    base62::laws::keys();
-    let zero = alphabet.letters()[0];
-    let mut key = [zero; 22];
-    let len = base62::encode_bytes_with(alphabet, number, &mut key).unwrap();
-    key.rotate_right(22 - len);
+    let mut key = [0u8; 22];
+    crate::columns::put_fixed(alphabet, number, &mut key);
     key
 }
 

@@ -43,19 +43,19 @@ pub fn invite_number(code: &[u8], zeros: LeadingZeros) -> Result<u128, InviteFau
         Ok(number) => number,
         Err(fault) => return Err(InviteFault::Text(fault)),
     };
-    if zeros == LeadingZeros::Refused && !is_canonical(code) {
+    if zeros == LeadingZeros::Refused && !is_canonical(code, number) {
         return Err(InviteFault::LeadingZero);
     }
     Ok(number)
 }
 
 // Whether a code of a number is its canonical text.
-fn is_canonical(code: &[u8]) -> bool
-    ensures { (n : ℕ) → decoding standard code.now ≡ Ok n
-        → (IsTrue result ↔ IsCanonical standard code.now n) }
+fn is_canonical(code: &[u8], number: u128) -> bool
+    requires { decoding standard code.now ≡ Ok number }
+    ensures { IsTrue result ↔ IsCanonical standard code.now number }
 {
     base62::laws::built_in_alphabets();
-    base62::laws::accepted_and_refused();
+    base62::laws::decoded_numbers();
     base62::laws::one_text();
     has_no_needless_zero(code)
 }

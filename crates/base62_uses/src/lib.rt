@@ -12,6 +12,7 @@ ghost use Rattle.base62.specs.Decoding.{decoding};
 ghost use Rattle.base62.specs.Key.{IsKey, BeginsWith};
 
 mod alphabets;
+mod columns;
 mod faults;
 mod invites;
 mod literals;
@@ -22,7 +23,8 @@ pub use alphabets::{
     ConfigurationFault, code, code_id, compare_by_keys, configured_alphabet, id_of_own_code,
     key_over, own_text,
 };
-use base62::{DecodeError, Number, Work};
+use base62::{Alphabet, DecodeError, Number, Work};
+pub use columns::{column, put_fixed};
 pub use faults::{complaint, count_fault};
 pub use invites::{InviteFault, LeadingZeros, invite_number};
 pub use literals::{manual_link, manual_number};
@@ -42,8 +44,8 @@ pub fn link_text(id: u64, buf: &mut [u8; 22]) -> &[u8]
 
 /// The id that a link's text names. `None` says that the text names no number, or none below 2^64.
 pub fn link_id(text: &[u8]) -> Option<u64>
-    ensures { (id : ℕ) → id < 2 ^ 64
-        → ((result ≡ Some id) ↔ (decoding standard text.now ≡ Ok id)) }
+    ensures named { (id : ℕ) → id < 2 ^ 64 → decoding standard text.now ≡ Ok id → result ≡ Some id }
+    ensures names { (id : ℕ) → result ≡ Some id → decoding standard text.now ≡ Ok id }
 {
     let number = base62::decode(text).ok()?;
     u64::try_from(number).ok()
@@ -53,10 +55,11 @@ pub fn link_id(text: &[u8]) -> Option<u64>
 pub fn id_of_own_link(id: u64) -> Option<u64>
     ensures { result ≡ Some id }
 {
+    let mut buf = [0u8; 22];
+    let text = link_text(id, &mut buf);
     base62::laws::built_in_alphabets();
     base62::laws::round_trip();
-    let mut buf = [0u8; 22];
-    link_id(link_text(id, &mut buf))
+    link_id(text)
 }
 
 /// The text of a token's number in the alternative alphabet. It never fails.
@@ -78,11 +81,18 @@ pub fn token_number(text: &[u8]) -> Option<u128>
 pub fn links_differ(a: u64, b: u64) -> bool
     ensures { IsTrue result ↔ (a ≢ b) }
 {
-    base62::laws::built_in_alphabets();
-    base62::laws::one_text();
     let mut first = [0u8; 22];
+    let first = link_text(a, &mut first);
     let mut second = [0u8; 22];
-    link_text(a, &mut first) != link_text(b, &mut second)
+    let second = link_text(b, &mut second);
+    base62::laws::texts_of_two(
+        &Alphabet::standard(),
+        first,
+        second,
+        u128::from(a),
+        u128::from(b),
+    );
+    first != second
 }
 
 /// A row with fields of fixed sizes, whose id is the first `id_len` bytes of `id`.
@@ -205,12 +215,13 @@ pub fn is_scanned(front: &[u8], key: &[u8; 22]) -> bool
     ensures { (n : ℕ) → n < 2 ^ 128 → IsKey standard key.now n
         → (IsTrue result ↔ BeginsWith front.now key.now) }
 {
-    base62::laws::fronts();
-    let Ok(Some((least, greatest))) = base62::key_range(front) else {
+    base62::laws::order_of_texts();
+    let Ok(Some(ends)) = base62::key_range(front) else {
         return false;
     };
-    let low = base62::encode_key(least);
-    let high = base62::encode_key(greatest);
+    let low = base62::encode_key(ends.0);
+    let high = base62::encode_key(ends.1);
+    base62::laws::scan_of_front(&Alphabet::standard(), 22, front, ends, &low, key, &high);
     low.cmp(key).is_le() && key.cmp(&high).is_le()
 }
 

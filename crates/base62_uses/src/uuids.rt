@@ -1,8 +1,7 @@
 //! Short forms of UUIDs.
 
-ghost use Rattle.std.specs.Prelude.{◌≡◌, ◌<◌, ℕ, List, length, Some};
+ghost use Rattle.std.specs.Prelude.{◌≡◌, ◌<◌, ◌^◌, ℕ, List, length, slice_index, Some};
 ghost use Rattle.std.specs.Int.{w128, from_be_bytes};
-ghost use Rattle.std.specs.List.{All};
 ghost use Rattle.base62.specs.Alphabet.{standard};
 ghost use Rattle.base62.specs.Canonical.{IsCanonical};
 
@@ -18,7 +17,7 @@ pub fn short_uuid(uuid: [u8; 16], buf: &mut [u8; 22]) -> &[u8]
 pub fn uuid_of_short(text: &[u8]) -> Option<[u8; 16]>
     ensures canonical { (uuid : List ℕ) → result ≡ Some uuid
         → IsCanonical standard text.now (from_be_bytes w128 uuid) }
-    ensures own { (uuid : List ℕ) → length uuid ≡ 16 → All (λ byte. byte < 256) uuid
+    ensures own { (uuid : List ℕ) → length uuid ≡ 16 → ((i : ℕ) → slice_index uuid i < 2 ^ 8)
         → IsCanonical standard text.now (from_be_bytes w128 uuid) → result ≡ Some uuid }
 {
     base62::laws::built_in_alphabets();

@@ -21,3 +21,13 @@ pub returns-else-n-le18446744073709551615-clause-most :
     goal.returns-else-n-le18446744073709551615-clause-most
 returns-else-n-le18446744073709551615-clause-most c =
     has_letters_most standard standard_is_alphabet _ _ c.wide_count.ensures 22 (omega arith) (omega (arith, c.ranges.n.fits))
+
+pub returns-then-n-le18446744073709551615-clause-within :
+    goal.returns-then-n-le18446744073709551615-clause-within
+returns-then-n-le18446744073709551615-clause-within c =
+    λ k some fits. has_letters_most standard standard_is_alphabet _ _ c.narrow_count.ensures k some fits
+
+pub returns-else-n-le18446744073709551615-clause-within :
+    goal.returns-else-n-le18446744073709551615-clause-within
+returns-else-n-le18446744073709551615-clause-within c =
+    λ k some fits. has_letters_most standard standard_is_alphabet _ _ c.wide_count.ensures k some fits

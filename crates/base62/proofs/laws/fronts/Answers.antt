@@ -1,11 +1,17 @@
-use Rattle.base62.proofs.FrontLemmas.{in_interval, begins_with, none_inside, no_ends, ends_are}
+use Rattle.base62.proofs.FrontLemmas.{front_letters, in_interval, begins_with, none_inside, no_ends, ends_are, begins_between}
 use Rattle.base62.proofs.laws.fronts.Goals as goal
 
+pub returns-clause-letters : goal.returns-clause-letters
+returns-clause-letters c = front_letters
+
 pub returns-clause-begins : goal.returns-clause-begins
-returns-clause-begins c = λ B ok front key n small letters short is. (in_interval B ok front key n small short is, begins_with B ok front key n letters is)
+returns-clause-begins c = λ B ok w front text n small letters is. (in_interval B ok w front text n small is, begins_with B ok w front text n letters is)
 
 pub returns-clause-none : goal.returns-clause-none
-returns-clause-none c = λ B ok front letters. (none_inside B front, no_ends B front)
+returns-clause-none c = λ B ok w front letters. (none_inside B ok w front, no_ends B ok w front)
 
 pub returns-clause-ends : goal.returns-clause-ends
-returns-clause-ends c = λ B ok front least greatest letters. ends_are B front least greatest
+returns-clause-ends c = λ B ok w front least greatest letters. ends_are B ok w front least greatest
+
+pub returns-clause-between : goal.returns-clause-between
+returns-clause-between c = λ B ok up w front. begins_between B ok w front up

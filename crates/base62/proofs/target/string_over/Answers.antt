@@ -1,9 +1,10 @@
-use Rattle.std.proofs.Common.{◌≡◌, ℕ, List, ◌++◌, take, drop, append_assoc}
+use Rattle.std.proofs.Common.{◌≡◌, ℕ, ◌^◌, ◌<◌, List, ◌++◌, take, drop, length, append_assoc, arith}
 use Rattle.std.proofs.lemmas.List.{take_at}
 use Rattle.std.proofs.lemmas.Str.{IsUtf8-from_ascii}
 use Rattle.base62.specs.Alphabet.{IsAlphabet}
 use Rattle.base62.specs.Canonical.{IsCanonical, DigitCount}
 use Rattle.base62.specs.Fixed.{fixed, WritesFixed}
+use Rattle.base62.proofs.AnswerLemmas.{decoding-denotes}
 use Rattle.base62.proofs.FixedLemmas.{length-fixed, canonical_has}
 use Rattle.base62.proofs.CanonicalLemmas.{canonical_is_ascii}
 use Rattle.base62.proofs.target.string_over.Goals as goal
@@ -23,5 +24,10 @@ from_utf8_unchecked-requires g c =
 
 pub returns : goal.returns
 returns g c =
-    let text = whole _ c.requires.tables.alphabet _ _ _ _ c.write_text.new.buf _ c.digit_count-count.ensures.counted c.write_text.ensures.written c.in_ok-bytes.ensures.len in
-    rw (c.from_utf8_unchecked.ensures.value, ← c.number-n.ensures) text
+    let new = c.write_text.new.buf in
+    let text = whole c.args.tables.now.letters c.requires.tables.alphabet _ _ _ _ new (drop (length new) c.in_ok-bytes.bytes.items) c.digit_count-count.ensures.counted c.write_text.ensures.written c.in_ok-bytes.ensures.len in
+    let small : c.number-n.result < 2 ^ 128 = omega arith in
+    record {
+      text = rw (c.from_utf8_unchecked.ensures.value, ← c.number-n.ensures) text;
+      back = rw (c.from_utf8_unchecked.ensures.value, ← c.number-n.ensures) (decoding-denotes c.args.tables.now.letters c.requires.tables.alphabet _ small _ text.denotes);
+    }

@@ -17,7 +17,7 @@ by_parts t s u r Equal Greater p q h l = omega arith
 
 pub returns : goal.returns
 returns c =
-    let order = c.order_of_texts.ensures.keys standard c.built_in_alphabets.ensures.standard c.order_of_texts.ensures.standard _ _ _ _ c.timed_key.ensures c.timed_key-2.ensures in
+    let order = c.order_of_texts.ensures.fixed standard c.built_in_alphabets.ensures.standard c.order_of_texts.ensures.standard _ _ _ _ _ c.timed_key.ensures c.timed_key-2.ensures in
     let a = c.args.a in
     let b = c.args.b in
     let parts = by_parts a.milliseconds a.sequence b.milliseconds b.sequence _ _ (search rules) (search rules)

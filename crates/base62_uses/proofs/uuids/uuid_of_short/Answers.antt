@@ -1,8 +1,8 @@
-use Rattle.std.proofs.Common.{◌≡◌, ℕ, zero, suc, ◌+◌, ◌*◌, ◌/◌, ◌%◌, ◌^◌, ◌<◌, List, [], ◌∷◌, length, get_or, Result, Ok, Some, refl, rules, sym, ap, ◌∙◌, subst, arith}
+use Rattle.std.proofs.Common.{◌≡◌, ℕ, zero, suc, ◌+◌, ◌*◌, ◌/◌, ◌%◌, ◌^◌, ◌<◌, List, [], ◌∷◌, length, get_or, slice_index, Result, Ok, Some, refl, rules, sym, ap, ◌∙◌, subst, arith}
 use Rattle.std.specs.Int.{w128, byte_at, bytes_high_first, to_be_bytes, from_be_bytes}
 use Rattle.std.specs.List.{All, AllByRecursion}
 use Rattle.std.proofs.Math.Nat.{pow-suc, div-div-eq-div-mul}
-use Rattle.std.proofs.lemmas.List.Elements.{recursion_from_All}
+use Rattle.std.proofs.lemmas.List.Elements.{All-from_get_or, recursion_from_All}
 use Rattle.std.proofs.lemmas.List.FromFn.{fill_by_all}
 use Rattle.std.proofs.lemmas.Option.{same_Some}
 use Rattle.base62.specs.declared.fault.DecodeError.{DecodeError}
@@ -38,7 +38,10 @@ read_back (b ∷ bs) high small =
 same_number : (answer : Result ℕ DecodeError) (m n : ℕ) → Ok m ≡ answer → answer ≡ Ok n → m ≡ n
 same_number answer m n told is = cc
 
-module _ (uuid : List ℕ) (size : length uuid ≡ 16) (small : All IsByte uuid) where
+module _ (uuid : List ℕ) (size : length uuid ≡ 16) (small_bytes : (i : ℕ) → slice_index uuid i < 2 ^ 8) where
+  small : All IsByte uuid
+  small = All-from_get_or IsByte uuid 0 (λ i h. small_bytes i)
+
   number_is : from_be_bytes w128 uuid ≡ joined 0 uuid
   number_is =
       let parts = ap (joined 0) (fill_by_all (λ k. get_or uuid k 0) uuid 16 0 size (λ k h. refl)) in omega (arith, parts)

@@ -5,4 +5,4 @@ use Rattle.base62.proofs.alphabet.Alphabet.is_ascending.Goals as goal
 pub returns : goal.returns
 returns c =
     let sorted = non_decreasing_from_is_sorted c.args.self.now c.is_sorted.result (rw (← c.self.view_is) c.is_sorted.ensures.cases) in
-    ascends_where_sorted c.args.self.now c.is_sorted.result (rw (← c.self.view_is) c.self.invariant.alphabet) sorted
+    ascends_where_sorted c.args.self.now (rw (← c.self.view_is) c.self.invariant.alphabet) c.is_sorted.result sorted

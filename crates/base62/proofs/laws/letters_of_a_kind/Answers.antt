@@ -1,0 +1,5 @@
+use Rattle.base62.proofs.LetterLemmas.{letters_keep}
+use Rattle.base62.proofs.laws.letters_of_a_kind.Goals as goal
+
+pub returns : goal.returns
+returns c = letters_keep

@@ -24,7 +24,7 @@ pub use alphabets::{
     key_over, own_text,
 };
 use base62::{Alphabet, DecodeError, Number, Work};
-pub use columns::{column, put_fixed};
+pub use columns::{column, is_column_scanned, put_fixed};
 pub use faults::{complaint, count_fault};
 pub use invites::{InviteFault, LeadingZeros, invite_number};
 pub use literals::{manual_link, manual_number};

@@ -1,7 +1,10 @@
 //! Rows by number in columns of 11 letters, over an alphabet of the caller's own.
 
-ghost use Rattle.std.specs.Prelude.{◌≡◌, ◌<◌, ◌^◌, ◌↔◌, ℕ, length, IsTrue};
+ghost use Rattle.std.specs.Prelude.{◌≡◌, ◌<◌, ◌≤◌, ◌^◌, ◌↔◌, ℕ, length, IsTrue, Ok, Some};
+ghost use Rattle.base62.specs.Alphabet.{AreLetters};
 ghost use Rattle.base62.specs.Fixed.{IsFixed};
+ghost use Rattle.base62.specs.Key.{BeginsWith, range_of};
+ghost use Rattle.base62.specs.Order.{Ascends};
 
 use base62::Alphabet;
 
@@ -25,3 +28,47 @@ pub fn column(alphabet: &Alphabet, row: u64) -> [u8; 11]
     put_fixed(alphabet, u128::from(row), &mut column);
     column
 }
+
+/// Whether a scan for the rows whose columns begin with a front takes a column. The scan goes from the column of the
+/// front's least number to that of its greatest.
+pub fn is_column_scanned(alphabet: &Alphabet, front: &[u8], column: &[u8; 11]) -> bool
+    requires ascending { Ascends alphabet.now }
+    requires letters { AreLetters alphabet.now front.now }
+    requires short { length front.now ≤ 11 }
+    ensures { (row : ℕ) → row < 2 ^ 64 → IsFixed alphabet.now 11 column.now row
+        → (IsTrue result ↔ BeginsWith front.now column.now) }
+{
+    let ends = column_range(alphabet, front);
+    let mut low = [0u8; 11];
+    put_fixed(alphabet, ends.0, &mut low);
+    let mut high = [0u8; 11];
+    put_fixed(alphabet, ends.1, &mut high);
+    base62::laws::scan_of_front(alphabet, 11, front, ends, &low, column, &high);
+    low.cmp(column).is_le() && column.cmp(&high).is_le()
+}
+
+// The greatest number of 11 letters.
+const LAST: u128 = 52036560683837093887;
+
+// The least and the greatest number whose column begins with a front.
+fn column_range(alphabet: &Alphabet, front: &[u8]) -> (u128, u128)
+    requires letters { AreLetters alphabet.now front.now }
+    requires short { length front.now ≤ 11 }
+    ensures range { range_of alphabet.now 11 front.now ≡ Ok (Some result) }
+    ensures least { result.0 < 62 ^ 11 }
+    ensures greatest { result.1 < 62 ^ 11 }
+{
+    base62::laws::decoded_numbers();
+    base62::laws::fixed_widths();
+    let _ = alphabet.letters();
+    if front.is_empty() {
+        return (0, LAST);
+    }
+    let number = base62::decode_with(alphabet, front).unwrap();
+    let span = 62u128.pow((11 - front.len()) as u32);
+    let least = number * span;
+    (least, least + (span - 1))
+}
+
+#[cfg(test)]
+mod tests;

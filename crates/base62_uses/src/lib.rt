@@ -24,7 +24,7 @@ pub use alphabets::{
     key_over, own_text,
 };
 use base62::{Alphabet, DecodeError, Number, Work};
-pub use columns::{column, put_fixed};
+pub use columns::{column, is_column_scanned, put_fixed};
 pub use faults::{complaint, count_fault};
 pub use invites::{InviteFault, LeadingZeros, invite_number};
 pub use literals::{manual_link, manual_number};
@@ -55,11 +55,10 @@ pub fn link_id(text: &[u8]) -> Option<u64>
 pub fn id_of_own_link(id: u64) -> Option<u64>
     ensures { result ≡ Some id }
 {
-    let mut buf = [0u8; 22];
-    let text = link_text(id, &mut buf);
     base62::laws::built_in_alphabets();
     base62::laws::round_trip();
-    link_id(text)
+    let mut buf = [0u8; 22];
+    link_id(link_text(id, &mut buf))
 }
 
 /// The text of a token's number in the alternative alphabet. It never fails.

@@ -49,7 +49,7 @@ struct parameters {
     Py_ssize_t most;
 };
 
-/* Borrows the arguments from the caller. Python's own parser is slow: it has the rare cases, and all faults. */
+/* Borrows the arguments from the caller. Python's own parser has the rare cases, and all faults. */
 static int unpack(const struct parameters *of, PyObject *const *given, Py_ssize_t count, PyObject *keywords,
                   PyObject *found[2]) {
     found[1] = NULL;

@@ -43,7 +43,7 @@ not_all B part start old new fault false refused e = refl
 not_all B part start old new fault true refused e =
     let all = prefix_len-letters B part (AllPass-from_list_all (is_letter B) part e) in absurd (omega (arith, refused.within, all))
 
-pub not_empty : (text : List ℕ) → 0 < length text → eqb (length text) 0 ≡ false
+not_empty : (text : List ℕ) → 0 < length text → eqb (length text) 0 ≡ false
 not_empty text h = ne_eqb (length text) 0 (λ e. omega arith)
 
 pub decodes_empty : (B text : List ℕ) (old : ℕ) → length text ≡ 0 → DecodesCounted B text old old (Err EmptyInput)

@@ -19,7 +19,7 @@ use Rattle.base62.proofs.ValueLemmas.{value-cons, value-lt, value-lt_most}
 use Rattle.base62.proofs.LengthLemmas.{no_needless_zero, needs_each}
 
 -- the letter at a place is a lesser byte than the one after it
-abbrev pub rises : List ℕ → ℕ → Bool
+abbrev rises : List ℕ → ℕ → Bool
 rises B d = ltb (get_or B d 0) (get_or B (d + 1) 0)
 
 -- an alphabet ascends where that holds at each place but the last

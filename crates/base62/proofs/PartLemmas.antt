@@ -43,7 +43,7 @@ refused_one B ok b start old new high step =
     }
 
 -- a part is read by reading its front and then the bytes after that
-pub reads_on : (B a b : List ℕ) (start old mid new number : ℕ) (r : Result ℕ DecodeError) → HasRead B a old mid number
+reads_on : (B a b : List ℕ) (start old mid new number : ℕ) (r : Result ℕ DecodeError) → HasRead B a old mid number
     → ReadsPart B b (start + length a) mid new r → ReadsPart B (a ++ b) start old new (after_number number (length b) r)
 reads_on B a b start old mid new number (Ok m) front back = record {
   letters = All-append (λ x. is_letter B x ≡ true) a b front.letters back.letters;
@@ -63,7 +63,7 @@ reads_on B a b start old mid new number (Err fault) front back =
     }
 
 -- bytes after the first that is no letter are not read
-pub refuses_before : (B a b : List ℕ) (start old new : ℕ) (fault : DecodeError) → HasRefused B a start old new fault → HasRefused B (a ++ b) start old new fault
+refuses_before : (B a b : List ℕ) (start old new : ℕ) (fault : DecodeError) → HasRefused B a start old new fault → HasRefused B (a ++ b) start old new fault
 refuses_before B a b start old new fault front =
     let i = prefix_len (is_letter B) a in
     let place : prefix_len (is_letter B) (a ++ b) ≡ i =

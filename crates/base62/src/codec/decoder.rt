@@ -1,6 +1,7 @@
 //! The decoder, over the tables of any alphabet.
 
 ghost use Rattle.std.specs.Prelude.{◌≡◌, ◌+◌, ◌<◌, ◌≤◌, ◌^◌, ◌∷◌, [], length, slice_index, IfOk};
+ghost use Rattle.base62.specs.declared.count.TheConstants.{MAX_DIGITS};
 ghost use Rattle.base62.specs.Decoding.{leading_zeros};
 ghost use Rattle.base62.specs.Steps.{DecodesCounted};
 ghost use Rattle.base62.specs.Parts.{ReadsOn, ReadsPart};
@@ -65,7 +66,7 @@ fn read_long(
     requires tables { AreTables tables.now }
     requires zeros { zeros ≡ leading_zeros tables.now.letters input.now }
     requires long { zeros + 10 < length input.now }
-    requires short { length input.now ≤ zeros + 22 }
+    requires short { length input.now ≤ zeros + MAX_DIGITS }
     ensures { DecodesCounted tables.now.letters input.now work.old work.new result }
 {
     let (_, rest) = input.split_at(zeros);

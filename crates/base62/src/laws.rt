@@ -51,6 +51,8 @@ pub fn one_text()
     ensures lengths { (B : List ℕ) → IsAlphabet B → (n : ℕ) → n < 2 ^ 128 → (text : List ℕ)
         → IsCanonical B text n → (1 ≤ length text) × (length text ≤ 22) }
     ensures within { (B : List ℕ) → IsAlphabet B → (k n : ℕ) → 0 < k → n < 62 ^ k → CanonicalFits B n k }
+    ensures which { (B : List ℕ) → IsAlphabet B → (text : List ℕ) → AreLetters B text
+        → (IsCanonical B text (value B text) ↔ HasNoNeedlessZero B text) }
     ensures plain { (B : List ℕ) → IsAlphabet B → (text : List ℕ) (n : ℕ)
         → Denotes B text n → HasNoNeedlessZero B text → IsCanonical B text n }
     ensures needless { (B : List ℕ) → IsAlphabet B → (text : List ℕ) (n : ℕ)

@@ -58,7 +58,7 @@ returns-in_default-clause-none c = λ n text e fixed begins.
     let front = c.args.front.now in
     let ok = c.letters.ensures.alphabet in
     let more : 0 < length front = search rules in
-    let letters = (c.fronts.ensures.letters B ok 11 front text n fixed begins).0 in
+    let letters = (c.fronts.ensures.letters B 11 front text n fixed begins).0 in
     let is : Denotes B front (value B front) = record { nonempty = more; letters = letters; value_is = refl } in
     let small = (c.fixed_widths.ensures.exists B ok (length front) (value B front) more).0 (front, record { size = refl; denotes = is }) in
     let grows : 62 ^ length front ≤ 62 ^ 11 = pow-le-pow_right {n = 62} (omega arith) c.if-front-gt11.false in

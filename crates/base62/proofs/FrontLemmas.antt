@@ -23,6 +23,12 @@ same_span v u part s n e less from below =
     let places = same_from_place v (n - v * s) u part s (omega arith) less rest in
     sym places.0
 
+-- a front of a text is letters, as the text is, and no longer
+pub front_letters : (B : List ℕ) (w : ℕ) (front text : List ℕ) (n : ℕ) → IsFixed B w text n → BeginsWith front text → AreLetters B front × (length front ≤ w)
+front_letters B w front text n is begins =
+    let size : min (length front) (length text) ≡ length front = sym (length-take (length front) text) ∙ ap length begins in
+    (subst (AreLetters B) begins (All-take (IsLetter B) (length front) text is.denotes.letters), omega (arith, size, is.size))
+
 module _ (B : List ℕ) (ok : IsAlphabet B) where
   -- what the first k letters of a text denote, with the others as its lower places
   fixed_parts : (w k : ℕ) (text : List ℕ) (n : ℕ) → IsFixed B w text n
@@ -35,24 +41,13 @@ module _ (B : List ℕ) (ok : IsAlphabet B) where
   module _ (w : ℕ) (front : List ℕ) where
     -- ---- which texts begin with a front
 
-    -- a front of a text is no longer than the text
-    begins_short : (text : List ℕ) (n : ℕ) → IsFixed B w text n → BeginsWith front text → length front ≤ w
-    begins_short text n is begins =
-        let size : min (length front) (length text) ≡ length front = sym (length-take (length front) text) ∙ ap length begins in
-        omega (arith, size, is.size)
-
-    -- it is letters, as the text is
-    pub front_letters : (text : List ℕ) (n : ℕ) → IsFixed B w text n → BeginsWith front text → AreLetters B front × (length front ≤ w)
-    front_letters text n is begins =
-        (subst (AreLetters B) begins (All-take (IsLetter B) (length front) text is.denotes.letters), begins_short text n is begins)
-
     -- the number of a text that begins with the front is in its interval
     pub in_interval : (text : List ℕ) (n : ℕ) → n < 2 ^ 128 → IsFixed B w text n → BeginsWith front text → IsInInterval B w front n
     in_interval text n small is begins =
         let parts = fixed_parts w (length front) text n is in
         let same : value B (take (length front) text) ≡ value B front = ap (value B) begins in
         let sum : value B front * span w front + value B (drop (length front) text) ≡ n = rw (← same) parts.0 in
-        record { short = begins_short text n is begins; small = small; from = omega (arith, sum); below = omega (arith, sum, parts.1) }
+        record { short = (front_letters B w front text n is begins).1; small = small; from = omega (arith, sum); below = omega (arith, sum, parts.1) }
 
     -- and a text whose number is in the interval of a front of letters begins with it
     pub begins_with : (text : List ℕ) (n : ℕ) → AreLetters B front → IsFixed B w text n → IsInInterval B w front n → BeginsWith front text

@@ -43,7 +43,8 @@ pub fn alphabets_by_computing()
 {}
 
 /// Over any alphabet each number below 2^128 has a canonical text, and only one, of 1 to 22 letters; that of a number
-/// below 62^k has at most k, for k from 1 on. A text of letters is the canonical text of its value exactly where it has one letter, or more of which the first is not the zero letter.
+/// below 62^k has at most k, for k from 1 on. A text of letters is the canonical text of its value exactly where it
+/// has one letter, or more of which the first is not the zero letter.
 pub fn one_text()
     ensures exists { (B : List ℕ) → IsAlphabet B → (n : ℕ) → n < 2 ^ 128
         → (text : List ℕ) × IsCanonical B text n }
@@ -52,6 +53,8 @@ pub fn one_text()
     ensures lengths { (B : List ℕ) → IsAlphabet B → (n : ℕ) → n < 2 ^ 128 → (text : List ℕ)
         → IsCanonical B text n → (1 ≤ length text) × (length text ≤ 22) }
     ensures within { (B : List ℕ) → IsAlphabet B → (k n : ℕ) → 0 < k → n < 62 ^ k → CanonicalFits B n k }
+    ensures which { (B : List ℕ) → IsAlphabet B → (text : List ℕ) → AreLetters B text
+        → (IsCanonical B text (value B text) ↔ HasNoNeedlessZero B text) }
     ensures plain { (B : List ℕ) → IsAlphabet B → (text : List ℕ) (n : ℕ)
         → Denotes B text n → HasNoNeedlessZero B text → IsCanonical B text n }
     ensures needless { (B : List ℕ) → IsAlphabet B → (text : List ℕ) (n : ℕ)
@@ -182,8 +185,8 @@ pub fn order_of_texts()
 /// from the one end of an interval to the other are those in it, and there are no ends exactly where it is empty.
 /// Where letters ascend, the texts that begin with the front are those between the texts of the ends.
 pub fn fronts()
-    ensures letters { (B : List ℕ) → IsAlphabet B → (w : ℕ) (front text : List ℕ) (n : ℕ)
-        → IsFixed B w text n → BeginsWith front text → AreLetters B front × (length front ≤ w) }
+    ensures letters { (B : List ℕ) (w : ℕ) (front text : List ℕ) (n : ℕ) → IsFixed B w text n → BeginsWith front text
+        → AreLetters B front × (length front ≤ w) }
     ensures begins { (B : List ℕ) → IsAlphabet B → (w : ℕ) (front text : List ℕ) (n : ℕ) → n < 2 ^ 128
         → AreLetters B front → IsFixed B w text n
         → (BeginsWith front text ↔ IsInInterval B w front n) }
@@ -196,8 +199,8 @@ pub fn fronts()
         → BeginsTextsOf B w front least greatest → BeginsTextsBetween B w front least greatest }
 {}
 
-/// Over an alphabet that ascends, a text of so many letters begins with a front exactly where it stands from the text
-/// of the least to the text of the greatest number of the front's range, and its value is below 2^128.
+/// Over an alphabet that ascends, a text of so many letters, of a value below 2^128, begins with a front exactly where
+/// it stands in byte order from the text of the least to the text of the greatest number of the front's range.
 pub fn scan_of_front(
     alphabet: &Alphabet,
     width: usize,

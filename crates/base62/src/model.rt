@@ -169,7 +169,7 @@ pub fn laws_by_example()
     ensures agrees { AgreesAtLetters standard (codes "1!") (codes "1z") }
 {}
 
-/// Keys and ranges of fronts; 48 is `0` and 33 is `!`.
+/// Keys, and ranges of fronts among them and among texts of two letters; 48 is `0` and 33 is `!`.
 pub fn ranges_by_example()
     ensures key { IsKey standard (replicate 20 48 ++ codes "LZ") 1337 }
     ensures whole_key { range_of standard 22 (replicate 20 48 ++ codes "LZ") ≡ Ok (Some (1337, 1337)) }
@@ -180,6 +180,8 @@ pub fn ranges_by_example()
     ensures cut_at_the_greatest { range_of standard 22 (codes "7n")
         ≡ Ok (Some (340236514539200045093703517809706795008, 2 ^ 128 - 1)) }
     ensures above { range_of standard 22 (codes "7o") ≡ Ok None }
+    ensures other_width { range_of standard 2 (codes "L") ≡ Ok (Some (1302, 1363)) }
+    ensures overlong_there { range_of standard 2 (codes "000") ≡ Ok None }
     ensures overlong { range_of standard 22 (replicate 23 48) ≡ Ok None }
     ensures bad_byte { range_of standard 22 (codes "7o!") ≡ Err (InvalidBase62Byte 33 2) }
     ensures bad_in_overlong { range_of standard 22 (replicate 23 48 ++ 33 ∷ []) ≡ Err (InvalidBase62Byte 33 23) }

@@ -1,7 +1,6 @@
 //! Rows by number in columns of 11 letters, over an alphabet of the caller's own.
 
-ghost use Rattle.std.specs.Prelude.{◌≡◌, ◌<◌, ◌≤◌, ◌^◌, ◌↔◌, ℕ, length, IsTrue, Ok, Some};
-ghost use Rattle.base62.specs.Alphabet.{AreLetters};
+ghost use Rattle.std.specs.Prelude.{◌≡◌, ◌<◌, ◌≤◌, ◌^◌, ◌↔◌, ℕ, List, length, IsTrue, IfSome, Ok, Some, None};
 ghost use Rattle.base62.specs.Fixed.{IsFixed};
 ghost use Rattle.base62.specs.Key.{BeginsWith, range_of};
 ghost use Rattle.base62.specs.Order.{Ascends};
@@ -32,13 +31,13 @@ pub fn column(alphabet: &Alphabet, row: u64) -> [u8; 11]
 /// Whether a scan for the rows whose columns begin with a front takes a column. The scan goes from the column of the
 /// front's least number to that of its greatest.
 pub fn is_column_scanned(alphabet: &Alphabet, front: &[u8], column: &[u8; 11]) -> bool
-    requires ascending { Ascends alphabet.now }
-    requires letters { AreLetters alphabet.now front.now }
-    requires short { length front.now ≤ 11 }
+    requires { Ascends alphabet.now }
     ensures { (row : ℕ) → row < 2 ^ 64 → IsFixed alphabet.now 11 column.now row
         → (IsTrue result ↔ BeginsWith front.now column.now) }
 {
-    let ends = column_range(alphabet, front);
+    let Some(ends) = column_range(alphabet, front) else {
+        return false;
+    };
     let mut low = [0u8; 11];
     put_fixed(alphabet, ends.0, &mut low);
     let mut high = [0u8; 11];
@@ -50,24 +49,28 @@ pub fn is_column_scanned(alphabet: &Alphabet, front: &[u8], column: &[u8; 11]) -
 // The greatest number of 11 letters.
 const LAST: u128 = 52036560683837093887;
 
-// The least and the greatest number whose column begins with a front.
-fn column_range(alphabet: &Alphabet, front: &[u8]) -> (u128, u128)
-    requires letters { AreLetters alphabet.now front.now }
-    requires short { length front.now ≤ 11 }
-    ensures range { range_of alphabet.now 11 front.now ≡ Ok (Some result) }
-    ensures least { result.0 < 62 ^ 11 }
-    ensures greatest { result.1 < 62 ^ 11 }
+// The least and the greatest number whose column begins with a front, if one does.
+fn column_range(alphabet: &Alphabet, front: &[u8]) -> Option<(u128, u128)>
+    ensures range { IfSome result (λ ends. range_of alphabet.now 11 front.now ≡ Ok (Some ends)) }
+    ensures bounds { IfSome result (λ ends. (ends.0 < 62 ^ 11) × (ends.1 < 62 ^ 11)) }
+    ensures none { (n : ℕ) (text : List ℕ) → result ≡ None → IsFixed alphabet.now 11 text n → BeginsWith front.now text → ⊥ }
 {
+    base62::laws::fronts();
     base62::laws::decoded_numbers();
     base62::laws::fixed_widths();
     let _ = alphabet.letters();
     if front.is_empty() {
-        return (0, LAST);
+        return Some((0, LAST));
     }
-    let number = base62::decode_with(alphabet, front).unwrap();
+    if front.len() > 11 {
+        return None;
+    }
+    let Ok(number) = base62::decode_with(alphabet, front) else {
+        return None;
+    };
     let span = 62u128.pow((11 - front.len()) as u32);
     let least = number * span;
-    (least, least + (span - 1))
+    Some((least, least + (span - 1)))
 }
 
 #[cfg(test)]

@@ -1,3 +1,4 @@
+use Rattle.base62.specs.Value.{value}
 use Rattle.base62.proofs.CanonicalLemmas.{one_canonical}
 use Rattle.base62.proofs.FixedLemmas.{some_canonical}
 use Rattle.base62.proofs.LengthLemmas.{canonical_short, no_needless_zero, canonical_of_value}
@@ -15,6 +16,9 @@ returns-clause-lengths c = λ B ok n small text canonical. (canonical.denotes.no
 
 pub returns-clause-within : goal.returns-clause-within
 returns-clause-within c = canonical_within
+
+pub returns-clause-which : goal.returns-clause-which
+returns-clause-which c = λ B ok text letters. (no_needless_zero B ok text (value B text), canonical_of_value B ok text letters)
 
 pub returns-clause-plain : goal.returns-clause-plain
 returns-clause-plain c = λ B ok text n denotes plain. rw denotes.value_is at (canonical_of_value B ok text denotes.letters plain)

@@ -35,15 +35,15 @@ range_is B front v s letters short is span most =
     let small : v * s < 2 ^ 128 = omega (arith, some, most) in
     rw (list_all-from_AllPass (is_letter B) front letters, is, ← span, le-ltb 11 (length front) short, lt-leb (2 ^ 128) (v * s) small, last) refl
 
-denotes : (c : After-pow-span) → Denotes c.args.alphabet.now c.args.front.now c.unwrap-number.result
-denotes c = c.decoded_numbers.ensures.denotes _ c.letters.ensures.alphabet _ _ (sym c.decode_with.ensures ∙ c.unwrap-number.ensures)
+denotes : (c : After-pow-span) → Denotes c.args.alphabet.now c.args.front.now c.in-Ok.number
+denotes c = c.decoded_numbers.ensures.denotes _ c.letters.ensures.alphabet _ _ (sym c.decode_with.ensures ∙ c.in-Ok.is)
 
-most : (c : After-pow-span) → c.unwrap-number.result * c.pow-span.result + c.pow-span.result ≤ 62 ^ 11
+most : (c : After-pow-span) → c.in-Ok.number * c.pow-span.result + c.pow-span.result ≤ 62 ^ 11
 most c =
     let is = denotes c in
     let k = length c.args.front.now in
-    let small = (c.fixed_widths.ensures.exists _ c.letters.ensures.alphabet k c.unwrap-number.result is.nonempty).0 (c.args.front.now, record { size = refl; denotes = is }) in
-    rw c.pow-span.ensures (within c.unwrap-number.result k small c.requires.short)
+    let small = (c.fixed_widths.ensures.exists _ c.letters.ensures.alphabet k c.in-Ok.number is.nonempty).0 (c.args.front.now, record { size = refl; denotes = is }) in
+    rw c.pow-span.ensures (within c.in-Ok.number k small c.if-front-gt11.false)
 
 some : (c : After-pow-span) → 1 ≤ c.pow-span.result
 some c = rw c.pow-span.ensures (one-le-pow (11 - length c.args.front.now) 62 (omega arith))
@@ -52,17 +52,17 @@ pub returns-then-is_empty-clause-range : goal.returns-then-is_empty-clause-range
 returns-then-is_empty-clause-range c =
     let none : c.args.front.now ≡ [] = nil_from_length c.args.front.now (search rules) in rw none (range_of_none c.args.alphabet.now)
 
-pub unwrap-number-requires : goal.unwrap-number-requires
-unwrap-number-requires c =
+pub returns-in_default-clause-none : goal.returns-in_default-clause-none
+returns-in_default-clause-none c = λ n text e fixed begins.
     let B = c.args.alphabet.now in
     let front = c.args.front.now in
     let ok = c.letters.ensures.alphabet in
     let more : 0 < length front = search rules in
-    let is : Denotes B front (value B front) = record { nonempty = more; letters = c.requires.letters; value_is = refl } in
+    let letters = (c.fronts.ensures.letters B 11 front text n fixed begins).0 in
+    let is : Denotes B front (value B front) = record { nonempty = more; letters = letters; value_is = refl } in
     let small = (c.fixed_widths.ensures.exists B ok (length front) (value B front) more).0 (front, record { size = refl; denotes = is }) in
-    let grows : 62 ^ length front ≤ 62 ^ 11 = pow-le-pow_right {n = 62} (omega arith) c.requires.short in
-    let answer = c.decode_with.ensures ∙ c.decoded_numbers.ensures.decoded B ok front (value B front) is (omega (arith, small, grows)) in
-    rw answer refl
+    let grows : 62 ^ length front ≤ 62 ^ 11 = pow-le-pow_right {n = 62} (omega arith) c.if-front-gt11.false in
+    c.in_default.not-Ok _ (c.decode_with.ensures ∙ c.decoded_numbers.ensures.decoded B ok front (value B front) is (omega (arith, small, grows)))
 
 pub pow-span-requires : goal.pow-span-requires
 pow-span-requires c =
@@ -80,12 +80,10 @@ overflow_add-result c = let m = most (goal.at.overflow_add-result c).After-pow-s
 pub returns-clause-range : goal.returns-clause-range
 returns-clause-range c =
     let at = (goal.at.returns-clause-range c).After-pow-span in
-    range_is c.args.alphabet.now c.args.front.now c.unwrap-number.result c.pow-span.result c.requires.letters c.requires.short (denotes at).value_is c.pow-span.ensures (most at)
+    let is = denotes at in
+    range_is c.args.alphabet.now c.args.front.now c.in-Ok.number c.pow-span.result is.letters c.if-front-gt11.false is.value_is c.pow-span.ensures (most at)
 
-pub returns-clause-least : goal.returns-clause-least
-returns-clause-least c =
-    let at = (goal.at.returns-clause-least c).After-pow-span in omega (arith, most at, some at)
-
-pub returns-clause-greatest : goal.returns-clause-greatest
-returns-clause-greatest c =
-    let at = (goal.at.returns-clause-greatest c).After-pow-span in omega (arith, most at, some at)
+pub returns-clause-bounds : goal.returns-clause-bounds
+returns-clause-bounds c =
+    let at = (goal.at.returns-clause-bounds c).After-pow-span in
+    let least = most at in (omega (arith, least, some at), omega (arith, least, some at))

@@ -8,6 +8,8 @@ from setuptools import Extension, setup
 here = pathlib.Path(__file__).parent
 library = pathlib.Path(os.environ.get("BASE62_C", here / "../c/out"))
 archive = library / "lib/libbase62.a"
+# python/build lays it beside this file.
+version = next(file for file in (here / "VERSION", here / "../VERSION") if file.exists()).read_text().strip()
 if not archive.exists():
     raise SystemExit(f"{archive} is missing: run c/build, or name its folder in BASE62_C")
 
@@ -21,8 +23,8 @@ extension = Extension(
     extra_link_args=["-Wl,--exclude-libs,ALL"],
     define_macros=[
         ("Py_LIMITED_API", "0x030b0000"),
-        ("PACKAGE_VERSION", '"' + (here / "VERSION").read_text().strip() + '"'),
+        ("PACKAGE_VERSION", f'"{version}"'),
     ],
     py_limited_api=True,
 )
-setup(ext_modules=[extension])
+setup(version=version, ext_modules=[extension])

@@ -1,4 +1,4 @@
--- Tables, Fixed and Parts have what private contracts alone cite; public ones cite the others.
+-- Private contracts alone cite Tables, Parts, and of Fixed what it says of writing.
 pub mod Alphabet
 pub mod Tables
 pub mod Places

@@ -1,6 +1,6 @@
 -- What decoding answers and how many steps it takes, by what is read of the bytes after the leading zeros.
 use Rattle.std.proofs.Common.{◌≡◌, ◌+◌, ◌-◌, ◌*◌, ◌^◌, ◌<◌, ◌≤◌, ◌∙◌}
-use Rattle.std.proofs.Common.{ℕ, Bool, true, false, eqb, ltb, leb, List, length, get_or, take, drop, Result, Ok, Err, if◌then◌else◌, refl, sym, ap, arith, inl, inr}
+use Rattle.std.proofs.Common.{ℕ, Option, Some, None, Bool, true, false, eqb, ltb, leb, List, length, get_or, take, drop, Result, Ok, Err, if◌then◌else◌, refl, sym, ap, arith, inl, inr}
 use Rattle.std.specs.List.{prefix_len, list_all}
 use Rattle.std.proofs.Math.Nat.{pow-le-pow_right, mul-le-mul}
 use Rattle.std.proofs.lemmas.Bool.{cases_lt, ne_eqb, lt-ltb, le-ltb, lt-leb, le-leb, false≢true, eq-eqb, cases_eq}
@@ -8,6 +8,8 @@ use Rattle.std.proofs.lemmas.List.{take-append-drop, length-take-le, length-drop
 use Rattle.std.proofs.lemmas.List.Sums.{AllPass-from_list_all, list_all-from_AllPass}
 use Rattle.std.proofs.lemmas.List.Folds.{prefix_len-append}
 use Rattle.std.proofs.lemmas.List.Elements.{All-take}
+use Rattle.std.specs.Option.{ok_or, SomeIff}
+use Rattle.std.proofs.lemmas.Nat.{pow-add}
 use Rattle.base62.specs.declared.fault.DecodeError.{DecodeError}
 use Rattle.base62.specs.declared.fault.DecodeError.TheVariants.{ArithmeticOverflow, EmptyInput, InvalidBase62Byte}
 use Rattle.base62.specs.Alphabet.{IsAlphabet, is_letter}
@@ -134,9 +136,9 @@ pub record IsCut (B text first later : List ℕ) (zeros : ℕ) : Type 0 where
   pub short : length (rest B text) ≤ 22
   pub some : 0 < length text
 
-pub cut_at : (B text after first later : List ℕ) (zeros : ℕ) → zeros ≡ leading_zeros B text → after ≡ drop zeros text → first ≡ take 10 after → later ≡ drop 10 after
+pub cut_at : {B text after first later : List ℕ} {zeros : ℕ} → zeros ≡ leading_zeros B text → after ≡ drop zeros text → first ≡ take 10 after → later ≡ drop 10 after
     → zeros + 10 < length text → length text ≤ zeros + 22 → IsCut B text first later zeros
-cut_at B text after first later zeros zeros_are behind front back long short =
+cut_at {B = B} {text = text} {after = after} {zeros = zeros} zeros_are behind front back long short =
     let after_is : after ≡ rest B text = rw zeros_are at behind in
     let left : length after ≡ length text - zeros = ap length behind ∙ length-drop zeros text in
     record {
@@ -148,13 +150,13 @@ cut_at B text after first later zeros zeros_are behind front back long short =
       some = omega (arith, long);
     }
 
-module _ (B : List ℕ) (ok : IsAlphabet B) (text first later : List ℕ) (zeros old : ℕ) (cut : IsCut B text first later zeros) where
+module _ {B text first later : List ℕ} {zeros old : ℕ} (ok : IsAlphabet B) (cut : IsCut B text first later zeros) where
   -- a bad byte is among the first ten
-  pub decodes_first_refused : (mid : ℕ) (fault : DecodeError) → HasRefused B first zeros old mid fault → DecodesCounted B text old mid (Err fault)
-  decodes_first_refused mid fault refused = first_refused_answer B text ok cut.some cut.short old mid fault (rw (cut.first_is, cut.zeros_are) at refused)
+  pub decodes_first_refused : {mid : ℕ} {fault : DecodeError} → HasRefused B first zeros old mid fault → DecodesCounted B text old mid (Err fault)
+  decodes_first_refused {mid = mid} {fault = fault} refused = first_refused_answer B text ok cut.some cut.short old mid fault (rw (cut.first_is, cut.zeros_are) at refused)
 
   -- they are read
-  module _ (mid number : ℕ) (read : HasRead B first old mid number) where
+  module _ {mid number : ℕ} (read : HasRead B first old mid number) where
     ten : length first ≡ 10
     ten = ap length cut.first_is ∙ length-take-le 10 (rest B text) (omega (arith, cut.size))
 
@@ -211,3 +213,18 @@ module _ (B : List ℕ) (ok : IsAlphabet B) (text first later : List ℕ) (zeros
 
       pub decodes_later : number * 62 ^ length later < 2 ^ 128 → DecodesCounted B text old new (or_overflow (after_number number (length later) r))
       decodes_later small = rest_answer B text ok cut.some cut.short old new (after_number number (length later) r) (weighed_fits small) whole
+
+-- ---- checked arithmetic
+
+-- what the first ten bytes are weighed with
+pub weight_is : (n : ℕ) → 10 ≤ n → 62 ^ (n - 10) * 62 ^ 10 ≡ 62 ^ n
+weight_is n h = let back : n - 10 + 10 ≡ n = omega arith in sym (pow-add 62 (n - 10) 10) ∙ ap (λ k. 62 ^ k) back
+
+-- what checked arithmetic refuses is 2^128 or more
+pub too_large : (n : ℕ) → (n < 2 ^ 128 → ⊥) → 2 ^ 128 ≤ n
+too_large n h = elim (cases_lt n (2 ^ 128)) [ inl less ↦ absurd (h less) | inr more ↦ more ]
+
+-- the sum where it fits, and else the overflow
+pub sum_or_overflow : (o : Option ℕ) (sum : ℕ) → SomeIff o (sum < 2 ^ 128) sum → ok_or o ArithmeticOverflow ≡ number_or_overflow sum
+sum_or_overflow None sum h = rw (le-ltb sum (2 ^ 128) (too_large sum h)) refl
+sum_or_overflow (Some n) sum h = rw (lt-ltb sum (2 ^ 128) h.0) (ap Ok h.1)

@@ -1,6 +1,8 @@
 //! Alphabets: their letters, the digits of bytes, and the steps that reading these takes.
 
-ghost use Rattle.std.specs.Prelude.{◌≡◌, ◌↔◌, ℕ, Err, IsTrue, IsOk, IfOk};
+ghost use Rattle.std.specs.Prelude.{◌≡◌, ◌↔◌, ℕ, Err, IsTrue, IsOk, IfOk, nat_eq};
+ghost use Rattle.std.specs.Cmp.{partial_equiv_from_equiv};
+ghost use Rattle.std.specs.Cmp.Lexicographic.{nat_list_eq_equiv, pointwise};
 ghost use Rattle.std.specs.Str.{IsAscii};
 ghost use Rattle.base62.specs.Alphabet.{IsAlphabet, RepeatsFirst, standard, alternative};
 ghost use Rattle.base62.specs.Order.{Ascends};
@@ -11,6 +13,7 @@ mod tables;
 mod work;
 
 use crate::fault::AlphabetError;
+use std::fmt;
 use std::marker::Model;
 pub(crate) use tables::{Tables, alternative_tables, standard_tables};
 pub use work::Work;
@@ -34,6 +37,8 @@ pub use work::Work;
 pub struct Alphabet {
     tables: Tables,
 }
+
+const _: () = prove!(size_of::<Alphabet>() == 318);
 
 impl Model for Alphabet {
     ghost use Rattle.std.specs.Prelude.{ℕ, List};
@@ -126,5 +131,30 @@ impl Alphabet {
         ensures letters { result.now.letters ≡ self.now }
     {
         &self.tables
+    }
+}
+
+/// Two alphabets are equal where their letters are.
+impl PartialEq for Alphabet {
+    ghost eq = { pointwise nat_eq };
+
+    ghost laws = { partial_equiv_from_equiv nat_list_eq_equiv };
+
+    fn eq(&self, other: &Alphabet) -> bool {
+        self.tables.letters == other.tables.letters
+    }
+}
+
+impl Eq for Alphabet {
+    ghost laws = { nat_list_eq_equiv };
+}
+
+/// Shows the letters alone, as `Alphabet(b"0123..")`, escaped as ASCII.
+impl fmt::Debug for Alphabet {
+    fn fmt<W: fmt::Write>(&self, f: &mut fmt::Formatter<W>) -> fmt::Result {
+        let letters = self.tables.letters.escape_ascii();
+        f.debug_tuple("Alphabet")
+            .field(&format_args!("b\"{letters}\""))
+            .finish()
     }
 }

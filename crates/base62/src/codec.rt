@@ -64,7 +64,7 @@ pub fn encode_bytes_with<T: Number>(
     encode_bytes_with_counted(alphabet, num, buf, &mut Work::new())
 }
 
-/// The answer of [`encode_bytes`], with the steps of writing the text counted.
+/// The answer of [`encode_bytes`], with the steps of writing the text counted on a [`Work`].
 ///
 /// `work` goes on from where it stood. A text of 1 or 2 letters takes one step, of 10 to 12 seven, and of 21 or 22
 /// thirteen, which is the most. A refused call takes none.
@@ -175,7 +175,7 @@ pub fn decode_with(alphabet: &Alphabet, input: &[u8]) -> Result<u128, DecodeErro
     decode_with_counted(alphabet, input, &mut Work::new())
 }
 
-/// The answer of [`decode`], with the steps of reading `input` counted.
+/// The answer of [`decode`], with the steps of reading `input` counted on a [`Work`].
 ///
 /// `work` goes on from where it stood. An empty text and one of more than 22 bytes after its leading zeros take no
 /// step. An overflow that the first ten bytes after those show takes ten. Any other text takes one step for each

@@ -280,6 +280,17 @@ pub fn order_of_alphabet_errors()
         → ⟦<fault::AlphabetError as Hash>⟧.hash_input d ≡ ⟦<fault::AlphabetError as Hash>⟧.hash_input e }
 {}
 
+/// Two alphabets are equal exactly where their letters are.
+pub fn equality_of_alphabets()
+    ensures { (a b : List ℕ) → (⟦<Alphabet as PartialEq>⟧.eq a b ≡ true) ↔ (a ≡ b) }
+{}
+
+/// A clone of an alphabet is the alphabet, and making one never fails.
+pub fn clones_of_alphabets()
+    ensures clone { (a b : List ℕ) → ⟦<Alphabet as Clone>⟧.is_clone a b → b ≡ a }
+    ensures always { (a : List ℕ) → ⟦<Alphabet as Clone>⟧.is_infallible a }
+{}
+
 /// A clone of a fault is the fault, and making one never fails.
 pub fn clones_of_errors()
     ensures decode_error { (d e : DecodeError) → ⟦<fault::DecodeError as Clone>⟧.is_clone d e → e ≡ d }

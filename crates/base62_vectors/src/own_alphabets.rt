@@ -66,6 +66,7 @@ fn what_is_told_of_alphabets(rt: HostRuntime) {
         let alphabet = made(&rt, letters);
         let copy = alphabet;
         assert_eq!(rt; copy.letters(), &letters);
+        assert_eq!(rt; copy, alphabet);
         assert_eq!(rt; alphabet.is_ascii(), is_ascii, "{letters:?}");
         assert_eq!(rt; alphabet.is_ascending(), is_ascending, "{letters:?}");
     }
@@ -74,6 +75,19 @@ fn what_is_told_of_alphabets(rt: HostRuntime) {
         Alphabet::alternative().letters(),
         Letters::Alternative.letters()
     );
+    assert_ne!(rt; Alphabet::standard(), Alphabet::alternative());
+}
+
+// Of this text no clause speaks.
+#[test]
+fn debug_shows_the_letters(rt: HostRuntime) -> Result<(), Fail> {
+    let shown = format!(in rt.alloc(); "{:?}", made(&rt, bytes_from(33)))?;
+    let letters = "!\\\"#$%&\\'()*+,-./0123456789:;<=>?@ABCDEFGHIJKLMNOPQRSTUVWXYZ[\\\\]^";
+    assert_eq!(rt;
+        shown.as_str(),
+        format!(in rt.alloc(); "Alphabet(b\"{letters}\")")?.as_str()
+    );
+    Ok(())
 }
 
 #[test]

@@ -17,7 +17,7 @@ pub fn bad_byte_after_a_zero() -> (Result<u128, DecodeError>, Work)
     ensures answer { result.0 ≡ Err (InvalidBase62Byte 33 1) }
     ensures steps { result.1 ≡ 1 }
 {
-    let mut work = Work::new();
+    let mut work = Work::default();
     let answer = decode_counted(b"0!", &mut work);
     (answer, work)
 }

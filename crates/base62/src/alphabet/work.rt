@@ -11,7 +11,8 @@ use std::snapshot::Snapshot;
 ///
 /// It is for a caller that must bound its work, such as a server that decodes what it is sent: counted calls such as
 /// [`decode_counted`](crate::decode_counted) say how far they move it on. Contracts see it as the number of steps,
-/// which has no bound. When the program runs it takes no bytes, and nothing can be read from it.
+/// which has no bound, and there alone it is read: when the program runs it takes no bytes, and nothing can be read
+/// from it. So what a program has from counted calls is a bound on its steps that is proved, and no number of them.
 ///
 /// ```rust
 /// let mut work = base62::Work::new();
@@ -56,5 +57,15 @@ impl Work {
         *self = Work {
             before: Snapshot::of(&Some(before)),
         };
+    }
+}
+
+/// As [`Work::new`].
+impl Default for Work {
+    ghost is_default = { λ work. work ≡ 0 };
+
+    #[inline(always)]
+    fn default() -> Work {
+        Work::new()
     }
 }

@@ -63,7 +63,7 @@ pub(crate) fn assert_decodes(
     text: &[u8],
     answer: Result<u128, DecodeError>,
 ) {
-    let counted = alphabet.decode_counted(text, &mut Work::new());
+    let counted = alphabet.decode_counted(text, &mut Work::default());
     let plain = plain_decode(alphabet.letters(), text);
     for outcome in [alphabet.decode(text), counted, plain] {
         assert_eq!(rt; outcome, answer, "decoding {text:?}, {alphabet:?}");

@@ -2,7 +2,7 @@
 
 ghost use Rattle.std.specs.Prelude.{ℕ, List, Some};
 ghost use Rattle.std.specs.Str.{IsAscii};
-ghost use Rattle.std.specs.Fmt.{spec_width, spec_fill, spec_precision};
+ghost use Rattle.std.specs.Fmt.{formatter_spec, spec_width, spec_fill, spec_precision, DisplaysOnOk, DisplaysStyledOnOk};
 ghost use Rattle.base62.specs.Alphabet.{standard, alternative};
 ghost use Rattle.base62.specs.Canonical.{IsCanonical};
 ghost use Rattle.base62.specs.Padding.{displayed};
@@ -13,8 +13,8 @@ use crate::text::Text;
 use std::fmt;
 use std::marker::Model;
 
-/// A number that displays as its text over an alphabet: what [`encode_fmt`], [`encode_fmt_alt`] and
-/// [`encode_fmt_with`] answer. It holds the text, as which contracts see it.
+/// A number that displays as its standard text: what [`encode_fmt`] answers. It holds the text, as which contracts
+/// see it.
 #[derive(Drop)]
 pub struct Fmt {
     text: Text,
@@ -28,12 +28,6 @@ impl Model for Fmt {
     ghost invariant = { λ f. IsAscii f.text };
 }
 
-/// What [`encode_fmt_alt`] answers.
-pub type FmtAlternative = Fmt;
-
-/// What [`encode_fmt_with`] answers.
-pub type FmtWith = Fmt;
-
 /// Writes the text, padded to the formatter's width.
 ///
 /// A width counts characters, and one that is not greater than the text leaves it whole. The fill is a space
@@ -46,10 +40,72 @@ impl fmt::Display for Fmt {
     ghost styled_output = { λ text options. displayed (spec_precision options) (spec_width options)
         (spec_fill options) options.align text };
 
-    #[tactic(auto, using(crate::proofs::PaddingLemmas::pad_displays))]
     fn fmt<W: fmt::Write>(&self, f: &mut fmt::Formatter<W>) -> fmt::Result {
-        f.pad(self.text.as_str())
+        pad(&self.text, f)
     }
+}
+
+/// A number that displays as its text over the alternative alphabet: what [`encode_fmt_alt`] answers. It holds the
+/// text, as [`Fmt`] does.
+#[derive(Drop)]
+pub struct FmtAlternative {
+    text: Text,
+}
+
+impl Model for FmtAlternative {
+    ghost Value = { List ℕ };
+
+    ghost view = { λ f. f.text };
+
+    ghost invariant = { λ f. IsAscii f.text };
+}
+
+/// Writes the text as [`Fmt`] writes its own.
+impl fmt::Display for FmtAlternative {
+    ghost output = { ⟦<Fmt as fmt::Display>⟧.output };
+
+    ghost styled_output = { ⟦<Fmt as fmt::Display>⟧.styled_output };
+
+    fn fmt<W: fmt::Write>(&self, f: &mut fmt::Formatter<W>) -> fmt::Result {
+        pad(&self.text, f)
+    }
+}
+
+/// A number that displays as its text over an alphabet of the caller's: what [`encode_fmt_with`] answers. It holds
+/// the text, as [`Fmt`] does, and no alphabet.
+#[derive(Drop)]
+pub struct FmtWith {
+    text: Text,
+}
+
+impl Model for FmtWith {
+    ghost Value = { List ℕ };
+
+    ghost view = { λ f. f.text };
+
+    ghost invariant = { λ f. IsAscii f.text };
+}
+
+/// Writes the text as [`Fmt`] writes its own.
+impl fmt::Display for FmtWith {
+    ghost output = { ⟦<Fmt as fmt::Display>⟧.output };
+
+    ghost styled_output = { ⟦<Fmt as fmt::Display>⟧.styled_output };
+
+    fn fmt<W: fmt::Write>(&self, f: &mut fmt::Formatter<W>) -> fmt::Result {
+        pad(&self.text, f)
+    }
+}
+
+// Writes a text as a display of `Fmt` does.
+#[tactic(auto, using(crate::proofs::PaddingLemmas::pad_displays))]
+fn pad<W: fmt::Write>(text: &Text, f: &mut fmt::Formatter<W>) -> fmt::Result
+    requires { IsAscii text.now }
+    ensures writes { DisplaysOnOk W.write_str_gives f.old result (⟦<Fmt as fmt::Display>⟧.output text.now) f.new }
+    ensures styled { DisplaysStyledOnOk W.write_str_gives f.old result
+        (⟦<Fmt as fmt::Display>⟧.styled_output text.now (formatter_spec f.old)) f.new }
+{
+    f.pad(text.as_str())
 }
 
 /// A value that displays as the standard text of `num`, which has 1 to 22 letters.
@@ -79,7 +135,7 @@ pub fn encode_fmt<T: Number>(num: T) -> Fmt
 pub fn encode_fmt_alt<T: Number>(num: T) -> FmtAlternative
     ensures { IsCanonical alternative result (T.meaning num) }
 {
-    Fmt {
+    FmtAlternative {
         text: Text::over(alternative_tables(), num),
     }
 }
@@ -98,7 +154,7 @@ pub fn encode_fmt_with<T: Number>(alphabet: &Alphabet, num: T) -> FmtWith
     requires { IsAscii alphabet.now }
     ensures { IsCanonical alphabet.now result (T.meaning num) }
 {
-    Fmt {
+    FmtWith {
         text: Text::over(alphabet.as_tables(), num),
     }
 }

@@ -1,7 +1,8 @@
 //! Numbers that display as their texts.
 
 use crate::support::alphabets::{Letters, texts};
-use base62::{encode_fmt, encode_fmt_alt};
+use base62::{Alphabet, Fmt, FmtAlternative, FmtWith, encode_fmt, encode_fmt_alt, encode_fmt_with};
+use std::alloc::{AllocError, Global};
 use std::fmt::{self, Write};
 use std::process::Abort;
 use std::test::Fail;
@@ -92,6 +93,42 @@ fn precision(rt: HostRuntime) -> Result<(), Fail> {
     assert_eq!(rt; standard.as_str(), "1LY");
     let alternative = format!(in rt.alloc(); "{:.3}", encode_fmt_alt(1234567890_u64))?;
     assert_eq!(rt; alternative.as_str(), "1ly");
+    Ok(())
+}
+
+// What a caller's code tells by the type of a text.
+trait Shown: fmt::Display {
+    const ALPHABET: &'static str;
+}
+
+impl Shown for Fmt {
+    const ALPHABET: &'static str = "standard";
+}
+
+impl Shown for FmtAlternative {
+    const ALPHABET: &'static str = "alternative";
+}
+
+impl Shown for FmtWith {
+    const ALPHABET: &'static str = "own";
+}
+
+fn named<S: Shown>(alloc: Global, text: &S) -> Result<String, AllocError> {
+    format!(in alloc; "{text:>4} {}", S::ALPHABET)
+}
+
+#[test]
+fn types_of_texts(rt: HostRuntime) -> Result<(), Fail> {
+    let own = Alphabet::alternative();
+    if !own.is_ascii() {
+        panic!(rt; "the built-in alphabets are ASCII");
+    }
+    let standard = named(rt.alloc(), &encode_fmt(1337_u32))?;
+    assert_eq!(rt; standard.as_str(), "  LZ standard");
+    let alternative = named(rt.alloc(), &encode_fmt_alt(1337_u32))?;
+    assert_eq!(rt; alternative.as_str(), "  lz alternative");
+    let with = named(rt.alloc(), &encode_fmt_with(&own, 1337_u32))?;
+    assert_eq!(rt; with.as_str(), "  lz own");
     Ok(())
 }
 

@@ -152,13 +152,12 @@ impl Letters {
         number: T,
     ) -> Result<String, AllocError> {
         let own = self.own();
-        let shown = match self {
-            Letters::Standard => encode_fmt(number),
-            Letters::Alternative => encode_fmt_alt(number),
-            _ if own.is_ascii() => encode_fmt_with(&own, number),
-            _ => return Err(AllocError),
-        };
-        format!(in alloc; "{shown}")
+        match self {
+            Letters::Standard => format!(in alloc; "{}", encode_fmt(number)),
+            Letters::Alternative => format!(in alloc; "{}", encode_fmt_alt(number)),
+            _ if own.is_ascii() => format!(in alloc; "{}", encode_fmt_with(&own, number)),
+            _ => Err(AllocError),
+        }
     }
 
     pub(crate) fn write<T: Number, W: Write>(self, number: T, writer: &mut W) -> io::Result<()> {

@@ -1,5 +1,5 @@
 -- The digits of letters.
-use Rattle.std.proofs.Common.{◌≡◌, ℕ, ◌<◌, ◌≤◌, Bool, true, eqb, ltb, List, length, get_or, map, Option, Some, None, is_some, unwrap_or, refl, sym, ap, ◌∙◌, subst, arith, eq-eqb}
+use Rattle.std.proofs.Common.{◌≡◌, ℕ, ◌<◌, ◌≤◌, Bool, true, eqb, ltb, List, length, get_or, map, Option, Some, None, is_some, unwrap_or, refl, sym, ap, ◌∙◌, arith, eq-eqb}
 use Rattle.std.specs.List.{position_or_len, range_with_len, list_all, All}
 use Rattle.std.proofs.lemmas.Bool.{ne_eqb, eqb-true, lt-ltb, ltb-true}
 use Rattle.std.proofs.lemmas.List.{get_or-map}
@@ -10,7 +10,7 @@ use Rattle.std.proofs.lemmas.List.Elements.{All-weaker}
 use Rattle.std.proofs.lemmas.Option.{same_Some}
 use Rattle.std.specs.Str.{IsAscii}
 use Rattle.std.proofs.lemmas.Str.Ascii.{IsAscii-from_all}
-use Rattle.base62.specs.Alphabet.{IsAlphabet, AreLetters, standard, alternative, digit_of, is_letter}
+use Rattle.base62.specs.Alphabet.{IsAlphabet, standard, alternative, digit_of, is_letter}
 use Rattle.base62.specs.Value.{digit_or_zero}
 
 abbrev pub IsLetter : List ℕ → ℕ → Type 0
@@ -100,10 +100,3 @@ standard_is_ascii = IsAscii-from_all standard (all_below 128 standard refl)
 pub alternative_is_ascii : IsAscii alternative
 unfolding alternative
 alternative_is_ascii = IsAscii-from_all alternative (all_below 128 alternative refl)
-
--- over an alphabet of ASCII bytes a text of letters is ASCII
-pub letters_ascii : (B : List ℕ) → IsAscii B → (text : List ℕ) → AreLetters B text → IsAscii text
-letters_ascii B ascii text letters =
-    let below = λ (b : ℕ) (h : IsLetter B b).
-    let at = letter-digit_of B b _ (digit_of-is B b h) in subst (λ l. l < 128) at.1 (ascii (digit_or_zero B b)) in
-    IsAscii-from_all text (All-weaker (IsLetter B) (λ b. b < 128) below text letters)

@@ -4,7 +4,8 @@ use Rattle.std.proofs.lemmas.Bool.{cases_lt}
 use Rattle.std.specs.Str.{IsAscii}
 use Rattle.base62.specs.Alphabet.{IsAlphabet}
 use Rattle.base62.specs.Canonical.{Denotes, IsCanonical, CanonicalFits}
-use Rattle.base62.proofs.AlphabetLemmas.{standard_is_ascii, alternative_is_ascii, letters_ascii}
+use Rattle.base62.proofs.AlphabetLemmas.{standard_is_ascii, alternative_is_ascii}
+use Rattle.base62.proofs.LetterLemmas.{letters_ascii}
 use Rattle.base62.proofs.ValueLemmas.{value-lt_most, same_text}
 
 -- n takes k letters at least: it is 1, or one letter less cannot hold n

@@ -41,14 +41,6 @@ fixed-cut B v (suc w) n =
 pub fixed-join : (B : List ℕ) (v w n : ℕ) → fixed B (v + w) n ≡ fixed B v (n / 62 ^ w) ++ fixed B w (n % 62 ^ w)
 fixed-join B v w n = fixed-cut B v w n ∙ ap (λ text. fixed B v (n / 62 ^ w) ++ text) (sym (fixed-remainder B w n))
 
--- the least number of letters from 1 on that holds n
-some_width : (k n : ℕ) → n < 62 ^ suc k → (w : ℕ) × (0 < w) × (n < 62 ^ w) × NeedsLetters w n
-some_width zero n h = (1, omega arith, h, inl refl)
-some_width (suc k) n h = elim (cases_lt n (62 ^ suc k)) [
-  | inl less ↦ some_width k n less
-  | inr more ↦ let back : suc (suc k) - 1 ≡ suc k = omega arith in (suc (suc k), omega arith, h, inr (rw back more))
-]
-
 module _ (B : List ℕ) (ok : IsAlphabet B) where
   letters-fixed : (w n : ℕ) → AreLetters B (fixed B w n)
   unfolding fixed
@@ -109,12 +101,6 @@ module _ (B : List ℕ) (ok : IsAlphabet B) where
     -- each canonical text has as many letters
     pub letters_exact : (text : List ℕ) → IsCanonical B text n → length text ≡ w
     letters_exact text canonical = let one = has B ok in ap length (one_canonical B ok n text one.0 canonical one.1) ∙ one.2
-
-  -- a number below 2^128 has a canonical text
-  pub some_canonical : (n : ℕ) → n < 2 ^ 128 → (text : List ℕ) × IsCanonical B text n
-  some_canonical n h =
-      let w = some_width 21 n (omega arith) in
-      (fixed B w.0 n, canonical-fixed w.0 n w.1 w.2 w.3)
 
 -- n has a canonical text of the least number of letters from 1 on that holds it
 pub has_letters : (n w : ℕ) → 0 < w → n < 62 ^ w → NeedsLetters w n → DigitCount n w

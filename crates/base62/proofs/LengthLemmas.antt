@@ -1,4 +1,4 @@
--- A text of letters is canonical exactly where it has no needless zero letter, and how long it is.
+-- A text of letters is canonical exactly where it has no needless zero letter.
 use Rattle.std.proofs.Common.{◌≡◌, ◌≢◌, ℕ, suc, ◌-◌, ◌*◌, ◌^◌, ◌<◌, ◌≤◌, List, [], ◌∷◌, length, get_or, refl, sym, ◌∙◌, inl, inr, arith}
 use Rattle.std.proofs.Math.Nat.{le-mul_of_pos_right}
 use Rattle.std.proofs.lemmas.Bool.{cases_eq}
@@ -11,8 +11,6 @@ use Rattle.base62.proofs.AlphabetLemmas.{IsLetter, same_letter}
 use Rattle.base62.proofs.ValueLemmas.{value-cons}
 use Rattle.base62.proofs.ZeroLemmas.{zero_is_letter, zero_digit, value_front}
 use Rattle.base62.proofs.CanonicalLemmas.{NeedsLetters, canonical_is}
-use Rattle.base62.specs.Fixed.{fixed}
-use Rattle.base62.proofs.FixedLemmas.{length-fixed, denotes-fixed}
 
 module _ (B : List ℕ) (ok : IsAlphabet B) where
   -- a canonical text of two or more letters does not begin with the zero letter, since the others would do
@@ -54,10 +52,3 @@ module _ (B : List ℕ) (ok : IsAlphabet B) where
   pub canonical_of_value : (text : List ℕ) → AreLetters B text → HasNoNeedlessZero B text → IsCanonical B text (value B text)
   canonical_of_value text letters has =
       canonical_is B ok text (value B text) (record { nonempty = has.0; letters = letters; value_is = refl }) (needs_each text letters has)
-
-  -- a canonical text of a number below 2^128 has at most 22 letters, since 22 are enough
-  pub canonical_short : (text : List ℕ) (n : ℕ) → n < 2 ^ 128 → IsCanonical B text n → length text ≤ 22
-  canonical_short text n small canonical =
-      let size = length-fixed B 22 n in
-      let le = canonical.shortest (fixed B 22 n) (denotes-fixed B ok 22 n (omega arith) (omega arith)) in
-      omega (arith, size, le)

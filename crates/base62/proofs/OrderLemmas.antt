@@ -134,3 +134,5 @@ module _ (B : List ℕ) (ok : IsAlphabet B) where
     -- one is before another, or is the same, exactly where its number is at most the other's
     pub not_after_iff : (w : ℕ) (a b : List ℕ) (m n : ℕ) → IsFixed B w a m → IsFixed B w b n → (IsNotAfter a b ↔ (m ≤ n))
     not_after_iff w a b m n p q = rw (fixed_compare w a b m n p q) (at_most_iff m n)
+
+pub ruleset texts_in_order = (standard_ascends, texts_compare, fixed_compare, canonical_compare)

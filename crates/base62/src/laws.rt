@@ -53,8 +53,6 @@ pub fn one_text()
     ensures lengths { (B : List ℕ) → IsAlphabet B → (n : ℕ) → n < 2 ^ 128 → (text : List ℕ)
         → IsCanonical B text n → (1 ≤ length text) × (length text ≤ 22) }
     ensures within { (B : List ℕ) → IsAlphabet B → (k n : ℕ) → 0 < k → n < 62 ^ k → CanonicalFits B n k }
-    ensures which { (B : List ℕ) → IsAlphabet B → (text : List ℕ) → AreLetters B text
-        → (IsCanonical B text (value B text) ↔ HasNoNeedlessZero B text) }
     ensures plain { (B : List ℕ) → IsAlphabet B → (text : List ℕ) (n : ℕ)
         → Denotes B text n → HasNoNeedlessZero B text → IsCanonical B text n }
     ensures needless { (B : List ℕ) → IsAlphabet B → (text : List ℕ) (n : ℕ)
@@ -168,7 +166,7 @@ pub fn zeros_in_front(alphabet: &Alphabet, zeros: &[u8], text: &[u8], number: u1
 /// Over an alphabet whose letters ascend by byte, as the standard ones do, texts of letters of one length
 /// compare by their bytes as their values, and so texts of w letters as their numbers. Canonical texts compare as
 /// their numbers where the shorter comes first and texts of one length go by their bytes.
-#[tactic(auto, using(crate::proofs::OrderLemmas::standard_ascends, crate::proofs::OrderLemmas::texts_compare, crate::proofs::OrderLemmas::fixed_compare, crate::proofs::OrderLemmas::canonical_compare))]
+#[tactic(auto, using(crate::proofs::OrderLemmas::texts_in_order))]
 pub fn order_of_texts()
     ensures standard { Ascends standard }
     ensures one_length { (B : List ℕ) → IsAlphabet B → Ascends B → (a b : List ℕ)

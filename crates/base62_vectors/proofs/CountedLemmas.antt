@@ -1,25 +1,27 @@
 -- What a counted call answers for a number whose canonical text is known, and its steps on a new counter.
-use Rattle.std.proofs.Common.{◌≡◌, ℕ, ◌<◌, ◌≤◌, ◌↔◌, true, List, length, take, Result, Ok, Err, refl, sym, ap, ◌∙◌, arith}
+use Rattle.std.proofs.Common.{◌≡◌, ℕ, ◌<◌, ◌≤◌, true, List, length, take, Result, Ok, Err, refl, sym, ap, ◌∙◌, arith}
 use Rattle.std.specs.List.{list_all}
 use Rattle.std.proofs.lemmas.Bool.{false≢true}
 use Rattle.std.proofs.lemmas.List.{length-take-le}
 use Rattle.std.proofs.lemmas.List.Sums.{AllPass-from_list_all}
 use Rattle.base62.specs.declared.fault.EncodeError.{EncodeError}
 use Rattle.base62.specs.declared.fault.EncodeError.TheVariants.{BufferTooSmall}
-use Rattle.base62.specs.Alphabet.{IsAlphabet, AreLetters, is_letter, standard}
+use Rattle.base62.specs.Alphabet.{IsAlphabet, is_letter, standard}
 use Rattle.base62.specs.Value.{value}
-use Rattle.base62.specs.Canonical.{IsCanonical}
+use Rattle.base62.specs.Canonical.{Denotes, IsCanonical}
 use Rattle.base62.specs.Laws.{HasNoNeedlessZero}
 use Rattle.base62.specs.Steps.{EncodesCounted, encoding_steps}
 
 -- by the laws of canonical texts
 module _ (ok : IsAlphabet standard)
     (only : (B : List ℕ) → IsAlphabet B → (n : ℕ) (a b : List ℕ) → IsCanonical B a n → IsCanonical B b n → a ≡ b)
-    (which : (B : List ℕ) → IsAlphabet B → (text : List ℕ) → AreLetters B text → (IsCanonical B text (value B text) ↔ HasNoNeedlessZero B text))
+    (plain : (B : List ℕ) → IsAlphabet B → (text : List ℕ) (n : ℕ) → Denotes B text n → HasNoNeedlessZero B text → IsCanonical B text n)
     (text : List ℕ) (letters : list_all (is_letter standard) text ≡ true) (shape : HasNoNeedlessZero standard text)
     (old new : List ℕ) (before after : ℕ) (start : before ≡ 0) where
   canonical : IsCanonical standard text (value standard text)
-  canonical = (which standard ok text (AllPass-from_list_all (is_letter standard) text letters)).1 shape
+  canonical =
+      let all = AllPass-from_list_all (is_letter standard) text letters in
+      plain standard ok text (value standard text) (record { nonempty = shape.0; letters = all; value_is = refl }) shape
 
   length_is : (len : ℕ) → len ≤ length new → IsCanonical standard (take len new) (value standard text) → len ≡ length text
   length_is len within written =

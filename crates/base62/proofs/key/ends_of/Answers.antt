@@ -22,4 +22,5 @@ pub returns : goal.returns
 returns c = λ front size number.
     let product : c.args.number * c.wide_power-span.result ≡ least_of standard standard_is_alphabet 22 front = rw (size, number, c.wide_power-span.ensures) refl in
     let wide : c.wide_power-span.result ≡ span 22 front = rw (size, c.wide_power-span.ensures) refl in
-    sym (ends_some standard standard_is_alphabet 22 front _ _ (omega arith) (omega (arith, product, c.in-Some.ensures)) (omega (arith, product, c.in-Some.ensures)) (rw (← wide) c.saturating_add.ensures))
+    let some = ends_some standard standard_is_alphabet 22 front _ _ (omega arith) in
+    sym (some (omega (arith, product, c.in-Some.ensures)) (omega (arith, product, c.in-Some.ensures)) (rw (← wide) c.saturating_add.ensures))

@@ -1,4 +1,4 @@
-use Rattle.base62.proofs.AlphabetLemmas.{letters_ascii}
+use Rattle.base62.proofs.LetterLemmas.{letters_ascii}
 use Rattle.base62.proofs.laws.texts_of_ascii.Goals as goal
 
 pub returns-clause-letters : goal.returns-clause-letters

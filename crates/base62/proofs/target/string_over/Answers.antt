@@ -25,7 +25,9 @@ from_utf8_unchecked-requires g c =
 pub returns : goal.returns
 returns g c =
     let new = c.write_text.new.buf in
-    let text = whole c.args.tables.now.letters c.requires.tables.alphabet _ _ _ _ new (drop (length new) c.in_ok-bytes.bytes.items) c.digit_count-count.ensures.counted c.write_text.ensures.written c.in_ok-bytes.ensures.len in
+    let spare = drop (length new) c.in_ok-bytes.bytes.items in
+    let written = c.write_text.ensures.written in
+    let text = whole c.args.tables.now.letters c.requires.tables.alphabet _ _ _ _ new spare c.digit_count-count.ensures.counted written c.in_ok-bytes.ensures.len in
     let small : c.number-n.result < 2 ^ 128 = omega arith in
     record {
       text = rw (c.from_utf8_unchecked.ensures.value, ← c.number-n.ensures) text;

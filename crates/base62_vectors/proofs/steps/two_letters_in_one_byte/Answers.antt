@@ -10,6 +10,6 @@ unfolding standard digit_of sum_over_places value
 returns c =
     let law = c.one_text.ensures in
     let call = c.encode_bytes_counted-answer in
-    let known = uncounted c.built_in_alphabets.ensures.standard law.only law.which (codes "LZ") refl (omega arith, inr (λ e. omega arith)) in
+    let known = uncounted c.built_in_alphabets.ensures.standard law.only law.plain (codes "LZ") refl (omega arith, inr (λ e. omega arith)) in
     let both = known _ _ _ _ c.new-work.ensures call.result (omega arith) call.ensures in
     record { answer = both.0; steps = both.1 }

@@ -28,7 +28,9 @@ returns-then-digit-gt61 c =
     (Err fault, refuses_cut B part (take (i + 1) part) (i + 1) c.args.start c.args.work.now refl _ _ bad, refl)
 
 -- one letter more
-more : (c : goal.Else-digit-gt61) → HasRead c.args.tables.now.letters (take (c.loop-i.i + 1) c.args.part.now) c.args.work.now c.digit-digit.new.work (c.loop-i.invariant.1.0 * 62 ^ 1 + c.digit-digit.result)
+more : (c : goal.Else-digit-gt61)
+    → HasRead c.args.tables.now.letters (take (c.loop-i.i + 1) c.args.part.now) c.args.work.now c.digit-digit.new.work
+    (c.loop-i.invariant.1.0 * 62 ^ 1 + c.digit-digit.result)
 more c =
     let B = c.args.tables.now.letters in
     let b = get_or c.args.part.now c.loop-i.i 0 in

@@ -19,7 +19,9 @@ pub returns-then-count-gt20-clause-written : goal.returns-then-count-gt20-clause
 returns-then-count-gt20-clause-written c =
     let n = c.args.n in
     let count = c.args.count in
-    let remainder : c.cut_by_10-middle.result.0 * 62 ^ 10 + c.cut_by_10-middle.result.1 ≡ n % 62 ^ 20 = omega (arith, c.cut_by_20-top.ensures.remainder, c.cut_by_10-middle.ensures.quotient, c.cut_by_10-middle.ensures.remainder) in
+    let middle = c.cut_by_10-middle in
+    let remainder : middle.result.0 * 62 ^ 10 + middle.result.1 ≡ n % 62 ^ 20 =
+    omega (arith, c.cut_by_20-top.ensures.remainder, middle.ensures.quotient, middle.ensures.remainder) in
     let join = written_on c.args.tables.now.letters (count - 20) 20 count n _ _ (omega arith) c.cut_by_20-top.ensures.quotient remainder in
     join c.args.buf.now c.write_1_or_2.new.buf _ c.requires.room c.write_20.ensures.written c.write_1_or_2.ensures.written
 
@@ -33,7 +35,8 @@ returns-then-count-eq20-clause-steps c = rw (c.if-count-eq20.true, steps_of_20) 
 pub returns-else-count-eq20-clause-written : goal.returns-else-count-eq20-clause-written
 returns-else-count-eq20-clause-written c =
     let count = c.args.count in
-    let join = written_on c.args.tables.now.letters (count - 10) 10 count c.args.n _ _ (omega (arith, c.requires.least)) c.cut_by_10-high-else-count-eq20.ensures.quotient c.cut_by_10-high-else-count-eq20.ensures.remainder in
+    let cut = c.cut_by_10-high-else-count-eq20.ensures in
+    let join = written_on c.args.tables.now.letters (count - 10) 10 count c.args.n _ _ (omega (arith, c.requires.least)) cut.quotient cut.remainder in
     join c.args.buf.now c.write_up_to_9.new.buf c.write_10.new.buf c.requires.room c.write_10.ensures.written c.write_up_to_9.ensures.written
 
 pub returns-else-count-eq20-clause-steps : goal.returns-else-count-eq20-clause-steps

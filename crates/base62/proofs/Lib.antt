@@ -1,3 +1,4 @@
+pub mod OnLiterals
 pub mod ComputedLemmas
 pub mod PlacesLemmas
 pub mod AlphabetLemmas

@@ -1,15 +1,7 @@
 //! The definitions that the contracts cite, which stand in `specs/`, computed on examples.
 //!
 //! No call here takes part in a run: each states facts about the definitions alone.
-#![tactic(auto, unfolding(
-// letters and their digits
-crate::specs::Alphabet::standard, crate::specs::Alphabet::alternative, crate::specs::Alphabet::digit_of,
-// values, what decoding answers, and its steps
-crate::specs::Places::sum_over_places, crate::specs::Value::value, crate::specs::Decoding::decoding, crate::specs::Steps::decoding_steps,
-// the steps of encoding
-crate::specs::Steps::encoding_steps,
-// what is shown, the other case and the ends of an interval
-crate::specs::Fault::escaped, crate::specs::Padding::displayed, crate::specs::Case::other_case, crate::specs::Key::interval_ends))]
+#![tactic(auto, unfolding(crate::proofs::OnLiterals::base62_on_literals))]
 
 ghost use Rattle.std.specs.Prelude.{◌≡◌, ◌^◌, ◌-◌, ◌++◌, [], ◌∷◌, replicate, codes, Ok, Err, Some, None};
 ghost use Rattle.std.specs.List.{range_with_len};

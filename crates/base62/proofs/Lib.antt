@@ -7,6 +7,7 @@ pub mod TableLemmas
 pub mod TableFillLemmas
 pub mod ValueLemmas
 pub mod CanonicalLemmas
+pub mod LiteralLemmas
 pub mod LengthLemmas
 pub mod PartLemmas
 pub mod DecodingLemmas

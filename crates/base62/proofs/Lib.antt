@@ -1,3 +1,4 @@
+pub mod OnLiterals
 pub mod ComputedLemmas
 pub mod PlacesLemmas
 pub mod AlphabetLemmas
@@ -6,6 +7,7 @@ pub mod TableLemmas
 pub mod TableFillLemmas
 pub mod ValueLemmas
 pub mod CanonicalLemmas
+pub mod LiteralLemmas
 pub mod LengthLemmas
 pub mod PartLemmas
 pub mod DecodingLemmas

@@ -1,9 +1,5 @@
 //! Contracts that name one text and its number.
-#![tactic(auto, unfolding(
-// letters, digits and values
-base62::specs::Alphabet::standard, base62::specs::Alphabet::digit_of, base62::specs::Places::sum_over_places, base62::specs::Value::value,
-// what decoding answers
-base62::specs::Decoding::decoding))]
+#![tactic(auto, unfolding(base62::proofs::OnLiterals::base62_on_literals))]
 
 ghost use Rattle.std.specs.Prelude.{◌≡◌, codes, Ok};
 

@@ -1,9 +1,5 @@
 //! Counted calls whose answers and steps their contracts state.
-#![tactic(auto, unfolding(
-// letters, digits and values
-base62::specs::Alphabet::standard, base62::specs::Alphabet::digit_of, base62::specs::Places::sum_over_places, base62::specs::Value::value,
-// what decoding answers, and its steps
-base62::specs::Decoding::decoding, base62::specs::Steps::decoding_steps))]
+#![tactic(auto, unfolding(base62::proofs::OnLiterals::base62_on_literals))]
 
 ghost use Rattle.std.specs.Prelude.{◌≡◌, Ok, Err};
 ghost use Rattle.base62.specs.declared.fault.DecodeError.TheVariants.{InvalidBase62Byte};

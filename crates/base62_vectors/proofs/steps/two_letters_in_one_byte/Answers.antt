@@ -1,12 +1,10 @@
 use Rattle.std.proofs.Common.{codes, refl, inr, arith}
-use Rattle.base62.specs.Alphabet.{standard, digit_of}
-use Rattle.base62.specs.Places.{sum_over_places}
-use Rattle.base62.specs.Value.{value}
+use Rattle.base62.proofs.OnLiterals.{base62_on_literals}
 use Rattle.base62_vectors.proofs.CountedLemmas.{uncounted}
 use Rattle.base62_vectors.proofs.steps.two_letters_in_one_byte.Goals as goal
 
 pub returns : goal.returns
-unfolding standard digit_of sum_over_places value
+unfolding base62_on_literals
 returns c =
     let law = c.one_text.ensures in
     let call = c.encode_bytes_counted-answer in

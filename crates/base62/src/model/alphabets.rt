@@ -1,0 +1,58 @@
+//! Alphabets, their digits, and repeated bytes.
+#![tactic(auto, unfolding(crate::proofs::OnLiterals::base62_on_literals))]
+
+ghost use Rattle.std.specs.Prelude.{◌≡◌, ◌++◌, [], ◌∷◌, replicate, codes, false, Ok, Err, Some, None};
+ghost use Rattle.std.specs.List.{range_with_len};
+ghost use Rattle.base62.specs.Alphabet.{IsAlphabet, IsRepeated, RepeatsFirst, digit_of, is_letter, standard, alternative};
+ghost use Rattle.base62.specs.Decoding.{decoding};
+ghost use Rattle.base62.specs.declared.fault.DecodeError.TheVariants.{InvalidBase62Byte};
+
+/// Other alphabets than the built-in ones: one whose zero letter is `a`, with `0` for digit 61; the bytes from
+/// 194 to 255, of which none is ASCII; and those from 33 to 94.
+pub fn alphabets_by_example()
+    ensures small_letters_first { IsAlphabet
+        (codes "abcdefghijklmnopqrstuvwxyzABCDEFGHIJKLMNOPQRSTUVWXYZ1234567890") }
+    ensures leading_zeros { decoding
+        (codes "abcdefghijklmnopqrstuvwxyzABCDEFGHIJKLMNOPQRSTUVWXYZ1234567890") (codes "aa0") ≡ Ok 61 }
+    ensures above_ascii { IsAlphabet (range_with_len 194 62) }
+    ensures above_ascii_decoded { decoding (range_with_len 194 62) (194 ∷ 215 ∷ 229 ∷ []) ≡ Ok 1337 }
+    ensures above_ascii_refused { decoding (range_with_len 194 62) (codes "0") ≡ Err (InvalidBase62Byte 48 0) }
+    ensures from_33 { IsAlphabet (range_with_len 33 62) }
+    ensures from_33_decoded { decoding (range_with_len 33 62) (codes "!!6D") ≡ Ok 1337 }
+{}
+
+/// Lists that are no alphabet: 61 and 63 bytes of which none is repeated; 62 of which two are equal, by where these
+/// stand; and 62 numbers of which the last is 256, and so no byte.
+pub fn no_alphabets_by_example()
+    ensures one_fewer { IsAlphabet (range_with_len 33 61) → ⊥ }
+    ensures one_more { IsAlphabet (range_with_len 33 63) → ⊥ }
+    ensures first_two { IsAlphabet (33 ∷ range_with_len 33 61) → ⊥ }
+    ensures last_two { IsAlphabet (range_with_len 33 61 ++ 93 ∷ []) → ⊥ }
+    ensures first_and_last { IsAlphabet (range_with_len 33 61 ++ 33 ∷ []) → ⊥ }
+    ensures no_byte { IsAlphabet (range_with_len 195 62) → ⊥ }
+{}
+
+/// The digits of some bytes: `0`, `Z` and `z` are 48, 90 and 122, and 33 is `!`.
+pub fn digits_by_example()
+    ensures first { digit_of standard 48 ≡ Some 0 }
+    ensures last { digit_of standard 122 ≡ Some 61 }
+    ensures other_alphabet { digit_of alternative 90 ≡ Some 61 }
+    ensures none { digit_of standard 33 ≡ None }
+    ensures first_place { digit_of (replicate 62 97) 97 ≡ Some 0 }
+    ensures no_letter { is_letter standard 33 ≡ false }
+{}
+
+/// The first byte that is repeated in letters: 97 to 99 are `a` to `c`, and 49 is `1`.
+pub fn repeats_by_example()
+    ensures one_byte { RepeatsFirst (replicate 62 97) 97 1 }
+    ensures two_bytes { RepeatsFirst
+        (codes "012140678ABCDEFGHIJKLMNOPQRSTUVWXYZabcdefghijklmnopqrstuvwxyz9") 49 3 }
+    ensures last { RepeatsFirst (codes "abca") 97 3 }
+    ensures none { RepeatsFirst (codes "abc") 99 2 → ⊥ }
+    ensures earlier_place { RepeatsFirst (codes "aba") 97 0 → ⊥ }
+    ensures other_byte { RepeatsFirst (codes "aba") 98 2 → ⊥ }
+    ensures next_repeat { RepeatsFirst (codes "abab") 98 3 → ⊥ }
+    ensures later_repeat { RepeatsFirst (codes "aabb") 98 3 → ⊥ }
+    ensures same_byte_again { RepeatsFirst (codes "aaa") 97 2 → ⊥ }
+    ensures behind { RepeatsFirst (codes "abc") 0 4 → ⊥ }
+{}

@@ -1,0 +1,45 @@
+//! How texts compare, and which alphabets ascend.
+#![tactic(auto, unfolding(crate::proofs::OnLiterals::base62_on_literals))]
+
+ghost use Rattle.std.specs.Prelude.{◌≡◌, ◌++◌, [], ◌∷◌, replicate, codes};
+ghost use Rattle.std.specs.List.{range_with_len};
+ghost use Rattle.std.specs.declared.cmp.Ordering.TheVariants.{Less, Equal, Greater};
+ghost use Rattle.base62.specs.Alphabet.{alternative};
+ghost use Rattle.base62.specs.Order.{lexicographic_order, IsNotAfter, shortlex_order, Ascends};
+
+/// How some texts compare by their bytes.
+pub fn byte_order_by_example()
+    ensures first_difference { lexicographic_order (codes "10") (codes "z") ≡ Less }
+    ensures first_difference_back { lexicographic_order (codes "z") (codes "10") ≡ Greater }
+    ensures later_difference { lexicographic_order (codes "1z0") (codes "1a9") ≡ Greater }
+    ensures beginning { lexicographic_order (codes "1") (codes "10") ≡ Less }
+    ensures beginning_back { lexicographic_order (codes "10") (codes "1") ≡ Greater }
+    ensures empty { lexicographic_order [] (codes "0") ≡ Less }
+    ensures same { lexicographic_order (codes "LZ") (codes "LZ") ≡ Equal }
+    ensures before { IsNotAfter (codes "10") (codes "z") }
+    ensures not_after_itself { IsNotAfter (codes "LZ") (codes "LZ") }
+    ensures after { IsNotAfter (codes "z") (codes "10") → ⊥ }
+    ensures after_beginning { IsNotAfter (codes "10") (codes "1") → ⊥ }
+{}
+
+/// How some texts compare by their lengths and then by their bytes.
+pub fn length_order_by_example()
+    ensures shorter { shortlex_order (codes "z") (codes "10") ≡ Less }
+    ensures longer { shortlex_order (codes "10") (codes "z") ≡ Greater }
+    ensures empty { shortlex_order [] (codes "0") ≡ Less }
+    ensures lesser { shortlex_order (codes "1z") (codes "z1") ≡ Less }
+    ensures greater { shortlex_order (codes "z1") (codes "1z") ≡ Greater }
+    ensures same { shortlex_order (codes "LZ") (codes "LZ") ≡ Equal }
+{}
+
+/// Letters that ascend, and letters that do not: equal ones, by where they stand, and descents; 33 and 94 are the first
+/// and the last of the letters that ascend.
+pub fn ascents_by_example()
+    ensures from_33 { Ascends (range_with_len 33 62) }
+    ensures one_byte { Ascends (replicate 62 48) → ⊥ }
+    ensures first_two_equal { Ascends (33 ∷ range_with_len 33 61) → ⊥ }
+    ensures last_two_equal { Ascends (range_with_len 33 61 ++ 93 ∷ []) → ⊥ }
+    ensures last_descends { Ascends (range_with_len 33 61 ++ 33 ∷ []) → ⊥ }
+    ensures first_descends { Ascends (94 ∷ range_with_len 33 61) → ⊥ }
+    ensures alternative { Ascends alternative → ⊥ }
+{}

@@ -14,7 +14,7 @@ class Alphabet(bytes):
     raise a ValueError, which is an AlphabetError where one of 62 is repeated. Letters that are no ASCII can be bytes,
     to decode over.
 
-    >>> own = Alphabet("23456789ABCDEFGHJKMNPQRSTUVWXYZabcdefghijkmnpqrstuvwxyz-_.~+!*")
+    >>> own = Alphabet("23456789ABCDEFGHJKLMNPQRSTUVWXYZabcdefghijkmnpqrstuvwxyz-_.~!*")
     >>> encode(62, own), decode("32", own)
     ('32', 62)
     """

@@ -26,7 +26,7 @@ pub use work::Work;
 ///
 /// ```rust
 /// // Digits and letters, but none that look alike, and some marks.
-/// let letters = *b"23456789ABCDEFGHJKMNPQRSTUVWXYZabcdefghijkmnpqrstuvwxyz-_.~+!*";
+/// let letters = *b"23456789ABCDEFGHJKLMNPQRSTUVWXYZabcdefghijkmnpqrstuvwxyz-_.~!*";
 /// let alphabet = base62::Alphabet::new(letters).unwrap();
 /// assert_eq!(rt; base62::decode_with(&alphabet, b"32"), Ok(62));
 /// ```

@@ -37,9 +37,9 @@
 extern "C" {
 #endif
 
-#define BASE62_VERSION "0.9.0"
-#define BASE62_VERSION_MAJOR 0
-#define BASE62_VERSION_MINOR 9
+#define BASE62_VERSION "1.0.0"
+#define BASE62_VERSION_MAJOR 1
+#define BASE62_VERSION_MINOR 0
 #define BASE62_VERSION_PATCH 0
 
 /* The letters of the longest text of a number. No buffer of this size is too small for one. */

@@ -42,8 +42,11 @@ pub fn digits_by_example()
     ensures no_letter { is_letter standard 33 ≡ false }
 {}
 
-/// The first byte that is repeated in letters: 97 to 99 are `a` to `c`, and 49 is `1`.
+/// Bytes that stand at an earlier place too, and the first of them: 97 to 99 are `a` to `c`, and 49 is `1`.
 pub fn repeats_by_example()
+    ensures second_place { IsRepeated (codes "aba") 2 }
+    ensures first_place { IsRepeated (codes "aba") 0 → ⊥ }
+    ensures one_place { IsRepeated (codes "aba") 1 → ⊥ }
     ensures one_byte { RepeatsFirst (replicate 62 97) 97 1 }
     ensures two_bytes { RepeatsFirst
         (codes "012140678ABCDEFGHIJKLMNOPQRSTUVWXYZabcdefghijklmnopqrstuvwxyz9") 49 3 }

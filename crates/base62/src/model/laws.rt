@@ -56,3 +56,11 @@ pub fn answers_by_example()
     ensures overflow_kept { one_place_on (Err ArithmeticOverflow) ≡ Err ArithmeticOverflow }
     ensures empty_kept { one_place_on (Err EmptyInput) ≡ Err EmptyInput }
 {}
+
+/// What a law tells of an answer, for one text, and for two over lists that are no alphabet: no letters at all, where a
+/// byte 0 is accepted, and all bytes, where another text of the number is shorter.
+pub fn told_by_example()
+    ensures zeros_and_letters { AnswerTells standard (codes "0LZ") }
+    ensures no_letters { AnswerTells [] (0 ∷ []) → ⊥ }
+    ensures all_bytes { AnswerTells (range_with_len 0 256) (1 ∷ 0 ∷ []) → ⊥ }
+{}

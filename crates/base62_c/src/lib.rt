@@ -14,6 +14,7 @@ ghost use Rattle.base62_c.specs.Number.{number_of};
 
 mod answer;
 mod fault;
+pub mod laws;
 mod number;
 
 use answer::{OK, REPEATED_LETTER, alphabet_of, tell_length, tell_number, tell_range, tell_text};

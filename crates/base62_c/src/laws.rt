@@ -1,8 +1,9 @@
 //! What follows from how answers are told. No call here takes part in a run.
 
 ghost use Rattle.std.specs.Prelude.{◌≡◌, ◌<◌, ◌^◌, ℕ, List, take, Option, Result, Err};
-ghost use Rattle.base62.specs.Alphabet.{IsAlphabet};
-ghost use Rattle.base62.specs.Fault.{decode_error_text, encode_error_text};
+ghost use Rattle.base62.specs.Alphabet.{IsAlphabet, RepeatsFirst};
+ghost use Rattle.base62.specs.Fault.{alphabet_error_text, decode_error_text, encode_error_text};
+ghost use Rattle.base62.specs.declared.fault.AlphabetError.TheVariants.{Repeated};
 ghost use Rattle.base62.specs.declared.fault.DecodeError.{DecodeError};
 ghost use Rattle.base62.specs.declared.fault.EncodeError.{EncodeError};
 ghost use Rattle.base62_c.specs.Answer.{Encodes, TellsFault, TellsLength, TellsNumber, TellsRange, WritesText};
@@ -18,7 +19,7 @@ pub fn one_pair_of_halves()
 
 /// Where two answers are told by the same status and the same things at the pointers, they are the same, whatever
 /// stood there before. With status 0 a text that is written is the front of the buffer, of the length that is told,
-/// and a number that is encoded is the only one.
+/// and no two numbers are encoded alike.
 pub fn one_answer()
     ensures faults { (a b : DecodeError) (status : ℕ) (bad other bad' : ℕ × ℕ)
         → TellsFault a status bad bad' → TellsFault b status other bad' → a ≡ b }
@@ -37,7 +38,7 @@ pub fn one_answer()
 {}
 
 /// One answer, or one text or number that is written, is told by only one status and only one thing at each pointer,
-/// given what stood there before.
+/// given what stood there before. Letters that are no alphabet have only one byte and index that are told.
 pub fn one_telling()
     ensures faults { (fault : DecodeError) (s t : ℕ) (bad a b : ℕ × ℕ)
         → TellsFault fault s bad a → TellsFault fault t bad b → (s ≡ t) × (a ≡ b) }
@@ -53,15 +54,20 @@ pub fn one_telling()
         → WritesText text buf a s len m → WritesText text buf b t len n → (s ≡ t) × (a ≡ b) × (m ≡ n) }
     ensures encoded { (B : List ℕ) → IsAlphabet B → (number : ℕ) (buf a b : List ℕ) (s t len m n : ℕ)
         → Encodes B number buf a s len m → Encodes B number buf b t len n → (s ≡ t) × (a ≡ b) × (m ≡ n) }
+    ensures alphabets { (letters : List ℕ) (byte other index other_index : ℕ)
+        → RepeatsFirst letters byte index → RepeatsFirst letters other other_index
+        → (byte ≡ other) × (index ≡ other_index) }
 {
     base62::laws::one_text();
 }
 
-/// The text of a status, with the byte and the index that are told by it, is that of the fault that is told.
+/// The text of a status, with the byte and the index that are told by it, is that of the fault that is told. Status 6
+/// is that of a repeated letter.
 #[tactic(auto, unfolding(crate::specs::Fault::fault_text))]
 pub fn text_of_told_fault()
     ensures decoding { (fault : DecodeError) (status : ℕ) (bad bad' : ℕ × ℕ)
         → TellsFault fault status bad bad' → fault_text status bad'.0 bad'.1 ≡ decode_error_text fault }
     ensures encoding { (fault : EncodeError) (status len len' byte index : ℕ)
         → TellsLength (Err fault) status len len' → fault_text status byte index ≡ encode_error_text fault }
+    ensures alphabets { (byte index : ℕ) → fault_text 6 byte index ≡ alphabet_error_text (Repeated byte index) }
 {}

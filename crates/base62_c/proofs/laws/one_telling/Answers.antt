@@ -1,6 +1,7 @@
-use Rattle.std.proofs.Common.{◌≡◌, ℕ, List, ◌++◌, length, take, drop, Result, Ok, Err, refl, ap, sym, ◌∙◌, arith}
-use Rattle.std.proofs.lemmas.Bool.{false≢true}
+use Rattle.std.proofs.Common.{◌≡◌, ℕ, List, ◌++◌, ◌≤◌, length, take, drop, Result, Ok, Err, slice_index, refl, ap, sym, ◌∙◌, inl, inr, arith}
+use Rattle.std.proofs.lemmas.Bool.{cases_lt, false≢true}
 use Rattle.std.proofs.lemmas.List.{length-take-le, take-append-drop}
+use Rattle.base62.specs.Alphabet.{RepeatsFirst}
 use Rattle.base62.specs.Canonical.{IsCanonical}
 use Rattle.base62.specs.Encoding.{EncodesInto}
 use Rattle.base62.specs.declared.fault.EncodeError.{EncodeError}
@@ -23,3 +24,17 @@ one_encoding B number only buf a b s t len m n (Err BufferTooSmall) (Err BufferT
 pub returns-clause-encoded : goal.returns-clause-encoded
 returns-clause-encoded c = λ B ok number buf a b s t len m n p q.
     one_encoding B number (c.one_text.ensures.only B ok number) buf a b s t len m n p.answer q.answer p.encodes q.encodes p.tells q.tells
+
+-- no first repeat stands before another
+not_before : (letters : List ℕ) (byte other index other_index : ℕ) → RepeatsFirst letters byte index → RepeatsFirst letters other other_index → other_index ≤ index
+not_before letters byte other index other_index p q = elim (cases_lt index other_index) [
+  | inl less ↦ absurd (q.first index less p.repeated)
+  | inr more ↦ more
+]
+
+pub returns-clause-alphabets : goal.returns-clause-alphabets
+returns-clause-alphabets c = λ letters byte other index other_index p q.
+    let most = not_before letters byte other index other_index p q in
+    let least = not_before letters other byte other_index index q p in
+    let same : index ≡ other_index = omega (arith, most, least) in
+    (p.byte_is ∙ ap (slice_index letters) same ∙ sym q.byte_is, same)

@@ -85,7 +85,13 @@ pub fn texts_by_example()
 {}
 
 /// What statuses say, with byte 33, which is `!`, and index 5.
-#[tactic(auto, using(std::proofs::lemmas::Fmt::decimal_digit), unfolding(crate::specs::Fault::fault_text, base62::specs::Fault::decode_error_text, base62::specs::Fault::encode_error_text, base62::specs::Fault::alphabet_error_text, base62::specs::Fault::byte_at_index, base62::specs::Fault::escaped))]
+#[tactic(auto, using(std::proofs::lemmas::Fmt::decimal_digit), unfolding(
+// the text of a status
+crate::specs::Fault::fault_text,
+// what each fault says
+base62::specs::Fault::decode_error_text, base62::specs::Fault::encode_error_text, base62::specs::Fault::alphabet_error_text,
+// a byte and its index
+base62::specs::Fault::byte_at_index, base62::specs::Fault::escaped))]
 pub fn fault_texts_by_example()
     ensures ok { fault_text 0 33 5 ≡ [] }
     ensures buffer_too_small { fault_text 1 33 5 ≡ codes "Buffer too small to encode the number" }

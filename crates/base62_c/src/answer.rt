@@ -1,6 +1,6 @@
 //! How answers are told by a status and through pointers.
 
-ghost use Rattle.std.specs.Prelude.{◌≡◌, Some, None};
+ghost use Rattle.std.specs.Prelude.{◌≡◌, Some, None, OnSome};
 ghost use Rattle.base62.specs.Alphabet.{IsAlphabet, RepeatsFirst};
 ghost use Rattle.base62.specs.declared.fault.AlphabetError.TheVariants.{Repeated};
 ghost use Rattle.base62_c.specs.Answer.{TellsLength, TellsFault, TellsNumber, TellsRange, WritesText};
@@ -97,6 +97,7 @@ pub(crate) fn alphabet_of(letters: &[u8; 62], byte: &mut u8, index: &mut usize) 
         → (result ≡ Some letters.now) × (byte.new ≡ byte.old) × (index.new ≡ index.old) }
     ensures refused { (IsAlphabet letters.now → ⊥)
         → (result ≡ None) × RepeatsFirst letters.now byte.new index.new }
+    ensures alphabet { OnSome result (IsAlphabet letters.now) }
 {
     match Alphabet::new(*letters) {
         Ok(alphabet) => Some(alphabet),

@@ -3,7 +3,7 @@
 //! A `&[u8]` is a pointer and then a length in C, and any other reference a pointer.
 #![tactic(auto)]
 
-ghost use Rattle.std.specs.Prelude.{◌≡◌, ◌≤◌, length};
+ghost use Rattle.std.specs.Prelude.{◌≡◌, ◌≢◌, ◌≤◌, length};
 ghost use Rattle.base62.specs.Alphabet.{IsAlphabet, RepeatsFirst, standard, alternative};
 ghost use Rattle.base62.specs.Canonical.{DigitCount};
 ghost use Rattle.base62.specs.Decoding.{decoding};
@@ -14,6 +14,8 @@ ghost use Rattle.base62_c.specs.Number.{number_of};
 
 mod answer;
 mod fault;
+pub mod laws;
+pub mod model;
 mod number;
 
 use answer::{OK, REPEATED_LETTER, alphabet_of, tell_length, tell_number, tell_range, tell_text};
@@ -55,6 +57,7 @@ pub extern "C" fn base62_encode_with(
         → Encodes letters.now (number_of (high, low)) buf.old buf.new result len.old len.new }
     ensures refused { (IsAlphabet letters.now → ⊥)
         → (result ≡ 6) × (buf.new ≡ buf.old) × (len.new ≡ len.old) }
+    ensures alphabet { result ≢ 6 → IsAlphabet letters.now }
 {
     let Ok(alphabet) = Alphabet::new(*letters) else {
         return REPEATED_LETTER;
@@ -108,6 +111,7 @@ pub extern "C" fn base62_decode_with(
     ensures refused { (IsAlphabet letters.now → ⊥)
         → (result ≡ 6) × RepeatsFirst letters.now byte.new index.new
         × (high.new ≡ high.old) × (low.new ≡ low.old) }
+    ensures alphabet { result ≢ 6 → IsAlphabet letters.now }
 {
     let Some(alphabet) = alphabet_of(letters, byte, index) else {
         return REPEATED_LETTER;
@@ -121,6 +125,7 @@ pub extern "C" fn base62_check_alphabet(letters: &[u8; 62], byte: &mut u8, index
         → (result ≡ 0) × (byte.new ≡ byte.old) × (index.new ≡ index.old) }
     ensures refused { (IsAlphabet letters.now → ⊥)
         → (result ≡ 6) × RepeatsFirst letters.now byte.new index.new }
+    ensures alphabet { result ≢ 6 → IsAlphabet letters.now }
 {
     match alphabet_of(letters, byte, index) {
         Some(_) => OK,

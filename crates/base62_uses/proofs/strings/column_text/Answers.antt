@@ -2,7 +2,7 @@ use Rattle.std.proofs.Common.{◌∙◌, arith}
 use Rattle.std.proofs.lemmas.Result.{IfOk-weaker}
 use Rattle.base62.specs.Alphabet.{standard}
 use Rattle.base62.specs.Padding.{displayed}
-use Rattle.base62_uses.proofs.column_text.Goals as goal
+use Rattle.base62_uses.proofs.strings.column_text.Goals as goal
 
 pub returns : goal.returns
 unfolding displayed

@@ -4,8 +4,8 @@ use Rattle.std.specs.String.{string_len, string_bytes}
 use Rattle.std.specs.declared.alloc.Global.{Global}
 use Rattle.std.proofs.lemmas.List.{length-append}
 use Rattle.base62.specs.Alphabet.{standard}
-use Rattle.base62_uses.proofs.append_pair.Goals as goal
-use Rattle.base62_uses.proofs.append_pair.Goals.{After-push_str}
+use Rattle.base62_uses.proofs.strings.append_pair.Goals as goal
+use Rattle.base62_uses.proofs.strings.append_pair.Goals.{After-push_str}
 
 -- a string behind which a text was appended
 grown : (old new : String Global) (text : List ℕ) → string_bytes new ≡ string_bytes old ++ text → string_len new ≡ string_len old + length text

@@ -1,0 +1,66 @@
+//! Ids in rows of fixed sizes, and ids of parts.
+
+ghost use Rattle.std.specs.Prelude.{◌≡◌, ◌≤◌, ◌+◌, ◌*◌, ◌^◌, ◌↔◌, ℕ, List, take, drop, length, IsTrue};
+ghost use Rattle.std.specs.Bool.{OnTrue, OnFalse};
+ghost use Rattle.base62.specs.Alphabet.{IsAlphabet, standard};
+ghost use Rattle.base62.specs.Canonical.{IsCanonical, CanonicalFits};
+
+use base62::Number;
+
+/// A row with fields of fixed sizes, whose id is the first `id_len` bytes of `id`.
+#[derive(Clone, Copy, Debug, PartialEq, Eq)]
+pub struct Row {
+    pub id: [u8; 16],
+    pub id_len: u8,
+    pub visits: u64,
+}
+
+/// Sets a row's id. One whose text does not fit its field changes nothing.
+pub fn put_id(row: &mut Row, id: u128) -> bool
+    ensures fits { IsTrue result ↔ CanonicalFits standard id 16 }
+    ensures text { OnTrue result ((row.new.id_len ≤ 16)
+        × IsCanonical standard (take row.new.id_len row.new.id) id) }
+    ensures others { OnTrue result ((row.new.visits ≡ row.old.visits)
+        × (drop row.new.id_len row.new.id ≡ drop row.new.id_len row.old.id)) }
+    ensures refused { OnFalse result (row.new ≡ row.old) }
+{
+    let Ok(len) = base62::encode_bytes(id, &mut row.id) else {
+        return false;
+    };
+    row.id_len = len as u8;
+    true
+}
+
+/// How many bytes a column needs for the texts of ids up to `most`, in either alphabet.
+pub fn column_width(most: u64) -> usize
+    ensures { (B text : List ℕ) → IsAlphabet B → IsCanonical B text most → length text ≡ result }
+{
+    base62::digit_count(u128::from(most))
+}
+
+/// An id of two parts: the number of a shard, and a row in it.
+#[derive(Clone, Copy, Debug, PartialEq, Eq)]
+pub struct ShardedId {
+    pub shard: u32,
+    pub row: u64,
+}
+
+/// Says what number an id means, and answers it: all that a type of one's own owes.
+impl Number for ShardedId {
+    ghost meaning = { λ id. id.shard * 2 ^ 64 + id.row };
+
+    fn number(self) -> u128 {
+        u128::from(self.shard) * (1 << 64) + u128::from(self.row)
+    }
+}
+
+/// The text of an id of two parts.
+pub fn sharded_text(id: ShardedId, buf: &mut [u8; 22]) -> &[u8]
+    ensures { IsCanonical standard result.now (id.shard * 2 ^ 64 + id.row) }
+{
+    let len = base62::encode_bytes(id, buf).unwrap();
+    &buf[..len]
+}
+
+#[cfg(test)]
+mod tests;

@@ -1,0 +1,61 @@
+//! Texts in lines, strings and to writers.
+
+ghost use Rattle.std.specs.Prelude.{◌≡◌, ◌-◌, ◌∷◌, ◌++◌, [], ℕ, List, length, replicate, IfOk, OnOk, OnErr};
+ghost use Rattle.std.specs.String.{string_bytes};
+ghost use Rattle.std.specs.Io.KnownBytes.{Appends};
+ghost use Rattle.base62.specs.Alphabet.{standard};
+ghost use Rattle.base62.specs.Canonical.{IsCanonical};
+
+use base62::Number;
+use std::alloc::{AllocError, Global};
+use std::io::{self, Write};
+
+/// Appends the text of a number of any type to a line, whole or not at all.
+pub fn append_number<T: Number>(line: &mut Vec<u8>, number: T) -> Result<(), AllocError>
+    ensures ok { OnOk result ((text : List ℕ) × IsCanonical standard text (T.meaning number)
+        × (line.new.items ≡ line.old.items ++ text)) }
+    ensures err { OnErr result (line.new.items ≡ line.old.items) }
+{
+    let mut buf = [0u8; 22];
+    let len = base62::encode_bytes(number, &mut buf).unwrap();
+    line.extend_from_slice(&buf[..len])
+}
+
+/// Appends the texts of two numbers with a `-` between them, both or neither. `Err` says that there was no memory
+/// for them.
+pub fn append_pair(text: &mut String, first: u128, second: u128) -> Result<(), AllocError>
+    ensures ok { OnOk result ((a b : List ℕ) × IsCanonical standard a first × IsCanonical standard b second
+        × (string_bytes text.new ≡ string_bytes text.old ++ (a ++ 45 ∷ b))) }
+    ensures err { OnErr result (string_bytes text.new ≡ string_bytes text.old) }
+{
+    base62::laws::built_in_alphabets();
+    base62::laws::one_text();
+    text.reserve(45)?;
+    // There is room for both now, and a text that is appended leaves the capacity at least as it was.
+    base62::encode_buf(first, text).unwrap();
+    text.push_str("-").unwrap();
+    base62::encode_buf(second, text).unwrap();
+    Ok(())
+}
+
+/// The text of a number in a column of 22 letters, with zeros in front. `Err` says that there was no memory
+/// for it.
+pub fn column_text(alloc: Global, number: u128) -> Result<String, AllocError>
+    ensures { IfOk result (λ column. (text : List ℕ) × IsCanonical standard text number
+        × (string_bytes column ≡ replicate (22 - length text) 48 ++ text)) }
+{
+    base62::laws::texts_of_ascii();
+    format!(in alloc; "{:0>22}", base62::encode_fmt(number))
+}
+
+/// Writes a line of the text of a number to a writer.
+pub fn write_line<W: Write>(number: u128, writer: &mut W) -> io::Result<()>
+    ensures { OnOk result ((text : List ℕ) × IsCanonical standard text number
+        × Appends (W.contents writer.old) (W.contents writer.new) (text ++ 10 ∷ [])) }
+{
+    base62::encode_io(number, writer)?;
+    writer.write_all(b"\n")
+}
+
+#[cfg(test)]
+mod tests;

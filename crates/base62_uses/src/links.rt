@@ -83,20 +83,5 @@ pub fn link_address(alloc: Global, id: u64) -> Result<String, AllocError>
     Ok(address)
 }
 
-/// The text of a token's number in the alternative alphabet. It never fails.
-pub fn token_text(number: u128, buf: &mut [u8; 22]) -> &[u8]
-    ensures { IsCanonical alternative result.now number }
-{
-    let len = base62::encode_alternative_bytes(number, buf).unwrap();
-    &buf[..len]
-}
-
-/// The number that a token's text names. `None` says that the text names none below 2^128.
-pub fn token_number(text: &[u8]) -> Option<u128>
-    ensures { (n : ℕ) → (result ≡ Some n) ↔ (decoding alternative text.now ≡ Ok n) }
-{
-    base62::decode_alternative(text).ok()
-}
-
 #[cfg(test)]
 mod tests;

@@ -1,11 +1,13 @@
 //! Ids in rows of fixed sizes, and ids of parts.
 
-ghost use Rattle.std.specs.Prelude.{◌≡◌, ◌≤◌, ◌+◌, ◌*◌, ◌^◌, ◌↔◌, ℕ, List, take, drop, length, IsTrue};
+ghost use Rattle.std.specs.Prelude.{◌≡◌, ◌≤◌, ◌+◌, ◌*◌, ◌^◌, ◌↔◌, ℕ, List, take, drop, length, IsTrue, IfSome, Ok, ◌++◌};
 ghost use Rattle.std.specs.Bool.{OnTrue, OnFalse};
 ghost use Rattle.base62.specs.Alphabet.{IsAlphabet, standard};
 ghost use Rattle.base62.specs.Canonical.{IsCanonical, CanonicalFits};
+ghost use Rattle.base62.specs.Decoding.{decoding};
+ghost use Rattle.base62.specs.Laws.{number_or_overflow};
 
-use base62::Number;
+use base62::{Alphabet, Number};
 
 /// A row with fields of fixed sizes, whose id is the first `id_len` bytes of `id`.
 #[derive(Clone, Copy, Debug, PartialEq, Eq)]
@@ -60,6 +62,35 @@ pub fn sharded_text(id: ShardedId, buf: &mut [u8; 22]) -> &[u8]
 {
     let len = base62::encode_bytes(id, buf).unwrap();
     &buf[..len]
+}
+
+/// The shard and the row that a code names: its last 11 letters are the row's. `None` says that it has no more than
+/// those, or that one of the two parts names no number below 2^128.
+pub fn parts_of_code(alphabet: &Alphabet, code: &[u8]) -> Option<(u128, u128)>
+    ensures number { IfSome result (λ parts. decoding alphabet.now code.now
+        ≡ number_or_overflow (parts.0 * 62 ^ 11 + parts.1)) }
+    ensures parts { (shard row : List ℕ) (m n : ℕ) → code.now ≡ shard ++ row → length row ≡ 11
+        → decoding alphabet.now shard ≡ Ok m → decoding alphabet.now row ≡ Ok n → result ≡ Some (m, n) }
+{
+    let Some(cut) = code.len().checked_sub(11) else {
+        return None;
+    };
+    let (front, back) = code.split_at(cut);
+    let shard = base62::decode_with(alphabet, front).ok()?;
+    let row = base62::decode_with(alphabet, back).ok()?;
+    number_of_both(alphabet, code, front, back, shard, row);
+    Some((shard, row))
+}
+
+// The number of two texts that stand one after the other.
+fn number_of_both(alphabet: &Alphabet, both: &[u8], front: &[u8], back: &[u8], m: u128, n: u128)
+    requires both { both.now ≡ front.now ++ back.now }
+    requires front { decoding alphabet.now front.now ≡ Ok m }
+    requires back { decoding alphabet.now back.now ≡ Ok n }
+    ensures { decoding alphabet.now both.now ≡ number_or_overflow (m * 62 ^ length back.now + n) }
+{
+    let _ = alphabet.letters();
+    base62::laws::concatenation();
 }
 
 #[cfg(test)]

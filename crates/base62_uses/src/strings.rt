@@ -1,7 +1,8 @@
 //! Texts in lines, strings and to writers.
 
-ghost use Rattle.std.specs.Prelude.{◌≡◌, ◌-◌, ◌∷◌, ◌++◌, [], ℕ, List, length, replicate, IfOk, OnOk, OnErr};
-ghost use Rattle.std.specs.String.{string_bytes};
+ghost use Rattle.std.specs.Prelude.{◌≡◌, ◌-◌, ◌∷◌, ◌++◌, [], ℕ, List, length, replicate, IfOk, OnOk, OnErr, codes, ◌<◌};
+ghost use Rattle.std.specs.String.{string_bytes, string_capacity, string_len};
+ghost use Rattle.std.specs.Bool.{OnFalse, OnTrue};
 ghost use Rattle.std.specs.Io.KnownBytes.{Appends};
 ghost use Rattle.base62.specs.Alphabet.{standard};
 ghost use Rattle.base62.specs.Canonical.{IsCanonical};
@@ -38,14 +39,34 @@ pub fn append_pair(text: &mut String, first: u128, second: u128) -> Result<(), A
     Ok(())
 }
 
-/// The text of a number in a column of 22 letters, with zeros in front. `Err` says that there was no memory
-/// for it.
-pub fn column_text(alloc: Global, number: u128) -> Result<String, AllocError>
-    ensures { IfOk result (λ column. (text : List ℕ) × IsCanonical standard text number
-        × (string_bytes column ≡ replicate (22 - length text) 48 ++ text)) }
+/// Appends the text of a number to a string, for which it asks no more memory than the text takes. `Err` says that there
+/// was none, and the string is as before.
+pub fn append_exactly(string: &mut String, number: u128) -> Result<(), AllocError>
+    ensures ok { OnOk result ((text : List ℕ) × IsCanonical standard text number
+        × (string_bytes string.new ≡ string_bytes string.old ++ text)) }
+    ensures err { OnErr result ((string_bytes string.new ≡ string_bytes string.old)
+        × (string_capacity string.new ≡ string_capacity string.old)) }
 {
-    base62::laws::texts_of_ascii();
-    format!(in alloc; "{:0>22}", base62::encode_fmt(number))
+    base62::laws::built_in_alphabets();
+    string.reserve_exact(base62::digit_count(number))?;
+    // There is room for the text now.
+    base62::encode_buf(number, string).unwrap();
+    Ok(())
+}
+
+/// Appends the text of a number, or where there is no memory for it a `?`, for which the string has room. It answers
+/// whether it is the text.
+pub fn append_or_mark(string: &mut String, number: u128) -> bool
+    requires { string_len string.old < string_capacity string.old }
+    ensures text { OnTrue result ((text : List ℕ) × IsCanonical standard text number
+        × (string_bytes string.new ≡ string_bytes string.old ++ text)) }
+    ensures mark { OnFalse result (string_bytes string.new ≡ string_bytes string.old ++ codes "?") }
+{
+    if base62::encode_buf(number, string).is_ok() {
+        return true;
+    }
+    string.push_str("?").unwrap();
+    false
 }
 
 /// Writes a line of the text of a number to a writer.

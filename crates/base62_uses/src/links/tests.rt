@@ -45,11 +45,3 @@ fn addresses_of_links(rt: HostRuntime) -> Result<(), Fail> {
     assert_eq!(rt; address.as_str(), "https://example.org/LZ");
     Ok(())
 }
-
-#[test]
-fn tokens_and_their_numbers(rt: HostRuntime) {
-    let mut buf = [0u8; 22];
-    assert_eq!(rt; token_text(691337691337, &mut buf), b"caCOuUN".as_slice());
-    assert_eq!(rt; token_number(b"caCOuUN"), Some(691337691337));
-    assert_eq!(rt; token_number(b"caCOuUN-"), None);
-}

@@ -44,3 +44,14 @@ fn texts_of_sharded_ids(rt: HostRuntime) {
     };
     assert_eq!(rt; sharded_text(row, &mut buf), b"LZ".as_slice());
 }
+
+#[test]
+fn parts_of_codes(rt: HostRuntime) {
+    let standard = Alphabet::standard();
+    assert_eq!(rt; parts_of_code(&standard, b"1000000000LZ"), Some((1, 1337)));
+    // The halves of the largest number.
+    let halves = Some((6539293958884420617, 38740334223856322559));
+    assert_eq!(rt; parts_of_code(&standard, b"7n42DGM5Tflk9n8mt7Fhc7"), halves);
+    assert_eq!(rt; parts_of_code(&standard, b"000000000LZ"), None);
+    assert_eq!(rt; parts_of_code(&standard, b"LZ"), None);
+}

@@ -32,19 +32,36 @@ fn pairs_behind_a_text(rt: HostRuntime) -> Result<(), Fail> {
 }
 
 #[test]
-fn texts_in_a_column(rt: HostRuntime) -> Result<(), Fail> {
-    let short = column_text(rt.alloc(), 1337)?;
-    assert_eq!(rt; short.as_str(), "00000000000000000000LZ");
-    let full = column_text(rt.alloc(), u128::MAX)?;
-    assert_eq!(rt; full.as_str(), "7n42DGM5Tflk9n8mt7Fhc7");
-    Ok(())
-}
-
-#[test]
 fn lines_of_a_writer(rt: HostRuntime) -> Result<(), Fail> {
     let mut written = Vec::new(rt.alloc());
     write_line(1337, &mut written)?;
     write_line(0, &mut written)?;
     assert_eq!(rt; written.as_slice(), b"LZ\n0\n".as_slice());
+    Ok(())
+}
+
+#[test]
+fn exact_room(rt: HostRuntime) -> Result<(), Fail> {
+    let mut string = String::new(rt.alloc());
+    append_exactly(&mut string, 1337)?;
+    assert_eq!(rt; (string.as_str(), string.capacity()), ("LZ", 2));
+    append_exactly(&mut string, u128::MAX)?;
+    assert_eq!(rt;
+        (string.as_str(), string.capacity()),
+        ("LZ7n42DGM5Tflk9n8mt7Fhc7", 24)
+    );
+    Ok(())
+}
+
+// Where memory is refused, the string of four bytes has room for the mark, and not for the text.
+#[test]
+fn marks_for_refused_texts(rt: HostRuntime) -> Result<(), Fail> {
+    let mut string = String::with_capacity(rt.alloc(), 4)?;
+    string.push_str("id ")?;
+    if string.len() >= string.capacity() {
+        panic!(rt; "there is room for one byte");
+    }
+    let is_text = append_or_mark(&mut string, 1337);
+    assert_eq!(rt; string.as_str(), if is_text { "id LZ" } else { "id ?" });
     Ok(())
 }

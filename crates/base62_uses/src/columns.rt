@@ -1,6 +1,6 @@
 //! Rows by number in columns of 11 letters, over an alphabet of the caller's own.
 
-ghost use Rattle.std.specs.Prelude.{◌≡◌, ◌<◌, ◌≤◌, ◌^◌, ◌↔◌, ℕ, List, length, IsTrue, IfSome, Ok, Some, None};
+ghost use Rattle.std.specs.Prelude.{◌≡◌, ◌<◌, ◌^◌, ◌↔◌, ℕ, List, length, IsTrue, IfSome, Ok, Some, None};
 ghost use Rattle.base62.specs.Fixed.{IsFixed};
 ghost use Rattle.base62.specs.Key.{BeginsWith, range_of};
 ghost use Rattle.base62.specs.Order.{Ascends};

@@ -2,7 +2,7 @@
 
 ghost use Rattle.std.specs.Prelude.{◌≡◌, ◌≢◌, ◌+◌, ◌-◌, ◌^◌, [], Err, min, unwrap_or, IsOk, OnOk, OnErr, IfOk, length, replicate, true};
 ghost use Rattle.std.specs.BTreeMap.{get, IsUnchanged};
-ghost use Rattle.std.specs.BTreeSet.{contains};
+ghost use Rattle.std.specs.BTreeSet.{contains, IsUnchanged as IsUnchangedSet};
 ghost use Rattle.std.specs.HashSet.{contains as hash_contains};
 ghost use Rattle.std.specs.Fmt.InlineText.{inline_text};
 ghost use Rattle.base62.specs.Alphabet.{standard};
@@ -47,6 +47,7 @@ pub fn was_noted(
     ensures now { OnOk result (contains ⟦<AlphabetError as Ord>⟧.cmp noted.new fault ≡ true) }
     ensures others { (other : AlphabetError) → other ≢ fault
         → contains ⟦<AlphabetError as Ord>⟧.cmp noted.new other ≡ contains ⟦<AlphabetError as Ord>⟧.cmp noted.old other }
+    ensures err { OnErr result (IsUnchangedSet noted.old noted.new) }
 {
     base62::laws::order_of_alphabet_errors();
     let is_new = noted.insert(fault)?;

@@ -1,6 +1,6 @@
 //! Fields of a form.
 
-ghost use Rattle.std.specs.Prelude.{◌≡◌, ◌<◌, ◌≤◌, ◌^◌, ◌∷◌, ◌↔◌, ℕ, List, length, slice_index, true, Ok, Err};
+ghost use Rattle.std.specs.Prelude.{◌≡◌, ◌<◌, ◌≤◌, ◌^◌, ◌∷◌, ◌↔◌, ℕ, List, length, slice_index, true, Err};
 ghost use Rattle.base62.specs.Alphabet.{AreLetters, is_letter, standard, zero_letter};
 ghost use Rattle.base62.specs.Value.{value};
 ghost use Rattle.base62.specs.Decoding.{decoding, rest, IsFirstInvalid};

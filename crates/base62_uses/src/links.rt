@@ -2,7 +2,7 @@
 
 ghost use Rattle.std.specs.Prelude.{◌≡◌, ◌≢◌, ◌<◌, ◌≤◌, ◌^◌, ◌↔◌, ◌++◌, ℕ, List, length, codes, IsTrue, IsOk, IfOk};
 ghost use Rattle.std.specs.String.{string_bytes};
-ghost use Rattle.base62.specs.Alphabet.{standard, alternative};
+ghost use Rattle.base62.specs.Alphabet.{standard};
 ghost use Rattle.base62.specs.Canonical.{IsCanonical};
 ghost use Rattle.base62.specs.Decoding.{decoding};
 

@@ -34,7 +34,7 @@ pub fn append_mark(line: &mut Vec<u8>, number: u128) -> Result<(), AllocError>
     line.extend_from_slice(&buf[..len])
 }
 
-/// Two halves of 11 letters reach 2^128 - 1 and no further, and neither is a letter behind 22 of them read in vain.
+/// Two halves of 11 letters reach 2^128 - 1 and no further, and a 23rd letter behind the 22 of that number is too much.
 pub fn borders_of_joined_marks()
     ensures greatest { (front back : List ℕ) → length back ≡ 11
         → decoding mark_letters front ≡ Ok 6539293958884420617
@@ -53,7 +53,7 @@ pub fn borders_of_joined_marks()
     base62::laws::concatenation();
 }
 
-/// A zero in front of 22 letters leaves the number, and moves a bad byte behind them to the index 22.
+/// A zero in front of 22 letters leaves the number and the overflow, and a bad byte at the last place goes to index 22.
 #[tactic(auto, unfolding(crate::specs::Marks::mark_letters))]
 pub fn borders_of_zeros_in_front()
     ensures greatest { (mark : List ℕ) → length mark ≡ 22

@@ -1,6 +1,6 @@
 //! Faults as their displays print them.
 
-ghost use Rattle.std.specs.Prelude.{◌≡◌, ◌++◌, codes, IfOk, OnOk, OnErr};
+ghost use Rattle.std.specs.Prelude.{◌≡◌, ◌++◌, codes, IfOk};
 ghost use Rattle.std.specs.String.{string_bytes};
 ghost use Rattle.base62.specs.Fault.{alphabet_error_text, decode_error_text, encode_error_text};
 

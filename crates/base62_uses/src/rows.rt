@@ -1,6 +1,6 @@
 //! Ids in rows of fixed sizes, and ids of parts.
 
-ghost use Rattle.std.specs.Prelude.{◌≡◌, ◌≤◌, ◌+◌, ◌*◌, ◌^◌, ◌↔◌, ℕ, List, take, drop, length, IsTrue, IfSome, Ok, ◌++◌};
+ghost use Rattle.std.specs.Prelude.{◌≡◌, ◌≤◌, ◌+◌, ◌*◌, ◌^◌, ◌↔◌, ◌++◌, ℕ, List, take, drop, length, IsTrue, IfSome, Ok};
 ghost use Rattle.std.specs.Bool.{OnTrue, OnFalse};
 ghost use Rattle.base62.specs.Alphabet.{IsAlphabet, standard};
 ghost use Rattle.base62.specs.Canonical.{IsCanonical, CanonicalFits};

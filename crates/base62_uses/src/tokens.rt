@@ -1,6 +1,6 @@
 //! Tokens, whose numbers are written in the alternative alphabet.
 
-ghost use Rattle.std.specs.Prelude.{◌≡◌, ◌<◌, ◌^◌, ◌↔◌, ℕ, Ok, Some, IfOk};
+ghost use Rattle.std.specs.Prelude.{◌≡◌, ◌↔◌, ℕ, Ok, Some, IfOk};
 ghost use Rattle.base62.specs.Alphabet.{alternative, standard};
 ghost use Rattle.base62.specs.Canonical.{IsCanonical};
 ghost use Rattle.base62.specs.Case.{exchange_case, other_case};

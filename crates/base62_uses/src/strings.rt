@@ -1,6 +1,6 @@
 //! Texts in lines, strings and to writers.
 
-ghost use Rattle.std.specs.Prelude.{◌≡◌, ◌<◌, ◌∷◌, ◌++◌, [], ℕ, List, codes, OnOk, OnErr};
+ghost use Rattle.std.specs.Prelude.{◌≡◌, ◌<◌, ◌≤◌, ◌+◌, ◌∷◌, ◌++◌, [], ℕ, List, codes, OnOk, OnErr};
 ghost use Rattle.std.specs.String.{string_bytes, string_capacity, string_len};
 ghost use Rattle.std.specs.Bool.{OnFalse, OnTrue};
 ghost use Rattle.std.specs.Io.KnownBytes.{Appends};
@@ -29,14 +29,25 @@ pub fn append_pair(text: &mut String, first: u128, second: u128) -> Result<(), A
         × (string_bytes text.new ≡ string_bytes text.old ++ (a ++ 45 ∷ b))) }
     ensures err { OnErr result (string_bytes text.new ≡ string_bytes text.old) }
 {
+    text.reserve(45)?;
+    // There is room for both now.
+    append_within(text, first);
+    text.push_str("-").unwrap();
+    append_within(text, second);
+    Ok(())
+}
+
+// Appends the text of a number where there is room for 22 letters.
+fn append_within(string: &mut String, number: u128)
+    requires { string_len string.old + 22 ≤ string_capacity string.old }
+    ensures text { (text : List ℕ) × IsCanonical standard text number
+        × (string_bytes string.new ≡ string_bytes string.old ++ text) }
+    ensures len { string_len string.new ≤ string_len string.old + 22 }
+    ensures capacity { string_capacity string.old ≤ string_capacity string.new }
+{
     base62::laws::built_in_alphabets();
     base62::laws::one_text();
-    text.reserve(45)?;
-    // There is room for both now, and a text that is appended leaves the capacity at least as it was.
-    base62::encode_buf(first, text).unwrap();
-    text.push_str("-").unwrap();
-    base62::encode_buf(second, text).unwrap();
-    Ok(())
+    base62::encode_buf(number, string).unwrap();
 }
 
 /// Appends the text of a number to a string, for which it asks no more memory than the text takes. `Err` says that there

@@ -1,6 +1,8 @@
 //! Rows by number in columns of 11 letters, over an alphabet of the caller's own.
 
-ghost use Rattle.std.specs.Prelude.{◌≡◌, ◌<◌, ◌≤◌, ◌^◌, ◌↔◌, ℕ, List, length, IsTrue, IfSome, Ok, Some, None};
+ghost use Rattle.std.specs.Prelude.{◌≡◌, ◌+◌, ◌<◌, ◌^◌, ◌↔◌, ◌++◌, ℕ, List, length, replicate, IsTrue, IfSome, Ok, Some, None};
+ghost use Rattle.base62.specs.Alphabet.{zero_letter};
+ghost use Rattle.base62.specs.Canonical.{DigitCount};
 ghost use Rattle.base62.specs.Fixed.{IsFixed};
 ghost use Rattle.base62.specs.Key.{BeginsWith, range_of};
 ghost use Rattle.base62.specs.Order.{Ascends};
@@ -14,9 +16,26 @@ pub fn put_fixed(alphabet: &Alphabet, number: u128, places: &mut [u8])
     ensures { IsFixed alphabet.now (length places.old) places.new number }
 {
     let (zeros, text) = places.split_at_mut(places.len() - base62::digit_count(number));
-    zeros.fill(alphabet.letters()[0]);
-    base62::encode_bytes_with(alphabet, number, text).unwrap();
-    base62::laws::zeros_in_front(alphabet, zeros, text, number);
+    fill_zeros(alphabet, zeros);
+    put_digits(alphabet, zeros, number, text);
+}
+
+// Fills all places with zero letters.
+fn fill_zeros(alphabet: &Alphabet, places: &mut [u8])
+    ensures { places.new ≡ replicate (length places.old) (zero_letter alphabet.now) }
+{
+    places.fill(alphabet.letters()[0]);
+}
+
+// Fills all places behind zero letters with the text of a number that has as many letters.
+fn put_digits(alphabet: &Alphabet, zeros: &[u8], number: u128, places: &mut [u8])
+    requires zeros { zeros.now ≡ replicate (length zeros.now) (zero_letter alphabet.now) }
+    requires count { DigitCount number (length places.old) }
+    ensures { IsFixed alphabet.now (length zeros.now + length places.old) (zeros.now ++ places.new) number }
+{
+    let _ = alphabet.letters();
+    base62::encode_bytes_with(alphabet, number, places).unwrap();
+    base62::laws::zeros_in_front(alphabet, zeros, places, number);
 }
 
 /// The column of a row.

@@ -41,7 +41,12 @@ pub fn invite_number(code: &[u8], zeros: LeadingZeros) -> Result<u128, InviteFau
     base62::laws::accepted_and_refused();
     let number = match base62::decode(code) {
         Ok(number) => number,
-        Err(fault) => return Err(InviteFault::Text(fault)),
+        Err(fault) => {
+            if let DecodeError::InvalidBase62Byte(byte, index) = fault {
+                crate::fields::first_bad_byte(code, byte, index);
+            }
+            return Err(InviteFault::Text(fault));
+        }
     };
     if zeros == LeadingZeros::Refused && !is_canonical(code, number) {
         return Err(InviteFault::LeadingZero);

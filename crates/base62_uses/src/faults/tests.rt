@@ -23,3 +23,25 @@ fn complaints(rt: HostRuntime) {
         "Encoded input contains the invalid byte b'?' at index 2"
     );
 }
+
+#[test]
+fn faults_that_were_noted(rt: HostRuntime) -> Result<(), Fail> {
+    let mut noted = BTreeSet::new(rt.alloc());
+    let first = AlphabetError::Repeated(b'A', 61);
+    let second = AlphabetError::Repeated(b'A', 60);
+    for (fault, is_noted) in [(first, false), (second, false), (first, true)] {
+        assert_eq!(rt; was_noted(&mut noted, fault)?, is_noted);
+    }
+    let mut refusals = HashSet::new(rt.alloc());
+    note_refusal(&mut refusals, EncodeError::BufferTooSmall)?;
+    assert!(rt; refusals.contains(&EncodeError::BufferTooSmall));
+    Ok(())
+}
+
+#[test]
+fn answers_of_a_batch(rt: HostRuntime) {
+    let mut answers = [DecodeError::EmptyInput; 3];
+    answer_all(&mut answers[1..], DecodeError::ArithmeticOverflow);
+    let overflow = DecodeError::ArithmeticOverflow;
+    assert_eq!(rt; answers, [DecodeError::EmptyInput, overflow, overflow]);
+}

@@ -2,7 +2,7 @@ use Rattle.std.proofs.Common.{◌≡◌, ◌+◌, ◌*◌, ◌≤◌, take, coun
 use Rattle.std.specs.Result.{is_ok}
 use Rattle.base62.specs.Alphabet.{standard}
 use Rattle.base62.specs.Decoding.{decoding}
-use Rattle.base62_uses.proofs.count_ids.Given as goal
+use Rattle.base62_uses.proofs.scans.count_ids.Given as goal
 
 abbrev pub invariant-loop-text : goal.invariant-loop-text
 invariant-loop-text l =

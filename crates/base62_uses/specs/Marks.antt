@@ -1,0 +1,7 @@
+-- The alphabet of marks, which stand apart from ASCII.
+use Rattle.std.specs.Prelude.{ℕ, List}
+use Rattle.std.specs.List.{range_with_len}
+
+-- the bytes from 194 to 255
+unfoldable pub mark_letters : List ℕ
+mark_letters = range_with_len 194 62

@@ -1,0 +1,74 @@
+//! Marks: texts over the bytes from 194 to 255, none of which is ASCII.
+
+ghost use Rattle.std.specs.Prelude.{◌≡◌, ◌-◌, ◌^◌, ◌∷◌, ◌++◌, List, ℕ, length, Ok, Err, OnOk};
+ghost use Rattle.base62.specs.Alphabet.{IsAlphabet};
+ghost use Rattle.base62.specs.Canonical.{IsCanonical};
+ghost use Rattle.base62.specs.Decoding.{decoding};
+ghost use Rattle.base62.specs.declared.fault.DecodeError.TheVariants.{ArithmeticOverflow, InvalidBase62Byte};
+ghost use Rattle.base62_uses.specs.Marks.{mark_letters};
+
+use base62::Alphabet;
+use std::alloc::AllocError;
+
+// The alphabet of marks.
+#[tactic(auto, unfolding(crate::specs::Marks::mark_letters))]
+fn mark_alphabet() -> Alphabet
+    ensures letters { result ≡ mark_letters }
+    ensures alphabet { IsAlphabet mark_letters }
+{
+    base62::laws::alphabets_by_computing();
+    let letters =
+        *b"\xc2\xc3\xc4\xc5\xc6\xc7\xc8\xc9\xca\xcb\xcc\xcd\xce\xcf\xd0\xd1\xd2\xd3\xd4\xd5\xd6\xd7\xd8\xd9\xda\xdb\xdc\xdd\xde\xdf\xe0\
+        \xe1\xe2\xe3\xe4\xe5\xe6\xe7\xe8\xe9\xea\xeb\xec\xed\xee\xef\xf0\xf1\xf2\xf3\xf4\xf5\xf6\xf7\xf8\xf9\xfa\xfb\xfc\xfd\xfe\xff";
+    Alphabet::new(letters).unwrap()
+}
+
+/// Appends the mark of a number to a line of ASCII, from which it stands apart by its bytes. `Err` says that there was no
+/// memory for it.
+pub fn append_mark(line: &mut Vec<u8>, number: u128) -> Result<(), AllocError>
+    ensures { OnOk result ((mark : List ℕ) × IsCanonical mark_letters mark number
+        × (line.new.items ≡ line.old.items ++ mark)) }
+{
+    let mut buf = [0u8; 22];
+    let len = base62::encode_bytes_with(&mark_alphabet(), number, &mut buf).unwrap();
+    line.extend_from_slice(&buf[..len])
+}
+
+/// Two halves of 11 letters reach 2^128 - 1 and no further, and a 23rd letter behind the 22 of that number is too much.
+pub fn borders_of_joined_marks()
+    ensures greatest { (front back : List ℕ) → length back ≡ 11
+        → decoding mark_letters front ≡ Ok 6539293958884420617
+        → decoding mark_letters back ≡ Ok 38740334223856322559
+        → decoding mark_letters (front ++ back) ≡ Ok (2 ^ 128 - 1) }
+    ensures overflow { (front back : List ℕ) → length back ≡ 11
+        → decoding mark_letters front ≡ Ok 6539293958884420617
+        → decoding mark_letters back ≡ Ok 38740334223856322560
+        → decoding mark_letters (front ++ back) ≡ Err ArithmeticOverflow }
+    ensures longer { (front back : List ℕ) → length back ≡ 1
+        → decoding mark_letters front ≡ Ok (2 ^ 128 - 1) → decoding mark_letters back ≡ Ok 0
+        → decoding mark_letters (front ++ back) ≡ Err ArithmeticOverflow }
+{
+    // Its contract says that they are an alphabet.
+    let _ = mark_alphabet();
+    base62::laws::concatenation();
+}
+
+/// A zero in front of 22 letters leaves the number and the overflow, and a bad byte at the last place goes to index 22.
+#[tactic(auto, unfolding(crate::specs::Marks::mark_letters))]
+pub fn borders_of_zeros_in_front()
+    ensures greatest { (mark : List ℕ) → length mark ≡ 22
+        → decoding mark_letters mark ≡ Ok (2 ^ 128 - 1)
+        → decoding mark_letters (194 ∷ mark) ≡ Ok (2 ^ 128 - 1) }
+    ensures overflow { (mark : List ℕ) → length mark ≡ 22
+        → decoding mark_letters mark ≡ Err ArithmeticOverflow
+        → decoding mark_letters (194 ∷ mark) ≡ Err ArithmeticOverflow }
+    ensures bad_byte { (mark : List ℕ) → length mark ≡ 22
+        → decoding mark_letters mark ≡ Err (InvalidBase62Byte 48 21)
+        → decoding mark_letters (194 ∷ mark) ≡ Err (InvalidBase62Byte 48 22) }
+{
+    let _ = mark_alphabet();
+    base62::laws::zero_in_front();
+}
+
+#[cfg(test)]
+mod tests;

@@ -1,0 +1,97 @@
+//! Ids in rows of fixed sizes, and ids of parts.
+
+ghost use Rattle.std.specs.Prelude.{◌≡◌, ◌≤◌, ◌+◌, ◌*◌, ◌^◌, ◌↔◌, ◌++◌, ℕ, List, take, drop, length, IsTrue, IfSome, Ok};
+ghost use Rattle.std.specs.Bool.{OnTrue, OnFalse};
+ghost use Rattle.base62.specs.Alphabet.{IsAlphabet, standard};
+ghost use Rattle.base62.specs.Canonical.{IsCanonical, CanonicalFits};
+ghost use Rattle.base62.specs.Decoding.{decoding};
+ghost use Rattle.base62.specs.Laws.{number_or_overflow};
+
+use base62::{Alphabet, Number};
+
+/// A row with fields of fixed sizes, whose id is the first `id_len` bytes of `id`.
+#[derive(Clone, Copy, Debug, PartialEq, Eq)]
+pub struct Row {
+    pub id: [u8; 16],
+    pub id_len: u8,
+    pub visits: u64,
+}
+
+/// Sets a row's id. One whose text does not fit its field changes nothing.
+pub fn put_id(row: &mut Row, id: u128) -> bool
+    ensures fits { IsTrue result ↔ CanonicalFits standard id 16 }
+    ensures text { OnTrue result ((row.new.id_len ≤ 16)
+        × IsCanonical standard (take row.new.id_len row.new.id) id) }
+    ensures others { OnTrue result ((row.new.visits ≡ row.old.visits)
+        × (drop row.new.id_len row.new.id ≡ drop row.new.id_len row.old.id)) }
+    ensures refused { OnFalse result (row.new ≡ row.old) }
+{
+    let Ok(len) = base62::encode_bytes(id, &mut row.id) else {
+        return false;
+    };
+    row.id_len = len as u8;
+    true
+}
+
+/// How many bytes a column needs for the texts of ids up to `most`, in either alphabet.
+pub fn column_width(most: u64) -> usize
+    ensures { (B text : List ℕ) → IsAlphabet B → IsCanonical B text most → length text ≡ result }
+{
+    base62::digit_count(u128::from(most))
+}
+
+/// An id of two parts: the number of a shard, and a row in it.
+#[derive(Clone, Copy, Debug, PartialEq, Eq)]
+pub struct ShardedId {
+    pub shard: u32,
+    pub row: u64,
+}
+
+/// Says what number an id means, and answers it: all that a type of one's own owes.
+impl Number for ShardedId {
+    ghost meaning = { λ id. id.shard * 2 ^ 64 + id.row };
+
+    fn number(self) -> u128 {
+        u128::from(self.shard) * (1 << 64) + u128::from(self.row)
+    }
+}
+
+/// The text of an id of two parts.
+pub fn sharded_text(id: ShardedId, buf: &mut [u8; 22]) -> &[u8]
+    ensures { IsCanonical standard result.now (id.shard * 2 ^ 64 + id.row) }
+{
+    let len = base62::encode_bytes(id, buf).unwrap();
+    &buf[..len]
+}
+
+/// The shard and the row that a code names: its last 11 letters are the row's. `None` says that it has no more than
+/// those, or that one of the two parts names no number below 2^128.
+pub fn parts_of_code(alphabet: &Alphabet, code: &[u8]) -> Option<(u128, u128)>
+    ensures number { IfSome result (λ parts. decoding alphabet.now code.now
+        ≡ number_or_overflow (parts.0 * 62 ^ 11 + parts.1)) }
+    ensures parts { (shard row : List ℕ) (m n : ℕ) → code.now ≡ shard ++ row → length row ≡ 11
+        → decoding alphabet.now shard ≡ Ok m → decoding alphabet.now row ≡ Ok n → result ≡ Some (m, n) }
+{
+    let Some(cut) = code.len().checked_sub(11) else {
+        return None;
+    };
+    let (front, back) = code.split_at(cut);
+    let shard = base62::decode_with(alphabet, front).ok()?;
+    let row = base62::decode_with(alphabet, back).ok()?;
+    number_of_both(alphabet, code, front, back, shard, row);
+    Some((shard, row))
+}
+
+// The number of two texts that stand one after the other.
+fn number_of_both(alphabet: &Alphabet, both: &[u8], front: &[u8], back: &[u8], m: u128, n: u128)
+    requires both { both.now ≡ front.now ++ back.now }
+    requires front { decoding alphabet.now front.now ≡ Ok m }
+    requires back { decoding alphabet.now back.now ≡ Ok n }
+    ensures { decoding alphabet.now both.now ≡ number_or_overflow (m * 62 ^ length back.now + n) }
+{
+    let _ = alphabet.letters();
+    base62::laws::concatenation();
+}
+
+#[cfg(test)]
+mod tests;

@@ -1,0 +1,57 @@
+use super::*;
+
+#[test]
+fn ids_of_rows(rt: HostRuntime) {
+    let mut row = Row {
+        id: [b'.'; 16],
+        id_len: 0,
+        visits: 7,
+    };
+    assert!(rt; put_id(&mut row, 1337));
+    let short = Row {
+        id: *b"LZ..............",
+        id_len: 2,
+        visits: 7,
+    };
+    assert_eq!(rt; row, short);
+    assert!(rt; !put_id(&mut row, 62u128.pow(16)));
+    assert_eq!(rt; row, short);
+    assert!(rt; put_id(&mut row, 62u128.pow(16) - 1));
+    let full = Row {
+        id: [b'z'; 16],
+        id_len: 16,
+        visits: 7,
+    };
+    assert_eq!(rt; row, full);
+}
+
+#[test]
+fn widths_of_columns(rt: HostRuntime) {
+    assert_eq!(rt; column_width(0), 1);
+    assert_eq!(rt; column_width(61), 1);
+    assert_eq!(rt; column_width(62), 2);
+    assert_eq!(rt; column_width(u64::MAX), 11);
+}
+
+#[test]
+fn texts_of_sharded_ids(rt: HostRuntime) {
+    let mut buf = [0u8; 22];
+    let first = ShardedId { shard: 1, row: 0 };
+    assert_eq!(rt; sharded_text(first, &mut buf), b"LygHa16AHYG".as_slice());
+    let row = ShardedId {
+        shard: 0,
+        row: 1337,
+    };
+    assert_eq!(rt; sharded_text(row, &mut buf), b"LZ".as_slice());
+}
+
+#[test]
+fn parts_of_codes(rt: HostRuntime) {
+    let standard = Alphabet::standard();
+    assert_eq!(rt; parts_of_code(&standard, b"1000000000LZ"), Some((1, 1337)));
+    // The halves of the largest number.
+    let halves = Some((6539293958884420617, 38740334223856322559));
+    assert_eq!(rt; parts_of_code(&standard, b"7n42DGM5Tflk9n8mt7Fhc7"), halves);
+    assert_eq!(rt; parts_of_code(&standard, b"000000000LZ"), None);
+    assert_eq!(rt; parts_of_code(&standard, b"LZ"), None);
+}

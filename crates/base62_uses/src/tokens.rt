@@ -1,0 +1,66 @@
+//! Tokens, whose numbers are written in the alternative alphabet.
+
+ghost use Rattle.std.specs.Prelude.{◌≡◌, ◌↔◌, ℕ, Ok, Some, IfOk};
+ghost use Rattle.base62.specs.Alphabet.{alternative, standard};
+ghost use Rattle.base62.specs.Canonical.{IsCanonical};
+ghost use Rattle.base62.specs.Case.{exchange_case, other_case};
+ghost use Rattle.base62.specs.Decoding.{decoding};
+
+use std::alloc::{AllocError, Global};
+
+/// The text of a token's number in the alternative alphabet. It never fails.
+pub fn token_text(number: u128, buf: &mut [u8; 22]) -> &[u8]
+    ensures { IsCanonical alternative result.now number }
+{
+    let len = base62::encode_alternative_bytes(number, buf).unwrap();
+    &buf[..len]
+}
+
+/// The number that a token's text names. `None` says that the text names none below 2^128.
+pub fn token_number(text: &[u8]) -> Option<u128>
+    ensures { (n : ℕ) → (result ≡ Some n) ↔ (decoding alternative text.now ≡ Ok n) }
+{
+    base62::decode_alternative(text).ok()
+}
+
+// The byte with its case exchanged.
+#[tactic(auto, unfolding(base62::specs::Case::other_case))]
+fn with_other_case(byte: u8) -> u8
+    ensures { result ≡ other_case byte }
+{
+    match byte {
+        b'A'..=b'Z' => byte + 32,
+        b'a'..=b'z' => byte - 32,
+        _ => byte,
+    }
+}
+
+// The text with its case exchanged.
+fn with_case_exchanged(alloc: Global, text: &[u8]) -> Result<Vec<u8>, AllocError>
+    ensures { IfOk result (λ exchanged. exchanged.items ≡ exchange_case text.now) }
+{
+    text.iter()
+        .map(|byte| with_other_case(*byte))
+        .collect(alloc)
+}
+
+/// The text over the standard alphabet that a token becomes. It names the token's number, or no number for the same
+/// reason. `Err` says that there was no memory for it.
+pub fn text_of_token(alloc: Global, token: &[u8]) -> Result<Vec<u8>, AllocError>
+    ensures { IfOk result (λ text. decoding standard text.items ≡ decoding alternative token.now) }
+{
+    base62::laws::exchange_of_case();
+    with_case_exchanged(alloc, token)
+}
+
+/// The token that a text over the standard alphabet becomes, for those who read tokens alone. `Err` says that there was
+/// no memory for it.
+pub fn token_of_text(alloc: Global, text: &[u8]) -> Result<Vec<u8>, AllocError>
+    ensures { IfOk result (λ token. (n : ℕ) → IsCanonical standard text.now n → IsCanonical alternative token.items n) }
+{
+    base62::laws::exchange_of_case();
+    with_case_exchanged(alloc, text)
+}
+
+#[cfg(test)]
+mod tests;

@@ -117,6 +117,7 @@ impl Alphabet {
 
     /// Whether each letter is a greater byte than the one before it. Texts of one length then sort by their bytes as
     /// their numbers.
+    #[tactic(auto, using(crate::proofs::OrderLemmas::is_sorted_ascends))]
     pub fn is_ascending(&self) -> bool
         ensures { IsTrue result ↔ Ascends self.now }
     {

@@ -42,11 +42,10 @@ impl Tables {
         ensures step { work.new ≡ work.old + 1 }
     {
         work.tick();
-        // The quotient by 62, since the number is small; 62 is 64 - 2.
+        // The quotient by 62, since the number is small.
         let quotient = (number * 4229) >> 18;
-        let remainder = number + (quotient << 1) - (quotient << 6);
         let first = self.letters[quotient as usize];
-        let second = self.letters[remainder as usize];
+        let second = self.letters[(number - quotient * 62) as usize];
         (first, second)
     }
 

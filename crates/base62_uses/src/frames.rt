@@ -1,0 +1,21 @@
+//! Frames that hold a text behind a byte for its length.
+
+ghost use Rattle.std.specs.Prelude.{◌≤◌, ◌+◌, take};
+ghost use Rattle.base62.specs.Alphabet.{standard};
+ghost use Rattle.base62.specs.Canonical.{IsCanonical};
+
+use base62::Work;
+
+/// Puts the text of an id at the front of a frame, and answers its length byte, which is never 0: that ends a stream. It
+/// takes at most 13 steps, whatever the id.
+pub fn put_frame(id: u64, frame: &mut [u8; 64], work: &mut Work) -> u8
+    ensures ends_no_stream { 1 ≤ result }
+    ensures short { result ≤ 22 }
+    ensures text { IsCanonical standard (take result frame.new) id }
+    ensures bounded { work.new ≤ work.old + 13 }
+{
+    base62::encode_bytes_counted(id, frame, work).unwrap() as u8
+}
+
+#[cfg(test)]
+mod tests;

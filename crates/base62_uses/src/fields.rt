@@ -1,6 +1,6 @@
 //! Fields of a form.
 
-ghost use Rattle.std.specs.Prelude.{◌≡◌, ◌<◌, ◌≤◌, ◌^◌, ◌∷◌, ◌↔◌, ℕ, List, length, slice_index, true, Err};
+ghost use Rattle.std.specs.Prelude.{◌≡◌, ◌<◌, ◌≤◌, ◌^◌, ◌∷◌, ℕ, List, length, slice_index, true, Err};
 ghost use Rattle.base62.specs.Alphabet.{AreLetters, is_letter, standard, zero_letter};
 ghost use Rattle.base62.specs.Value.{value};
 ghost use Rattle.base62.specs.Decoding.{decoding, rest, IsFirstInvalid};
@@ -11,7 +11,8 @@ use base62::{Alphabet, DecodeError};
 /// What a form says beside a field.
 #[derive(Clone, Copy, Debug, PartialEq, Eq)]
 pub enum Verdict {
-    Fine,
+    /// The text has this number.
+    Fine(u128),
     Empty,
     /// The text has this byte at this index, and it is no letter.
     BadLetter(u8, usize),
@@ -19,11 +20,12 @@ pub enum Verdict {
 }
 
 /// What is said of a field with a text.
-#[tactic(auto, unfolding(base62::specs::Decoding::decoding))]
 pub fn verdict_on(text: &[u8]) -> Verdict
-    ensures fine { result ≡ Verdict.Fine
-        ↔ ((0 < length text.now) × AreLetters standard text.now × (value standard text.now < 2 ^ 128)) }
-    ensures empty { result ≡ Verdict.Empty ↔ length text.now ≡ 0 }
+    ensures fine { 0 < length text.now → AreLetters standard text.now → value standard text.now < 2 ^ 128
+        → result ≡ Verdict.Fine (value standard text.now) }
+    ensures letters { (n : ℕ) → result ≡ Verdict.Fine n → AreLetters standard text.now }
+    ensures number { (n : ℕ) → result ≡ Verdict.Fine n → n ≡ value standard text.now }
+    ensures empty { result ≡ Verdict.Empty → length text.now ≡ 0 }
     ensures bad_letter { (byte index : ℕ) → result ≡ Verdict.BadLetter byte index
         → IsFirstInvalid standard text.now byte index }
     ensures too_large { result ≡ Verdict.TooLarge → is_letter standard (slice_index (rest standard text.now) 0) ≡ true
@@ -32,7 +34,7 @@ pub fn verdict_on(text: &[u8]) -> Verdict
     base62::laws::built_in_alphabets();
     base62::laws::accepted_and_refused();
     match base62::decode(text) {
-        Ok(_) => Verdict::Fine,
+        Ok(number) => Verdict::Fine(number),
         Err(DecodeError::EmptyInput) => Verdict::Empty,
         Err(DecodeError::InvalidBase62Byte(byte, index)) => {
             first_bad_byte(text, byte, index);

@@ -2,7 +2,10 @@ use super::*;
 
 #[test]
 fn verdicts(rt: HostRuntime) {
-    assert_eq!(rt; verdict_on(b"7n42DGM5Tflk9n8mt7Fhc7"), Verdict::Fine);
+    assert_eq!(rt;
+        verdict_on(b"7n42DGM5Tflk9n8mt7Fhc7"),
+        Verdict::Fine(u128::MAX)
+    );
     assert_eq!(rt; verdict_on(b""), Verdict::Empty);
     assert_eq!(rt; verdict_on(b"00L-Z"), Verdict::BadLetter(b'-', 3));
     assert_eq!(rt; verdict_on(b"7n42DGM5Tflk9n8mt7Fhc8"), Verdict::TooLarge);

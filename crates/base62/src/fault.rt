@@ -8,7 +8,7 @@ ghost use Rattle.base62.specs.declared.fault.TheConstants.{MAX_FAULT_TEXT};
 ghost use Rattle.base62.specs.Fault.{alphabet_error_text, byte_at_index, decode_error_text, encode_error_text, escaped};
 
 use std::fmt::InlineText;
-use std::{error, fmt};
+use std::{error, fmt, str};
 
 /// Why a text is no number below 2^128.
 #[derive(Clone, Copy, Debug, PartialEq, Eq, PartialOrd, Ord, Hash)]
@@ -204,11 +204,17 @@ fn append_decimal(text: InlineText<MAX_FAULT_TEXT>, number: usize) -> InlineText
     requires { length (inline_text text) + length (decimal number) ≤ MAX_FAULT_TEXT }
     ensures { inline_text result ≡ inline_text text ++ decimal number }
 {
-    if number < 10 {
-        return append_char(text, char::from(b'0' + number as u8));
+    // From the last digit to the first.
+    let mut digits = [0; 20];
+    let mut start = 19;
+    let mut left = number;
+    while left >= 10 {
+        digits[start] = b'0' + (left % 10) as u8;
+        left /= 10;
+        start -= 1;
     }
-    let front = append_decimal(text, number / 10);
-    append_char(front, char::from(b'0' + (number % 10) as u8))
+    digits[start] = b'0' + left as u8;
+    append(text, unsafe { str::from_utf8_unchecked(&digits[start..]) })
 }
 
 fn append_char(text: InlineText<MAX_FAULT_TEXT>, c: char) -> InlineText<MAX_FAULT_TEXT>

@@ -1,9 +1,10 @@
 //! The text of a number, held whole.
 
-ghost use Rattle.std.specs.Prelude.{◌≡◌, ◌≤◌, ℕ, List, length, take};
+ghost use Rattle.std.specs.Prelude.{◌≡◌, ◌≤◌, ℕ, List, length, take, Ok};
 ghost use Rattle.std.specs.Str.{IsAscii};
 ghost use Rattle.base62.specs.declared.count.TheConstants.{MAX_DIGITS};
 ghost use Rattle.base62.specs.Canonical.{IsCanonical};
+ghost use Rattle.base62.specs.Decoding.{decoding};
 ghost use Rattle.base62.specs.Tables.{AreTables};
 
 use crate::alphabet::{Tables, Work};
@@ -40,7 +41,8 @@ impl Text {
     // The text over the alphabet of the tables takes the place of what stood here.
     pub(crate) fn set<T: Number>(&mut self, tables: &Tables, num: T)
         requires { AreTables tables.now }
-        ensures { IsCanonical tables.now.letters self.new (T.meaning num) }
+        ensures text { IsCanonical tables.now.letters self.new (T.meaning num) }
+        ensures back { decoding tables.now.letters self.new ≡ Ok (T.meaning num) }
     {
         self.len = encode_over(tables, num.number(), &mut self.bytes, &mut Work::new()).unwrap();
     }

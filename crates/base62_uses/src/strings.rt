@@ -45,8 +45,6 @@ fn append_within(string: &mut String, number: u128)
     ensures len { string_len string.new ≤ string_len string.old + 22 }
     ensures capacity { string_capacity string.old ≤ string_capacity string.new }
 {
-    base62::laws::built_in_alphabets();
-    base62::laws::one_text();
     base62::encode_buf(number, string).unwrap();
 }
 

@@ -69,6 +69,12 @@ pub fn appended_by_example()
         → AppendsTo standard (62 ^ 22) old new (Err e) → ⊥ }
     ensures shrunk { (old new : String Global) → string_capacity new < string_capacity old
         → AppendsTo standard 1337 old new (Ok tt) → ⊥ }
+    ensures not_read_back { (old new : String Global) → string_bytes old ≡ codes "> "
+        → string_bytes new ≡ codes "> 7n42DGM5Tflk9n8mt7Fhc8" → AppendsTo standard (2 ^ 128) old new (Ok tt) → ⊥ }
+    ensures no_letter { (old new : String Global) → string_len new ≡ string_len old
+        → AppendsTo standard 0 old new (Ok tt) → ⊥ }
+    ensures a_letter_more { (old new : String Global) → string_len new ≡ string_len old + 23
+        → AppendsTo standard (62 ^ 22) old new (Ok tt) → ⊥ }
 {}
 
 /// What becomes of a writer's bytes, where it tells them.
@@ -80,6 +86,8 @@ pub fn written_by_example()
     ensures other_text { WritesCanonical standard 1337 (Some (codes "> ")) (Some (codes "> lz")) → ⊥ }
     ensures nothing_written { WritesCanonical standard 1337 (Some (codes "> ")) (Some (codes "> ")) → ⊥ }
     ensures no_longer_told { WritesCanonical standard 1337 (Some (codes "> ")) None → ⊥ }
+    ensures not_read_back { WritesCanonical standard (2 ^ 128) (Some (codes "> "))
+        (Some (codes "> 7n42DGM5Tflk9n8mt7Fhc8")) → ⊥ }
 {}
 
 /// The steps of encoding, by the number of letters.

@@ -1,9 +1,15 @@
-//! What displays write, by width, fill and alignment.
+//! What displays write: by width, fill and alignment, and those of faults.
 #![tactic(auto, unfolding(crate::proofs::OnLiterals::base62_on_literals))]
 
 ghost use Rattle.std.specs.Prelude.{◌≡◌, ◌++◌, [], ◌∷◌, replicate, codes, Some, None};
 ghost use Rattle.std.specs.declared.fmt.Alignment.TheVariants.{Left, Right, Center};
 ghost use Rattle.base62.specs.Padding.{padded_to, displayed};
+ghost use Rattle.base62.specs.declared.fault.AlphabetError.TheVariants.{Repeated};
+ghost use Rattle.base62.specs.declared.fault.DecodeError.TheVariants.{ArithmeticOverflow, EmptyInput, InvalidBase62Byte};
+ghost use Rattle.base62.specs.declared.fault.EncodeError.TheVariants.{BufferTooSmall};
+
+use crate::{fault, show};
+use std::fmt;
 
 /// Texts padded to a width; 32 is a space, 48 is `0`, 42 is `*`, and 233 is `é`, whose bytes are 195 and 169.
 pub fn paddings_by_example()
@@ -26,6 +32,31 @@ pub fn paddings_by_example()
     ensures no_text { padded_to (Some 2) 32 Left [] ≡ codes "  " }
 {}
 
+/// What displays of `LZ` write under no options, whichever the alphabet.
+pub fn plain_displays_by_example()
+    ensures standard { ⟦<show::Fmt as fmt::Display>⟧.output (codes "LZ") ≡ Some (codes "LZ") }
+    ensures alternative { ⟦<show::FmtAlternative as fmt::Display>⟧.output (codes "LZ") ≡ Some (codes "LZ") }
+    ensures own { ⟦<show::FmtWith as fmt::Display>⟧.output (codes "LZ") ≡ Some (codes "LZ") }
+{}
+
+/// What displays of faults write under any options, as `{:.3}` and `{:>100}`: the text.
+pub fn faults_by_example()
+    ensures overflow { (options : _)
+        → ⟦<fault::DecodeError as fmt::Display>⟧.styled_output ArithmeticOverflow options
+        ≡ Some (codes "Decoded number cannot fit into a `u128`") }
+    ensures empty { (options : _) → ⟦<fault::DecodeError as fmt::Display>⟧.styled_output EmptyInput options
+        ≡ Some (codes "Encoded input is an empty string") }
+    ensures bad_byte { (options : _)
+        → ⟦<fault::DecodeError as fmt::Display>⟧.styled_output (InvalidBase62Byte 33 7) options
+        ≡ Some (codes "Encoded input contains the invalid byte b'!' at index 7") }
+    ensures small_buffer { (options : _)
+        → ⟦<fault::EncodeError as fmt::Display>⟧.styled_output BufferTooSmall options
+        ≡ Some (codes "Buffer too small to encode the number") }
+    ensures repeated { (options : _)
+        → ⟦<fault::AlphabetError as fmt::Display>⟧.styled_output (Repeated 33 7) options
+        ≡ Some (codes "Alphabet repeats the byte b'!' at index 7") }
+{}
+
 /// What displays write of `LZ`, by the number that a formatter's alignment is; 32 is a space.
 pub fn displays_by_example()
     ensures plain { displayed None None 32 0 (codes "LZ") ≡ Some (codes "LZ") }
@@ -34,6 +65,9 @@ pub fn displays_by_example()
     ensures stands_centred { displayed None (Some 5) 32 2 (codes "LZ") ≡ Some (codes " LZ  ") }
     ensures stands_right { displayed None (Some 5) 32 3 (codes "LZ") ≡ Some (codes "   LZ") }
     ensures other_fill { displayed None (Some 4) 42 3 (codes "LZ") ≡ Some (codes "**LZ") }
+    ensures wide { displayed None (Some 1000) 32 3 (codes "LZ") ≡ Some (replicate 998 32 ++ codes "LZ") }
+    ensures two_bytes { displayed None (Some 4) 233 2 (codes "LZ")
+        ≡ Some (195 ∷ 169 ∷ codes "LZ" ++ 195 ∷ 169 ∷ []) }
     ensures beyond { displayed None (Some 5) 32 4 (codes "LZ") ≡ None }
     ensures beyond_without_width { displayed None None 32 4 (codes "LZ") ≡ None }
     ensures precision { displayed (Some 1) None 32 0 (codes "LZ") ≡ None }

@@ -1,21 +1,30 @@
 use Rattle.std.proofs.Common.{◌≡◌, ◌++◌, codes, drop, length, refl, ap, arith}
+use Rattle.std.specs.String.{string_len}
 use Rattle.std.proofs.lemmas.Bool.{false≢true}
 use Rattle.base62.proofs.LiteralLemmas.{canonical_1337, needless_1337, too_long_1337}
+use Rattle.base62.proofs.OnLiterals.{base62_on_literals}
 use Rattle.base62.proofs.model.encodings.appended_by_example.Goals as goal
 
 pub returns-clause-text : goal.returns-clause-text
-returns-clause-text c = λ old new was is grows. record {
-  ok = (codes "LZ", canonical_1337, rw (was, is) refl);
-  err = tt;
-  fits = λ _. refl;
-  roomy = λ _. refl;
-  capacity = grows;
-}
+unfolding base62_on_literals
+returns-clause-text c = λ old new was is grows.
+    let before : string_len old ≡ 2 = omega (arith, ap length was) in
+    let after : string_len new ≡ 4 = omega (arith, ap length is) in record {
+      ok = (codes "LZ", canonical_1337, rw (was, is) refl);
+      back = rw (before, is) refl;
+      short = (omega (arith, before, after), omega (arith, before, after));
+      err = tt;
+      fits = λ _. refl;
+      roomy = λ _. refl;
+      capacity = grows;
+    }
 
 pub returns-clause-refused : goal.returns-clause-refused
 returns-clause-refused c = λ old e was small.
     let size = ap length was in record {
       ok = tt;
+      back = tt;
+      short = tt;
       err = (refl, refl);
       fits = λ fits. absurd (too_long_1337 (fits.0, fits.1, omega (arith, fits.2, size, small)));
       roomy = λ room. absurd (omega (arith, room, size, small));

@@ -34,14 +34,6 @@ pub fn built_in_alphabets()
     ensures alternative { IsAlphabet alternative }
 {}
 
-/// 62 bytes are an alphabet where each has its place as its digit: for letters that are written out, computing tells.
-#[tactic(auto, using(crate::proofs::AlphabetLemmas::is_alphabet))]
-pub fn alphabets_by_computing()
-    ensures { (letters : List ℕ) → length letters ≡ 62 → list_all (λ b. nat_lt b 256) letters ≡ true
-        → map (digit_of letters) letters ≡ map (λ d. Some d) (range_with_len 0 62)
-        → IsAlphabet letters }
-{}
-
 /// Over any alphabet each number below 2^128 has a canonical text, and only one, of 1 to 22 letters; that of a number
 /// below 62^k has at most k, for k from 1 on. A text of letters is the canonical text of its value exactly where it
 /// has one letter, or more of which the first is not the zero letter.

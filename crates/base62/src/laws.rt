@@ -8,6 +8,7 @@ ghost use Rattle.std.specs.declared.cmp.Ordering.TheVariants.{Equal};
 ghost use Rattle.std.specs.declared.fmt.Alignment.TheVariants.{Right};
 ghost use Rattle.base62.specs.Alphabet.{IsAlphabet, AreLetters, digit_of, zero_letter, standard, alternative};
 ghost use Rattle.base62.specs.Places.{sum_over_places};
+ghost use Rattle.base62.specs.Uuid.{uuid_number};
 ghost use Rattle.base62.specs.Value.{value};
 ghost use Rattle.base62.specs.Canonical.{Denotes, IsCanonical, CanonicalFits, DigitCount};
 ghost use Rattle.base62.specs.Decoding.{decoding};
@@ -92,6 +93,11 @@ pub fn texts_of_two(alphabet: &Alphabet, first: &[u8], second: &[u8], m: u128, n
     // Its contract says that they are an alphabet.
     let _ = alphabet.letters();
 }
+
+/// Two UUIDs are the same where their numbers are.
+pub fn uuids_of_two(a: [u8; 16], b: [u8; 16])
+    ensures { uuid_number a ≡ uuid_number b → a ≡ b }
+{}
 
 /// Over any alphabet decoding accepts exactly the nonempty texts of letters of a value below 2^128, and the
 /// canonical text of that value is the text without its leading zeros. A fault that names a byte names the

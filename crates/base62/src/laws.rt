@@ -2,7 +2,7 @@
 
 ghost use Rattle.std.specs.Prelude.{◌≡◌, ◌+◌, ◌-◌, ◌*◌, ◌<◌, ◌≤◌, ◌^◌, ◌↔◌, [], ◌∷◌, ◌++◌, ℕ, Bool, List, length, map, nat_lt, replicate, true, Result, Ok, Some, None};
 ghost use Rattle.std.specs.List.{AllPass, list_all, range_with_len};
-ghost use Rattle.std.specs.Ordering.{nat_cmp};
+ghost use Rattle.std.specs.Ordering.{nat_cmp, ordering_then};
 ghost use Rattle.std.specs.Str.{IsAscii};
 ghost use Rattle.std.specs.declared.cmp.Ordering.TheVariants.{Equal};
 ghost use Rattle.std.specs.declared.fmt.Alignment.TheVariants.{Right};
@@ -175,6 +175,46 @@ pub fn order_of_texts()
     ensures canonical { (B : List ℕ) → IsAlphabet B → Ascends B → (a b : List ℕ) (m n : ℕ)
         → IsCanonical B a m → IsCanonical B b n → shortlex_order a b ≡ nat_cmp m n }
 {}
+
+/// Over an alphabet that ascends, two texts of so many letters compare by their bytes as their numbers, and two canonical
+/// texts do so where the shorter comes first.
+#[tactic(auto, using(crate::proofs::OrderLemmas::texts_in_order))]
+pub fn order_of_two(alphabet: &Alphabet, width: usize, a: &[u8], b: &[u8], m: u128, n: u128)
+    ensures order { Ascends alphabet.now → IsFixed alphabet.now width a.now m
+        → IsFixed alphabet.now width b.now n → lexicographic_order a.now b.now ≡ nat_cmp m n }
+    ensures not_after { Ascends alphabet.now → IsFixed alphabet.now width a.now m
+        → IsFixed alphabet.now width b.now n → m ≤ n → IsNotAfter a.now b.now }
+    ensures at_most { Ascends alphabet.now → IsFixed alphabet.now width a.now m
+        → IsFixed alphabet.now width b.now n → IsNotAfter a.now b.now → m ≤ n }
+    ensures canonical { Ascends alphabet.now → IsCanonical alphabet.now a.now m
+        → IsCanonical alphabet.now b.now n → shortlex_order a.now b.now ≡ nat_cmp m n }
+{
+    // Its contract says that they are an alphabet.
+    let _ = alphabet.letters();
+}
+
+/// Two numbers of a high part and a low one below a base compare by the high parts, and then by the low ones. Of a third
+/// part the same is said with the first two as the high one.
+#[tactic(auto, using(crate::proofs::OrderLemmas::place_compares))]
+pub fn order_of_parts(high: u128, low: u128, other_high: u128, other_low: u128, base: u128)
+    ensures { low < base → other_low < base
+        → nat_cmp (high * base + low) (other_high * base + other_low)
+        ≡ ordering_then (nat_cmp high other_high) (nat_cmp low other_low) }
+{}
+
+/// What a text is of the number that it decodes to: a text of at most so many letters has a number that these hold, and one
+/// of exactly so many is its text of that width, which decodes to it.
+pub fn of_text(alphabet: &Alphabet, width: usize, text: &[u8])
+    ensures small { (n : ℕ) → decoding alphabet.now text.now ≡ Ok n → length text.now ≤ width
+        → n < 62 ^ width }
+    ensures fixed { (n : ℕ) → decoding alphabet.now text.now ≡ Ok n → length text.now ≡ width
+        → IsFixed alphabet.now width text.now n }
+    ensures number { (n : ℕ) → n < 2 ^ 128 → IsFixed alphabet.now width text.now n
+        → decoding alphabet.now text.now ≡ Ok n }
+{
+    // Its contract says that they are an alphabet.
+    let _ = alphabet.letters();
+}
 
 /// Over any alphabet a front of a text of w letters is at most w letters. The text of w letters of a number below
 /// 2^128 begins with a front of at most w letters exactly where the number is in the front's interval. The numbers

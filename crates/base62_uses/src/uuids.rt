@@ -1,9 +1,11 @@
 //! Short forms of UUIDs.
 
-ghost use Rattle.std.specs.Prelude.{◌≡◌, ℕ, List, Some};
+ghost use Rattle.std.specs.Prelude.{◌≡◌, ◌≢◌, ◌↔◌, ℕ, List, IsTrue, Some};
 ghost use Rattle.base62.specs.Alphabet.{standard};
 ghost use Rattle.base62.specs.Canonical.{IsCanonical};
 ghost use Rattle.base62.specs.Uuid.{IsUuid, uuid_number};
+
+use base62::{Alphabet, Number};
 
 /// The short form of a UUID's sixteen bytes, the highest first. It never fails.
 pub fn short_uuid(uuid: [u8; 16], buf: &mut [u8; 22]) -> &[u8]
@@ -38,6 +40,19 @@ pub fn uuid_of_own_short(uuid: &[u8; 16]) -> Option<[u8; 16]>
 {
     let mut buf = [0u8; 22];
     uuid_of_short(short_uuid(*uuid, &mut buf))
+}
+
+/// Whether two UUIDs have different short forms: no short form is shared by two UUIDs.
+pub fn shorts_differ(a: [u8; 16], b: [u8; 16]) -> bool
+    ensures { IsTrue result ↔ (a ≢ b) }
+{
+    let mut first = [0u8; 22];
+    let first = short_uuid(a, &mut first);
+    let mut second = [0u8; 22];
+    let second = short_uuid(b, &mut second);
+    base62::laws::texts_of_two(&Alphabet::standard(), first, second, a.number(), b.number());
+    base62::laws::uuids_of_two(a, b);
+    first != second
 }
 
 #[cfg(test)]

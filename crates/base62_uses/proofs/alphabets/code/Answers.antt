@@ -1,3 +1,4 @@
+-- Computing shows the kind of each letter, which a law carries to the text.
 use Rattle.std.proofs.Common.{refl}
 use Rattle.std.specs.List.{AllPass}
 use Rattle.std.proofs.lemmas.List.Sums.{AllPass-from_list_all}

@@ -1,5 +1,4 @@
-use Rattle.std.proofs.Common.{◌≡◌}
-use Rattle.base62.specs.Alphabet.{IsAlphabet}
+-- The law on two texts does not name their numbers in its conclusion.
 use Rattle.base62_uses.specs.Marks.{mark_letters}
 use Rattle.base62_uses.proofs.marks.borders_of_joined_marks.Goals as goal
 

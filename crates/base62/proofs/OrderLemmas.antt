@@ -50,7 +50,7 @@ place-lt : (x u y v w : ℕ) → x < y → u < w → x * w + u < y * w + v
 place-lt x u y v w more below = let weighs : (x + 1) * w ≤ y * w = mul-le-mul_right w (omega arith) in omega arith
 
 -- first places decide, and where they are one, what comes after them
-place_compares : (x u y v w : ℕ) → u < w → v < w → nat_cmp (x * w + u) (y * w + v) ≡ ordering_then (nat_cmp x y) (nat_cmp u v)
+pub place_compares : (x u y v w : ℕ) → u < w → v < w → nat_cmp (x * w + u) (y * w + v) ≡ ordering_then (nat_cmp x y) (nat_cmp u v)
 place_compares x u y v w p q = elim (cases_order x y) [
   | inl e ↦ rw (compared x y Equal e, e) (compared_alike u v (y * w + u) (y * w + v) (λ h. omega arith) (λ h. omega arith) (λ h. omega arith))
   | inr (inl h) ↦ rw (compared x y Less h) (compared _ _ Less (place-lt x u y v w h p))

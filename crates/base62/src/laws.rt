@@ -2,12 +2,13 @@
 
 ghost use Rattle.std.specs.Prelude.{◌≡◌, ◌+◌, ◌-◌, ◌*◌, ◌<◌, ◌≤◌, ◌^◌, ◌↔◌, [], ◌∷◌, ◌++◌, ℕ, Bool, List, length, map, nat_lt, replicate, true, Result, Ok, Some, None};
 ghost use Rattle.std.specs.List.{AllPass, list_all, range_with_len};
-ghost use Rattle.std.specs.Ordering.{nat_cmp};
+ghost use Rattle.std.specs.Ordering.{nat_cmp, ordering_then};
 ghost use Rattle.std.specs.Str.{IsAscii};
 ghost use Rattle.std.specs.declared.cmp.Ordering.TheVariants.{Equal};
 ghost use Rattle.std.specs.declared.fmt.Alignment.TheVariants.{Right};
 ghost use Rattle.base62.specs.Alphabet.{IsAlphabet, AreLetters, digit_of, zero_letter, standard, alternative};
 ghost use Rattle.base62.specs.Places.{sum_over_places};
+ghost use Rattle.base62.specs.Uuid.{uuid_number};
 ghost use Rattle.base62.specs.Value.{value};
 ghost use Rattle.base62.specs.Canonical.{Denotes, IsCanonical, CanonicalFits, DigitCount};
 ghost use Rattle.base62.specs.Decoding.{decoding};
@@ -32,14 +33,6 @@ use std::hash::Hash;
 pub fn built_in_alphabets()
     ensures standard { IsAlphabet standard }
     ensures alternative { IsAlphabet alternative }
-{}
-
-/// 62 bytes are an alphabet where each has its place as its digit: for letters that are written out, computing tells.
-#[tactic(auto, using(crate::proofs::AlphabetLemmas::is_alphabet))]
-pub fn alphabets_by_computing()
-    ensures { (letters : List ℕ) → length letters ≡ 62 → list_all (λ b. nat_lt b 256) letters ≡ true
-        → map (digit_of letters) letters ≡ map (λ d. Some d) (range_with_len 0 62)
-        → IsAlphabet letters }
 {}
 
 /// Over any alphabet each number below 2^128 has a canonical text, and only one, of 1 to 22 letters; that of a number
@@ -100,6 +93,11 @@ pub fn texts_of_two(alphabet: &Alphabet, first: &[u8], second: &[u8], m: u128, n
     // Its contract says that they are an alphabet.
     let _ = alphabet.letters();
 }
+
+/// Two UUIDs are the same where their numbers are.
+pub fn uuids_of_two(a: [u8; 16], b: [u8; 16])
+    ensures { uuid_number a ≡ uuid_number b → a ≡ b }
+{}
 
 /// Over any alphabet decoding accepts exactly the nonempty texts of letters of a value below 2^128, and the
 /// canonical text of that value is the text without its leading zeros. A fault that names a byte names the
@@ -177,6 +175,46 @@ pub fn order_of_texts()
     ensures canonical { (B : List ℕ) → IsAlphabet B → Ascends B → (a b : List ℕ) (m n : ℕ)
         → IsCanonical B a m → IsCanonical B b n → shortlex_order a b ≡ nat_cmp m n }
 {}
+
+/// Over an alphabet that ascends, two texts of so many letters compare by their bytes as their numbers, and two canonical
+/// texts do so where the shorter comes first.
+#[tactic(auto, using(crate::proofs::OrderLemmas::texts_in_order))]
+pub fn order_of_two(alphabet: &Alphabet, width: usize, a: &[u8], b: &[u8], m: u128, n: u128)
+    ensures order { Ascends alphabet.now → IsFixed alphabet.now width a.now m
+        → IsFixed alphabet.now width b.now n → lexicographic_order a.now b.now ≡ nat_cmp m n }
+    ensures not_after { Ascends alphabet.now → IsFixed alphabet.now width a.now m
+        → IsFixed alphabet.now width b.now n → m ≤ n → IsNotAfter a.now b.now }
+    ensures at_most { Ascends alphabet.now → IsFixed alphabet.now width a.now m
+        → IsFixed alphabet.now width b.now n → IsNotAfter a.now b.now → m ≤ n }
+    ensures canonical { Ascends alphabet.now → IsCanonical alphabet.now a.now m
+        → IsCanonical alphabet.now b.now n → shortlex_order a.now b.now ≡ nat_cmp m n }
+{
+    // Its contract says that they are an alphabet.
+    let _ = alphabet.letters();
+}
+
+/// Two numbers of a high part and a low one below a base compare by the high parts, and then by the low ones. Of a third
+/// part the same is said with the first two as the high one.
+#[tactic(auto, using(crate::proofs::OrderLemmas::place_compares))]
+pub fn order_of_parts(high: u128, low: u128, other_high: u128, other_low: u128, base: u128)
+    ensures { low < base → other_low < base
+        → nat_cmp (high * base + low) (other_high * base + other_low)
+        ≡ ordering_then (nat_cmp high other_high) (nat_cmp low other_low) }
+{}
+
+/// What a text is of the number that it decodes to: a text of at most so many letters has a number that these hold, and one
+/// of exactly so many is its text of that width, which decodes to it.
+pub fn of_text(alphabet: &Alphabet, width: usize, text: &[u8])
+    ensures small { (n : ℕ) → decoding alphabet.now text.now ≡ Ok n → length text.now ≤ width
+        → n < 62 ^ width }
+    ensures fixed { (n : ℕ) → decoding alphabet.now text.now ≡ Ok n → length text.now ≡ width
+        → IsFixed alphabet.now width text.now n }
+    ensures number { (n : ℕ) → n < 2 ^ 128 → IsFixed alphabet.now width text.now n
+        → decoding alphabet.now text.now ≡ Ok n }
+{
+    // Its contract says that they are an alphabet.
+    let _ = alphabet.letters();
+}
 
 /// Over any alphabet a front of a text of w letters is at most w letters. The text of w letters of a number below
 /// 2^128 begins with a front of at most w letters exactly where the number is in the front's interval. The numbers

@@ -1,12 +1,13 @@
 //! Texts that sort.
 
-ghost use Rattle.std.specs.Prelude.{◌≡◌, ◌+◌, ◌*◌, ◌^◌, ℕ};
+ghost use Rattle.std.specs.Prelude.{◌≡◌, ◌+◌, ◌*◌, ◌^◌, ◌<◌, ℕ, Some};
 ghost use Rattle.std.specs.Ordering.{nat_cmp, ordering_then};
 ghost use Rattle.base62.specs.Alphabet.{standard};
 ghost use Rattle.base62.specs.Canonical.{IsCanonical};
+ghost use Rattle.base62.specs.Fixed.{IsFixed};
 ghost use Rattle.base62.specs.Key.{IsKey};
 
-use base62::Number;
+use base62::{Alphabet, Number};
 use std::cmp::Ordering;
 
 /// How two links compare in a listing: the shorter one is less, and those of one length go by their bytes. So the
@@ -49,9 +50,35 @@ pub fn compare_timed(a: TimedId, b: TimedId) -> Ordering
     ensures { result ≡ ordering_then (nat_cmp a.milliseconds b.milliseconds)
         (nat_cmp a.sequence b.sequence) }
 {
-    base62::laws::built_in_alphabets();
     base62::laws::order_of_texts();
-    timed_key(a).cmp(&timed_key(b))
+    let (first, second) = (timed_key(a), timed_key(b));
+    base62::laws::order_of_two(
+        &Alphabet::standard(),
+        22,
+        &first,
+        &second,
+        a.number(),
+        b.number(),
+    );
+    base62::laws::order_of_parts(
+        u128::from(a.milliseconds),
+        u128::from(a.sequence),
+        u128::from(b.milliseconds),
+        u128::from(b.sequence),
+        1 << 32,
+    );
+    first.cmp(&second)
+}
+
+/// The number of a ticket, whose text always has eight letters. `None` says that a byte is no letter.
+pub fn ticket_number(text: &[u8; 8]) -> Option<u64>
+    ensures named { (n : ℕ) → n < 2 ^ 64 → IsFixed standard 8 text.now n → result ≡ Some n }
+    ensures names { (n : ℕ) → result ≡ Some n → IsFixed standard 8 text.now n }
+{
+    base62::laws::of_text(&Alphabet::standard(), 8, text);
+    let number = base62::decode(text).ok()?;
+    // 62^8 is below 2^64.
+    Some(number as u64)
 }
 
 #[cfg(test)]

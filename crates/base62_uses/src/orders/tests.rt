@@ -9,6 +9,13 @@ fn links_in_a_listing(rt: HostRuntime) {
 }
 
 #[test]
+fn tickets_of_eight_letters(rt: HostRuntime) {
+    assert_eq!(rt; ticket_number(b"000000LZ"), Some(1337));
+    assert_eq!(rt; ticket_number(b"zzzzzzzz"), Some(218340105584895));
+    assert_eq!(rt; ticket_number(b"000000L-"), None);
+}
+
+#[test]
 fn ids_of_times(rt: HostRuntime) {
     let last = TimedId {
         milliseconds: 1,

@@ -18,3 +18,11 @@ fn short_forms(rt: HostRuntime) {
         assert_eq!(rt; uuid_of_own_short(&uuid), Some(uuid));
     }
 }
+
+#[test]
+fn uuids_beside_each_other(rt: HostRuntime) {
+    let mut next = [0; 16];
+    next[15] = 1;
+    assert!(rt; shorts_differ([0; 16], next));
+    assert!(rt; !shorts_differ(next, next));
+}

@@ -1,3 +1,4 @@
+-- The array has the bytes of the slice.
 use Rattle.base62_uses.proofs.alphabets.configured_alphabet.Goals as goal
 
 pub returns-in-Err-clause-repeated : goal.returns-in-Err-clause-repeated

@@ -1,3 +1,4 @@
+-- The loop, as far as it has come.
 use Rattle.std.proofs.Common.{◌≡◌, ◌+◌, ◌*◌, ◌≤◌, take, count_by}
 use Rattle.std.specs.Result.{is_ok}
 use Rattle.base62.specs.Alphabet.{standard}

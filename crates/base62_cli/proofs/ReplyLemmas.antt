@@ -1,8 +1,11 @@
 -- An input has one output, and what the reply to each command is.
-use Rattle.std.proofs.Common.{◌≡◌, ℕ, ◌^◌, ◌<◌, Some, None, Result, Ok, Err, is_ok, OnOk, if◌then◌else◌, Bool, true, false, List, [], ◌∷◌, ◌++◌, drop, codes, nat_eq, refl, sym, ◌∙◌}
+use Rattle.std.proofs.Common.{◌≡◌, ◌≢◌, ℕ, ◌^◌, ◌<◌, Some, None, Result, Ok, Err, is_ok, OnOk, if◌then◌else◌, Bool, true, false, List, [], ◌∷◌, ◌++◌, drop, codes, nat_eq, refl, sym, ◌∙◌}
 use Rattle.std.specs.Bool.{MatchBool}
 use Rattle.std.specs.List.{starts_with}
+use Rattle.std.proofs.lemmas.Bool.{false_from_ne_true}
+use Rattle.std.proofs.lemmas.Bool.Decides.{Decides-eqb}
 use Rattle.std.proofs.lemmas.Option.{none-some}
+use Rattle.std.proofs.lemmas.Slice.Eq.{starts_is}
 use Rattle.base62.specs.Alphabet.{standard, alternative}
 use Rattle.base62.specs.Canonical.{IsCanonical}
 use Rattle.base62_cli.specs.Reply.{IsReply, IsEncodeReply, decimal_value, decode_reply, is_number}
@@ -57,30 +60,34 @@ module _ (standard_text : (n : ℕ) → n < 2 ^ 128 → ExactlyOne (λ text. IsC
         only = λ a b p q. p.4 ∙ rw (r.only p.0 q.0 p.2 q.2, o.only p.1 q.1 p.3 q.3) refl ∙ sym q.4;
       }
 
--- the reply to each command
-module _ (line reply : List ℕ) where
-  pub reply_to_enc : begins line (codes "enc ") ≡ true → IsEncodeReply standard (drop 4 line) reply → IsReply line reply
+-- the reply to each command and its text
+module _ (text reply : List ℕ) where
+  pub reply_to_enc : IsEncodeReply standard text reply → IsReply (codes "enc " ++ text) reply
   unfolding IsReply
-  reply_to_enc e h = rw e h
+  reply_to_enc h = h
 
-  module _ (not_enc : begins line (codes "enc ") ≡ false) where
-    pub reply_to_alt : begins line (codes "alt ") ≡ true → IsEncodeReply alternative (drop 4 line) reply → IsReply line reply
-    unfolding IsReply
-    reply_to_alt e h = rw (not_enc, e) h
+  pub reply_to_alt : IsEncodeReply alternative text reply → IsReply (codes "alt " ++ text) reply
+  unfolding IsReply
+  reply_to_alt h = h
 
-    module _ (not_alt : begins line (codes "alt ") ≡ false) where
-      pub reply_to_dec : begins line (codes "dec ") ≡ true → reply ≡ decode_reply standard (drop 4 line) → IsReply line reply
-      unfolding IsReply
-      reply_to_dec e h = rw (not_enc, not_alt, e) h
+  pub reply_to_dec : reply ≡ decode_reply standard text → IsReply (codes "dec " ++ text) reply
+  unfolding IsReply
+  reply_to_dec h = h
 
-      module _ (not_dec : begins line (codes "dec ") ≡ false) where
-        pub reply_to_adc : begins line (codes "adc ") ≡ true → reply ≡ decode_reply alternative (drop 4 line) → IsReply line reply
-        unfolding IsReply
-        reply_to_adc e h = rw (not_enc, not_alt, not_dec, e) h
+  pub reply_to_adc : reply ≡ decode_reply alternative text → IsReply (codes "adc " ++ text) reply
+  unfolding IsReply
+  reply_to_adc h = h
 
-        pub reply_to_other : begins line (codes "adc ") ≡ false → reply ≡ codes "fault: unknown command" → IsReply line reply
-        unfolding IsReply
-        reply_to_other e h = rw (not_enc, not_alt, not_dec, e) h
+-- a line that is no text behind a command does not begin with it
+begins_not : (line command : List ℕ) → ((text : List ℕ) → line ≢ command ++ text) → begins line command ≡ false
+begins_not line command none = false_from_ne_true (begins line command) (λ e. none _ ((starts_is Decides-eqb line command (begins line command) refl).0 e))
+
+-- the reply to any other line
+pub reply_to_other : (line : List ℕ) → ((text : List ℕ) → line ≢ codes "enc " ++ text) → ((text : List ℕ) → line ≢ codes "alt " ++ text)
+    → ((text : List ℕ) → line ≢ codes "dec " ++ text) → ((text : List ℕ) → line ≢ codes "adc " ++ text) → IsReply line (codes "fault: unknown command")
+unfolding IsReply
+reply_to_other line enc alt dec adc =
+    rw (begins_not line (codes "enc ") enc, begins_not line (codes "alt ") alt, begins_not line (codes "dec ") dec, begins_not line (codes "adc ") adc) refl
 
 -- what a call that appends says of its `Ok`
 pub appended_on_ok : {T E : Type 0} (r : Result T E) (old new bytes : List ℕ) → new ≡ (if is_ok r then old ++ bytes else old) → OnOk r (new ≡ old ++ bytes)

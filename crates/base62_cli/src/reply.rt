@@ -25,14 +25,14 @@ pub fn push_reply(line: &[u8], out: &mut Vec<u8>) -> Result<(), AllocError>
     ensures { OnOk result ((reply : List ℕ) × IsReply line.now reply
         × (out.new.items ≡ out.old.items ++ (reply ++ 10 ∷ []))) }
 {
-    if line.starts_with(b"enc ") {
-        push_encoded(BuiltIn::Standard, &line[4..], out)
-    } else if line.starts_with(b"alt ") {
-        push_encoded(BuiltIn::Alternative, &line[4..], out)
-    } else if line.starts_with(b"dec ") {
-        push_decoded(BuiltIn::Standard, &line[4..], out)
-    } else if line.starts_with(b"adc ") {
-        push_decoded(BuiltIn::Alternative, &line[4..], out)
+    if let Some(text) = line.strip_prefix(b"enc ") {
+        push_encoded(BuiltIn::Standard, text, out)
+    } else if let Some(text) = line.strip_prefix(b"alt ") {
+        push_encoded(BuiltIn::Alternative, text, out)
+    } else if let Some(text) = line.strip_prefix(b"dec ") {
+        push_decoded(BuiltIn::Standard, text, out)
+    } else if let Some(text) = line.strip_prefix(b"adc ") {
+        push_decoded(BuiltIn::Alternative, text, out)
     } else {
         out.extend_from_slice(b"fault: unknown command\n")
     }

@@ -3,7 +3,7 @@
 ghost use Rattle.std.specs.Prelude.{◌≡◌, ◌-◌, ◌++◌, List, ℕ, length, replicate, codes, IfOk};
 ghost use Rattle.std.specs.Str.{IsAscii};
 ghost use Rattle.std.specs.String.{string_bytes};
-ghost use Rattle.std.specs.declared.fmt.Alignment.TheVariants.{Left, Center};
+ghost use Rattle.std.specs.declared.fmt.Alignment.TheVariants.{Left, Right, Center};
 ghost use Rattle.base62.specs.Alphabet.{standard, alternative};
 ghost use Rattle.base62.specs.Canonical.{IsCanonical};
 ghost use Rattle.base62.specs.Padding.{padded_to};
@@ -17,6 +17,23 @@ pub fn order_heading(alloc: Global, number: u128) -> Result<String, AllocError>
         × (string_bytes heading ≡ codes "Order " ++ text)) }
 {
     format!(in alloc; "Order {}", base62::encode_fmt(number))
+}
+
+/// The heading of a token. `Err` says that there was no memory for it.
+pub fn token_heading(alloc: Global, number: u128) -> Result<String, AllocError>
+    ensures { IfOk result (λ heading. (text : List ℕ) × IsCanonical alternative text number
+        × (string_bytes heading ≡ codes "Token " ++ text)) }
+{
+    format!(in alloc; "Token {}", base62::encode_fmt_alt(number))
+}
+
+/// The heading of a number over an alphabet of the caller's own. `Err` says that there was no memory for it.
+pub fn own_heading(alloc: Global, alphabet: &Alphabet, number: u128) -> Result<String, AllocError>
+    requires { IsAscii alphabet.now }
+    ensures { IfOk result (λ heading. (text : List ℕ) × IsCanonical alphabet.now text number
+        × (string_bytes heading ≡ codes "Code " ++ text)) }
+{
+    format!(in alloc; "Code {}", base62::encode_fmt_with(alphabet, number))
 }
 
 /// The text of a number in a column of 22 letters, with zeros in front. `Err` says that there was no memory
@@ -48,6 +65,16 @@ pub fn centred_text(alloc: Global, alphabet: &Alphabet, number: u128) -> Result<
         × (string_bytes column ≡ padded_to (Some 24) 42 Center text)) }
 {
     format!(in alloc; "{:*^24}", base62::encode_fmt_with(alphabet, number))
+}
+
+/// A line of 1000 characters that leads up to the text of a number by `é`, which has two bytes. `Err` says that there was
+/// no memory for it.
+#[tactic(auto, unfolding(base62::specs::Padding::displayed))]
+pub fn leader_line(alloc: Global, number: u128) -> Result<String, AllocError>
+    ensures { IfOk result (λ line. (text : List ℕ) × IsCanonical standard text number
+        × (string_bytes line ≡ padded_to (Some 1000) 233 Right text)) }
+{
+    format!(in alloc; "{:é>1000}", base62::encode_fmt(number))
 }
 
 #[cfg(test)]

@@ -1,13 +1,14 @@
 //! Faults that a service counts and tells.
 
-ghost use Rattle.std.specs.Prelude.{◌≡◌, ◌≢◌, ◌+◌, ◌-◌, ◌^◌, [], Err, min, unwrap_or, IsOk, OnOk, OnErr, IfOk, length, replicate, true};
+ghost use Rattle.std.specs.Prelude.{◌≡◌, ◌≢◌, ◌↔◌, IsTrue, ◌+◌, ◌-◌, ◌^◌, [], Err, min, unwrap_or, IsOk, OnOk, OnErr, IfOk, length, replicate, true};
 ghost use Rattle.std.specs.BTreeMap.{get, IsUnchanged};
 ghost use Rattle.std.specs.BTreeSet.{contains, IsUnchanged as IsUnchangedSet};
+ghost use Rattle.std.specs.declared.cmp.Ordering.TheVariants.{Less};
 ghost use Rattle.std.specs.HashSet.{contains as hash_contains};
 ghost use Rattle.std.specs.Fmt.InlineText.{inline_text};
 ghost use Rattle.base62.specs.Alphabet.{standard};
 ghost use Rattle.base62.specs.Decoding.{decoding};
-ghost use Rattle.base62.specs.Fault.{decode_error_text};
+ghost use Rattle.base62.specs.Fault.{decode_error_text, decode_error_order, alphabet_error_order};
 ghost use Rattle.base62.specs.declared.fault.AlphabetError.{AlphabetError};
 ghost use Rattle.base62.specs.declared.fault.EncodeError.{EncodeError};
 ghost use Rattle.base62.specs.declared.fault.DecodeError.{DecodeError};
@@ -52,6 +53,23 @@ pub fn was_noted(
     base62::laws::order_of_alphabet_errors();
     let is_new = noted.insert(fault)?;
     Ok(!is_new)
+}
+
+/// Whether one fault is worse than another, for a batch that is answered by its worst: an overflow is less than an empty
+/// text, that less than a bad byte, and bad bytes go by byte and then by index.
+pub fn is_worse(a: DecodeError, b: DecodeError) -> bool
+    ensures { IsTrue result ↔ (decode_error_order b a ≡ Less) }
+{
+    base62::laws::order_of_decode_errors();
+    a > b
+}
+
+/// Whether a fault of letters comes after another in a report, which goes by byte and then by index.
+pub fn is_later_repeat(a: AlphabetError, b: AlphabetError) -> bool
+    ensures { IsTrue result ↔ (alphabet_error_order b a ≡ Less) }
+{
+    base62::laws::order_of_alphabet_errors();
+    b < a
 }
 
 /// Notes that a number did not fit. `Err` says that there was no memory for it.

@@ -14,11 +14,13 @@ pub fn link_report(alloc: Global, fault: DecodeError) -> Result<String, AllocErr
     format!(in alloc; "link: {fault}")
 }
 
-/// A fault in a table's cell of 40 characters, which it fills as it is. `Err` says that there was no memory for it.
-pub fn link_cell(alloc: Global, fault: DecodeError) -> Result<String, AllocError>
-    ensures { IfOk result (λ cell. string_bytes cell ≡ decode_error_text fault ++ codes "|") }
+/// A fault in a table's cells of 100 characters and of 3, which it fills as it is. `Err` says that there was no memory
+/// for it.
+pub fn link_cells(alloc: Global, fault: DecodeError) -> Result<String, AllocError>
+    ensures { IfOk result (λ cells. string_bytes cells
+        ≡ decode_error_text fault ++ (codes "|" ++ (decode_error_text fault ++ codes "|"))) }
 {
-    format!(in alloc; "{fault:>40}|")
+    format!(in alloc; "{fault:>100}|{fault:.3}|")
 }
 
 /// What a log says of an id that its row has no room for. `Err` says that there was no memory for it.
@@ -28,11 +30,12 @@ pub fn row_report(alloc: Global, fault: EncodeError) -> Result<String, AllocErro
     format!(in alloc; "row: {fault}")
 }
 
-/// As [`link_cell`], of a row.
-pub fn row_cell(alloc: Global, fault: EncodeError) -> Result<String, AllocError>
-    ensures { IfOk result (λ cell. string_bytes cell ≡ encode_error_text fault ++ codes "|") }
+/// As [`link_cells`], of a row.
+pub fn row_cells(alloc: Global, fault: EncodeError) -> Result<String, AllocError>
+    ensures { IfOk result (λ cells. string_bytes cells
+        ≡ encode_error_text fault ++ (codes "|" ++ (encode_error_text fault ++ codes "|"))) }
 {
-    format!(in alloc; "{fault:*^40}|")
+    format!(in alloc; "{fault:*^100}|{fault:.3}|")
 }
 
 /// What a log says of letters that are no alphabet. `Err` says that there was no memory for it.
@@ -42,11 +45,12 @@ pub fn letters_report(alloc: Global, fault: AlphabetError) -> Result<String, All
     format!(in alloc; "letters: {fault}")
 }
 
-/// As [`link_cell`], of letters.
-pub fn letters_cell(alloc: Global, fault: AlphabetError) -> Result<String, AllocError>
-    ensures { IfOk result (λ cell. string_bytes cell ≡ alphabet_error_text fault ++ codes "|") }
+/// As [`link_cells`], of letters.
+pub fn letters_cells(alloc: Global, fault: AlphabetError) -> Result<String, AllocError>
+    ensures { IfOk result (λ cells. string_bytes cells
+        ≡ alphabet_error_text fault ++ (codes "|" ++ (alphabet_error_text fault ++ codes "|"))) }
 {
-    format!(in alloc; "{fault:<80}|")
+    format!(in alloc; "{fault:<100}|{fault:.3}|")
 }
 
 #[cfg(test)]

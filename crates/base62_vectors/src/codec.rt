@@ -7,22 +7,6 @@ use base62::DecodeError::{ArithmeticOverflow, EmptyInput, InvalidBase62Byte};
 use std::process::Abort;
 use std::test::Fail;
 
-// The table of texts is that of the plain digit loop.
-#[test]
-fn texts_by_division(rt: HostRuntime) -> Result<(), Fail> {
-    for alphabet in BOTH {
-        for (number, text) in &texts(&rt, alphabet)? {
-            let (letters, zeros) = plain_text(alphabet, *number);
-            assert_eq!(rt;
-                &letters[zeros..],
-                text.as_bytes(),
-                "{number}, {alphabet:?}"
-            );
-        }
-    }
-    Ok(())
-}
-
 // A number below 2^64 is encoded as each of the two types.
 fn assert_texts(rt: &(impl Abort + AllocGlobal), alphabet: Letters) -> Result<(), Fail> {
     assert_encodes(rt, alphabet, 0_u8, b"0");

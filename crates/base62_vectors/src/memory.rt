@@ -12,15 +12,23 @@ const DESCENDING: &str = "sCvxmjduWKEFqCrD6skINs";
 
 const STANDARD: &str = "7n42DGM5Tflk9n8mt7Fhc7";
 
+// The calls that make a string, over the alphabets of `in_ascii`.
+const TEXT_CALLS: [&str; 3] = ["encode", "encode_alternative", "encode_with"];
+
 const BASE62: &str = "Base62: Base62";
 
-// Room is requested for the text and no more.
-fn is_text_refused(rt: &(impl Abort + AllocGlobal), alphabet: Letters, wanted: &str) -> bool {
-    let Ok(text) = alphabet.text(rt.alloc(), u128::MAX) else {
+// Room is requested for the text and no more, and once: a string that shrank to its text would request twice.
+fn is_text_refused(
+    rt: &(impl Abort + AllocGlobal),
+    alphabet: Letters,
+    number: u128,
+    wanted: &str,
+) -> bool {
+    let Ok(text) = alphabet.text(rt.alloc(), number) else {
         return true;
     };
     assert_eq!(rt; text.as_str(), wanted, "{alphabet:?}");
-    assert_eq!(rt; text.capacity(), 22, "{alphabet:?}");
+    assert_eq!(rt; text.capacity(), wanted.len(), "{alphabet:?}");
     false
 }
 
@@ -114,16 +122,15 @@ fn refused_memory(rt: HostRuntime) -> Result<(), Fail> {
         return Ok(());
     };
     assert_no_memory(&rt, &mut roomy);
+    let greatest = in_ascii(STANDARD, ALTERNATIVE, DESCENDING);
+    for (number, texts) in [(1337, in_ascii("LZ", "lz", "eQ")), (u128::MAX, greatest)] {
+        for (call, (alphabet, text)) in TEXT_CALLS.iter().zip(texts) {
+            if is_text_refused(&rt, alphabet, number, text) {
+                println!(rt; "refused: {call}")?;
+            }
+        }
+    }
     let steps = [
-        ("encode", is_text_refused(&rt, Letters::Standard, STANDARD)),
-        (
-            "encode_alternative",
-            is_text_refused(&rt, Letters::Alternative, ALTERNATIVE),
-        ),
-        (
-            "encode_with",
-            is_text_refused(&rt, Letters::Descending, DESCENDING),
-        ),
         (
             "encode_buf",
             is_append_refused(&rt, Letters::Standard, 10622433094, &mut standard, BASE62),

@@ -91,15 +91,31 @@ fn letters_that_are_written_out(rt: HostRuntime) {
     assert_eq!(rt; standard, Alphabet::standard());
 }
 
-// Of this text no clause speaks.
+// Of this text no clause speaks. A byte that ASCII does not print is shown by its number.
 #[test]
 fn debug_shows_the_letters(rt: HostRuntime) -> Result<(), Fail> {
-    let shown = format!(in rt.alloc(); "{:?}", made(&rt, bytes_from(33)))?;
-    let letters = "!\\\"#$%&\\'()*+,-./0123456789:;<=>?@ABCDEFGHIJKLMNOPQRSTUVWXYZ[\\\\]^";
-    assert_eq!(rt;
-        shown.as_str(),
-        format!(in rt.alloc(); "Alphabet(b\"{letters}\")")?.as_str()
-    );
+    let rows = [
+        (
+            33,
+            "!\\\"#$%&\\'()*+,-./0123456789:;<=>?@ABCDEFGHIJKLMNOPQRSTUVWXYZ[\\\\]^",
+        ),
+        // The last letter alone is above ASCII.
+        (
+            67,
+            "CDEFGHIJKLMNOPQRSTUVWXYZ[\\\\]^_`abcdefghijklmnopqrstuvwxyz{|}~\\x7f\\x80",
+        ),
+        (
+            194,
+            "\\xc2\\xc3\\xc4\\xc5\\xc6\\xc7\\xc8\\xc9\\xca\\xcb\\xcc\\xcd\\xce\\xcf\\xd0\\xd1\\xd2\\xd3\\xd4\\xd5\\xd6\\xd7\
+            \\xd8\\xd9\\xda\\xdb\\xdc\\xdd\\xde\\xdf\\xe0\\xe1\\xe2\\xe3\\xe4\\xe5\\xe6\\xe7\\xe8\\xe9\\xea\\xeb\\xec\\xed\
+            \\xee\\xef\\xf0\\xf1\\xf2\\xf3\\xf4\\xf5\\xf6\\xf7\\xf8\\xf9\\xfa\\xfb\\xfc\\xfd\\xfe\\xff",
+        ),
+    ];
+    for (first, letters) in rows {
+        let shown = format!(in rt.alloc(); "{:?}", made(&rt, bytes_from(first)))?;
+        let wanted = format!(in rt.alloc(); "Alphabet(b\"{letters}\")")?;
+        assert_eq!(rt; shown.as_str(), wanted.as_str());
+    }
     Ok(())
 }
 

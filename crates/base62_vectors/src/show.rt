@@ -86,13 +86,43 @@ fn test_fmt_with_prefix(rt: HostRuntime) -> Result<(), Fail> {
     Ok(())
 }
 
-// Of a precision no clause speaks.
+// The texts of 1234567890, which are `1LY7VK`, `1ly7vk` and `yeRsUf`.
+fn cut_texts<T: fmt::Display>(alloc: Global, shown: &T) -> Result<[String; 4], AllocError> {
+    Ok([
+        format!(in alloc; "{shown:.3}")?,
+        format!(in alloc; "{shown:>5.2}")?,
+        format!(in alloc; "{shown:.0}")?,
+        format!(in alloc; "{shown:*^3.0}")?,
+    ])
+}
+
+// Of a precision no clause speaks. It cuts the text, which is padded then.
 #[test]
 fn precision(rt: HostRuntime) -> Result<(), Fail> {
-    let standard = format!(in rt.alloc(); "{:.3}", encode_fmt(1234567890_u64))?;
-    assert_eq!(rt; standard.as_str(), "1LY");
-    let alternative = format!(in rt.alloc(); "{:.3}", encode_fmt_alt(1234567890_u64))?;
-    assert_eq!(rt; alternative.as_str(), "1ly");
+    let own = Alphabet::new(*Letters::Descending.letters())?;
+    if !own.is_ascii() {
+        panic!(rt; "it has the standard letters");
+    }
+    let number = 1234567890_u64;
+    let rows = [
+        (
+            cut_texts(rt.alloc(), &encode_fmt(number))?,
+            ["1LY", "   1L", "", "***"],
+        ),
+        (
+            cut_texts(rt.alloc(), &encode_fmt_alt(number))?,
+            ["1ly", "   1l", "", "***"],
+        ),
+        (
+            cut_texts(rt.alloc(), &encode_fmt_with(&own, number))?,
+            ["yeR", "   ye", "", "***"],
+        ),
+    ];
+    for (shown, wanted) in &rows {
+        for (text, cut) in shown.iter().zip(wanted) {
+            assert_eq!(rt; text.as_str(), *cut);
+        }
+    }
     Ok(())
 }
 

@@ -1,7 +1,19 @@
 //! What a fault says, and the traits that it derives.
 
+ghost use Rattle.std.specs.Prelude.{◌≡◌, ◌++◌, codes, IfOk};
+ghost use Rattle.std.specs.String.{string_bytes};
+ghost use Rattle.base62_cli.specs.Fault.{fault_text};
+
 use crate::fault::ToolFault;
+use std::alloc::{AllocError, Global};
 use std::test::Fail;
+
+// A fault in a table's cells of 40 characters and of 3, which it fills as it is.
+fn cells(alloc: Global, fault: ToolFault) -> Result<String, AllocError>
+    ensures { IfOk result (λ cells. string_bytes cells ≡ fault_text fault ++ (codes "|" ++ (fault_text fault ++ codes "|"))) }
+{
+    format!(in alloc; "{fault:>40}|{fault:.3}|")
+}
 
 #[test]
 fn fault_texts(rt: HostRuntime) -> Result<(), Fail> {
@@ -13,6 +25,8 @@ fn fault_texts(rt: HostRuntime) -> Result<(), Fail> {
     for (fault, text) in cases {
         let shown = format!(in rt.alloc(); "{fault}")?;
         assert_eq!(rt; shown.as_str(), text);
+        let in_cells = format!(in rt.alloc(); "{text}|{text}|")?;
+        assert_eq!(rt; cells(rt.alloc(), fault)?.as_str(), in_cells.as_str());
     }
     Ok(())
 }

@@ -1,9 +1,10 @@
 //! What a run answers where it is refused memory.
 
+use super::streams::PartReader;
 use super::{STORED_INPUT, STORED_OUTPUT};
 use crate::fault::ToolFault;
 use crate::tool::{CHUNK_LEN, run};
-use std::io::{self, Write};
+use std::io::{self, Read, Write};
 use std::process::Abort;
 use std::test::Fail;
 
@@ -29,33 +30,34 @@ impl Write for RoomWriter<'_> {
 
 // The input and the output stand in fixed arrays, so that each request for memory is the run's. A refused run writes no
 // part of a reply, and does not flush.
-fn is_refused(rt: &(impl Abort + AllocGlobal), input: &[u8], output: &str) -> bool {
+fn is_refused<R: Read>(
+    rt: &(impl Abort + AllocGlobal),
+    name: &str,
+    reader: &mut R,
+    output: &str,
+) -> bool {
     let mut room = [0u8; ROOM];
     let mut writer = RoomWriter {
         room: room.as_mut_slice(),
         flushes: 0,
     };
-    let mut reader = input;
-    let outcome = run(rt.alloc(), &mut reader, &mut writer);
+    let outcome = run(rt.alloc(), reader, &mut writer);
     let (left, flushes) = (writer.room.len(), writer.flushes);
     assert!(rt; left <= ROOM);
     let written = &room[..ROOM - left];
     match outcome {
         Ok(()) => {
-            assert_eq!(rt; written, output.as_bytes(), "answering {input:?}");
-            assert_eq!(rt; flushes, 1, "answering {input:?}");
+            assert_eq!(rt; written, output.as_bytes(), "the run {name}");
+            assert_eq!(rt; flushes, 1, "the run {name}");
         }
         Err(fault) => {
-            assert_eq!(rt; fault, ToolFault::Memory, "answering {input:?}");
-            assert!(rt;
-                output.as_bytes().starts_with(written),
-                "answering {input:?}"
-            );
+            assert_eq!(rt; fault, ToolFault::Memory, "the run {name}");
+            assert!(rt; output.as_bytes().starts_with(written), "the run {name}");
             assert!(rt;
                 written.is_empty() || written.ends_with(b"\n"),
-                "a part of a reply to {input:?}"
+                "a part of a reply, the run {name}"
             );
-            assert_eq!(rt; flushes, 0, "answering {input:?}");
+            assert_eq!(rt; flushes, 0, "the run {name}");
         }
     }
     outcome.is_err()
@@ -84,9 +86,15 @@ fn refused_memory(rt: HostRuntime) -> Result<(), Fail> {
         ("stored_run", STORED_INPUT.as_bytes(), STORED_OUTPUT),
     ];
     for (name, input, output) in cases {
-        if is_refused(&rt, input, output) {
+        let mut reader = input;
+        if is_refused(&rt, name, &mut reader, output) {
             println!(rt; "refused: {name}")?;
         }
+    }
+    // One for the line and one for the replies, in which the second read finds room.
+    let parts = ["enc 1337\n", "alt 1337\n"];
+    if is_refused(&rt, "two_reads", &mut PartReader::new(&parts), "LZ\nlz\n") {
+        println!(rt; "refused: two_reads")?;
     }
     if Vec::<u8>::with_capacity(rt.alloc(), 1).is_err() {
         println!(rt; "refused: after")?;

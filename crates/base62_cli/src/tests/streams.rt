@@ -228,8 +228,16 @@ fn read_part(part: &str, buf: &mut [u8]) -> usize
 
 // Gives one part a read, and still has parts to give behind an empty one, which is an end.
 #[derive(Drop)]
-struct PartReader<'a> {
+pub(super) struct PartReader<'a> {
     parts: Iter<'a, &'static str>,
+}
+
+impl<'a> PartReader<'a> {
+    pub(super) fn new(parts: &'a [&'static str]) -> Self {
+        PartReader {
+            parts: parts.iter(),
+        }
+    }
 }
 
 impl Read for PartReader<'_> {
@@ -257,9 +265,7 @@ fn no_read_after_the_end(rt: HostRuntime) -> Result<(), Fail> {
         ),
     ];
     for (parts, behind, output) in rows {
-        let mut reader = PartReader {
-            parts: parts.iter(),
-        };
+        let mut reader = PartReader::new(&parts);
         let mut written = Vec::new(rt.alloc());
         run(rt.alloc(), &mut reader, &mut written)?;
         assert_eq!(rt; reader.parts.len(), behind, "left of {parts:?}");

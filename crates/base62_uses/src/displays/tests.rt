@@ -4,6 +4,24 @@ use std::test::Fail;
 #[test]
 fn headings(rt: HostRuntime) -> Result<(), Fail> {
     assert_eq!(rt; order_heading(rt.alloc(), 1337)?.as_str(), "Order LZ");
+    assert_eq!(rt; token_heading(rt.alloc(), 1337)?.as_str(), "Token lz");
+    let standard = Alphabet::standard();
+    if !standard.is_ascii() {
+        panic!(rt; "the built-in alphabets are ASCII");
+    }
+    let own = own_heading(rt.alloc(), &standard, 1337)?;
+    assert_eq!(rt; own.as_str(), "Code LZ");
+    Ok(())
+}
+
+#[test]
+fn lines_of_1000(rt: HostRuntime) -> Result<(), Fail> {
+    let line = leader_line(rt.alloc(), 1337)?;
+    let leader = "é".repeat(rt.alloc(), 998)?;
+    assert_eq!(rt;
+        line.as_str(),
+        format!(in rt.alloc(); "{leader}LZ")?.as_str()
+    );
     Ok(())
 }
 

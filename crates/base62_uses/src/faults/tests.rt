@@ -45,3 +45,28 @@ fn answers_of_a_batch(rt: HostRuntime) {
     let overflow = DecodeError::ArithmeticOverflow;
     assert_eq!(rt; answers, [DecodeError::EmptyInput, overflow, overflow]);
 }
+
+// Each fault is less than the one after it.
+#[test]
+fn order_of_faults(rt: HostRuntime) {
+    let faults = [
+        DecodeError::ArithmeticOverflow,
+        DecodeError::EmptyInput,
+        DecodeError::InvalidBase62Byte(b'!', 9),
+        DecodeError::InvalidBase62Byte(b'-', 1),
+        DecodeError::InvalidBase62Byte(b'-', 3),
+    ];
+    for (place, fault) in faults.iter().enumerate() {
+        for (other_place, other) in faults.iter().enumerate() {
+            assert_eq!(rt; is_worse(*fault, *other), place > other_place);
+        }
+    }
+    let repeats = [(b'A', 7), (b'B', 3), (b'B', 5)];
+    for (place, (byte, index)) in repeats.iter().enumerate() {
+        for (other_place, (other, at)) in repeats.iter().enumerate() {
+            let fault = AlphabetError::Repeated(*byte, *index);
+            let other = AlphabetError::Repeated(*other, *at);
+            assert_eq!(rt; is_later_repeat(fault, other), place > other_place);
+        }
+    }
+}

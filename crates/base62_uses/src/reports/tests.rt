@@ -9,8 +9,8 @@ fn reports_and_cells(rt: HostRuntime) -> Result<(), Fail> {
         "link: Encoded input contains the invalid byte b'?' at index 2"
     );
     assert_eq!(rt;
-        link_cell(rt.alloc(), DecodeError::EmptyInput)?.as_str(),
-        "Encoded input is an empty string|"
+        link_cells(rt.alloc(), DecodeError::EmptyInput)?.as_str(),
+        "Encoded input is an empty string|Encoded input is an empty string|"
     );
     let row = EncodeError::BufferTooSmall;
     assert_eq!(rt;
@@ -18,8 +18,8 @@ fn reports_and_cells(rt: HostRuntime) -> Result<(), Fail> {
         "row: Buffer too small to encode the number"
     );
     assert_eq!(rt;
-        row_cell(rt.alloc(), row)?.as_str(),
-        "Buffer too small to encode the number|"
+        row_cells(rt.alloc(), row)?.as_str(),
+        "Buffer too small to encode the number|Buffer too small to encode the number|"
     );
     let letters = AlphabetError::Repeated(b'A', 61);
     assert_eq!(rt;
@@ -27,8 +27,8 @@ fn reports_and_cells(rt: HostRuntime) -> Result<(), Fail> {
         "letters: Alphabet repeats the byte b'A' at index 61"
     );
     assert_eq!(rt;
-        letters_cell(rt.alloc(), letters)?.as_str(),
-        "Alphabet repeats the byte b'A' at index 61|"
+        letters_cells(rt.alloc(), letters)?.as_str(),
+        "Alphabet repeats the byte b'A' at index 61|Alphabet repeats the byte b'A' at index 61|"
     );
     Ok(())
 }

@@ -1,34 +1,46 @@
 use Rattle.std.proofs.Common.{refl, codes}
-use Rattle.std.proofs.lemmas.List.{take_rest}
+use Rattle.std.proofs.lemmas.Bool.Decides.{Decides-eqb}
 use Rattle.std.proofs.lemmas.Result.{on_ok_weaker}
+use Rattle.std.proofs.lemmas.Slice.Eq.{strip_prefix_is}
 use Rattle.base62.specs.Alphabet.{standard, alternative}
 use Rattle.base62_cli.specs.Reply.{decode_reply}
 use Rattle.base62_cli.proofs.ReplyLemmas.{appended_on_ok, reply_to_enc, reply_to_alt, reply_to_dec, reply_to_adc, reply_to_other}
 use Rattle.base62_cli.proofs.reply.push_reply.Goals as goal
 
-pub returns-then-starts_with : goal.returns-then-starts_with
-returns-then-starts_with c =
+pub returns-in-Some : goal.returns-in-Some
+returns-in-Some c =
     let line = c.args.line.now in
-    on_ok_weaker c.push_encoded.result (λ h. (h.0, reply_to_enc line h.0 (cc) h.1, h.2)) (rw (take_rest line 4) at c.push_encoded.ensures)
+    let text = c.in-Some.text.now in
+    let cut = rw c.in-Some.is at (strip_prefix_is Decides-eqb line (codes "enc ") _ c.strip_prefix.ensures.cases) in
+    on_ok_weaker c.push_encoded.result (λ h. (h.0, rw cut (reply_to_enc text h.0 h.1), h.2)) c.push_encoded.ensures
 
-pub returns-then-starts_with-2 : goal.returns-then-starts_with-2
-returns-then-starts_with-2 c =
+pub returns-in-Some-strip_prefix : goal.returns-in-Some-strip_prefix
+returns-in-Some-strip_prefix c =
     let line = c.args.line.now in
-    on_ok_weaker c.push_encoded-then-starts_with-2.result (λ h. (h.0, reply_to_alt line h.0 (cc) (cc) h.1, h.2)) (rw (take_rest line 4) at c.push_encoded-then-starts_with-2.ensures)
+    let text = c.in-Some-strip_prefix.text.now in
+    let cut = rw c.in-Some-strip_prefix.is at (strip_prefix_is Decides-eqb line (codes "alt ") _ c.strip_prefix-in_default.ensures.cases) in
+    on_ok_weaker c.push_encoded-in-Some-strip_prefix.result (λ h. (h.0, rw cut (reply_to_alt text h.0 h.1), h.2)) c.push_encoded-in-Some-strip_prefix.ensures
 
-pub returns-then-starts_with-3 : goal.returns-then-starts_with-3
-returns-then-starts_with-3 c =
+pub returns-in-Some-strip_prefix-2 : goal.returns-in-Some-strip_prefix-2
+returns-in-Some-strip_prefix-2 c =
     let line = c.args.line.now in
-    on_ok_weaker c.push_decoded.result (λ h. (decode_reply standard _, reply_to_dec line _ (cc) (cc) (cc) refl, h)) (rw (take_rest line 4) at c.push_decoded.ensures)
+    let text = c.in-Some-strip_prefix-2.text.now in
+    let cut = rw c.in-Some-strip_prefix-2.is at (strip_prefix_is Decides-eqb line (codes "dec ") _ c.strip_prefix-in_default-strip_prefix.ensures.cases) in
+    on_ok_weaker c.push_decoded.result (λ h. (decode_reply standard text, rw cut (reply_to_dec text _ refl), h)) c.push_decoded.ensures
 
-pub returns-then-starts_with-4 : goal.returns-then-starts_with-4
-returns-then-starts_with-4 c =
+pub returns-in-Some-strip_prefix-3 : goal.returns-in-Some-strip_prefix-3
+returns-in-Some-strip_prefix-3 c =
     let line = c.args.line.now in
-    on_ok_weaker c.push_decoded-then-starts_with-4.result (λ h. (decode_reply alternative _, reply_to_adc line _ (cc) (cc) (cc) (cc) refl, h))
-    (rw (take_rest line 4) at c.push_decoded-then-starts_with-4.ensures)
+    let text = c.in-Some-strip_prefix-3.text.now in
+    let cut = rw c.in-Some-strip_prefix-3.is at (strip_prefix_is Decides-eqb line (codes "adc ") _ c.strip_prefix-in_default-strip_prefix-2.ensures.cases) in
+    on_ok_weaker c.push_decoded-in-Some-strip_prefix-3.result (λ h. (decode_reply alternative text, rw cut (reply_to_adc text _ refl), h)) c.push_decoded-in-Some-strip_prefix-3.ensures
 
-pub returns-else-starts_with-4 : goal.returns-else-starts_with-4
-returns-else-starts_with-4 c =
+pub returns-in_default-strip_prefix-3 : goal.returns-in_default-strip_prefix-3
+returns-in_default-strip_prefix-3 c =
     let line = c.args.line.now in
-    on_ok_weaker c.extend_from_slice.result (λ h. (codes "fault: unknown command", reply_to_other line _ (cc) (cc) (cc) (cc) refl, h))
+    let not_enc = rw c.in_default.is at (strip_prefix_is Decides-eqb line (codes "enc ") _ c.strip_prefix.ensures.cases) in
+    let not_alt = rw c.in_default-strip_prefix.is at (strip_prefix_is Decides-eqb line (codes "alt ") _ c.strip_prefix-in_default.ensures.cases) in
+    let not_dec = rw c.in_default-strip_prefix-2.is at (strip_prefix_is Decides-eqb line (codes "dec ") _ c.strip_prefix-in_default-strip_prefix.ensures.cases) in
+    let not_adc = rw c.in_default-strip_prefix-3.is at (strip_prefix_is Decides-eqb line (codes "adc ") _ c.strip_prefix-in_default-strip_prefix-2.ensures.cases) in
+    on_ok_weaker c.extend_from_slice.result (λ h. (codes "fault: unknown command", reply_to_other line not_enc not_alt not_dec not_adc, h))
     (appended_on_ok c.extend_from_slice.result _ _ (codes "fault: unknown command\n") c.extend_from_slice.ensures.items)

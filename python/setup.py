@@ -2,16 +2,38 @@
 
 import os
 import pathlib
+import re
+import subprocess
 
 from setuptools import Extension, setup
 
+try:
+    from setuptools.command.bdist_wheel import bdist_wheel
+except ImportError:
+    from wheel.bdist_wheel import bdist_wheel
+
 here = pathlib.Path(__file__).parent
 library = pathlib.Path(os.environ.get("BASE62_C", here / "../c/out"))
-archive = library / "lib/libbase62.a"
+archive, header = library / "lib/libbase62.a", library / "include/base62.h"
 # python/build lays it beside this file.
 version = next(file for file in (here / "VERSION", here / "../VERSION") if file.exists()).read_text().strip()
-if not archive.exists():
-    raise SystemExit(f"{archive} is missing: run c/build, or name its folder in BASE62_C")
+if not archive.exists() or f'#define BASE62_VERSION "{version}"' not in header.read_text():
+    raise SystemExit(f"{library} has no library of version {version}: run c/build, or name its folder in BASE62_C")
+
+
+class Wheel(bdist_wheel):
+    """A wheel for each system with glibc whose symbols have the versions that the extension takes."""
+
+    def get_tag(self):
+        python, abi, system = super().get_tag()
+        extension = self.get_finalized_command("build_ext").get_ext_fullpath("base62._base62")
+        told = subprocess.run(["readelf", "-dVW", extension], check=True, capture_output=True, text=True).stdout
+        names = re.findall(r"Name: (\S+)", told)
+        if re.findall(r"\(NEEDED\).*\[(.*)\]", told) == ["libc.so.6"] and all(re.match(r"GLIBC_2\.\d", n) for n in names):
+            # manylinux_2_5 is the earliest.
+            system = system.replace("linux", f"manylinux_2_{max(5, *(int(name.split('.')[1]) for name in names))}")
+        return python, abi, system
+
 
 extension = Extension(
     "base62._base62",
@@ -20,11 +42,8 @@ extension = Extension(
     include_dirs=[str(library / "include")],
     extra_objects=[str(archive)],
     # A libbase62.so beside it is not to be mixed up with what is linked in.
-    extra_link_args=["-Wl,--exclude-libs,ALL"],
-    define_macros=[
-        ("Py_LIMITED_API", "0x030b0000"),
-        ("PACKAGE_VERSION", f'"{version}"'),
-    ],
+    extra_link_args=["-Wl,--exclude-libs,ALL", "-Wl,--strip-debug"],
+    define_macros=[("PACKAGE_VERSION", f'"{version}"')],
     py_limited_api=True,
 )
-setup(version=version, ext_modules=[extension])
+setup(version=version, ext_modules=[extension], cmdclass={"bdist_wheel": Wheel})

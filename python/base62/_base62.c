@@ -1,7 +1,11 @@
 /* The calls of base62.h for Python: numbers to halves and back, texts in and out, and exceptions. */
 #define PY_SSIZE_T_CLEAN
+#define Py_LIMITED_API 0x030b0000
 #include <Python.h>
 #include <base62.h>
+
+/* These macros of 3.11 count objects that are immortal since 3.12. Py_IncRef and Py_DecRef are functions of each Python. */
+#pragma GCC poison Py_INCREF Py_DECREF Py_XINCREF Py_XDECREF Py_CLEAR Py_NewRef Py_XNewRef
 
 /* What is held of base62._types, and of its alphabet. */
 enum {
@@ -26,15 +30,25 @@ struct halves {
     uint64_t high, low;
 };
 
-/* Bytes, which stand as long as what is held or, where that is NULL, as the str that they are of. */
+/* Bytes that stand as long as what is held. Where that is NULL, they are those of a str of the caller. */
 struct text {
     const char *bytes;
     Py_ssize_t length;
     PyObject *held;
 };
 
+static PyObject **all_held(PyObject *module) {
+    return ((struct state *)PyModule_GetState(module))->held;
+}
+
+/* NULL after the module is cleared. */
 static PyObject *held(PyObject *module, int which) {
-    return ((struct state *)PyModule_GetState(module))->held[which];
+    return all_held(module)[which];
+}
+
+static PyObject *shared(PyObject *object) {
+    Py_IncRef(object);
+    return object;
 }
 
 /* What Python makes of an argument that is not of the usual type. */
@@ -60,15 +74,17 @@ static int unpack(const struct parameters *of, PyObject *const *given, Py_ssize_
         return 0;
     }
     Py_ssize_t named = keywords == NULL ? 0 : PyTuple_Size(keywords);
-    PyObject *in_row = PyTuple_New(count), *by_name = PyDict_New();
-    int ok = in_row != NULL && by_name != NULL;
+    PyObject *in_row = named < 0 ? NULL : PyTuple_New(count), *by_name = in_row == NULL ? NULL : PyDict_New();
+    int ok = by_name != NULL;
     for (Py_ssize_t i = 0; ok && i < count; i++)
-        ok = PyTuple_SetItem(in_row, i, Py_NewRef(given[i])) == 0;
-    for (Py_ssize_t i = 0; ok && i < named; i++)
-        ok = PyDict_SetItem(by_name, PyTuple_GetItem(keywords, i), given[count + i]) == 0;
+        ok = PyTuple_SetItem(in_row, i, shared(given[i])) == 0;
+    for (Py_ssize_t i = 0; ok && i < named; i++) {
+        PyObject *name = PyTuple_GetItem(keywords, i);
+        ok = name != NULL && PyDict_SetItem(by_name, name, given[count + i]) == 0;
+    }
     ok = ok && PyArg_ParseTupleAndKeywords(in_row, by_name, of->format, (char **)of->names, &found[0], &found[1]);
-    Py_XDECREF(in_row);
-    Py_XDECREF(by_name);
+    Py_DecRef(in_row);
+    Py_DecRef(by_name);
     return ok ? 0 : -1;
 }
 
@@ -77,21 +93,22 @@ static int out_of_range(void) {
     return -1;
 }
 
+/* The halves of a number of 2^63 or more. */
 static int wide_halves(PyObject *whole, struct halves *number) {
     PyObject *width = PyLong_FromLong(64), *high = width == NULL ? NULL : PyNumber_Rshift(whole, width);
-    Py_XDECREF(width);
+    Py_DecRef(width);
     if (high == NULL)
         return -1;
     number->high = PyLong_AsUnsignedLongLong(high);
-    Py_DECREF(high);
-    if (number->high == UINT64_MAX && PyErr_Occurred())
-        return out_of_range();
+    Py_DecRef(high);
+    if (number->high == UINT64_MAX && PyErr_Occurred() != NULL)
+        return PyErr_ExceptionMatches(PyExc_OverflowError) ? out_of_range() : -1;
     number->low = PyLong_AsUnsignedLongLongMask(whole);
-    return 0;
+    return number->low == UINT64_MAX && PyErr_Occurred() != NULL ? -1 : 0;
 }
 
 static int halves_of(PyObject *module, PyObject *given, struct halves *number) {
-    PyObject *whole = PyLong_CheckExact(given) ? Py_NewRef(given) : converted(module, WHOLE_OF, given);
+    PyObject *whole = PyLong_CheckExact(given) ? shared(given) : converted(module, WHOLE_OF, given);
     if (whole == NULL)
         return -1;
     int beyond, fault = 0;
@@ -99,11 +116,22 @@ static int halves_of(PyObject *module, PyObject *given, struct halves *number) {
     if (beyond > 0)
         fault = wide_halves(whole, number);
     else if (narrow < 0)
-        fault = out_of_range();
+        fault = PyErr_Occurred() == NULL ? out_of_range() : -1;
     else
         *number = (struct halves){0, (uint64_t)narrow};
-    Py_DECREF(whole);
+    Py_DecRef(whole);
     return fault;
+}
+
+/* Takes over what has to be bytes. */
+static int hold(PyObject *bytes, struct text *text) {
+    text->held = bytes;
+    text->bytes = bytes == NULL ? NULL : PyBytes_AsString(bytes);
+    text->length = text->bytes == NULL ? -1 : PyBytes_Size(bytes);
+    if (text->length >= 0)
+        return 0;
+    Py_DecRef(bytes);
+    return -1;
 }
 
 static int text_of(PyObject *module, PyObject *given, struct text *text) {
@@ -112,24 +140,22 @@ static int text_of(PyObject *module, PyObject *given, struct text *text) {
         text->bytes = PyUnicode_AsUTF8AndSize(given, &text->length);
         if (text->bytes != NULL)
             return 0;
+        if (!PyErr_ExceptionMatches(PyExc_UnicodeEncodeError))
+            return -1;
         PyErr_Clear();
     }
-    text->held = PyBytes_Check(given) ? Py_NewRef(given) : converted(module, BYTES_OF, given);
-    if (text->held == NULL)
-        return -1;
-    text->bytes = PyBytes_AsString(text->held);
-    text->length = PyBytes_Size(text->held);
-    return 0;
+    return hold(PyBytes_Check(given) ? shared(given) : converted(module, BYTES_OF, given), text);
 }
 
-/* The 62 bytes of an alphabet of the caller's own. */
-static PyObject *letters_of(PyObject *module, PyObject *alphabet) {
-    PyObject *letters = PyBytes_Check(alphabet) ? Py_NewRef(alphabet) : converted(module, LETTERS_OF, alphabet);
-    if (letters != NULL && PyBytes_Size(letters) != BASE62_ALPHABET_LENGTH) {
-        PyErr_SetString(PyExc_ValueError, "an alphabet has 62 letters");
-        Py_CLEAR(letters);
-    }
-    return letters;
+/* The letters of an alphabet of the caller's own. */
+static int letters_of(PyObject *module, PyObject *alphabet, struct text *letters) {
+    if (hold(PyBytes_Check(alphabet) ? shared(alphabet) : converted(module, LETTERS_OF, alphabet), letters) != 0)
+        return -1;
+    if (letters->length == BASE62_ALPHABET_LENGTH)
+        return 0;
+    PyErr_SetString(PyExc_ValueError, "an alphabet has 62 letters");
+    Py_DecRef(letters->held);
+    return -1;
 }
 
 /* Answers */
@@ -143,10 +169,10 @@ static PyObject *number_of(struct halves halves) {
         front = PyNumber_Lshift(high, width);
     if (front != NULL)
         number = PyNumber_Or(front, low);
-    Py_XDECREF(high);
-    Py_XDECREF(low);
-    Py_XDECREF(width);
-    Py_XDECREF(front);
+    Py_DecRef(high);
+    Py_DecRef(low);
+    Py_DecRef(width);
+    Py_DecRef(front);
     return number;
 }
 
@@ -160,9 +186,11 @@ static PyObject *refuse(PyObject *module, base62_status status, unsigned char by
                                                : REPEATED_LETTER;
     const char *fields = kind == EMPTY_INPUT || kind == TOO_LARGE ? "(s#)" : "(s#Bn)";
     PyObject *told = Py_BuildValue(fields, said, (Py_ssize_t)length, byte, (Py_ssize_t)index);
-    if (told != NULL)
+    if (told != NULL && held(module, kind) != NULL)
         PyErr_SetObject(held(module, kind), told);
-    Py_XDECREF(told);
+    else if (told != NULL)
+        PyErr_SetString(PyExc_SystemError, "the module is cleared");
+    Py_DecRef(told);
     return NULL;
 }
 
@@ -172,35 +200,34 @@ PyDoc_STRVAR(check_alphabet_doc, "check_alphabet($module, letters, /)\n--\n\n"
                                  "The bytes of letters that are an alphabet.");
 
 static PyObject *check_alphabet(PyObject *module, PyObject *alphabet) {
-    PyObject *letters = letters_of(module, alphabet);
-    if (letters == NULL)
+    struct text letters;
+    if (letters_of(module, alphabet, &letters) != 0)
         return NULL;
     unsigned char byte = 0;
     size_t index = 0;
-    base62_status status = base62_check_alphabet(PyBytes_AsString(letters), &byte, &index);
+    base62_status status = base62_check_alphabet(letters.bytes, &byte, &index);
     if (status == BASE62_OK)
-        return letters;
-    Py_DECREF(letters);
+        return letters.held;
+    Py_DecRef(letters.held);
     return refuse(module, status, byte, index);
 }
 
 static PyObject *encode_with(PyObject *module, PyObject *alphabet, struct halves number) {
-    PyObject *letters = letters_of(module, alphabet);
-    if (letters == NULL)
+    struct text letters;
+    if (letters_of(module, alphabet, &letters) != 0)
         return NULL;
-    const char *bytes = PyBytes_AsString(letters);
     char text[BASE62_MAX_DIGITS];
     size_t length;
     /* Letters that no str has are refused, also where the text has none of them. */
-    PyObject *answer = PyUnicode_DecodeASCII(bytes, BASE62_ALPHABET_LENGTH, NULL);
+    PyObject *answer = PyUnicode_DecodeASCII(letters.bytes, letters.length, NULL);
     if (answer != NULL) {
-        Py_DECREF(answer);
-        if (base62_encode_with(bytes, number.high, number.low, text, sizeof text, &length) == BASE62_OK)
+        Py_DecRef(answer);
+        if (base62_encode_with(letters.bytes, number.high, number.low, text, sizeof text, &length) == BASE62_OK)
             answer = PyUnicode_DecodeASCII(text, (Py_ssize_t)length, NULL);
         else
-            answer = check_alphabet(module, letters);
+            answer = check_alphabet(module, letters.held);
     }
-    Py_DECREF(letters);
+    Py_DecRef(letters.held);
     return answer;
 }
 
@@ -239,12 +266,11 @@ static PyObject *decode_over(PyObject *module, PyObject *alphabet, struct text t
     else if (alphabet == held(module, ALTERNATIVE))
         status = base62_decode_alternative(text.bytes, length, &number.high, &number.low, &byte, &index);
     else {
-        PyObject *letters = letters_of(module, alphabet);
-        if (letters == NULL)
+        struct text letters;
+        if (letters_of(module, alphabet, &letters) != 0)
             return NULL;
-        status = base62_decode_with(PyBytes_AsString(letters), text.bytes, length, &number.high, &number.low, &byte,
-                                    &index);
-        Py_DECREF(letters);
+        status = base62_decode_with(letters.bytes, text.bytes, length, &number.high, &number.low, &byte, &index);
+        Py_DecRef(letters.held);
     }
     return status == BASE62_OK ? number_of(number) : refuse(module, status, byte, index);
 }
@@ -265,7 +291,7 @@ static PyObject *decode(PyObject *module, PyObject *const *given, Py_ssize_t cou
     if (unpack(&of, given, count, keywords, found) != 0 || text_of(module, found[0], &text) != 0)
         return NULL;
     PyObject *answer = decode_over(module, found[1], text);
-    Py_XDECREF(text.held);
+    Py_DecRef(text.held);
     return answer;
 }
 
@@ -321,9 +347,9 @@ static PyObject *key_range(PyObject *module, PyObject *const *given, Py_ssize_t 
     size_t index = 0;
     base62_status status = base62_key_range(front.bytes, (size_t)front.length, &least.high, &least.low,
                                             &greatest.high, &greatest.low, &byte, &index);
-    Py_XDECREF(front.held);
+    Py_DecRef(front.held);
     if (status == BASE62_NO_KEY)
-        return Py_NewRef(Py_None);
+        return shared(Py_None);
     if (status != BASE62_OK)
         return refuse(module, status, byte, index);
     return Py_BuildValue("NN", number_of(least), number_of(greatest));
@@ -348,14 +374,15 @@ static int execute(PyObject *module) {
         "Alphabet",         "whole_of",      "bytes_of",      "letters_of", "EmptyInputError",
         "InvalidByteError", "TooLargeError", "AlphabetError", "STANDARD",   "ALTERNATIVE",
     };
-    PyObject **own = ((struct state *)PyModule_GetState(module))->held;
-    PyObject *types = PyImport_ImportModule("base62._types");
+    if (PyModule_GetState(module) == NULL)
+        return -1;
+    PyObject **own = all_held(module), *types = PyImport_ImportModule("base62._types");
     int ok = types != NULL;
     for (int i = 0; ok && i < HELD; i++) {
         own[i] = PyObject_GetAttrString(i < STANDARD ? types : own[ALPHABET], names[i]);
         ok = own[i] != NULL;
     }
-    Py_XDECREF(types);
+    Py_DecRef(types);
     /* The signatures of the calls name the class. */
     ok = ok && PyModule_AddObjectRef(module, names[ALPHABET], own[ALPHABET]) == 0;
     return ok ? PyModule_AddStringConstant(module, "__version__", PACKAGE_VERSION) : -1;
@@ -368,8 +395,11 @@ static int traverse(PyObject *module, visitproc visit, void *arg) {
 }
 
 static int clear(PyObject *module) {
-    for (int i = 0; i < HELD; i++)
-        Py_CLEAR(((struct state *)PyModule_GetState(module))->held[i]);
+    for (int i = 0; i < HELD; i++) {
+        PyObject *was = held(module, i);
+        all_held(module)[i] = NULL;
+        Py_DecRef(was);
+    }
     return 0;
 }
 
@@ -377,19 +407,17 @@ static void release(void *module) {
     clear(module);
 }
 
-static PyModuleDef_Slot slots[] = {{Py_mod_exec, execute}, {0, NULL}};
+/* Py_mod_multiple_interpreters with Py_MOD_PER_INTERPRETER_GIL_SUPPORTED, which 3.12 wants and 3.11 refuses. */
+static PyModuleDef_Slot slots[] = {{3, (void *)2}, {Py_mod_exec, execute}, {0, NULL}};
 
-static struct PyModuleDef definition = {
-    .m_base = PyModuleDef_HEAD_INIT,
-    .m_name = "base62._base62",
-    .m_size = sizeof(struct state),
-    .m_methods = methods,
-    .m_slots = slots,
-    .m_traverse = traverse,
-    .m_clear = clear,
-    .m_free = release,
-};
+#define DEFINITION(own_slots)                                                                                          \
+    {                                                                                                                  \
+        .m_base = PyModuleDef_HEAD_INIT, .m_name = "base62._base62", .m_size = sizeof(struct state),                   \
+        .m_methods = methods, .m_slots = (own_slots), .m_traverse = traverse, .m_clear = clear, .m_free = release,     \
+    }
+
+static struct PyModuleDef since_3_12 = DEFINITION(slots), of_3_11 = DEFINITION(slots + 1);
 
 PyMODINIT_FUNC PyInit__base62(void) {
-    return PyModuleDef_Init(&definition);
+    return PyModuleDef_Init(Py_Version >= 0x030c0000 ? &since_3_12 : &of_3_11);
 }

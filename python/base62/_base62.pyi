@@ -2,9 +2,56 @@ from base62._types import Alphabet as Alphabet, AnyAlphabet, Number, Text
 
 __version__: str
 
-def encode(number: Number, alphabet: AnyAlphabet = ...) -> str: ...
-def decode(text: Text, alphabet: AnyAlphabet = ...) -> int: ...
-def digit_count(number: Number) -> int: ...
-def encode_key(number: Number) -> str: ...
-def key_range(front: Text) -> tuple[int, int] | None: ...
-def check_alphabet(letters: str | bytes, /) -> bytes: ...
+def encode(number: Number, alphabet: AnyAlphabet = Alphabet.STANDARD) -> str:
+    """The text of a number: the shortest one that denotes it.
+
+    Raises an OverflowError if the number is negative, or 2**128 or more.
+
+    >>> encode(1337), encode(1337, Alphabet.ALTERNATIVE), encode(0)
+    ('LZ', 'lz', '0')
+    >>> encode(uuid.UUID("12345678-1234-5678-1234-567812345678"))
+    'YLmNWW2NwaipfRR50HIPA'
+    """
+
+def decode(text: Text, alphabet: AnyAlphabet = Alphabet.STANDARD) -> int:
+    """The number that a text denotes, whatever zeros are in front.
+
+    Raises an EmptyInputError, an InvalidByteError or a TooLargeError.
+
+    >>> decode("00LZ"), decode(b"lz", Alphabet.ALTERNATIVE)
+    (1337, 1337)
+    >>> decode("7n42DGM5Tflk9n8mt7Fhc8")
+    Traceback (most recent call last):
+    base62.TooLargeError: Decoded number cannot fit into a `u128`
+    """
+
+def digit_count(number: Number) -> int:
+    """The length of the text of a number, from 1 to 22.
+
+    Raises an OverflowError as encode.
+
+    >>> digit_count(61), digit_count(62)
+    (1, 2)
+    """
+
+def encode_key(number: Number) -> str:
+    """The standard text of 22 letters, with zeros in front. Keys sort as their numbers, and decode reads them.
+
+    Raises an OverflowError as encode.
+
+    >>> encode_key(1337)
+    '00000000000000000000LZ'
+    """
+
+def key_range(front: Text) -> tuple[int, int] | None:
+    """The least and the greatest number whose key begins so, or None if there is none.
+
+    Raises an InvalidByteError.
+
+    >>> key_range("00000000000000000000L")
+    (1302, 1363)
+    >>> key_range("8")
+    """
+
+def check_alphabet(letters: str | bytes, /) -> bytes:
+    """The bytes of letters that are an alphabet."""

@@ -105,10 +105,10 @@ class InvalidByteError(_BadByteError, DecodeError):
     __module__ = "base62"
 
     byte: int
-    """The first byte that is no letter. Of a str it is the first byte of a character in UTF-8."""
+    """The first byte that is no letter. The bytes of a str are those of UTF-8."""
 
     index: int
-    """Its index. The letters before it have one byte each, so it is an index of a str too."""
+    """Its index among the bytes. Where all letters are ASCII, it is also the index of its character in a str."""
 
 
 def whole_of(number: Number) -> int:
@@ -123,8 +123,8 @@ def whole_of(number: Number) -> int:
 def bytes_of(text: Text) -> bytes:
     """The bytes of a text that is neither bytes nor has UTF-8."""
     if isinstance(text, str):
-        # A lone surrogate is no letter either.
-        return text.encode("utf-8", "surrogatepass")
+        # A lone surrogate is no letter either. A subclass may have an encode of its own.
+        return str.encode(text, "utf-8", "surrogatepass")
     try:
         view = memoryview(text)
     except TypeError:
@@ -139,4 +139,4 @@ def letters_of(alphabet: AnyAlphabet) -> bytes:
     """The letters of an alphabet that is not in bytes."""
     if not isinstance(alphabet, str):
         raise TypeError(f"an alphabet is an Alphabet, a str or bytes, not {type(alphabet)}")
-    return alphabet.encode("ascii")
+    return str.encode(alphabet, "ascii")

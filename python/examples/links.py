@@ -11,6 +11,7 @@
 '2aUyqjCzEIiEcYMKj7TZtw'
 >>> [base62.decode_uuid(key) for key, _ in with_front(links, "2aUy")]
 [UUID('550e8400-e29b-41d4-a716-446655440000')]
+>>> links.close()
 """
 
 from __future__ import annotations

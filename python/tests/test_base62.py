@@ -107,6 +107,19 @@ class Texts(unittest.TestCase):
             self.assertEqual(base62.decode(text), 98)
             self.assertEqual(base62.key_range(text), (98 * 62**20, 99 * 62**20 - 1))
 
+    def test_own_encode(self) -> None:
+        """What a subclass of str says of its bytes is not asked."""
+
+        class Own(str):
+            encode: Any = lambda *given: 5
+
+        for call in OF_TEXTS:
+            with self.assertRaises(base62.InvalidByteError) as caught:
+                call(Own("\ud800"))
+            self.assertEqual((caught.exception.byte, caught.exception.index), (0xED, 0))
+        self.assertEqual(base62.encode(1337, Own(STANDARD)), "LZ")
+        self.assertEqual(base62.decode(Own("9"), Own(OWN)), OWN.index("9"))
+
     def test_kinds_of_numbers(self) -> None:
         class Own(int):
             def __rshift__(self, width: int) -> int:
@@ -286,6 +299,11 @@ class Faults(Refusing):
         for kind in (base62.EmptyInputError, base62.InvalidByteError, base62.TooLargeError):
             self.assertTrue(issubclass(kind, base62.DecodeError))
         self.assertTrue(issubclass(base62.DecodeError, ValueError))
+
+    def test_bad_bytes_above_ascii(self) -> None:
+        """Over letters that are no ASCII the bad byte may be within a character."""
+        error = self.refused(base62.InvalidByteError, base62.decode, "é", HIGH)
+        self.assertEqual((error.byte, error.index), (0xA9, 1))
 
     def test_bad_bytes(self) -> None:
         texts = [("00LZ-", 45, 4), ("a\0b", 0, 1), ("Zoë", 0xC3, 2), ("\ud800", 0xED, 0), (b"LZ\xff", 255, 2)]

@@ -2,6 +2,8 @@
 
 from __future__ import annotations
 
+import ast
+import contextlib
 import ctypes
 import doctest
 import gc
@@ -55,6 +57,13 @@ class Package(unittest.TestCase):
             if "alphabet" in parameters:
                 self.assertIs(parameters["alphabet"].default, base62.Alphabet.STANDARD)
 
+    def test_stub(self) -> None:
+        """Editors show what help shows."""
+        stub = ast.parse(pathlib.Path(_base62.__file__).with_name("_base62.pyi").read_text())
+        told = {node.name: ast.get_docstring(node) for node in stub.body if isinstance(node, ast.FunctionDef)}
+        calls = {name: call for name, call in vars(_base62).items() if inspect.isbuiltin(call)}
+        self.assertEqual(told, {name: inspect.getdoc(call) for name, call in calls.items()})
+
     def test_keywords(self) -> None:
         letters = base62.Alphabet.ALTERNATIVE
         self.assertEqual(base62.encode(number=1337), "LZ")
@@ -93,6 +102,14 @@ def made_again() -> Any:
         sys.modules.update(stored)
 
 
+def interpreters() -> Any:
+    """The module by which a Python makes others. It has had two names."""
+    for name in ("_interpreters", "_xxsubinterpreters"):
+        with contextlib.suppress(ImportError):
+            return importlib.import_module(name)
+    raise unittest.SkipTest("this Python has no module for interpreters")
+
+
 class Modules(unittest.TestCase):
     def test_made_again(self) -> None:
         again = made_again()
@@ -112,17 +129,25 @@ class Modules(unittest.TestCase):
         # Any import keeps a few.
         self.assertLess(blocks[-1] - blocks[0], 1000)
 
-    def test_subinterpreter(self) -> None:
-        try:
-            interpreters = importlib.import_module("_xxsubinterpreters")
-        except ImportError:
-            self.skipTest("this Python has no such module")
+    def run_apart(self, isolated: bool) -> None:
         said = "import base62\nassert base62.decode(base62.encode(2**128 - 1)) == 2**128 - 1"
+        maker = interpreters()
         for _ in range(3):
-            other = interpreters.create(isolated=False)
-            interpreters.run_string(other, said)
-            interpreters.destroy(other)
+            if maker.__name__ == "_interpreters":
+                other = maker.create("isolated" if isolated else "legacy")
+            else:
+                other = maker.create(isolated=isolated)
+            # Some Pythons raise the fault, and some answer it.
+            self.assertIsNone(maker.run_string(other, said))
+            maker.destroy(other)
         self.assertEqual(base62.encode(1337), "LZ")
+
+    def test_interpreter(self) -> None:
+        self.run_apart(isolated=False)
+
+    def test_isolated_interpreter(self) -> None:
+        """From 3.12 on it has a lock of its own, and takes only modules that say they can share none."""
+        self.run_apart(isolated=True)
 
 
 def refused(call: Callable[..., object]) -> Callable[..., None]:

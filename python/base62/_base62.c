@@ -1,4 +1,4 @@
-/* The calls of base62.h for Python: numbers to halves and back, texts in and out, and exceptions. */
+/* The calls of base62.h for Python: numbers and texts in and out, and exceptions. */
 #define PY_SSIZE_T_CLEAN
 #define Py_LIMITED_API 0x030b0000
 #include <Python.h>
@@ -24,10 +24,6 @@ enum {
 
 struct state {
     PyObject *held[HELD];
-};
-
-struct halves {
-    uint64_t high, low;
 };
 
 /* Bytes that stand as long as what is held. Where that is NULL, they are those of a str of the caller. */
@@ -93,8 +89,8 @@ static int out_of_range(void) {
     return -1;
 }
 
-/* The halves of a number of 2^63 or more. */
-static int wide_halves(PyObject *whole, struct halves *number) {
+/* A number of 2^63 or more. */
+static int wide_number_of(PyObject *whole, base62_number *number) {
     PyObject *width = PyLong_FromLong(64), *high = width == NULL ? NULL : PyNumber_Rshift(whole, width);
     Py_DecRef(width);
     if (high == NULL)
@@ -107,18 +103,18 @@ static int wide_halves(PyObject *whole, struct halves *number) {
     return number->low == UINT64_MAX && PyErr_Occurred() != NULL ? -1 : 0;
 }
 
-static int halves_of(PyObject *module, PyObject *given, struct halves *number) {
+static int number_of(PyObject *module, PyObject *given, base62_number *number) {
     PyObject *whole = PyLong_CheckExact(given) ? shared(given) : converted(module, WHOLE_OF, given);
     if (whole == NULL)
         return -1;
     int beyond, fault = 0;
     long long narrow = PyLong_AsLongLongAndOverflow(whole, &beyond);
     if (beyond > 0)
-        fault = wide_halves(whole, number);
+        fault = wide_number_of(whole, number);
     else if (narrow < 0)
         fault = PyErr_Occurred() == NULL ? out_of_range() : -1;
     else
-        *number = (struct halves){0, (uint64_t)narrow};
+        *number = base62_from_u64((uint64_t)narrow);
     Py_DecRef(whole);
     return fault;
 }
@@ -160,32 +156,31 @@ static int letters_of(PyObject *module, PyObject *alphabet, struct text *letters
 
 /* Answers */
 
-static PyObject *number_of(struct halves halves) {
-    if (halves.high == 0)
-        return PyLong_FromUnsignedLongLong(halves.low);
-    PyObject *high = PyLong_FromUnsignedLongLong(halves.high), *low = PyLong_FromUnsignedLongLong(halves.low);
-    PyObject *width = PyLong_FromLong(64), *front = NULL, *number = NULL;
+static PyObject *whole_of(base62_number number) {
+    if (number.high == 0)
+        return PyLong_FromUnsignedLongLong(number.low);
+    PyObject *high = PyLong_FromUnsignedLongLong(number.high), *low = PyLong_FromUnsignedLongLong(number.low);
+    PyObject *width = PyLong_FromLong(64), *front = NULL, *whole = NULL;
     if (high != NULL && low != NULL && width != NULL)
         front = PyNumber_Lshift(high, width);
     if (front != NULL)
-        number = PyNumber_Or(front, low);
+        whole = PyNumber_Or(front, low);
     Py_DecRef(high);
     Py_DecRef(low);
     Py_DecRef(width);
     Py_DecRef(front);
-    return number;
+    return whole;
 }
 
-static PyObject *refuse(PyObject *module, base62_status status, unsigned char byte, size_t index) {
+static PyObject *refuse(PyObject *module, base62_status status, base62_bad_byte bad) {
     char said[BASE62_MAX_FAULT_TEXT];
-    size_t length;
-    base62_fault_text(status, byte, index, said, sizeof said, &length);
+    size_t length = base62_fault_text(status, bad, said, sizeof said);
     int kind = status == BASE62_EMPTY_INPUT    ? EMPTY_INPUT
                : status == BASE62_OVERFLOW     ? TOO_LARGE
                : status == BASE62_INVALID_BYTE ? INVALID_BYTE
                                                : REPEATED_LETTER;
     const char *fields = kind == EMPTY_INPUT || kind == TOO_LARGE ? "(s#)" : "(s#Bn)";
-    PyObject *told = Py_BuildValue(fields, said, (Py_ssize_t)length, byte, (Py_ssize_t)index);
+    PyObject *told = Py_BuildValue(fields, said, (Py_ssize_t)length, bad.byte, (Py_ssize_t)bad.index);
     if (told != NULL && held(module, kind) != NULL)
         PyErr_SetObject(held(module, kind), told);
     else if (told != NULL)
@@ -203,29 +198,27 @@ static PyObject *check_alphabet(PyObject *module, PyObject *alphabet) {
     struct text letters;
     if (letters_of(module, alphabet, &letters) != 0)
         return NULL;
-    unsigned char byte = 0;
-    size_t index = 0;
-    base62_status status = base62_check_alphabet(letters.bytes, &byte, &index);
+    base62_bad_byte bad = {0, 0};
+    base62_status status = base62_check_alphabet(letters.bytes, &bad);
     if (status == BASE62_OK)
         return letters.held;
     Py_DecRef(letters.held);
-    return refuse(module, status, byte, index);
+    return refuse(module, status, bad);
 }
 
-static PyObject *encode_with(PyObject *module, PyObject *alphabet, struct halves number) {
+static PyObject *encode_with(PyObject *module, PyObject *alphabet, base62_number number) {
     struct text letters;
     if (letters_of(module, alphabet, &letters) != 0)
         return NULL;
     char text[BASE62_MAX_DIGITS];
-    size_t length;
     /* Letters that no str has are refused, also where the text has none of them. */
     PyObject *answer = PyUnicode_DecodeASCII(letters.bytes, letters.length, NULL);
     if (answer != NULL) {
         Py_DecRef(answer);
-        if (base62_encode_with(letters.bytes, number.high, number.low, text, sizeof text, &length) == BASE62_OK)
-            answer = PyUnicode_DecodeASCII(text, (Py_ssize_t)length, NULL);
-        else
-            answer = check_alphabet(module, letters.held);
+        size_t length = base62_encode_with(letters.bytes, number, text, sizeof text);
+        /* The text has room, so a letter is repeated. */
+        answer = length == 0 ? check_alphabet(module, letters.held)
+                             : PyUnicode_DecodeASCII(text, (Py_ssize_t)length, NULL);
     }
     Py_DecRef(letters.held);
     return answer;
@@ -242,37 +235,37 @@ PyDoc_STRVAR(encode_doc, "encode($module, /, number, alphabet=Alphabet.STANDARD)
 static PyObject *encode(PyObject *module, PyObject *const *given, Py_ssize_t count, PyObject *keywords) {
     static const struct parameters of = {"O|O:encode", {"number", "alphabet", NULL}, 2};
     PyObject *found[2];
-    struct halves number;
-    if (unpack(&of, given, count, keywords, found) != 0 || halves_of(module, found[0], &number) != 0)
+    base62_number number;
+    if (unpack(&of, given, count, keywords, found) != 0 || number_of(module, found[0], &number) != 0)
         return NULL;
     char text[BASE62_MAX_DIGITS];
     size_t length;
     if (found[1] == NULL || found[1] == held(module, STANDARD))
-        base62_encode(number.high, number.low, text, sizeof text, &length);
+        length = base62_encode(number, text, sizeof text);
     else if (found[1] == held(module, ALTERNATIVE))
-        base62_encode_alternative(number.high, number.low, text, sizeof text, &length);
+        length = base62_encode_alternative(number, text, sizeof text);
     else
         return encode_with(module, found[1], number);
     return PyUnicode_DecodeASCII(text, (Py_ssize_t)length, NULL);
 }
 
 static PyObject *decode_over(PyObject *module, PyObject *alphabet, struct text text) {
-    struct halves number;
-    unsigned char byte = 0;
-    size_t index = 0, length = (size_t)text.length;
+    base62_number number;
+    base62_bad_byte bad = {0, 0};
+    size_t length = (size_t)text.length;
     base62_status status;
     if (alphabet == NULL || alphabet == held(module, STANDARD))
-        status = base62_decode(text.bytes, length, &number.high, &number.low, &byte, &index);
+        status = base62_decode(text.bytes, length, &number, &bad);
     else if (alphabet == held(module, ALTERNATIVE))
-        status = base62_decode_alternative(text.bytes, length, &number.high, &number.low, &byte, &index);
+        status = base62_decode_alternative(text.bytes, length, &number, &bad);
     else {
         struct text letters;
         if (letters_of(module, alphabet, &letters) != 0)
             return NULL;
-        status = base62_decode_with(letters.bytes, text.bytes, length, &number.high, &number.low, &byte, &index);
+        status = base62_decode_with(letters.bytes, text.bytes, length, &number, &bad);
         Py_DecRef(letters.held);
     }
-    return status == BASE62_OK ? number_of(number) : refuse(module, status, byte, index);
+    return status == BASE62_OK ? whole_of(number) : refuse(module, status, bad);
 }
 
 PyDoc_STRVAR(decode_doc, "decode($module, /, text, alphabet=Alphabet.STANDARD)\n--\n\n"
@@ -304,10 +297,10 @@ PyDoc_STRVAR(digit_count_doc, "digit_count($module, /, number)\n--\n\n"
 static PyObject *digit_count(PyObject *module, PyObject *const *given, Py_ssize_t count, PyObject *keywords) {
     static const struct parameters of = {"O:digit_count", {"number", NULL}, 1};
     PyObject *found[2];
-    struct halves number;
-    if (unpack(&of, given, count, keywords, found) != 0 || halves_of(module, found[0], &number) != 0)
+    base62_number number;
+    if (unpack(&of, given, count, keywords, found) != 0 || number_of(module, found[0], &number) != 0)
         return NULL;
-    return PyLong_FromSize_t(base62_digit_count(number.high, number.low));
+    return PyLong_FromSize_t(base62_digit_count(number));
 }
 
 PyDoc_STRVAR(encode_key_doc,
@@ -321,11 +314,11 @@ PyDoc_STRVAR(encode_key_doc,
 static PyObject *encode_key(PyObject *module, PyObject *const *given, Py_ssize_t count, PyObject *keywords) {
     static const struct parameters of = {"O:encode_key", {"number", NULL}, 1};
     PyObject *found[2];
-    struct halves number;
-    if (unpack(&of, given, count, keywords, found) != 0 || halves_of(module, found[0], &number) != 0)
+    base62_number number;
+    if (unpack(&of, given, count, keywords, found) != 0 || number_of(module, found[0], &number) != 0)
         return NULL;
     char key[BASE62_KEY_LENGTH];
-    base62_encode_key(number.high, number.low, key);
+    base62_encode_key(number, key);
     return PyUnicode_DecodeASCII(key, sizeof key, NULL);
 }
 
@@ -342,17 +335,15 @@ static PyObject *key_range(PyObject *module, PyObject *const *given, Py_ssize_t 
     struct text front;
     if (unpack(&of, given, count, keywords, found) != 0 || text_of(module, found[0], &front) != 0)
         return NULL;
-    struct halves least, greatest;
-    unsigned char byte = 0;
-    size_t index = 0;
-    base62_status status = base62_key_range(front.bytes, (size_t)front.length, &least.high, &least.low,
-                                            &greatest.high, &greatest.low, &byte, &index);
+    base62_range range;
+    base62_bad_byte bad = {0, 0};
+    base62_status status = base62_key_range(front.bytes, (size_t)front.length, &range, &bad);
     Py_DecRef(front.held);
     if (status == BASE62_NO_KEY)
         return shared(Py_None);
     if (status != BASE62_OK)
-        return refuse(module, status, byte, index);
-    return Py_BuildValue("NN", number_of(least), number_of(greatest));
+        return refuse(module, status, bad);
+    return Py_BuildValue("NN", whole_of(range.least), whole_of(range.greatest));
 }
 
 /* The module */

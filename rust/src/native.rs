@@ -1,10 +1,10 @@
 //! The calls of the proved library, and what each of them owes.
 //!
-//! `include/base62.h` of the project says what a call answers and writes, and the contracts of its crate `base62_c`,
-//! which are proved, say it exactly. The comments on `unsafe` name their clauses. All that the library asks of a
-//! caller is that pointers are not null, are valid for the lengths that go with them, and overlap with nothing that
-//! the call writes. A reference is such a pointer. What a call writes need not be initialised, as the header's example
-//! shows: it does not read there.
+//! `include/base62.h` of the project says what a call answers and writes. The contracts of its crate `base62_c`, which
+//! are proved, say it exactly, and the comments on `unsafe` name their clauses. All that the library asks of a caller is
+//! that pointers are not null, are valid for the lengths that go with them, and overlap with nothing that the call
+//! writes. A reference is such a pointer. What a call writes need not be initialised, as in the header's example: it
+//! does not read there.
 
 use crate::{Alphabet, DecodeError};
 use core::mem::MaybeUninit;
@@ -173,8 +173,9 @@ pub(crate) enum Letters<'a> {
 
 use Letters::{Alternative, Of, Standard};
 
-/// Writes the text of a number to the front of a buffer, and answers its length: at most 22, and at most `size`.
-/// `None` comes exactly where `size` is less than that, and then nothing is written.
+/// Writes the text of a number to the front of a buffer, and answers its length: at most 22, and at most `size`, by
+/// the clauses `most` and `within` of the calls' `Encodes`. `None` comes exactly where `size` is less than the length
+/// of the text, and then nothing is written.
 ///
 /// # Safety
 /// `buffer` is not null, and valid for writes of `size` bytes.
@@ -380,8 +381,8 @@ impl<const SIZE: usize> Bytes<SIZE> {
 
     #[inline(always)]
     pub(crate) fn as_bytes(&self) -> &[u8] {
-        // SAFETY: so many bytes are written, and the clause `within` of each call that wrote here says that they are
-        // at most SIZE.
+        // SAFETY: so many bytes are written, and there are so many, by the clauses `within` of `Encodes` and `written`
+        // of `WritesText`, one of which the call that wrote here has.
         unsafe { core::slice::from_raw_parts(self.bytes.as_ptr().cast(), self.length) }
     }
 }
@@ -417,8 +418,8 @@ impl Text<MAX_FAULT_TEXT> {
 impl<const SIZE: usize> Text<SIZE> {
     #[inline(always)]
     pub(crate) fn as_str(&self) -> &str {
-        // SAFETY: a text has letters of its alphabet alone, and these are ASCII: `of` looks at those of a caller, and
-        // the law `built_in_alphabets` tells it of the others. The texts of faults are ASCII by their definition.
+        // SAFETY: over letters of ASCII, texts are ASCII by the law `texts_of_ascii`. `of` looks at the letters of a
+        // caller, and the law `built_in_alphabets` says it of the others. What faults say is ASCII by its definition.
         unsafe { core::str::from_utf8_unchecked(self.0.as_bytes()) }
     }
 }
@@ -444,13 +445,13 @@ impl Letters<'_> {
 #[track_caller]
 pub(crate) fn append(letters: Letters<'_>, num: u128, string: &mut alloc::string::String) {
     letters.assert_ascii();
-    // SAFETY: what is appended to the bytes is ASCII, as in `Text::as_str`.
+    // SAFETY: all that is appended is ASCII, as in `Text::as_str`.
     let bytes = unsafe { string.as_mut_vec() };
     let spare = bytes.spare_capacity_mut();
     // SAFETY: a mutable slice is not null, and valid for writes of its length.
     let written = unsafe { write(letters, num, spare.as_mut_ptr().cast(), spare.len()) };
     if let Some(length) = written {
-        // SAFETY: so many spare bytes are written, and the clause `within` says that there are so many.
+        // SAFETY: so many spare bytes are written, and there are so many, by the clause `within` of `Encodes`.
         unsafe { bytes.set_len(bytes.len() + length.get()) };
     } else {
         string.push_str(Digits::of(letters, num).as_str());

@@ -315,6 +315,18 @@ fn alphabets() {
 }
 
 #[test]
+fn one_letter_decides_the_kind() {
+    for place in 0..62 {
+        let mut letters = *STANDARD;
+        letters[place] = 200;
+        let alphabet = Alphabet::new(letters).unwrap();
+        assert!(!alphabet.is_ascii());
+        assert_eq!(alphabet.is_ascending(), place == 61);
+        assert!(format!("{alphabet:?}").contains(r"\xc8"));
+    }
+}
+
+#[test]
 fn letters_that_are_repeated() {
     for later in 1..62 {
         for earlier in 0..later {

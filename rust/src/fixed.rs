@@ -71,8 +71,8 @@ pub fn encode_key<T: Into<u128>>(num: T) -> [u8; MAX_DIGITS] {
     native::encode_key(num.into())
 }
 
-/// The numbers below 2^128 whose keys begin with `front`, or `Ok(None)` where there is none, as for a front of more than
-/// 22 letters.
+/// The numbers below 2^128 whose keys begin with `front`, or `Ok(None)` where there is none, as for a front of more
+/// than 22 letters.
 ///
 /// All keys begin with an empty front. The keys from that of the least number to that of the greatest are those that a
 /// database looks between.

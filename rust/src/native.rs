@@ -1,10 +1,11 @@
 //! The calls of the proved library, and what each of them owes.
 //!
 //! `include/base62.h` of the project says what a call answers and writes. The contracts of its crate `base62_c`, which
-//! are proved, say it exactly, and the comments on `unsafe` name their clauses. All that the library asks of a caller is
-//! that pointers are not null, are valid for the lengths that go with them, and overlap with nothing that the call
-//! writes. A reference is such a pointer. What a call writes need not be initialised, as in the header's example: it
-//! does not read there.
+//! are proved, say it exactly, and the comments on `unsafe` name their clauses.
+//!
+//! All that the library asks of a caller is that pointers are not null, are valid for the lengths that go with them,
+//! and overlap with nothing that the call writes. A reference is such a pointer. What a call writes need not be
+//! initialised, as in the header's example: it does not read there.
 
 use crate::{Alphabet, DecodeError};
 use core::mem::MaybeUninit;

@@ -16,11 +16,8 @@ fn main() -> Result<(), Box<dyn std::error::Error>> {
         base62::decode("rustlang")?,
         base62::decode_with(&own, [b'l' ^ 128, b'z' ^ 128])?
     );
-    println!(
-        "{:?} {}",
-        base62::key_range("7n")?,
-        base62::decode("LZ-").unwrap_err()
-    );
+    println!("{:?}", base62::key_range("7n")?);
+    println!("{}", base62::decode("LZ-").unwrap_err());
     base62::encode_io(u128::MAX, &mut std::io::stdout())?;
     println!();
     Ok(())

@@ -231,8 +231,8 @@ static int create_functions(sqlite3 *db) {
     return status;
 }
 
-/* SQLite tries the first name, and then sqlite3_base_init, which it makes of base62.so. The second name is for those who
- * ask for it. They are all that the module exports. */
+/* SQLite tries the first name, and then sqlite3_base_init, which it makes of base62.so. The second name is for those
+ * who ask for it. The module exports these two alone. */
 #define EXPORT __attribute__((visibility("default")))
 
 EXPORT int sqlite3_extension_init(sqlite3 *db, char **error, const sqlite3_api_routines *api);

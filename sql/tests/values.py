@@ -111,7 +111,7 @@ def numbers() -> list[int]:
     choice = random.Random(62)
     centers = [base**power for base in (2, 62) for power in range(129)]
     found = {center + beside for center in centers for beside in (-1, 0, 1)}
-    found |= {choice.getrandbits(choice.randint(1, 128)) for _ in range(40000)}
+    found |= {choice.getrandbits(choice.randint(1, 128)) for _ in range(20000)}
     return sorted(number for number in found if number <= LARGEST)
 
 
@@ -127,7 +127,7 @@ def texts() -> list[str]:
                 found.add("000" + filler * place + no_letter + filler * 2)
     for number in [LARGEST + beside for beside in range(-3, 4)] + [62**22 - 1, 62**22, 62**23, 62**40]:
         found |= {text(number), "0" + text(number), "0" * 40 + text(number)}
-    for _ in range(20000):
+    for _ in range(10000):
         given = list(text(choice.getrandbits(choice.randint(1, 131))).rjust(choice.randint(0, 24), "0"))
         if choice.random() < 0.5:
             given[choice.randrange(len(given))] = choice.choice("!_é-z0")

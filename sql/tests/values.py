@@ -82,16 +82,17 @@ def decoded(given: str) -> int | Fault:
     """The first case of the table that fits a text."""
     whole = given.encode()
     rest = whole.lstrip(b"0")
+    named = bad_byte(whole)
     if not whole:
         return Fault(EMPTY)
     if len(rest) > 22:
         return Fault(TOO_LARGE)
-    if bad_byte(rest[:10]):
-        return bad_byte(whole)
+    if named and bad_byte(rest[:10]):
+        return named
     if len(rest) == 22 and value(rest[:10].decode()) * 62**12 > LARGEST:
         return Fault(TOO_LARGE)
-    if bad_byte(rest):
-        return bad_byte(whole)
+    if named:
+        return named
     return value(given) if value(given) <= LARGEST else Fault(TOO_LARGE)
 
 
@@ -103,7 +104,7 @@ def ends(front: str, width: int) -> tuple[str, str] | Fault | None:
     least = value(front) * span
     if len(front) > width or least > LARGEST:
         return None
-    return fixed(least, width), fixed(min(least + span - 1, LARGEST), width)
+    return text(least).rjust(width, "0"), text(min(least + span - 1, LARGEST)).rjust(width, "0")
 
 
 def numbers() -> list[int]:
@@ -155,12 +156,16 @@ def widths(number: int) -> list[int]:
     return [width for width in (own - 1, own, own + 1, KEY, 30) if width]
 
 
-for known, written in KNOWN:
-    assert text(known) == written and decoded(written) == known
-for known, written in KNOWN_FAULTS:
-    assert decoded(known) == written
-for known, found in KNOWN_ENDS:
-    assert ends(*known) == found
+def check() -> None:
+    for number, written in KNOWN:
+        assert text(number) == written and decoded(written) == number, number
+    for given, said in KNOWN_FAULTS:
+        assert decoded(given) == said, given
+    for front, found in KNOWN_ENDS:
+        assert ends(*front) == found, front
+
+
+check()
 
 
 # For PostgreSQL

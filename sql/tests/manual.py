@@ -2,14 +2,14 @@
 
 python3 manual.py MANUAL sqlite|postgresql SCRIPT EXPECTED
 
-A block of sql says by its first line for which database it is, or that it is for both. A statement ends with a line's
-semicolon. The comment behind that, and the lines of comments that follow, are the rows of its answer.
+The first line of a block of sql says for which database it is. A statement ends with the semicolon of a line. The
+comment behind that, and the lines of comments that follow, are the rows of its answer.
 """
 
 import sys
 
 ECHO = {"sqlite": ".print", "postgresql": "\\echo"}
-NAMES = {"-- SQLite": ["sqlite"], "-- PostgreSQL": ["postgresql"], "-- both": ["sqlite", "postgresql"]}
+NAMES = {"-- SQLite": ["sqlite"], "-- PostgreSQL": ["postgresql"], "-- SQLite and PostgreSQL": ["sqlite", "postgresql"]}
 
 
 def lines_for(manual: list[str], database: str) -> list[tuple[int, str]]:

@@ -1,0 +1,132 @@
+/* Refuses each request of SQLite for memory in turn, in each of the queries below and as the module that is named is
+ * loaded. A query has to do what stands beside it or to be out of memory, and leaves nothing behind. */
+#include <sqlite3.h>
+#include <stdio.h>
+#include <stdlib.h>
+#include <string.h>
+
+static sqlite3_mem_methods host;
+/* The requests that are granted before one is refused, or less than 0 where none is. */
+static long granted = -1;
+static int refused;
+
+static int refuses(void) {
+    if (granted < 0 || granted-- > 0)
+        return 0;
+    refused = 1;
+    return 1;
+}
+
+static void *allocate(int size) {
+    return refuses() ? NULL : host.xMalloc(size);
+}
+
+static void *allocate_again(void *given, int size) {
+    return refuses() ? NULL : host.xRealloc(given, size);
+}
+
+static void fail(const char *what, const char *said) {
+    fprintf(stderr, "failing: %s: request %ld: %s\n", what, granted, said);
+    exit(1);
+}
+
+static void want(int holds, const char *what, const char *said) {
+    if (!holds)
+        fail(what, said);
+}
+
+#define OWN "'zyxwvutsrqponmlkjihgfedcbaZYXWVUTSRQPONMLKJIHGFEDCBA9876543210'"
+
+/* A query and its answer, or NULL where it is an error. The database is in UTF-16, so a
+ * text that is stored there has to be converted for them. */
+static const struct {
+    const char *query, *answer;
+} queries[] = {
+    {"SELECT base62_encode(1337)", "LZ"},
+    {"SELECT base62_encode(zeroblob(16))", "0"},
+    {"SELECT base62_encode(n, own) FROM stored", "eQ"},
+    {"SELECT base62_decode(t) FROM stored", "1337"},
+    {"SELECT base62_decode('eQ', own) FROM stored", "1337"},
+    {"SELECT hex(base62_decode_blob(t)) FROM stored", "00000000000000000000000000000539"},
+    {"SELECT base62_encode_key(n) FROM stored", "00000000000000000000LZ"},
+    {"SELECT base62_encode_key(zeroblob(16))", "0000000000000000000000"},
+    {"SELECT base62_encode_fixed(n, 3) FROM stored", "0LZ"},
+    {"SELECT base62_encode_fixed(n, 3, own) FROM stored", "zeQ"},
+    {"SELECT base62_encode_fixed(n, 1) FROM stored", NULL},
+    {"SELECT length(base62_encode_fixed(n, 10000)) FROM stored", "10000"},
+    {"SELECT base62_key_first(t, 3) FROM stored", "LZ0"},
+    {"SELECT base62_key_last(t, 3) FROM stored", "LZz"},
+};
+
+/* Steps a statement with one request refused. Answers whether a request was. */
+static int refuse_in(sqlite3 *db, const char *query, const char *answer, long request) {
+    sqlite3_stmt *statement;
+    int status;
+    want(sqlite3_prepare_v2(db, query, -1, &statement, NULL) == SQLITE_OK, query, "is not prepared");
+    refused = 0;
+    granted = request;
+    status = sqlite3_step(statement);
+    granted = -1;
+    if (status == SQLITE_ROW && answer != NULL)
+        want(strcmp((const char *)sqlite3_column_text(statement, 0), answer) == 0, query, "another answer");
+    else if (status == SQLITE_NOMEM)
+        want(refused, query, "is out of memory with memory at hand");
+    else
+        want(status == SQLITE_ERROR && answer == NULL, query, sqlite3_errmsg(db));
+    sqlite3_finalize(statement);
+    return refused;
+}
+
+static sqlite3 *opened(void) {
+    sqlite3 *db;
+    want(sqlite3_open(":memory:", &db) == SQLITE_OK, "a database", "is not opened");
+    want(sqlite3_db_config(db, SQLITE_DBCONFIG_LOOKASIDE, NULL, 0, 0) == SQLITE_OK, "lookaside", "stays");
+    want(sqlite3_enable_load_extension(db, 1) == SQLITE_OK, "loading", "is refused");
+    return db;
+}
+
+/* A module that is loaded has all functions. Answers whether a request was refused. */
+static int refuse_loading(const char *module, long request) {
+    sqlite3 *db = opened();
+    sqlite3_stmt *statement;
+    int status;
+    refused = 0;
+    granted = request;
+    status = sqlite3_load_extension(db, module, NULL, NULL);
+    granted = -1;
+    want(status == SQLITE_OK || refused, "loading", "fails with memory at hand");
+    for (size_t i = 0; status == SQLITE_OK && i < sizeof queries / sizeof *queries; i++)
+        if (strstr(queries[i].query, "stored") == NULL) {
+            status = sqlite3_prepare_v2(db, queries[i].query, -1, &statement, NULL);
+            want(status == SQLITE_OK, "loading", sqlite3_errmsg(db));
+            sqlite3_finalize(statement);
+        }
+    want(sqlite3_close(db) == SQLITE_OK, "a database", "is not closed");
+    return refused;
+}
+
+int main(int count, char **given) {
+    long request, requests = 0;
+    sqlite3 *db;
+    sqlite3_mem_methods failing;
+    want(count == 2, "the module", "is not named");
+    want(sqlite3_config(SQLITE_CONFIG_GETMALLOC, &host) == SQLITE_OK, "memory", "is not to be had");
+    failing = host;
+    failing.xMalloc = allocate;
+    failing.xRealloc = allocate_again;
+    want(sqlite3_config(SQLITE_CONFIG_MALLOC, &failing) == SQLITE_OK, "memory", "is not to be set");
+    for (request = 0; refuse_loading(given[1], request); request++)
+        requests++;
+    db = opened();
+    want(sqlite3_load_extension(db, given[1], NULL, NULL) == SQLITE_OK, "the module", "is not loaded");
+    want(sqlite3_exec(db, "PRAGMA encoding = 'UTF-16'; CREATE TABLE stored (n, t, own);"
+                          "INSERT INTO stored VALUES (1337, 'LZ', " OWN ")", NULL, NULL, NULL) == SQLITE_OK,
+         "the table", sqlite3_errmsg(db));
+    for (size_t i = 0; i < sizeof queries / sizeof *queries; i++)
+        for (request = 0; refuse_in(db, queries[i].query, queries[i].answer, request); request++)
+            requests++;
+    want(sqlite3_close(db) == SQLITE_OK, "a database", "is not closed");
+    want(sqlite3_shutdown() == SQLITE_OK && sqlite3_memory_used() == 0, "memory", "is left behind");
+    printf("%ld\n", requests);
+    return 0;
+}

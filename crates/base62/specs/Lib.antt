@@ -1,4 +1,5 @@
--- Private contracts alone cite Tables, Parts, and of Fixed what it says of writing.
+-- Callers need not read Tables, Parts, and of Fixed what it says of writing: private contracts alone cite these, and of
+-- Tables also the model of Alphabet.
 pub mod Alphabet
 pub mod Tables
 pub mod Places

@@ -68,12 +68,12 @@ returns-clause-canonical c = λ uuid e.
 pub returns-in_default-clause-own : goal.returns-in_default-clause-own
 returns-in_default-clause-own c = λ uuid size small is.
     let back = c.round_trip.ensures.back standard c.built_in_alphabets.ensures.standard _ (number_fits uuid size small) _ is in
-    absurd (c.in_default.not-Ok _ (c.decode.ensures ∙ back))
+    absurd (c.in_default.not-Ok _ (c.decode.ensures.exact ∙ back))
 
 pub returns-then-ne-clause-own : goal.returns-then-ne-clause-own
 returns-then-ne-clause-own c = λ uuid size small is.
     let back = c.round_trip.ensures.back standard c.built_in_alphabets.ensures.standard _ (number_fits uuid size small) _ is in
-    let own = own_bytes uuid size small _ c.in-Ok.number c.in-Ok.ensures back in
+    let own = own_bytes uuid size small _ c.in-Ok.number c.in-Ok.ensures.exact back in
     let short = short_form c.short_uuid.result.now c.to_be_bytes-uuid.result uuid (c.to_be_bytes-uuid.ensures ∙ own) c.short_uuid.ensures in
     let same : c.short_uuid.result.now ≡ c.args.text.now = c.one_text.ensures.only standard c.built_in_alphabets.ensures.standard _ _ _ short is in
     let none : ⊥ = search rules in absurd none
@@ -81,4 +81,4 @@ returns-then-ne-clause-own c = λ uuid size small is.
 pub returns-clause-own : goal.returns-clause-own
 returns-clause-own c = λ uuid size small is.
     let back = c.round_trip.ensures.back standard c.built_in_alphabets.ensures.standard _ (number_fits uuid size small) _ is in
-    ap Some (c.to_be_bytes-uuid.ensures ∙ own_bytes uuid size small _ c.in-Ok.number c.in-Ok.ensures back)
+    ap Some (c.to_be_bytes-uuid.ensures ∙ own_bytes uuid size small _ c.in-Ok.number c.in-Ok.ensures.exact back)

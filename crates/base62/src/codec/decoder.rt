@@ -149,10 +149,7 @@ fn read_on(
         if i == part.len() {
             break;
         }
-        let digit = tables.digit(part[i], work);
-        if digit > 61 {
-            return Err(DecodeError::InvalidBase62Byte(part[i], start + i));
-        }
+        let digit = read_digit(tables, part, i, start, work)?;
         total = total * 62 + digit as u64;
     }
     Ok(total)

@@ -1,8 +1,8 @@
-use Rattle.std.proofs.Common.{◌≡◌, get_or, ◌+◌, ◌*◌, ◌^◌, length, take, Ok, Err, refl, ap, arith}
+use Rattle.std.proofs.Common.{◌≡◌, ◌+◌, ◌*◌, ◌^◌, length, take, Ok, Err, refl, ap, arith}
 use Rattle.std.proofs.lemmas.List.{length-take-le, take_all}
-use Rattle.base62.specs.declared.fault.DecodeError.TheVariants.{InvalidBase62Byte}
+use Rattle.std.proofs.lemmas.Result.{err_from_is_err_and}
 use Rattle.base62.specs.Parts.{HasRead}
-use Rattle.base62.proofs.PartLemmas.{read_none, read_one, refused_one, read_below, reads_more, refuses_cut, on_below, on_more}
+use Rattle.base62.proofs.PartLemmas.{read_none, read_below, reads_more, refuses_cut, on_below, on_more}
 use Rattle.base62.proofs.codec.decoder.read_on.Goals as goal
 
 pub loop-i-init : goal.loop-i-init
@@ -16,29 +16,23 @@ overflow_mul-total c =
     let less = read_below c.args.tables.now.letters (take i c.args.part.now) _ _ _ i c.requires.tables.alphabet read.1 (omega (arith, size)) in
     omega (arith, read.2, on_below c.args.number read.0 i 4 c.requires.number less (omega arith))
 
-pub returns-then-digit-gt61 : goal.returns-then-digit-gt61
-returns-then-digit-gt61 c =
+pub returns-in_err-digit : goal.returns-in_err-digit
+returns-in_err-digit c =
     let B = c.args.tables.now.letters in
     let part = c.args.part.now in
     let i = c.loop-i.i in
-    let b = get_or part i 0 in
-    let one = refused_one B c.requires.tables.alphabet b (c.args.start + i) c.loop-i.work c.digit-digit.new.work (rw c.digit-digit.ensures.digit at c.if-digit-gt61.true) c.digit-digit.ensures.step in
-    let fault = InvalidBase62Byte b (c.args.start + i) in
-    let bad = reads_more B part i c.args.start c.args.work.now _ _ _ (Err fault) (omega arith) c.loop-i.invariant.1.1 one in
-    (Err fault, refuses_cut B part (take (i + 1) part) (i + 1) c.args.start c.args.work.now refl _ _ bad, refl)
+    let p = err_from_is_err_and c.from_residual.result c.from_residual.ensures.1 in
+    let bad = reads_more B part i c.args.start c.args.work.now _ _ _ (Err c.in_err-digit.field-0.0) (omega arith) c.loop-i.invariant.1.1 c.in_err-digit.ensures.read in
+    rw (p.1, p.2) (Err c.in_err-digit.field-0.0, refuses_cut B part (take (i + 1) part) (i + 1) c.args.start c.args.work.now refl _ _ bad, refl)
 
 -- one letter more
-more : (c : goal.Else-digit-gt61)
-    → HasRead c.args.tables.now.letters (take (c.loop-i.i + 1) c.args.part.now) c.args.work.now c.digit-digit.new.work
-    (c.loop-i.invariant.1.0 * 62 ^ 1 + c.digit-digit.result)
+more : (c : goal.In_ok-digit)
+    → HasRead c.args.tables.now.letters (take (c.loop-i.i + 1) c.args.part.now) c.args.work.now c.read_digit.new.work (c.loop-i.invariant.1.0 * 62 ^ 1 + c.in_ok-digit.digit)
 more c =
-    let B = c.args.tables.now.letters in
-    let b = get_or c.args.part.now c.loop-i.i 0 in
-    let one = rw (← c.digit-digit.ensures.digit) at (read_one B b c.loop-i.work c.digit-digit.new.work (rw c.digit-digit.ensures.digit at c.if-digit-gt61.false) c.digit-digit.ensures.step) in
-    reads_more B c.args.part.now c.loop-i.i c.args.start c.args.work.now _ _ _ (Ok c.digit-digit.result) (omega arith) c.loop-i.invariant.1.1 one
+    reads_more c.args.tables.now.letters c.args.part.now c.loop-i.i c.args.start c.args.work.now _ _ _ (Ok c.in_ok-digit.digit) (omega arith) c.loop-i.invariant.1.1 c.in_ok-digit.ensures.read
 
-total_is : (c : goal.Else-digit-gt61) → c.loop-i.total * 62 + c.digit-digit.result ≡ c.args.number * 62 ^ (c.loop-i.i + 1) + (c.loop-i.invariant.1.0 * 62 ^ 1 + c.digit-digit.result)
-total_is c = on_more c.args.number c.loop-i.total c.loop-i.invariant.1.0 c.loop-i.i c.digit-digit.result c.loop-i.invariant.1.2
+total_is : (c : goal.In_ok-digit) → c.loop-i.total * 62 + c.in_ok-digit.digit ≡ c.args.number * 62 ^ (c.loop-i.i + 1) + (c.loop-i.invariant.1.0 * 62 ^ 1 + c.in_ok-digit.digit)
+total_is c = on_more c.args.number c.loop-i.total c.loop-i.invariant.1.0 c.loop-i.i c.in_ok-digit.digit c.loop-i.invariant.1.2
 
 pub overflow_add-total : goal.overflow_add-total
 overflow_add-total c =

@@ -146,6 +146,7 @@ impl<A: Codec, B: Codec> Both<A, B> {
             Ok(num),
         )?;
         self.counts.calls += 1;
+        self.counts.decoded += 1;
         for _ in 0..3 {
             let text = self.random.text(&canonical);
             let (x, y) = (A::decode(letters, &text), B::decode(letters, &text));

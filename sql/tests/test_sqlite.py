@@ -198,7 +198,8 @@ CREATE VIEW shown AS SELECT base62_encode(u) AS t, base62_decode('LZ') AS n, bas
 PLANS = [
     ("SELECT * FROM link WHERE slug = 'LZ'", "SEARCH link USING INDEX sqlite_autoindex_link_1 (slug=?)"),
     ("SELECT * FROM link WHERE id = base62_decode('LZ')", "SEARCH link USING INTEGER PRIMARY KEY (rowid=?)"),
-    ("SELECT u FROM item WHERE u = base62_decode_blob('LZ')", "SEARCH item USING COVERING INDEX sqlite_autoindex_item_1 (u=?)"),
+    ("SELECT u FROM item WHERE u = base62_decode_blob('LZ')",
+     "SEARCH item USING COVERING INDEX sqlite_autoindex_item_1 (u=?)"),
     ("SELECT code FROM item WHERE base62_encode(u) = 'LZ'", "SEARCH item USING INDEX item_text (<expr>=?)"),
     ("SELECT u FROM item WHERE key BETWEEN base62_key_first('2a') AND base62_key_last('2a')",
      "SEARCH item USING INDEX item_key (key>? AND key<?)"),

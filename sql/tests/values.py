@@ -1,4 +1,4 @@
-"""What the functions have to answer, by Python's integers and the table of cases of docs/DEFINITIONS.md, section Decoding.
+"""What the functions have to answer, by Python's integers and the cases of docs/DEFINITIONS.md, section Decoding.
 
 Run as a program it writes the values as tables of PostgreSQL.
 """

@@ -100,6 +100,7 @@ fn read_11_or_12(
     ensures { ReadsPart tables.now.letters part.now start work.old work.new result }
 {
     let (first, later) = part.split_at(10);
+    // The compiler makes slower code of `read_10` here.
     let high = read_up_to_10(tables, first, start, work)?;
     let low = read_on(tables, 0, later, start + 10, work)?;
     Ok(high as u128 * power(later.len()) as u128 + low as u128)

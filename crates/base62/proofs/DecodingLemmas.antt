@@ -137,7 +137,7 @@ pub record IsCut (B text first later : List ℕ) (zeros : ℕ) : Type 0 where
   pub some : 0 < length text
 
 pub cut_at : {B text after first later : List ℕ} {zeros : ℕ} → zeros ≡ leading_zeros B text → after ≡ drop zeros text → first ≡ take 10 after → later ≡ drop 10 after
-    → zeros + 10 < length text → length text ≤ zeros + 22 → IsCut B text first later zeros
+    → 10 < length after → length after ≤ 22 → IsCut B text first later zeros
 cut_at {B = B} {text = text} {after = after} {zeros = zeros} zeros_are behind front back long short =
     let after_is : after ≡ rest B text = rw zeros_are at behind in
     let left : length after ≡ length text - zeros = ap length behind ∙ length-drop zeros text in
@@ -146,8 +146,8 @@ cut_at {B = B} {text = text} {after = after} {zeros = zeros} zeros_are behind fr
       first_is = rw after_is at front;
       later_is = rw after_is at back;
       size = rw (← after_is) (omega (arith, ap length back, length-drop 10 after));
-      short = rw (← after_is) (omega (arith, left));
-      some = omega (arith, long);
+      short = rw (← after_is) short;
+      some = omega (arith, long, left);
     }
 
 module _ {B text first later : List ℕ} {zeros old : ℕ} (ok : IsAlphabet B) (cut : IsCut B text first later zeros) where

@@ -1,6 +1,6 @@
 //! The decoder, over the tables of any alphabet.
 
-ghost use Rattle.std.specs.Prelude.{◌≡◌, ◌+◌, ◌<◌, ◌≤◌, ◌^◌, ◌∷◌, [], length, slice_index, IfOk};
+ghost use Rattle.std.specs.Prelude.{◌≡◌, ◌+◌, ◌<◌, ◌≤◌, ◌^◌, ◌∷◌, [], ℕ, List, length, drop, slice_index, IfOk};
 ghost use Rattle.base62.specs.declared.count.TheConstants.{MAX_DIGITS};
 ghost use Rattle.base62.specs.Decoding.{leading_zeros};
 ghost use Rattle.base62.specs.Steps.{DecodesCounted};
@@ -33,7 +33,7 @@ pub(crate) fn decode_over(
     if rest.len() <= 10 {
         return Ok(read_up_to_10(tables, rest, zeros, work)? as u128);
     }
-    read_long(tables, input, zeros, work)
+    read_long(tables, rest, zeros, work)
 }
 
 // How many zero letters a text begins with.
@@ -55,21 +55,22 @@ fn count_zeros(tables: &Tables, input: &[u8]) -> usize
     input.len()
 }
 
-// A text of which 11 to 22 bytes follow the leading zeros. The first ten are weighed before a later one is read.
+// The 11 to 22 bytes that follow the leading zeros of a text. The first ten are weighed before a later one is read.
 #[inline(always)]
 fn read_long(
     tables: &Tables,
-    input: &[u8],
+    rest: &[u8],
     zeros: usize,
     work: &mut Work,
 ) -> Result<u128, DecodeError>
     requires tables { AreTables tables.now }
-    requires zeros { zeros ≡ leading_zeros tables.now.letters input.now }
-    requires long { zeros + 10 < length input.now }
-    requires short { length input.now ≤ zeros + MAX_DIGITS }
-    ensures { DecodesCounted tables.now.letters input.now work.old work.new result }
+    requires long { 10 < length rest.now }
+    requires short { length rest.now ≤ MAX_DIGITS }
+    requires within { zeros + length rest.now < 2 ^ 64 }
+    ensures { (input : List ℕ) → zeros ≡ leading_zeros tables.now.letters input
+        → rest.now ≡ drop zeros input
+        → DecodesCounted tables.now.letters input work.old work.new result }
 {
-    let (_, rest) = input.split_at(zeros);
     let (first, later) = rest.split_at(10);
     let high = read_10(tables, first, zeros, work)?;
     if later.len() <= 10 {
@@ -100,6 +101,7 @@ fn read_11_or_12(
     ensures { ReadsPart tables.now.letters part.now start work.old work.new result }
 {
     let (first, later) = part.split_at(10);
+    // The compiler makes slower code of `read_10` here.
     let high = read_up_to_10(tables, first, start, work)?;
     let low = read_on(tables, 0, later, start + 10, work)?;
     Ok(high as u128 * power(later.len()) as u128 + low as u128)

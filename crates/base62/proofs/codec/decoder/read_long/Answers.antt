@@ -4,43 +4,43 @@ use Rattle.base62.proofs.DecodingLemmas.{cut_at, decodes_first_refused, decodes_
 use Rattle.base62.proofs.codec.decoder.read_long.Goals as goal
 
 pub returns-in_err-high : goal.returns-in_err-high
-returns-in_err-high c =
-    let cut = cut_at c.requires.zeros c.split_at.ensures.back c.split_at-2.ensures.front c.split_at-2.ensures.back c.requires.long c.requires.short in
+returns-in_err-high c = λ input zeros behind.
+    let cut = cut_at zeros behind c.split_at.ensures.front c.split_at.ensures.back c.requires.long c.requires.short in
     let p = err_from_is_err_and c.from_residual.result c.from_residual.ensures.1 in
     rw (p.1, p.2) (decodes_first_refused c.requires.tables.alphabet cut c.in_err-high.ensures)
 
 pub returns-in_err-last : goal.returns-in_err-last
-returns-in_err-last c =
-    let cut = cut_at c.requires.zeros c.split_at.ensures.back c.split_at-2.ensures.front c.split_at-2.ensures.back c.requires.long c.requires.short in
+returns-in_err-last c = λ input zeros behind.
+    let cut = cut_at zeros behind c.split_at.ensures.front c.split_at.ensures.back c.requires.long c.requires.short in
     let p = err_from_is_err_and c.from_residual-in_err-last.result c.from_residual-in_err-last.ensures.1 in
     rw (p.1, p.2) (decodes_short c.requires.tables.alphabet cut c.in_ok-high.ensures
     _ (Err c.in_err-last.field-0.0) c.in_err-last.ensures (omega (arith, c.if-later-le10.true)))
 
 pub returns-then-later-le10 : goal.returns-then-later-le10
-returns-then-later-le10 c =
-    let cut = cut_at c.requires.zeros c.split_at.ensures.back c.split_at-2.ensures.front c.split_at-2.ensures.back c.requires.long c.requires.short in
+returns-then-later-le10 c = λ input zeros behind.
+    let cut = cut_at zeros behind c.split_at.ensures.front c.split_at.ensures.back c.requires.long c.requires.short in
     rw c.power.ensures (decodes_short c.requires.tables.alphabet cut c.in_ok-high.ensures
     _ (Ok c.in_ok-last.last) c.in_ok-last.ensures (omega (arith, c.if-later-le10.true)))
 
 pub returns-in_default : goal.returns-in_default
-returns-in_default c =
-    let weight = weight_is (length c.split_at-2.result.1.now) (omega (arith, c.if-later-le10.false)) in
-    let cut = cut_at c.requires.zeros c.split_at.ensures.back c.split_at-2.ensures.front c.split_at-2.ensures.back c.requires.long c.requires.short in
+returns-in_default c = λ input zeros behind.
+    let weight = weight_is (length c.split_at.result.1.now) (omega (arith, c.if-later-le10.false)) in
+    let cut = cut_at zeros behind c.split_at.ensures.front c.split_at.ensures.back c.requires.long c.requires.short in
     decodes_shown c.requires.tables.alphabet cut c.in_ok-high.ensures
     (rw (c.power-2.ensures, weight) at (too_large _ c.in_default.ensures))
 
 pub returns-in_err-low : goal.returns-in_err-low
-returns-in_err-low c =
-    let weight = weight_is (length c.split_at-2.result.1.now) (omega (arith, c.if-later-le10.false)) in
-    let cut = cut_at c.requires.zeros c.split_at.ensures.back c.split_at-2.ensures.front c.split_at-2.ensures.back c.requires.long c.requires.short in
+returns-in_err-low c = λ input zeros behind.
+    let weight = weight_is (length c.split_at.result.1.now) (omega (arith, c.if-later-le10.false)) in
+    let cut = cut_at zeros behind c.split_at.ensures.front c.split_at.ensures.back c.requires.long c.requires.short in
     let p = err_from_is_err_and c.from_residual-in_err-low.result c.from_residual-in_err-low.ensures.1 in
     rw (p.1, p.2) (decodes_later c.requires.tables.alphabet cut c.in_ok-high.ensures
     _ (Err c.in_err-low.field-0.0) c.in_err-low.ensures (rw (c.power-2.ensures, weight) at c.in-Some.ensures.0))
 
 pub returns : goal.returns
-returns c =
-    let weight = weight_is (length c.split_at-2.result.1.now) (omega (arith, c.if-later-le10.false)) in
-    let cut = cut_at c.requires.zeros c.split_at.ensures.back c.split_at-2.ensures.front c.split_at-2.ensures.back c.requires.long c.requires.short in
+returns c = λ input zeros behind.
+    let weight = weight_is (length c.split_at.result.1.now) (omega (arith, c.if-later-le10.false)) in
+    let cut = cut_at zeros behind c.split_at.ensures.front c.split_at.ensures.back c.requires.long c.requires.short in
     rw (c.ok_or.ensures.value, sum_or_overflow c.checked_add.result _ c.checked_add.ensures, c.in-Some.ensures.1, c.power-2.ensures, weight)
     (decodes_later c.requires.tables.alphabet cut c.in_ok-high.ensures
     _ (Ok c.in_ok-low.low) c.in_ok-low.ensures (rw (c.power-2.ensures, weight) at c.in-Some.ensures.0))

@@ -1,16 +1,19 @@
 -- The digits of letters.
-use Rattle.std.proofs.Common.{◌≡◌, ℕ, ◌<◌, ◌≤◌, Bool, true, eqb, ltb, List, length, get_or, map, Option, Some, None, is_some, unwrap_or, refl, sym, ap, ◌∙◌, arith, eq-eqb}
-use Rattle.std.specs.List.{position_or_len, range_with_len, list_all, All}
-use Rattle.std.proofs.lemmas.Bool.{ne_eqb, eqb-true, lt-ltb, ltb-true}
-use Rattle.std.proofs.lemmas.List.{get_or-map}
-use Rattle.std.proofs.lemmas.List.FromFn.{get_or-map-range_with_len}
+use Rattle.std.proofs.Common.{◌≡◌, ℕ, ◌<◌, ◌≤◌, Bool, true, eqb, ltb, List, length, get_or, Option, Some, None, is_some, unwrap_or, refl, inl, inr, sym, ap, ◌∙◌, arith, eq-eqb}
+use Rattle.std.specs.List.{position_or_len, list_all, All, IsDistinct}
+use Rattle.std.proofs.lemmas.Bool.{ne_eqb, eqb-true, eqb-false, lt-ltb, ltb-true, cases_order}
 use Rattle.std.proofs.lemmas.List.Quantifiers.{position-Some}
 use Rattle.std.proofs.lemmas.List.Sums.{position_or_len_is, AllPass-from_list_all}
 use Rattle.std.proofs.lemmas.List.Elements.{All-weaker}
-use Rattle.std.proofs.lemmas.Option.{same_Some}
+use Rattle.std.proofs.lemmas.Cmp.{nat_eq_equiv}
+use Rattle.std.proofs.lemmas.Map.Keys.{apart_from_distinct}
+use Rattle.std.proofs.lemmas.Map.Made.{IsDistinct-from_count}
+use Rattle.std.specs.Cmp.{first_so, second_so}
+use Rattle.std.specs.Prelude.{nat_eq}
+use Rattle.std.specs.Set.{distinct_count}
 use Rattle.std.specs.Str.{IsAscii}
 use Rattle.std.proofs.lemmas.Str.Ascii.{IsAscii-from_all}
-use Rattle.base62.specs.Alphabet.{IsAlphabet, standard, alternative, digit_of, is_letter}
+use Rattle.base62.specs.Alphabet.{IsAlphabet, is_alphabet, standard, alternative, digit_of, is_letter}
 use Rattle.base62.specs.Value.{digit_or_zero}
 
 abbrev pub IsLetter : List ℕ → ℕ → Type 0
@@ -64,34 +67,36 @@ same_letter B a b p q e =
     let bt = letter-digit_of B b _ (digit_of-is B b q) in
     sym at.1 ∙ ap (λ d. get_or B d 0) e ∙ bt.1
 
--- a list in which each place is the first place of its byte has no byte twice
-distinct_from_places : (B : List ℕ) (n : ℕ) → map (digit_of B) B ≡ map (λ i. Some i) (range_with_len 0 n) → length B ≡ n
-    → (i j : ℕ) → i < n → j < n → get_or B i 0 ≡ get_or B j 0 → i ≡ j
-distinct_from_places B n e len i j p q same =
-    let first = λ (k : ℕ) (h : k < n).
-    sym (get_or-map (digit_of B) B k 0 None (omega (arith, len))) ∙ ap (λ xs. get_or xs k None) e ∙ get_or-map-range_with_len (λ m. Some m) 0 n k k None h (omega arith) in
-    same_Some i j (sym (first i p) ∙ ap (digit_of B) same ∙ first j q)
-
 -- the test that each byte is below k, as a fact
 all_below : (k : ℕ) (B : List ℕ) → list_all (λ b. ltb b k) B ≡ true → All (λ b. b < k) B
 all_below k B h = All-weaker (λ b. ltb b k ≡ true) (λ b. b < k) (λ b below. ltb-true b k below) B (AllPass-from_list_all (λ b. ltb b k) B h)
 
--- 62 bytes, each with its place as its digit, are an alphabet
-pub is_alphabet : (B : List ℕ) → length B ≡ 62 → list_all (λ b. ltb b 256) B ≡ true → map (digit_of B) B ≡ map (λ i. Some i) (range_with_len 0 62) → IsAlphabet B
-is_alphabet B size bytes places = record {
-  size = size;
-  bytes = all_below 256 B bytes;
-  distinct = distinct_from_places B 62 places size;
-}
+-- letters that pass the test are an alphabet
+pub alphabet_by_test : (B : List ℕ) → is_alphabet B ≡ true → IsAlphabet B
+alphabet_by_test B test =
+    let counts = first_so _ _ test in
+    let size : length B ≡ 62 = eqb-true _ _ (first_so _ _ counts) in
+    let count : distinct_count nat_eq B ≡ 62 = eqb-true _ _ (second_so _ _ counts) in
+    let apart : IsDistinct nat_eq B = IsDistinct-from_count nat_eq_equiv B (count ∙ sym size) in
+    let differ = λ (i j : ℕ) (less : i < j) (inside : j < 62). eqb-false _ _ (apart_from_distinct nat_eq B i j 0 apart less (rw size inside)) in
+    record {
+      size = size;
+      bytes = all_below 256 B (second_so _ _ test);
+      distinct = λ i j p q e. elim (cases_order i j) [
+        | inl same ↦ same
+        | inr (inl less) ↦ absurd (differ i j less q e)
+        | inr (inr more) ↦ absurd (differ j i more p (sym e))
+      ];
+    }
 
 -- the two built-in alphabets are alphabets, of ASCII bytes
 pub standard_is_alphabet : IsAlphabet standard
-unfolding standard digit_of
-standard_is_alphabet = is_alphabet standard refl refl refl
+unfolding standard
+standard_is_alphabet = alphabet_by_test standard refl
 
 pub alternative_is_alphabet : IsAlphabet alternative
-unfolding alternative digit_of
-alternative_is_alphabet = is_alphabet alternative refl refl refl
+unfolding alternative
+alternative_is_alphabet = alphabet_by_test alternative refl
 
 pub standard_is_ascii : IsAscii standard
 unfolding standard

@@ -5,7 +5,7 @@ use Rattle.std.specs.List.{range_with_len, All}
 use Rattle.std.proofs.lemmas.List.{length-append}
 use Rattle.std.proofs.lemmas.List.Elements.{All-head, All-tail}
 use Rattle.std.proofs.lemmas.List.Sums.{sum_by-cons}
-use Rattle.std.proofs.lemmas.Nat.{pow-add, mul-add-lt}
+use Rattle.std.proofs.lemmas.Nat.{pow-add, mul-add-lt, same_from_place}
 use Rattle.base62.specs.Places.{at_place, sum_over_places}
 
 pow_one : (base : ℕ) → base ^ 1 ≡ base
@@ -58,5 +58,22 @@ places-lt base (d ∷ ds) h =
     let ih = places-lt base ds (All-tail (λ d. d < base) d ds h) in
     let first : d < base = All-head (λ d. d < base) d ds h in
     rw (places-cons base d ds, pow-suc base (length ds)) (mul-add-lt d (base ^ length ds) (sum_over_places base ds) base first ih)
+
+-- as many digits that denote the same are the same
+pub same_digits : (base : ℕ) (ds es : List ℕ) → length ds ≡ length es → All (λ d. d < base) ds → All (λ d. d < base) es
+    → sum_over_places base ds ≡ sum_over_places base es → ds ≡ es
+same_digits base [] [] len p q sums = refl
+same_digits base [] (e ∷ es) len p q sums = cc
+same_digits base (d ∷ ds) [] len p q sums = cc
+same_digits base (d ∷ ds) (e ∷ es) len p q sums =
+    let tails : length ds ≡ length es = omega arith in
+    let low = All-tail (λ d. d < base) d ds p in
+    let later = All-tail (λ d. d < base) e es q in
+    let below : sum_over_places base es < base ^ length ds = rw tails (places-lt base es later) in
+    let places = same_from_place d (sum_over_places base ds) e (sum_over_places base es) (base ^ length ds) (places-lt base ds low) below
+    (rw (places-cons base d ds, places-cons base e es, ← tails) at sums) in
+    let rest = same_digits base ds es tails low later places.1 in
+    let first = places.0 in
+    cc
 
 pub ruleset one_at_a_time = (places-nil, places-cons)

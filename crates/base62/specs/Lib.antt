@@ -14,4 +14,5 @@ pub mod Padding
 pub mod Case
 pub mod Laws
 pub mod Order
+pub mod Uuid
 pub mod Key

@@ -4,7 +4,7 @@ ghost use Rattle.std.specs.Prelude.{◌≡◌, ◌↔◌, ℕ, Err, IsTrue, IsOk
 ghost use Rattle.std.specs.Cmp.{partial_equiv_from_equiv};
 ghost use Rattle.std.specs.Cmp.Lexicographic.{nat_list_eq_equiv, pointwise};
 ghost use Rattle.std.specs.Str.{IsAscii};
-ghost use Rattle.base62.specs.Alphabet.{IsAlphabet, RepeatsFirst, standard, alternative};
+ghost use Rattle.base62.specs.Alphabet.{IsAlphabet, RepeatsFirst, is_alphabet, standard, alternative};
 ghost use Rattle.base62.specs.Order.{Ascends};
 ghost use Rattle.base62.specs.Tables.{AreTables};
 ghost use Rattle.base62.specs.declared.fault.AlphabetError.TheVariants.{Repeated};
@@ -27,7 +27,7 @@ pub use work::Work;
 /// ```rust
 /// // Digits and letters, but none that look alike, and some marks.
 /// let letters = *b"23456789ABCDEFGHJKLMNPQRSTUVWXYZabcdefghijkmnpqrstuvwxyz-_.~!*";
-/// let alphabet = base62::Alphabet::new(letters).unwrap();
+/// let alphabet = base62::Alphabet::of(letters);
 /// assert_eq!(rt; base62::decode_with(&alphabet, b"32"), Ok(62));
 /// ```
 ///
@@ -80,6 +80,23 @@ impl Alphabet {
         Ok(Alphabet {
             tables: Tables { letters, table },
         })
+    }
+
+    /// The alphabet of letters that are written out: computing shows that 62 bytes are distinct.
+    ///
+    /// It refuses nothing, for letters that repeat a byte break its `requires`. Letters that are read go to
+    /// [`new`](Alphabet::new).
+    ///
+    /// ```rust
+    /// let alphabet = base62::Alphabet::of(*b"ABCDEFGHIJKLMNOPQRSTUVWXYZabcdefghijklmnopqrstuvwxyz0123456789");
+    /// assert_eq!(rt; base62::decode_with(&alphabet, b"BA"), Ok(62));
+    /// ```
+    #[tactic(auto, using(crate::proofs::AlphabetLemmas::alphabet_by_test))]
+    pub fn of(letters: [u8; 62]) -> Alphabet
+        requires { IsTrue (is_alphabet letters) }
+        ensures { result ≡ letters }
+    {
+        Alphabet::new(letters).unwrap()
     }
 
     /// The standard alphabet: `0` to `9`, `A` to `Z`, `a` to `z`.

@@ -8,6 +8,7 @@ ghost use Rattle.std.specs.declared.cmp.Ordering.TheVariants.{Equal};
 ghost use Rattle.std.specs.declared.fmt.Alignment.TheVariants.{Right};
 ghost use Rattle.base62.specs.Alphabet.{IsAlphabet, AreLetters, digit_of, zero_letter, standard, alternative};
 ghost use Rattle.base62.specs.Places.{sum_over_places};
+ghost use Rattle.base62.specs.Uuid.{uuid_number};
 ghost use Rattle.base62.specs.Value.{value};
 ghost use Rattle.base62.specs.Canonical.{Denotes, IsCanonical, CanonicalFits, DigitCount};
 ghost use Rattle.base62.specs.Decoding.{decoding};
@@ -32,14 +33,6 @@ use std::hash::Hash;
 pub fn built_in_alphabets()
     ensures standard { IsAlphabet standard }
     ensures alternative { IsAlphabet alternative }
-{}
-
-/// 62 bytes are an alphabet where each has its place as its digit: for letters that are written out, computing tells.
-#[tactic(auto, using(crate::proofs::AlphabetLemmas::is_alphabet))]
-pub fn alphabets_by_computing()
-    ensures { (letters : List ℕ) → length letters ≡ 62 → list_all (λ b. nat_lt b 256) letters ≡ true
-        → map (digit_of letters) letters ≡ map (λ d. Some d) (range_with_len 0 62)
-        → IsAlphabet letters }
 {}
 
 /// Over any alphabet each number below 2^128 has a canonical text, and only one, of 1 to 22 letters; that of a number
@@ -100,6 +93,11 @@ pub fn texts_of_two(alphabet: &Alphabet, first: &[u8], second: &[u8], m: u128, n
     // Its contract says that they are an alphabet.
     let _ = alphabet.letters();
 }
+
+/// Two UUIDs are the same where their numbers are.
+pub fn uuids_of_two(a: [u8; 16], b: [u8; 16])
+    ensures { uuid_number a ≡ uuid_number b → a ≡ b }
+{}
 
 /// Over any alphabet decoding accepts exactly the nonempty texts of letters of a value below 2^128, and the
 /// canonical text of that value is the text without its leading zeros. A fault that names a byte names the

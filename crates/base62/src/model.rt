@@ -12,3 +12,4 @@ pub mod laws;
 pub mod orders;
 pub mod shown;
 pub mod texts;
+pub mod uuids;

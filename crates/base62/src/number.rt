@@ -87,3 +87,16 @@ impl Number for u128 {
         self
     }
 }
+
+/// Sixteen bytes, as those of a UUID, mean the number of the bytes, the highest first.
+#[tactic(auto, using(crate::proofs::UuidLemmas::number_from_bytes))]
+impl Number for [u8; 16] {
+    ghost use Rattle.base62.specs.Uuid.{uuid_number};
+
+    ghost meaning = { λ uuid. uuid_number uuid };
+
+    #[inline]
+    fn number(self) -> u128 {
+        u128::from_be_bytes(self)
+    }
+}

@@ -1,7 +1,6 @@
 //! Marks: texts over the bytes from 194 to 255, none of which is ASCII.
 
 ghost use Rattle.std.specs.Prelude.{◌≡◌, ◌-◌, ◌^◌, ◌∷◌, ◌++◌, List, ℕ, length, Ok, Err, OnOk};
-ghost use Rattle.base62.specs.Alphabet.{IsAlphabet};
 ghost use Rattle.base62.specs.Canonical.{IsCanonical};
 ghost use Rattle.base62.specs.Decoding.{decoding};
 ghost use Rattle.base62.specs.declared.fault.DecodeError.TheVariants.{ArithmeticOverflow, InvalidBase62Byte};
@@ -13,14 +12,12 @@ use std::alloc::AllocError;
 // The alphabet of marks.
 #[tactic(auto, unfolding(crate::specs::Marks::mark_letters))]
 fn mark_alphabet() -> Alphabet
-    ensures letters { result ≡ mark_letters }
-    ensures alphabet { IsAlphabet mark_letters }
+    ensures { result ≡ mark_letters }
 {
-    base62::laws::alphabets_by_computing();
-    let letters =
+    Alphabet::of(
         *b"\xc2\xc3\xc4\xc5\xc6\xc7\xc8\xc9\xca\xcb\xcc\xcd\xce\xcf\xd0\xd1\xd2\xd3\xd4\xd5\xd6\xd7\xd8\xd9\xda\xdb\xdc\xdd\xde\xdf\xe0\
-        \xe1\xe2\xe3\xe4\xe5\xe6\xe7\xe8\xe9\xea\xeb\xec\xed\xee\xef\xf0\xf1\xf2\xf3\xf4\xf5\xf6\xf7\xf8\xf9\xfa\xfb\xfc\xfd\xfe\xff";
-    Alphabet::new(letters).unwrap()
+        \xe1\xe2\xe3\xe4\xe5\xe6\xe7\xe8\xe9\xea\xeb\xec\xed\xee\xef\xf0\xf1\xf2\xf3\xf4\xf5\xf6\xf7\xf8\xf9\xfa\xfb\xfc\xfd\xfe\xff",
+    )
 }
 
 /// Appends the mark of a number to a line of ASCII, from which it stands apart by its bytes. `Err` says that there was no
@@ -49,7 +46,7 @@ pub fn borders_of_joined_marks()
         → decoding mark_letters (front ++ back) ≡ Err ArithmeticOverflow }
 {
     // Its contract says that they are an alphabet.
-    let _ = mark_alphabet();
+    let _ = mark_alphabet().letters();
     base62::laws::concatenation();
 }
 
@@ -66,7 +63,7 @@ pub fn borders_of_zeros_in_front()
         → decoding mark_letters mark ≡ Err (InvalidBase62Byte 48 21)
         → decoding mark_letters (194 ∷ mark) ≡ Err (InvalidBase62Byte 48 22) }
 {
-    let _ = mark_alphabet();
+    let _ = mark_alphabet().letters();
     base62::laws::zero_in_front();
 }
 

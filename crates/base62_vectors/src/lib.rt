@@ -29,3 +29,5 @@ pub mod steps;
 mod support;
 #[cfg(test)]
 mod target;
+#[cfg(test)]
+mod uuid;

@@ -78,6 +78,19 @@ fn what_is_told_of_alphabets(rt: HostRuntime) {
     assert_ne!(rt; Alphabet::standard(), Alphabet::alternative());
 }
 
+#[test]
+fn letters_that_are_written_out(rt: HostRuntime) {
+    let own = Alphabet::of(*b"23456789ABCDEFGHJKLMNPQRSTUVWXYZabcdefghijkmnpqrstuvwxyz-_.~!*");
+    assert_eq!(rt; decode_with(&own, b"32"), Ok(62));
+    assert_eq!(rt; decode_with(&own, b"*"), Ok(61));
+    assert_eq!(rt;
+        decode_with(&own, b"0"),
+        Err(DecodeError::InvalidBase62Byte(b'0', 0))
+    );
+    let standard = Alphabet::of(*b"0123456789ABCDEFGHIJKLMNOPQRSTUVWXYZabcdefghijklmnopqrstuvwxyz");
+    assert_eq!(rt; standard, Alphabet::standard());
+}
+
 // Of this text no clause speaks.
 #[test]
 fn debug_shows_the_letters(rt: HostRuntime) -> Result<(), Fail> {

@@ -1,9 +1,9 @@
 //! Alphabets, their digits, and repeated bytes.
 #![tactic(auto, unfolding(crate::proofs::OnLiterals::base62_on_literals))]
 
-ghost use Rattle.std.specs.Prelude.{◌≡◌, ◌++◌, [], ◌∷◌, replicate, codes, false, Ok, Err, Some, None};
+ghost use Rattle.std.specs.Prelude.{◌≡◌, ◌++◌, [], ◌∷◌, replicate, codes, true, false, Ok, Err, Some, None};
 ghost use Rattle.std.specs.List.{range_with_len};
-ghost use Rattle.base62.specs.Alphabet.{IsAlphabet, IsRepeated, RepeatsFirst, digit_of, is_letter, standard, alternative};
+ghost use Rattle.base62.specs.Alphabet.{IsAlphabet, IsRepeated, RepeatsFirst, is_alphabet, digit_of, is_letter, standard, alternative};
 ghost use Rattle.base62.specs.Decoding.{decoding};
 ghost use Rattle.base62.specs.declared.fault.DecodeError.TheVariants.{InvalidBase62Byte};
 
@@ -30,6 +30,16 @@ pub fn no_alphabets_by_example()
     ensures last_two { IsAlphabet (range_with_len 33 61 ++ 93 ∷ []) → ⊥ }
     ensures first_and_last { IsAlphabet (range_with_len 33 61 ++ 33 ∷ []) → ⊥ }
     ensures no_byte { IsAlphabet (range_with_len 195 62) → ⊥ }
+{}
+
+/// What the test of letters that are written out answers.
+pub fn letters_tested_by_example()
+    ensures from_33 { is_alphabet (range_with_len 33 62) ≡ true }
+    ensures one_fewer { is_alphabet (range_with_len 33 61) ≡ false }
+    ensures one_more { is_alphabet (range_with_len 33 63) ≡ false }
+    ensures first_two { is_alphabet (33 ∷ range_with_len 33 61) ≡ false }
+    ensures first_and_last { is_alphabet (range_with_len 33 61 ++ 33 ∷ []) ≡ false }
+    ensures no_byte { is_alphabet (range_with_len 195 62) ≡ false }
 {}
 
 /// The digits of some bytes: `0`, `Z` and `z` are 48, 90 and 122, and 33 is `!`.

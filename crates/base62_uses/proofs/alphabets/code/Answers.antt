@@ -11,4 +11,4 @@ letters_are_clear = AllPass-from_list_all is_clear code_letters refl
 pub returns-clause-clear : goal.returns-clause-clear
 returns-clause-clear c =
     let text = rw c.unwrap-len.ensures at c.encode_bytes_with.ensures.text in
-    c.letters_of_a_kind.ensures code_letters _ is_clear letters_are_clear (rw c.code_alphabet.ensures.letters at text.1.denotes.letters)
+    c.letters_of_a_kind.ensures code_letters _ is_clear letters_are_clear (rw c.code_alphabet.ensures at text.1.denotes.letters)

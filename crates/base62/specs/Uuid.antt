@@ -1,0 +1,23 @@
+-- UUIDs: sixteen bytes, and the number that they denote.
+use Rattle.std.specs.Prelude.{◌≡◌, ℕ, ◌<◌, List, length, slice_index, Result, Ok, Err}
+use Rattle.base62.specs.declared.fault.DecodeError.{DecodeError}
+use Rattle.base62.specs.Places.{sum_over_places}
+use Rattle.base62.specs.Canonical.{Denotes}
+use Rattle.base62.specs.Decoding.{decoding}
+
+-- sixteen bytes
+pub record IsUuid (uuid : List ℕ) : Type 0 where
+  pub size : length uuid ≡ 16
+  pub bytes : (i : ℕ) → slice_index uuid i < 256
+
+-- the number of the bytes, the highest first
+abbrev pub uuid_number : List ℕ → ℕ
+uuid_number uuid = sum_over_places 256 uuid
+
+-- A text is decoded to the UUID of its number, and has the faults of decoding.
+pub record DecodesUuid (B text : List ℕ) (result : Result (List ℕ) DecodeError) : Type 0 where
+  pub number : (uuid : List ℕ) → result ≡ Ok uuid → decoding B text ≡ Ok (uuid_number uuid)
+  pub uuid : (uuid : List ℕ) → IsUuid uuid → decoding B text ≡ Ok (uuid_number uuid) → result ≡ Ok uuid
+  pub denoted : (uuid : List ℕ) → IsUuid uuid → Denotes B text (uuid_number uuid) → result ≡ Ok uuid
+  pub refused : (fault : DecodeError) → result ≡ Err fault → decoding B text ≡ Err fault
+  pub fault : (fault : DecodeError) → decoding B text ≡ Err fault → result ≡ Err fault

@@ -1,0 +1,27 @@
+//! UUIDs.
+#![tactic(auto, unfolding(crate::proofs::OnLiterals::base62_on_literals))]
+
+ghost use Rattle.std.specs.Prelude.{◌≡◌, ◌-◌, ◌^◌, ◌++◌, [], ◌∷◌, codes, replicate, Ok, Err};
+ghost use Rattle.base62.specs.Alphabet.{standard};
+ghost use Rattle.base62.specs.Uuid.{IsUuid, uuid_number, DecodesUuid};
+ghost use Rattle.base62.specs.declared.fault.DecodeError.TheVariants.{EmptyInput};
+
+/// Sixteen bytes and their numbers, and lists that are no UUID.
+pub fn uuids_by_example()
+    ensures nil { uuid_number (replicate 16 0) ≡ 0 }
+    ensures last_byte { uuid_number (replicate 15 0 ++ 7 ∷ []) ≡ 7 }
+    ensures first_byte { uuid_number (1 ∷ replicate 15 0) ≡ 2 ^ 120 }
+    ensures greatest { uuid_number (replicate 16 255) ≡ 2 ^ 128 - 1 }
+    ensures bytes { IsUuid (replicate 15 0 ++ 255 ∷ []) }
+    ensures one_fewer { IsUuid (replicate 15 0) → ⊥ }
+    ensures one_more { IsUuid (replicate 17 0) → ⊥ }
+    ensures no_byte { IsUuid (replicate 15 0 ++ 256 ∷ []) → ⊥ }
+{}
+
+/// The UUID that `LZ` is decoded to, with 5 * 256 + 57 = 1337, and answers that are wrong.
+pub fn decoded_uuids_by_example()
+    ensures decoded { DecodesUuid standard (codes "LZ") (Ok (replicate 14 0 ++ 5 ∷ 57 ∷ [])) }
+    ensures exchanged { DecodesUuid standard (codes "LZ") (Ok (replicate 14 0 ++ 57 ∷ 5 ∷ [])) → ⊥ }
+    ensures refused { DecodesUuid standard (codes "LZ") (Err EmptyInput) → ⊥ }
+    ensures accepted { DecodesUuid standard [] (Ok (replicate 16 0)) → ⊥ }
+{}

@@ -1,0 +1,68 @@
+//! UUIDs, sixteen bytes as one number.
+
+ghost use Rattle.std.specs.Prelude.{◌≡◌, ℕ, List};
+ghost use Rattle.base62.specs.Alphabet.{IsAlphabet, standard, alternative};
+ghost use Rattle.base62.specs.Decoding.{decoding};
+ghost use Rattle.base62.specs.Uuid.{DecodesUuid};
+
+use crate::alphabet::Alphabet;
+use crate::codec::{decode, decode_alternative, decode_with};
+use crate::fault::DecodeError;
+
+/// The sixteen bytes, the highest first, of the number that [`decode`] answers for `input`, as those of a UUID.
+///
+/// `Err` comes exactly where [`decode`] has it, with its fault: each number below 2^128 is that of one UUID. A UUID is
+/// encoded as any other [`Number`], so its text is read back to the same bytes. It takes no memory.
+///
+/// ```rust
+/// let uuid = base62::decode_uuid(b"LZ").unwrap();
+/// assert_eq!(rt; uuid, [0, 0, 0, 0, 0, 0, 0, 0, 0, 0, 0, 0, 0, 0, 5, 57]);
+/// ```
+///
+/// [`decode`]: crate::decode
+/// [`Number`]: crate::Number
+#[tactic(auto, using(crate::proofs::AlphabetLemmas::standard_is_alphabet))]
+pub fn decode_uuid(input: &[u8]) -> Result<[u8; 16], DecodeError>
+    ensures { DecodesUuid standard input.now result }
+{
+    bytes_of(decode(input))
+}
+
+/// As [`decode_uuid`], over the alternative alphabet.
+///
+/// ```rust
+/// let uuid = base62::decode_alternative_uuid(b"lz").unwrap();
+/// assert_eq!(rt; uuid, [0, 0, 0, 0, 0, 0, 0, 0, 0, 0, 0, 0, 0, 0, 5, 57]);
+/// ```
+#[tactic(auto, using(crate::proofs::AlphabetLemmas::alternative_is_alphabet))]
+pub fn decode_alternative_uuid(input: &[u8]) -> Result<[u8; 16], DecodeError>
+    ensures { DecodesUuid alternative input.now result }
+{
+    bytes_of(decode_alternative(input))
+}
+
+/// As [`decode_uuid`], over an alphabet of the caller's.
+///
+/// ```rust
+/// let alphabet = base62::Alphabet::alternative();
+/// let uuid = base62::decode_uuid_with(&alphabet, b"lz").unwrap();
+/// assert_eq!(rt; uuid, [0, 0, 0, 0, 0, 0, 0, 0, 0, 0, 0, 0, 0, 0, 5, 57]);
+/// ```
+pub fn decode_uuid_with(alphabet: &Alphabet, input: &[u8]) -> Result<[u8; 16], DecodeError>
+    ensures { DecodesUuid alphabet.now input.now result }
+{
+    // Its contract says that they are an alphabet.
+    let _ = alphabet.letters();
+    bytes_of(decode_with(alphabet, input))
+}
+
+// The bytes of the number that was decoded.
+#[tactic(auto, using(crate::proofs::UuidLemmas::number_decoded, crate::proofs::UuidLemmas::fault_decoded))]
+fn bytes_of(answer: Result<u128, DecodeError>) -> Result<[u8; 16], DecodeError>
+    ensures { (B text : List ℕ) → IsAlphabet B → answer ≡ decoding B text → DecodesUuid B text result }
+{
+    match answer {
+        Ok(number) => Ok(number.to_be_bytes()),
+        Err(fault) => Err(fault),
+    }
+}

@@ -2,7 +2,7 @@
 use Rattle.std.proofs.Common.{◌≡◌, ℕ, ◌+◌, ◌*◌, ◌^◌, ◌<◌, ◌≤◌, ◌↔◌, Bool, false, List, [], ◌∷◌, ◌++◌, length, get_or, take, drop}
 use Rattle.std.proofs.Common.{Result, Ok, Err, IsOk, refl, sym, ap, ◌∙◌, subst, arith, inl, inr}
 use Rattle.std.specs.List.{list_all}
-use Rattle.std.proofs.lemmas.Bool.{cases_lt, cond_both, ltb-true, leb-true, leb-false, eqb-true, eqb-false, lt-ltb, le-ltb, not-true, not-false, and_parts, and_left, false≢true}
+use Rattle.std.proofs.lemmas.Bool.{cases_eq, cases_lt, cond_both, ltb-true, leb-true, leb-false, eqb-true, eqb-false, lt-ltb, le-ltb, not-true, not-false, and_parts, and_left, false≢true}
 use Rattle.std.proofs.lemmas.List.{take-append-drop, length-append, nil_from_length}
 use Rattle.std.proofs.lemmas.List.Sums.{prefix_len_passes, prefix_len_stops, AllPass-from_list_all, list_all-from_AllPass}
 use Rattle.std.proofs.lemmas.List.Folds.{list_all-append}
@@ -12,7 +12,7 @@ use Rattle.base62.specs.declared.fault.DecodeError.TheVariants.{ArithmeticOverfl
 use Rattle.base62.specs.Alphabet.{IsAlphabet, AreLetters, is_letter, zero_letter}
 use Rattle.base62.specs.Value.{value}
 use Rattle.base62.specs.Canonical.{Denotes, IsCanonical}
-use Rattle.base62.specs.Decoding.{decoding, leading_zeros, rest, first_ten, invalid_index, first_invalid, IsFirstInvalid}
+use Rattle.base62.specs.Decoding.{decoding, leading_zeros, rest, first_ten, invalid_index, first_invalid, IsFirstInvalid, RefusesLarge}
 use Rattle.base62.specs.Laws.{AgreesAtLetters, AnswerTells, number_or_overflow, without_zeros}
 use Rattle.base62.proofs.AlphabetLemmas.{IsLetter}
 use Rattle.base62.proofs.ValueLemmas.{value-nil, value-append, value-one}
@@ -114,6 +114,15 @@ module _ (B : List ℕ) (ok : IsAlphabet B) where
   pub decoding-denotes : (n : ℕ) → n < 2 ^ 128 → (text : List ℕ) → Denotes B text n → decoding B text ≡ Ok n
   decoding-denotes n small text d =
       decoding-letters text d.nonempty d.letters ∙ rw (d.value_is, lt-ltb n (2 ^ 128) small)
+
+  -- and overflows where that is 2^128 or more
+  pub refuses_large : (text : List ℕ) (result : Result ℕ DecodeError) → result ≡ decoding B text → RefusesLarge B text result
+  refuses_large text result is letters large =
+      let some : 0 < length text = elim (cases_eq (length text) 0) [
+        | inl none ↦ let nothing : value B text ≡ 0 = ap (value B) (nil_from_length text none) ∙ value-nil B in absurd (omega (arith, nothing, large))
+        | inr some ↦ omega arith
+      ] in
+      is ∙ decoding-letters text some letters ∙ rw (le-ltb (value B text) (2 ^ 128) large)
 
   -- one accepted text after another
   pub decoding-append : (a b : List ℕ) (m n : ℕ) → decoding B a ≡ Ok m → decoding B b ≡ Ok n → decoding B (a ++ b) ≡ number_or_overflow (m * 62 ^ length b + n)

@@ -1,10 +1,10 @@
 //! What decoding answers, and its steps.
 #![tactic(auto, unfolding(crate::proofs::OnLiterals::base62_on_literals))]
 
-ghost use Rattle.std.specs.Prelude.{◌≡◌, ◌^◌, ◌-◌, [], ◌∷◌, replicate, codes, Ok, Err};
+ghost use Rattle.std.specs.Prelude.{◌≡◌, ◌^◌, ◌-◌, [], ◌∷◌, replicate, codes, Ok, Err, Some, None};
 ghost use Rattle.std.specs.List.{range_with_len};
 ghost use Rattle.base62.specs.Alphabet.{standard, alternative};
-ghost use Rattle.base62.specs.Decoding.{decoding, IsFirstInvalid};
+ghost use Rattle.base62.specs.Decoding.{decoding, IsFirstInvalid, RefusesLarge, DecodesCanonical};
 ghost use Rattle.base62.specs.Steps.{decoding_steps, DecodesCounted};
 ghost use Rattle.base62.specs.declared.fault.DecodeError.TheVariants.{ArithmeticOverflow, EmptyInput, InvalidBase62Byte};
 
@@ -70,4 +70,27 @@ pub fn counted_by_example()
     ensures moved_more { DecodesCounted standard (codes "LZ") 5 8 (Ok 1337) → ⊥ }
     ensures other_number { DecodesCounted standard (codes "LZ") 5 7 (Ok 1338) → ⊥ }
     ensures other_answer { DecodesCounted standard (codes "LZ") 5 7 (Err EmptyInput) → ⊥ }
+{}
+
+/// What strict decoding answers for some texts, and what it doesn't; 33 is `!`, which is no letter.
+pub fn canonical_by_example()
+    ensures number { DecodesCanonical standard (codes "LZ") (Ok (Some 1337)) }
+    ensures one_zero { DecodesCanonical standard (codes "0") (Ok (Some 0)) }
+    ensures zero_in_front { DecodesCanonical standard (codes "0LZ") (Ok None) }
+    ensures zeros_alone { DecodesCanonical standard (codes "00") (Ok None) }
+    ensures bad_behind_zero { DecodesCanonical standard (codes "0!") (Err (InvalidBase62Byte 33 1)) }
+    ensures empty { DecodesCanonical standard [] (Err EmptyInput) }
+    ensures accepted_zeros { DecodesCanonical standard (codes "0LZ") (Ok (Some 1337)) → ⊥ }
+    ensures refused_number { DecodesCanonical standard (codes "LZ") (Ok None) → ⊥ }
+    ensures refused_zero { DecodesCanonical standard (codes "0") (Ok None) → ⊥ }
+    ensures other_alphabet { DecodesCanonical alternative (codes "LZ") (Ok (Some 1337)) → ⊥ }
+    ensures none_of_bad { DecodesCanonical standard (codes "0!") (Ok None) → ⊥ }
+{}
+
+/// Letters that denote 2^128 have one answer, and lesser ones any.
+pub fn large_by_example()
+    ensures large { RefusesLarge standard (codes "7n42DGM5Tflk9n8mt7Fhc8") (Err ArithmeticOverflow) }
+    ensures greatest { RefusesLarge standard (codes "7n42DGM5Tflk9n8mt7Fhc7") (Ok (2 ^ 128 - 1)) }
+    ensures wrapped { RefusesLarge standard (codes "7n42DGM5Tflk9n8mt7Fhc8") (Ok 0) → ⊥ }
+    ensures zeros_counted { RefusesLarge standard (codes "07n42DGM5Tflk9n8mt7Fhc8") (Err EmptyInput) → ⊥ }
 {}

@@ -15,6 +15,10 @@ below : IsFixed standard 2 (codes "Kz") 1301
 unfolding base62_on_literals
 below = fixed_by standard 2 (codes "Kz") 1301 refl (omega arith) refl refl
 
+no_number : IsFixed standard 2 (codes "00") 0
+unfolding base62_on_literals
+no_number = fixed_by standard 2 (codes "00") 0 refl (omega arith) refl refl
+
 least : IsFixed standard 2 (codes "L0") 1302
 unfolding base62_on_literals
 least = fixed_by standard 2 (codes "L0") 1302 refl (omega arith) refl refl
@@ -63,6 +67,23 @@ returns-clause-greatest_more c = λ h. no_M ((h.texts 1364 (codes "M0") (lit≤ 
 
 pub returns-clause-turned_round : goal.returns-clause-turned_round
 returns-clause-turned_round c = λ h. omega (arith, h.some)
+
+-- all texts begin with no letter
+all : BeginsTextsOf standard 2 [] 0 3843
+unfolding base62_on_literals
+all = begins_texts standard standard_is_alphabet 2 [] 0 3843 (AllPass-from_list_all (is_letter standard) [] refl) refl
+
+pub returns-clause-of_no_letter : goal.returns-clause-of_no_letter
+returns-clause-of_no_letter c = all
+
+pub returns-clause-of_no_letter_less : goal.returns-clause-of_no_letter_less
+returns-clause-of_no_letter_less c = λ h. let less = (h.texts 1363 (codes "Lz") (lit≤ tt) greatest).0 refl in omega (arith, less.1)
+
+pub returns-clause-between_no_letter : goal.returns-clause-between_no_letter
+returns-clause-between_no_letter c = begins_between standard standard_is_alphabet 2 [] standard_ascends 0 3843 all
+
+pub returns-clause-between_no_letter_less : goal.returns-clause-between_no_letter_less
+returns-clause-between_no_letter_less c = λ h. let e = ((h (codes "00") (codes "Lz") (codes "Ly") 1363 (lit≤ tt) no_number greatest last_but_one).0 refl).1 in cc
 
 pub returns-clause-between : goal.returns-clause-between
 returns-clause-between c = begins_between standard standard_is_alphabet 2 (codes "L") standard_ascends 1302 1363 texts

@@ -3,14 +3,16 @@
  * and its fields; a text is x and two hexadecimal digits a byte. rows.py writes them.
  *
  *     number ALPHABET HIGH LOW TEXT
- *     key HIGH LOW TEXT
+ *     fixed ALPHABET WIDTH HIGH LOW TEXT
+ *     uuid HIGH LOW TEXT
  *     decode ALPHABET TEXT STATUS HIGH LOW BYTE INDEX
+ *     canonical ALPHABET TEXT STATUS HIGH LOW BYTE INDEX
  *     alphabet TEXT STATUS BYTE INDEX
- *     range TEXT STATUS LEAST_HIGH LEAST_LOW GREATEST_HIGH GREATEST_LOW BYTE INDEX
+ *     range ALPHABET WIDTH TEXT STATUS LEAST_HIGH LEAST_LOW GREATEST_HIGH GREATEST_LOW BYTE INDEX
  *     fault STATUS BYTE INDEX TEXT
  *
  * An alphabet is a word, or a text where it is the caller's own. A status is a name of the header, or a number that is
- * none. A field that the status leaves unwritten is 0.
+ * none. A field that the status leaves unwritten is 0. A text of no bytes is one that a call refuses to write.
  */
 #define _DEFAULT_SOURCE
 #include <base62.h>
@@ -86,8 +88,13 @@ static const char *field(void) {
     return word;
 }
 
-static uint64_t number(void) {
+static uint64_t half(void) {
     return strtoull(field(), NULL, 10);
+}
+
+static base62_number number_field(void) {
+    const uint64_t high = half(), low = half();
+    return (base62_number){high, low};
 }
 
 /* The status of a name, as the header has it. */
@@ -103,6 +110,7 @@ static base62_status status_field(void) {
         {"OVERFLOW", BASE62_OVERFLOW},
         {"NO_KEY", BASE62_NO_KEY},
         {"REPEATED_LETTER", BASE62_REPEATED_LETTER},
+        {"NOT_CANONICAL", BASE62_NOT_CANONICAL},
     };
     const char *word = field();
     for (size_t i = 0; i < sizeof statuses / sizeof *statuses; i++)
@@ -145,128 +153,196 @@ static void alphabet_field(int at_end) {
     }
 }
 
-static base62_status encode(uint64_t high, uint64_t low, char *buffer, size_t size, size_t *length) {
+static size_t encode(base62_number number, char *buffer, size_t size) {
     if (alphabet == STANDARD)
-        return base62_encode(high, low, buffer, size, length);
+        return base62_encode(number, buffer, size);
     if (alphabet == ALTERNATIVE)
-        return base62_encode_alternative(high, low, buffer, size, length);
-    return base62_encode_with(letters, high, low, buffer, size, length);
+        return base62_encode_alternative(number, buffer, size);
+    return base62_encode_with(letters, number, buffer, size);
+}
+
+static size_t encode_fixed(base62_number number, char *places, size_t width) {
+    if (alphabet == STANDARD)
+        return base62_encode_fixed(number, places, width);
+    if (alphabet == ALTERNATIVE)
+        return base62_encode_alternative_fixed(number, places, width);
+    return base62_encode_fixed_with(letters, number, places, width);
 }
 
 /* What a call writes besides its status. */
 struct told {
-    uint64_t halves[4];
-    unsigned char byte;
-    size_t index;
+    base62_number number;
+    base62_range range;
+    base62_bad_byte bad;
 };
 
-static const struct told untold = {{unwritten, unwritten, unwritten, unwritten}, filler, unwritten};
+static const struct told untold = {
+    {unwritten, unwritten}, {{unwritten, unwritten}, {unwritten, unwritten}}, {unwritten, filler}};
 
 static base62_status decode(const char *text, size_t length, struct told *told) {
-    uint64_t *const high = &told->halves[0], *const low = &told->halves[1];
     if (alphabet == STANDARD)
-        return base62_decode(text, length, high, low, &told->byte, &told->index);
+        return base62_decode(text, length, &told->number, &told->bad);
     if (alphabet == ALTERNATIVE)
-        return base62_decode_alternative(text, length, high, low, &told->byte, &told->index);
-    return base62_decode_with(letters, text, length, high, low, &told->byte, &told->index);
+        return base62_decode_alternative(text, length, &told->number, &told->bad);
+    return base62_decode_with(letters, text, length, &told->number, &told->bad);
 }
 
-/* The status and all that is told are the next fields of the row, where they are written. */
-static void expect_told(base62_status status, const struct told *told, size_t halves) {
-    const int is_named = status == BASE62_INVALID_BYTE || status == BASE62_REPEATED_LETTER;
-    expect(status == status_field(), "the status");
-    for (size_t i = 0; i < halves; i++) {
-        const uint64_t half = number();
-        expect(told->halves[i] == (status == BASE62_OK ? half : unwritten), "half of a number");
+static base62_status decode_canonical(const char *text, size_t length, struct told *told) {
+    if (alphabet == STANDARD)
+        return base62_decode_canonical(text, length, &told->number, &told->bad);
+    if (alphabet == ALTERNATIVE)
+        return base62_decode_alternative_canonical(text, length, &told->number, &told->bad);
+    return base62_decode_canonical_with(letters, text, length, &told->number, &told->bad);
+}
+
+/* The range of the row's alphabet. Keys are the standard texts of one width. */
+static base62_status range(size_t width, const char *front, size_t length, struct told *told) {
+    if (alphabet == OWN)
+        return base62_fixed_range_with(letters, width, front, length, &told->range, &told->bad);
+    expect(alphabet == STANDARD, "the alphabet of a range");
+    if (width == BASE62_KEY_LENGTH) {
+        struct told of_keys = untold;
+        const base62_status status = base62_key_range(front, length, &of_keys.range, &of_keys.bad);
+        expect(status == base62_fixed_range(width, front, length, &told->range, &told->bad), "the status of keys");
+        expect(memcmp(&of_keys.range, &told->range, sizeof told->range) == 0, "the range of keys");
+        expect(of_keys.bad.byte == told->bad.byte && of_keys.bad.index == told->bad.index, "the byte of keys");
+        return status;
     }
-    const uint64_t byte = number(), index = number();
-    expect(told->byte == (is_named ? byte : filler), "the byte");
-    expect(told->index == (is_named ? index : unwritten), "the index");
+    return base62_fixed_range(width, front, length, &told->range, &told->bad);
+}
+
+/* The number is the next field of the row if it is written. */
+static void expect_number(int is_written, base62_number number) {
+    const base62_number wanted = number_field();
+    expect(number.high == (is_written ? wanted.high : unwritten), "the high half of a number");
+    expect(number.low == (is_written ? wanted.low : unwritten), "the low half of a number");
+}
+
+/* The byte and its index are the next fields of the row where the status names them. */
+static void expect_bad(base62_status status, base62_bad_byte bad) {
+    const int is_named = status == BASE62_INVALID_BYTE || status == BASE62_REPEATED_LETTER;
+    const uint64_t byte = half(), index = half();
+    expect(bad.byte == (is_named ? byte : filler), "the byte");
+    expect(bad.index == (is_named ? index : unwritten), "the index");
 }
 
 /* The lengths of the longest texts of the rows: those of the header. */
 static size_t most_digits, most_fault_text;
 
+/* What the header has inline: the number from 64 and from 128 bits, and back. */
+static void check_inline(base62_number number) {
+    const base62_number short_one = base62_from_u64(number.low);
+    uint64_t value = unwritten;
+    expect(short_one.high == 0 && short_one.low == number.low, "the number of 64 bits");
+    expect(base62_to_u64(number, &value) == (number.high == 0), "whether 64 bits suffice");
+    expect(value == (number.high == 0 ? number.low : unwritten), "the 64 bits of a number");
+    const base62_u128 wide = base62_to_u128(number);
+    expect((uint64_t)(wide >> 64) == number.high && (uint64_t)wide == number.low, "the 128 bits of a number");
+    const base62_number back = base62_from_u128(wide);
+    expect(back.high == number.high && back.low == number.low, "the number of 128 bits");
+}
+
 /* The text in a buffer of each size, just too small ones too. */
 static void check_number(int at_end) {
     static char text[MOST];
     alphabet_field(at_end);
-    const uint64_t high = number(), low = number();
+    const base62_number number = number_field();
     const size_t wanted = text_field(text);
     most_digits = wanted > most_digits ? wanted : most_digits;
     for (size_t size = 0; size <= BASE62_MAX_DIGITS + 2; size++) {
-        size_t length = unwritten;
-        const base62_status status = encode(high, low, filled(), size, &length);
-        if (size < wanted) {
-            expect(status == BASE62_BUFFER_TOO_SMALL, "the status of encoding");
-            expect(length == unwritten, "the length is written on a refusal");
-            expect_front(text, 0, "the text");
-        } else {
-            expect(status == BASE62_OK, "the status of encoding");
-            expect(length == wanted, "the length");
-            expect_front(text, wanted, "the text");
-        }
+        const size_t told = size < wanted ? 0 : wanted;
+        expect(encode(number, filled(), size) == told, "the length");
+        expect_front(text, told, "the text");
     }
-    expect(base62_digit_count(high, low) == wanted, "the count of digits");
+    expect(base62_digit_count(number) == wanted, "the count of digits");
+    check_inline(number);
 }
 
-static void check_key(void) {
+static void check_fixed(int at_end) {
     static char text[MOST];
-    const uint64_t high = number(), low = number();
-    expect(text_field(text) == BASE62_KEY_LENGTH, "the length of the key");
-    base62_encode_key(high, low, filled());
-    expect_front(text, BASE62_KEY_LENGTH, "the key");
+    alphabet_field(at_end);
+    const size_t width = half();
+    const base62_number number = number_field();
+    const size_t wanted = text_field(text);
+    expect(wanted == 0 || wanted == width, "the length of the text");
+    expect(encode_fixed(number, filled(), width) == wanted, "the width");
+    expect_front(text, wanted, "the text");
+    if (alphabet == STANDARD && width == BASE62_KEY_LENGTH) {
+        base62_encode_key(number, filled());
+        expect_front(text, BASE62_KEY_LENGTH, "the key");
+    }
 }
 
-static void check_decode(int at_end) {
+static void check_uuid(int at_end) {
+    static char bytes[MOST];
+    const base62_number number = number_field();
+    expect(text_field(bytes) == BASE62_UUID_LENGTH, "the length of the UUID");
+    const char *const fenced = fence(texts, at_end, bytes, BASE62_UUID_LENGTH);
+    const base62_number told = base62_number_of_uuid((const unsigned char *)fenced);
+    expect(told.high == number.high && told.low == number.low, "the number of the UUID");
+    base62_uuid_of_number(number, (unsigned char *)filled());
+    expect_front(bytes, BASE62_UUID_LENGTH, "the UUID");
+}
+
+static void check_decode(int at_end, base62_status (*read)(const char *, size_t, struct told *)) {
     static char text[MOST];
     struct told told = untold;
     alphabet_field(at_end);
     const size_t length = text_field(text);
-    const base62_status status = decode(fence(texts, at_end, text, length), length, &told);
-    expect_told(status, &told, 2);
+    const base62_status status = read(fence(texts, at_end, text, length), length, &told);
+    expect(status == status_field(), "the status");
+    expect_number(status == BASE62_OK, told.number);
+    expect_bad(status, told.bad);
 }
 
-/* An alphabet by itself. Where it is refused, so is each call over it, which writes at most what is refused. */
+/* A call over letters that are refused writes the repeated letter alone. */
+static void expect_repeat(base62_status status, const struct told *told, base62_bad_byte repeated) {
+    expect(status == BASE62_REPEATED_LETTER, "the status of a call");
+    expect(told->bad.byte == repeated.byte && told->bad.index == repeated.index, "the repeated letter");
+    expect(memcmp(&told->number, &untold.number, sizeof untold.number) == 0, "a number is written on a refusal");
+    expect(memcmp(&told->range, &untold.range, sizeof untold.range) == 0, "a range is written on a refusal");
+}
+
+/* An alphabet by itself. Where it is refused, so is each call over it. */
 static void check_alphabet(int at_end) {
-    struct told told = untold, decoded = untold;
+    struct told told = untold, of_decode = untold, of_canonical = untold, of_range = untold;
     alphabet_field(at_end);
-    const base62_status status = base62_check_alphabet(letters, &told.byte, &told.index);
-    expect_told(status, &told, 0);
+    const base62_status status = base62_check_alphabet(letters, &told.bad);
+    expect(status == status_field(), "the status");
+    expect_bad(status, told.bad);
     if (status == BASE62_OK)
         return;
-    size_t length = unwritten;
-    expect(encode(0, 1337, filled(), BASE62_MAX_DIGITS, &length) == status, "the status of encoding");
-    expect(length == unwritten, "the length is written on a refusal");
+    expect(encode(base62_from_u64(1337), filled(), BASE62_MAX_DIGITS) == 0, "the length");
+    expect(encode_fixed(base62_from_u64(1337), guarded.bytes, BASE62_MAX_DIGITS) == 0, "the width");
     expect_front("", 0, "the text");
-    expect(decode("1", 1, &decoded) == status, "the status of decoding");
-    expect(memcmp(decoded.halves, untold.halves, sizeof decoded.halves) == 0, "a half is written on a refusal");
-    expect(decoded.byte == told.byte && decoded.index == told.index, "the repeated letter");
+    expect_repeat(decode("1", 1, &of_decode), &of_decode, told.bad);
+    expect_repeat(decode_canonical("1", 1, &of_canonical), &of_canonical, told.bad);
+    expect_repeat(range(3, "1", 1, &of_range), &of_range, told.bad);
 }
 
 static void check_range(int at_end) {
     static char front[MOST];
     struct told told = untold;
-    uint64_t *const ends = told.halves;
-    const size_t length = text_field(front);
-    const base62_status status = base62_key_range(fence(texts, at_end, front, length), length, &ends[0], &ends[1],
-                                                  &ends[2], &ends[3], &told.byte, &told.index);
-    expect_told(status, &told, 4);
+    alphabet_field(at_end);
+    const size_t width = half(), length = text_field(front);
+    const base62_status status = range(width, fence(texts, at_end, front, length), length, &told);
+    expect(status == status_field(), "the status");
+    expect_number(status == BASE62_OK, told.range.least);
+    expect_number(status == BASE62_OK, told.range.greatest);
+    expect_bad(status, told.bad);
 }
 
 static void check_fault(void) {
     static char text[MOST];
     const base62_status fault = status_field();
-    const unsigned char byte = (unsigned char)number();
-    const size_t index = number(), wanted = text_field(text);
+    const unsigned char byte = (unsigned char)half();
+    const base62_bad_byte bad = {half(), byte};
+    const size_t wanted = text_field(text);
     most_fault_text = wanted > most_fault_text ? wanted : most_fault_text;
     for (size_t size = 0; size <= BASE62_MAX_FAULT_TEXT + 2; size++) {
-        size_t length = unwritten;
-        const base62_status status = base62_fault_text(fault, byte, index, filled(), size, &length);
-        const int fits = wanted <= size;
-        expect(status == (fits ? BASE62_OK : BASE62_BUFFER_TOO_SMALL), "the status of a fault's text");
-        expect(length == (fits ? wanted : unwritten), "the length of a fault's text");
-        expect_front(text, fits ? wanted : 0, "a fault's text");
+        const size_t told = size < wanted ? 0 : wanted;
+        expect(base62_fault_text(fault, bad, filled(), size) == told, "the length of a fault's text");
+        expect_front(text, told, "a fault's text");
     }
 }
 
@@ -276,10 +352,14 @@ static void check_row(int at_end) {
     expect(word != NULL, "the row is empty");
     if (strcmp(word, "number") == 0)
         check_number(at_end);
-    else if (strcmp(word, "key") == 0)
-        check_key();
+    else if (strcmp(word, "fixed") == 0)
+        check_fixed(at_end);
+    else if (strcmp(word, "uuid") == 0)
+        check_uuid(at_end);
     else if (strcmp(word, "decode") == 0)
-        check_decode(at_end);
+        check_decode(at_end, decode);
+    else if (strcmp(word, "canonical") == 0)
+        check_decode(at_end, decode_canonical);
     else if (strcmp(word, "alphabet") == 0)
         check_alphabet(at_end);
     else if (strcmp(word, "range") == 0)
@@ -294,6 +374,7 @@ static void check_row(int at_end) {
 int main(void) {
     texts = set_fences();
     alphabets = set_fences();
+    expect(base62_version_number() == BASE62_VERSION_NUMBER, "the version");
     while (fgets(row, sizeof row, stdin) != NULL) {
         row_number++;
         check_row(0);

@@ -1,6 +1,7 @@
 """Writes the rows for calls.c, by Python's integers and the table of cases of docs/DEFINITIONS.md, section Decoding."""
 
 import random
+import uuid
 
 
 def hexadecimal(text):
@@ -14,12 +15,13 @@ LETTERS = {
     "alternative": STANDARD.swapcase(),
     **{hexadecimal(letters): letters for letters in OWN},
 }
-STATUSES = "OK BUFFER_TOO_SMALL EMPTY_INPUT INVALID_BYTE OVERFLOW NO_KEY REPEATED_LETTER".split()
-OK, BUFFER_TOO_SMALL, EMPTY_INPUT, INVALID_BYTE, OVERFLOW, NO_KEY, REPEATED_LETTER = STATUSES
+STATUSES = "OK BUFFER_TOO_SMALL EMPTY_INPUT INVALID_BYTE OVERFLOW NO_KEY REPEATED_LETTER NOT_CANONICAL".split()
+OK, BUFFER_TOO_SMALL, EMPTY_INPUT, INVALID_BYTE, OVERFLOW, NO_KEY, REPEATED_LETTER, NOT_CANONICAL = STATUSES
 LARGEST = 2**128 - 1
 
-# Values from outside, with which digits, decoded and range_of have to agree: numbers with their standard and their
-# alternative text, standard texts that are refused, and fronts with their ranges.
+# Values from outside, with which digits, fixed, decoded, canonical and range_of have to agree: numbers with their
+# standard and their alternative text, standard texts of a width (none where the number has none), standard texts that
+# are refused, those that are refused for their zeros, fronts with the ranges of keys and of texts of a width, and UUIDs.
 NUMBERS = [
     (1337, "LZ", "lz"),
     (2975, "lz", "LZ"),
@@ -41,6 +43,18 @@ NUMBERS = [
     (LARGEST - 1, "7n42DGM5Tflk9n8mt7Fhc6", "7N42dgm5tFLK9N8MT7fHC6"),
     (LARGEST, "7n42DGM5Tflk9n8mt7Fhc7", "7N42dgm5tFLK9N8MT7fHC7"),
 ]
+FIXED = [
+    (0, 0, ""),
+    (1, 0, "0"),
+    (1, 61, "z"),
+    (1, 62, ""),
+    (5, 1337, "000LZ"),
+    (21, LARGEST, ""),
+    (22, 1337, "00000000000000000000LZ"),
+    (22, LARGEST, "7n42DGM5Tflk9n8mt7Fhc7"),
+    (23, LARGEST, "07n42DGM5Tflk9n8mt7Fhc7"),
+    (100, 1337, "0" * 98 + "LZ"),
+]
 REFUSED = [
     ("", (EMPTY_INPUT, None)),
     ("!", (INVALID_BYTE, (33, 0))),
@@ -56,6 +70,7 @@ REFUSED = [
     ("7n42DGM5Tflk9n8mt7Fhc8", (OVERFLOW, None)),
     ("z" * 22, (OVERFLOW, None)),
 ]
+NEEDLESS = ["00", "0LZ", "07n42DGM5Tflk9n8mt7Fhc7"]
 RANGES = [
     ("", (OK, (0, LARGEST))),
     ("0", (OK, (0, 43674252383913877424036476406214950911))),
@@ -71,6 +86,31 @@ RANGES = [
     ("7o!", (INVALID_BYTE, (33, 2))),
     ("0" * 23 + "!", (INVALID_BYTE, (33, 23))),
 ]
+FIXED_RANGES = [
+    (0, "", (NO_KEY, None)),
+    (0, "0", (NO_KEY, None)),
+    (0, "!", (INVALID_BYTE, (33, 0))),
+    (1, "", (OK, (0, 61))),
+    (1, "z", (OK, (61, 61))),
+    (1, "0z", (NO_KEY, None)),
+    (3, "000L", (NO_KEY, None)),
+    (5, "000L", (OK, (1302, 1363))),
+    (21, "", (OK, (0, 62**21 - 1))),
+    (23, "", (OK, (0, LARGEST))),
+    (23, "0", (OK, (0, LARGEST))),
+    (23, "07", (OK, (305719766687397141968255334843504656384, LARGEST))),
+    (23, "1", (NO_KEY, None)),
+    (100, "", (OK, (0, LARGEST))),
+    (100, "0" * 98 + "LZ", (OK, (1337, 1337))),
+    (100, "0" * 78 + "7", (OK, (305719766687397141968255334843504656384, LARGEST))),
+    (100, "0" * 78 + "8", (NO_KEY, None)),
+    (100, "1", (NO_KEY, None)),
+]
+UUIDS = [
+    (1337, "00000000-0000-0000-0000-000000000539"),
+    (143098242404177361603877621312831893704, "6ba7b810-9dad-11d1-80b4-00c04fd430c8"),
+    (LARGEST, "ffffffff-ffff-ffff-ffff-ffffffffffff"),
+]
 
 
 def digits(letters, number):
@@ -79,6 +119,12 @@ def digits(letters, number):
     while number := number // 62:
         text.insert(0, letters[number % 62])
     return bytes(text)
+
+
+def fixed(letters, width, number):
+    """The text of so many letters of a number, or none."""
+    text = digits(letters, number)
+    return text.rjust(width, letters[:1]) if len(text) <= width else b""
 
 
 def value(letters, text):
@@ -112,13 +158,19 @@ def decoded(letters, text):
     return OK, value(letters, rest)
 
 
-def range_of(front):
+def canonical(letters, text):
+    """The same where zeros in front are refused, but for the one zero."""
+    answer = decoded(letters, text)
+    return (NOT_CANONICAL, None) if answer[0] == OK and text[:-1].startswith(letters[:1]) else answer
+
+
+def range_of(letters, width, front):
     """The answer to a front: the numbers that its letters are the upper digits of."""
-    if named := first_bad(STANDARD, front):
+    if named := first_bad(letters, front):
         return INVALID_BYTE, named
-    span = 62 ** max(22 - len(front), 0)
-    least = value(STANDARD, front) * span
-    if len(front) > 22 or least > LARGEST:
+    span = 62 ** max(width - len(front), 0)
+    least = value(letters, front) * span
+    if width == 0 or len(front) > width or least > LARGEST:
         return NO_KEY, None
     return OK, (least, min(least + span - 1, LARGEST))
 
@@ -143,14 +195,19 @@ def bad(answer):
 
 
 def put_decode(alphabet, text):
-    status, told = answer = decoded(LETTERS[alphabet], text)
-    put("decode", alphabet, hexadecimal(text), status, *halves(told if status == OK else 0), *bad(answer))
+    for word, read in (("decode", decoded), ("canonical", canonical)):
+        status, told = answer = read(LETTERS[alphabet], text)
+        put(word, alphabet, hexadecimal(text), status, *halves(told if status == OK else 0), *bad(answer))
 
 
-def put_range(front):
-    status, told = answer = range_of(front)
+def put_fixed(alphabet, width, number):
+    put("fixed", alphabet, width, *halves(number), hexadecimal(fixed(LETTERS[alphabet], width, number)))
+
+
+def put_range(alphabet, width, front):
+    status, told = answer = range_of(LETTERS[alphabet], width, front)
     least, greatest = told if status == OK else (0, 0)
-    put("range", hexadecimal(front), status, *halves(least), *halves(greatest), *bad(answer))
+    put("range", alphabet, width, hexadecimal(front), status, *halves(least), *halves(greatest), *bad(answer))
 
 
 def put_alphabet(letters, answer):
@@ -167,25 +224,45 @@ def put_number(number):
         put("number", alphabet, *halves(number), hexadecimal(text))
         put_decode(alphabet, text)
         put_decode(alphabet, letters[:1] * 4 + text)
-    key = digits(STANDARD, number).rjust(22, b"0")
-    put("key", *halves(number), hexadecimal(key))
-    put_range(key)
+        for width in sorted({0, 1, len(text) - 1, len(text), 22, 23, 100}):
+            put_fixed(alphabet, width, number)
+            if alphabet != "alternative":
+                put_range(alphabet, width, text[: width // 2])
+                put_range(alphabet, width, fixed(letters, width, number))
+    put("uuid", *halves(number), hexadecimal(number.to_bytes(16, "big")))
+
+
+def over(letters, text):
+    """The text over an alphabet that has these standard letters, with a byte that is no letter for each point of !."""
+    no_letter = bytes(byte for byte in b"!\xff" if byte not in letters)[:1]
+    return text.encode().translate(bytes.maketrans(STANDARD + b"!", letters + no_letter))
 
 
 def put_outside():
-    """The values from outside. A refused text is one over each alphabet, by its letters at the same digits."""
+    """The values from outside. A standard text is one over each alphabet, by its letters at the same digits."""
     for number, standard, alternative in NUMBERS:
         for letters, text in ((STANDARD, standard.encode()), (LETTERS["alternative"], alternative.encode())):
             assert (digits(letters, number), decoded(letters, text)) == (text, (OK, number)), text
         put_number(number)
+    for width, number, text in FIXED:
+        assert fixed(STANDARD, width, number) == text.encode(), text
     for text, answer in REFUSED:
-        assert decoded(STANDARD, text.encode()) == answer, text
-        for alphabet, letters in LETTERS.items():
-            no_letter = bytes(byte for byte in b"!\xff" if byte not in letters)[:1]
-            put_decode(alphabet, text.encode().translate(bytes.maketrans(STANDARD + b"!", letters + no_letter)))
-    for front, answer in RANGES:
-        assert range_of(front.encode()) == answer, front
-        put_range(front.encode())
+        assert decoded(STANDARD, text.encode()) == canonical(STANDARD, text.encode()) == answer, text
+    for text in NEEDLESS:
+        assert canonical(STANDARD, text.encode()) == (NOT_CANONICAL, None), text
+    ranges = [(22, front, answer) for front, answer in RANGES] + FIXED_RANGES
+    for width, front, answer in ranges:
+        assert range_of(STANDARD, width, front.encode()) == answer, front
+    for number, text in UUIDS:
+        assert uuid.UUID(text).bytes == number.to_bytes(16, "big"), text
+        put_number(number)
+    for alphabet, letters in LETTERS.items():
+        for width, number, _ in FIXED:
+            put_fixed(alphabet, width, number)
+        for text in [text for text, _ in REFUSED] + NEEDLESS:
+            put_decode(alphabet, over(letters, text))
+        for width, front, _ in ranges if alphabet != "alternative" else ():
+            put_range(alphabet, width, over(letters, front))
 
 
 def put_numbers():
@@ -206,15 +283,15 @@ def put_refusals():
                 text = bytearray(letters[1:2] * 22)
                 text[place] = byte
                 put_decode(alphabet, bytes(text))
-                if alphabet == "standard":
-                    put_range(bytes(text[: place + 1]))
+                if alphabet != "alternative":
+                    put_range(alphabet, 22, bytes(text[: place + 1]))
         for number in (LARGEST + 1, LARGEST + 2, 62**22 - 1, 62**22, 62**30):
             put_decode(alphabet, digits(letters, number))
         for zeros in (2, 3, 22):
             put_decode(alphabet, letters[:1] * zeros)
         put_alphabet(letters, (OK, None))
     for number in (LARGEST + 1, 62**22 - 1, 62**22):
-        put_range(digits(STANDARD, number))
+        put_range("standard", 22, digits(STANDARD, number))
 
 
 def put_repeats():
@@ -236,7 +313,9 @@ def put_texts():
     put_fault((OVERFLOW, None), "Decoded number cannot fit into a `u128`")
     put_fault((EMPTY_INPUT, None), "Encoded input is an empty string")
     put_fault((BUFFER_TOO_SMALL, None), "Buffer too small to encode the number")
-    for status in (OK, NO_KEY, 7):
+    put_fault((NO_KEY, None), "No text of so many letters begins with the front")
+    put_fault((NOT_CANONICAL, None), "Encoded input begins with a needless zero")
+    for status in (OK, 8):
         put_fault((status, None), "")
 
 

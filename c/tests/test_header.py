@@ -1,59 +1,102 @@
-"""Tests of the header that gcc finds as <base62.h>: its version, its functions, and what its attributes warn of."""
+"""Tests of the header that gcc finds as <base62.h>: what it declares, what its attributes warn of, and what it leaves."""
 
 import pathlib
 import re
 import subprocess
+import tempfile
 import unittest
 
 TOP = pathlib.Path(__file__).parents[2]
-NUMBERS = {"u8": "unsigned char", "u32": "base62_status", "u64": "uint64_t", "usize": "size_t"}
-NAMES = {"buf": "buffer", "len": "length"}
+HEADER = "#include <base62.h>\n"
+INCLUDES = "#include <stddef.h>\n#include <stdint.h>\n"
+KINDS = {
+    "u8": "unsigned char",
+    "u32": "base62_status",
+    "u64": "uint64_t",
+    "usize": "size_t",
+    "Number": "base62_number",
+    "Range": "base62_range",
+    "BadByte": "base62_bad_byte",
+}
+INLINE = {
+    "base62_from_u64": ("base62_number", ["uint64_t value"]),
+    "base62_to_u64": ("int", ["base62_number number", "uint64_t *value"]),
+    "base62_from_u128": ("base62_number", ["base62_u128 value"]),
+    "base62_to_u128": ("base62_u128", ["base62_number number"]),
+}
+MACROS = {"BASE62_H", "BASE62_VERSION", "BASE62_VERSION_MAJOR", "BASE62_VERSION_MINOR", "BASE62_VERSION_PATCH"}
+MACROS |= {"BASE62_VERSION_NUMBER", "BASE62_MAX_DIGITS", "BASE62_KEY_LENGTH", "BASE62_ALPHABET_LENGTH"}
+MACROS |= {"BASE62_UUID_LENGTH", "BASE62_MAX_FAULT_TEXT"}
 
 # What a parameter of each kind is given by a right call, over the variables of PROGRAM.
 ARGUMENTS = {
-    "uint64_t": "1",
-    "size_t": "sizeof bytes",
-    "unsigned char": "1",
-    "base62_status": "BASE62_OK",
-    "char *": "bytes",
+    "char *": "text",
+    "size_t": "sizeof text",
+    "char[62]": "letters",
+    "char[22]": "letters",
+    "unsigned char[16]": "uuid",
+    "base62_number": "number",
+    "base62_number *": "&number",
+    "base62_range *": "&range",
+    "base62_bad_byte": "bad",
+    "base62_bad_byte *": "&bad",
+    "base62_status": "status",
+    "base62_u128": "wide",
+    "uint64_t": "half",
     "uint64_t *": "&half",
-    "size_t *": "&size",
-    "unsigned char *": "&byte",
 }
 PROGRAM = """#include <base62.h>
-char bytes[BASE62_ALPHABET_LENGTH];
-unsigned char byte;
+char text[5], letters[BASE62_ALPHABET_LENGTH];
+unsigned char uuid[BASE62_UUID_LENGTH];
+base62_number number;
+base62_range range;
+base62_bad_byte bad;
+base62_status status;
+base62_u128 wide;
 uint64_t half;
 size_t size;
-base62_status status;
+int is_short;
+uint32_t version;
 int main(void) {
 """
+ANSWERS = {"base62_number": "number", "base62_status": "status", "base62_u128": "wide", "size_t": "size"}
+ANSWERS |= {"int": "is_short", "uint32_t": "version"}
 
 
-def gcc(source, *options):
-    command = ["gcc", "-fdiagnostics-plain-output", *options, "-xc", "-"]
+def gcc(source, *options, language="c"):
+    command = ["gcc", "-fdiagnostics-plain-output", *options, f"-x{language}", "-"]
     return subprocess.run(command, input=source, capture_output=True, text=True, check=True)
 
 
-def declared():
-    """The functions of the header: the result of each, and its parameters as they are written."""
-    text = gcc("#include <base62.h>", "-E", "-P", "-D__attribute__(ignored)=").stdout
-    found = re.findall(r"(\w+)\s+(base62_\w+)\(([^()]*)\);", text)
-    return {name: (result, re.sub(r"\s+", " ", inner).split(", ")) for result, name, inner in found}
+def own_text(*options):
+    """What the header has beside its includes, in one line."""
+    text = gcc(f"{INCLUDES}it_begins_here\n{HEADER}", "-E", "-P", *options).stdout
+    return re.sub(r"\s+", " ", text.split("it_begins_here")[1]).strip()
+
+
+def declared(*options):
+    """The functions of the header: the attributes of each, its result, and its parameters as they are written."""
+    attribute = r"__attribute__\(\(.*?\)\) "
+    pattern = rf"((?:{attribute})*)(?:static inline )?(\w+) (base62_\w+)\(([^()]*)\)(?:;| {{)"
+    return {
+        name: (attributes.strip(), result, [] if inner == "void" else inner.split(", "))
+        for attributes, result, name, inner in re.findall(pattern, own_text(*options))
+    }
 
 
 def in_c(name, kind):
     """What C declares for a parameter of Rust."""
-    name = NAMES.get(name, name)
+    name = {"buf": "buffer"}.get(name, name)
     mutable, target = re.fullmatch(r"(?:&(mut )?)?(.*)", kind).groups()
     const = "" if mutable else "const "
     if "&" not in kind:
-        return [f"{NUMBERS[kind]} {name}"]
+        return [f"{KINDS[kind]} {name}"]
     if target == "[u8]":
-        return [f"{const}char *{name}", "size_t size" if mutable else "size_t length"]
+        size = "width" if name == "places" else "size" if mutable else "length"
+        return [f"{const}char *{name}", f"size_t {size}"]
     if array := re.fullmatch(r"\[u8; (\d+)\]", target):
-        return [f"{const}char {name}[{array[1]}]"]
-    return [f"{const}{NUMBERS[target]} *{name}"]
+        return [f"{const}{'unsigned ' if name == 'uuid' else ''}char {name}[{array[1]}]"]
+    return [f"{const}{KINDS[target]} *{name}"]
 
 
 def exported():
@@ -62,36 +105,63 @@ def exported():
     found = re.findall(r'extern "C" fn (\w+)\(([^()]*)\)(?: -> (\w+))?', source)
     return {
         name: (
-            NUMBERS.get(result, "void"),
+            "uint32_t" if name == "base62_version_number" else KINDS.get(result, "void"),
             [written for pair in re.findall(r"(\w+): ([^,]+)", inner) for written in in_c(*pair)],
         )
         for name, inner, result in found
     }
 
 
+def structs_of_c():
+    found = re.findall(r"typedef struct (\w+) {([^}]*)} \1;", own_text())
+    return {name: re.findall(r"(\w[\w ]*) (\w+);", inner) for name, inner in found}
+
+
+def structs_of_rust():
+    """The structs that cross to C, by the names of the header."""
+    sources = "".join(path.read_text() for path in (TOP / "crates/base62_c/src").glob("*.rt"))
+    found = re.findall(r"#\[repr\(C\)\]\n(?:#.*\n)*pub struct (\w+) {([^}]*)}", sources)
+    return {
+        KINDS[name]: [(KINDS[kind], field) for field, kind in re.findall(r"pub (\w+): (\w+)", inner)]
+        for name, inner in found
+    }
+
+
+def attributes_of(result, parameters):
+    """The attributes that a function has where the compiler knows them all."""
+    answers = result in ("size_t", "int", "base62_status")
+    if any(re.search(r"[*\[]", written) for written in parameters):
+        yield f"__attribute__((__nonnull__{', __warn_unused_result__' if answers else ''}))"
+    for place, written in enumerate(parameters, 1):
+        if text := re.match(r"(const )?char \*", written):
+            yield f"__attribute__((__access__(__{'read' if text[1] else 'write'}_only__, {place}, {place + 1})))"
+
+
 def kind_of(written):
     """The kind of a parameter, by which ARGUMENTS has what it is given."""
     kind, star, array = re.fullmatch(r"(?:const )?(.+?) (\*?)\w+(\[\d+\])?", written).groups()
-    return f"{kind} *" if star or array else kind
+    return kind + (array or (" *" if star else ""))
 
 
 def calls(name, result, parameters):
     """Statements that call a function, each with the warning that it has to get, or None."""
     kinds = [kind_of(written) for written in parameters]
     right = [ARGUMENTS[kind] for kind in kinds]
-    put = {"void": "", "size_t": "size = ", "base62_status": "status = "}[result]
+    put = "" if result == "void" else ANSWERS[result] + " = "
+    is_looked_at = any("warn_unused" in attribute for attribute in attributes_of(result, parameters))
 
-    def call(before=put, place=0, argument=right[0]):
-        return f"{before}{name}({', '.join(right[:place] + [argument] + right[place + 1:])});"
+    def call(before=put, place=0, argument=None):
+        given = right if argument is None else right[:place] + [argument] + right[place + 1 :]
+        return f"{before}{name}({', '.join(given)});"
 
     yield call(), None
-    yield call(before=""), "unused-result" if re.search("decode|check|range", name) else None
+    yield call(before=""), "unused-result" if is_looked_at else None
     for place, (kind, written) in enumerate(zip(kinds, parameters)):
-        if kind.endswith("*"):
+        if re.search(r"[*\[]", kind):
             yield call(place=place, argument="NULL"), "nonnull"
-        if re.fullmatch(r"(const )?char \*\w+", written):
+        if kind == "char *":
             wrong = "stringop-overread" if written.startswith("const") else "stringop-overflow"
-            yield call(place=place + 1, argument="sizeof bytes + 1"), wrong
+            yield call(place=place + 1, argument="sizeof text + 1"), wrong
 
 
 class Header(unittest.TestCase):
@@ -99,15 +169,34 @@ class Header(unittest.TestCase):
 
     def test_version(self):
         version = (TOP / "VERSION").read_text().strip()
-        words = "BASE62_VERSION BASE62_VERSION_MAJOR BASE62_VERSION_MINOR BASE62_VERSION_PATCH"
-        told = gcc(f"#include <base62.h>\n{words}", "-E", "-P").stdout.splitlines()[-1]
-        self.assertEqual(told, f'"{version}" {version.replace(".", " ")}')
+        major, minor, patch = map(int, version.split("."))
+        words = "BASE62_VERSION BASE62_VERSION_MAJOR BASE62_VERSION_MINOR BASE62_VERSION_PATCH BASE62_VERSION_NUMBER"
+        told = gcc(HEADER + words, "-E", "-P").stdout.splitlines()[-1]
+        self.assertEqual(told, f'"{version}" {major} {minor} {patch} {major * 10000 + minor * 100 + patch}')
 
     def test_functions(self):
-        self.assertEqual(declared(), exported())
+        functions = {name: (result, parameters) for name, (_, result, parameters) in declared().items()}
+        self.assertEqual(functions, exported() | INLINE)
+        self.assertEqual(set(functions) - set(declared("-U__SIZEOF_INT128__")), {"base62_from_u128", "base62_to_u128"})
+
+    def test_structs(self):
+        self.assertEqual(structs_of_c(), structs_of_rust())
+
+    def test_attributes(self):
+        """All of them, or those that are left where the compiler lacks some."""
+        for options, left in (
+            ([], "nonnull|access"),
+            (["-U__has_attribute"], "nonnull"),
+            (["-D__has_attribute(name)=0"], "nonnull"),
+            (["-U__GNUC__"], "none"),
+        ):
+            with self.subTest(options):
+                for name, (attributes, *function) in declared(*options).items():
+                    wanted = [attribute for attribute in attributes_of(*function) if re.search(left, attribute)]
+                    self.assertEqual(attributes, " ".join(wanted), name)
 
     def test_warnings(self):
-        wanted = [call for name, function in declared().items() for call in calls(name, *function)]
+        wanted = [call for name, (_, *function) in declared().items() for call in calls(name, *function)]
         lines = PROGRAM.splitlines() + [statement for statement, _ in wanted] + ["}", ""]
         said = gcc("\n".join(lines), "-Wall", "-S", "-o/dev/null").stderr
         warned = re.findall(r"<stdin>:(\d+):\d+: warning: .*\[-W([\w-]+)=?\]", said)
@@ -115,6 +204,30 @@ class Header(unittest.TestCase):
             {(lines[int(line) - 1], warning) for line, warning in warned},
             {(statement, warning) for statement, warning in wanted if warning},
         )
+
+    def test_macros(self):
+        for language in ("c", "c++"):
+            with self.subTest(language):
+                kept, before = (
+                    {line.split()[1] for line in gcc(source, "-E", "-dM", language=language).stdout.splitlines()}
+                    for source in (HEADER, INCLUDES)
+                )
+                self.assertEqual({re.sub(r"\(.*", "", name) for name in kept - before}, MACROS)
+
+    def test_layout(self):
+        """A status has 32 bits, and what comes behind the header is not packed."""
+        after = "struct after { char first; uint64_t second; };\n"
+        sizes = {"base62_status": 4, "base62_number": 16, "base62_range": 32, "base62_bad_byte": 16, "struct after": 16}
+        asserts = [f'_Static_assert(sizeof({name}) == {size}, "{name}");\n' for name, size in sizes.items()]
+        gcc(HEADER + after + "".join(asserts), "-fsyntax-only")
+
+    def test_includes(self):
+        """They stand outside of extern "C": there no template may stand, as other systems' headers have them."""
+        with tempfile.TemporaryDirectory() as folder:
+            for name in ("stddef", "stdint"):
+                source = f"#include_next <{name}.h>\ntemplate <typename T> struct in_{name};\n"
+                (pathlib.Path(folder) / f"{name}.h").write_text(source)
+            gcc(HEADER, f"-I{folder}", "-fsyntax-only", language="c++")
 
 
 if __name__ == "__main__":

@@ -1,47 +1,63 @@
--- How C is told an answer: by a status, and by what stands at its pointers before and after the call.
-use Rattle.std.specs.Prelude.{◌≡◌, ◌≤◌, ◌⊎◌, ◌++◌, ℕ, List, length, drop, Option, Some, None, Result, Ok, Err}
+-- How C is told an answer: by a length or a status, and by what stands at its pointers before and after the call.
+use Rattle.std.specs.Prelude.{◌≡◌, ◌≢◌, ◌≤◌, ◌<◌, ◌==◌, if◌then◌else◌, ◌++◌, ℕ, List, length, drop, Option, Some, None, Result, Ok, Err}
 use Rattle.base62.specs.declared.fault.DecodeError.{DecodeError}
 use Rattle.base62.specs.declared.fault.DecodeError.TheVariants.{ArithmeticOverflow, EmptyInput, InvalidBase62Byte}
-use Rattle.base62.specs.declared.fault.EncodeError.{EncodeError}
 use Rattle.base62.specs.declared.fault.EncodeError.TheVariants.{BufferTooSmall}
-use Rattle.base62.specs.Encoding.{EncodesInto}
+use Rattle.base62.specs.Encoding.{EncodesInto, FillsPlaces}
+use Rattle.base62_c.specs.declared.answer.BadByte.{BadByte}
+use Rattle.base62_c.specs.declared.answer.Range.{Range}
+use Rattle.base62_c.specs.declared.number.Number.{Number}
 use Rattle.base62_c.specs.Number.{number_of}
 
--- an answer of encoding: its status, and the length where there is one
-abbrev pub TellsLength : Result ℕ EncodeError → ℕ → ℕ → ℕ → Type 0
-TellsLength (Ok count) status len len' = (status ≡ 0) × (len' ≡ count)
-TellsLength (Err BufferTooSmall) status len len' = (status ≡ 1) × (len' ≡ len)
+-- A number is encoded into a buffer. The length of its text is told, or 0 where the buffer is too small.
+pub record Encodes (B : List ℕ) (n : ℕ) (buf buf' : List ℕ) (told : ℕ) : Type 0 where
+  pub written : EncodesInto B n buf buf' (if told == 0 then Err BufferTooSmall else Ok told)
+  pub within : told ≤ length buf
+  pub most : told ≤ 22
+  pub roomy : 22 ≤ length buf → 1 ≤ told
+  pub refused : told ≡ 0 → buf' ≡ buf
 
--- a number is encoded into a buffer, and the answer is told
-pub record Encodes (B : List ℕ) (n : ℕ) (buf buf' : List ℕ) (status len len' : ℕ) : Type 0 where
-  pub answer : Result ℕ EncodeError
-  pub encodes : EncodesInto B n buf buf' answer
-  pub tells : TellsLength answer status len len'
+-- A number is written into all places. Their count is told, or 0 where they are too few.
+pub record Fills (B : List ℕ) (n : ℕ) (places places' : List ℕ) (told : ℕ) : Type 0 where
+  pub written : FillsPlaces B n places places' (if told == 0 then Err BufferTooSmall else Ok tt)
+  pub whole : told ≢ 0 → told ≡ length places
+  pub roomy : 22 ≤ length places → told ≡ length places
+  pub refused : told ≡ 0 → places' ≡ places
+
+-- a byte that a fault names, and its index
+abbrev pub bad_byte : ℕ → ℕ → BadByte
+bad_byte byte index = record { byte = byte; index = index }
 
 -- a fault of decoding: its status, and the bad byte with its index where it names them
-abbrev pub TellsFault : DecodeError → ℕ → ℕ × ℕ → ℕ × ℕ → Type 0
+abbrev pub TellsFault : DecodeError → ℕ → BadByte → BadByte → Type 0
 TellsFault EmptyInput status bad bad' = (status ≡ 2) × (bad' ≡ bad)
-TellsFault (InvalidBase62Byte byte index) status bad bad' = (status ≡ 3) × (bad' ≡ (byte, index))
+TellsFault (InvalidBase62Byte byte index) status bad bad' = (status ≡ 3) × (bad' ≡ bad_byte byte index)
 TellsFault ArithmeticOverflow status bad bad' = (status ≡ 4) × (bad' ≡ bad)
 
--- an answer of decoding: its status, and the halves of the number where there is one
-abbrev pub TellsNumber : Result ℕ DecodeError → ℕ → ℕ × ℕ → ℕ × ℕ → ℕ × ℕ → ℕ × ℕ → Type 0
-TellsNumber (Ok n) status halves halves' bad bad' = (status ≡ 0) × (number_of halves' ≡ n) × (bad' ≡ bad)
-TellsNumber (Err fault) status halves halves' bad bad' = TellsFault fault status bad bad' × (halves' ≡ halves)
+-- an answer of decoding: its status, and the number where there is one
+abbrev pub TellsNumber : Result ℕ DecodeError → ℕ → Number → Number → BadByte → BadByte → Type 0
+TellsNumber (Ok n) status number number' bad bad' = (status ≡ 0) × (number_of number' ≡ n) × (bad' ≡ bad)
+TellsNumber (Err fault) status number number' bad bad' = TellsFault fault status bad bad' × (number' ≡ number)
 
--- a range of keys: its status, and the halves of its two ends where there are numbers
-abbrev pub TellsRange : Result (Option (ℕ × ℕ)) DecodeError → ℕ → ℕ × ℕ → ℕ × ℕ → ℕ × ℕ → ℕ × ℕ → ℕ × ℕ → ℕ × ℕ → Type 0
-TellsRange (Ok (Some (least, greatest))) status low low' high high' bad bad' =
-    (status ≡ 0) × (number_of low' ≡ least) × (number_of high' ≡ greatest) × (bad' ≡ bad)
-TellsRange (Ok None) status low low' high high' bad bad' = (status ≡ 5) × (low' ≡ low) × (high' ≡ high) × (bad' ≡ bad)
-TellsRange (Err fault) status low low' high high' bad bad' =
-    TellsFault fault status bad bad' × (low' ≡ low) × (high' ≡ high)
+-- the same of canonical texts alone, where another one's number is not told
+abbrev pub TellsCanonical : Result (Option ℕ) DecodeError → ℕ → Number → Number → BadByte → BadByte → Type 0
+TellsCanonical (Ok (Some n)) status number number' bad bad' = TellsNumber (Ok n) status number number' bad bad'
+TellsCanonical (Ok None) status number number' bad bad' = (status ≡ 7) × (number' ≡ number) × (bad' ≡ bad)
+TellsCanonical (Err fault) status number number' bad bad' = TellsNumber (Err fault) status number number' bad bad'
 
--- a text that fits is written to the front of a buffer with all other bytes as before, and else nothing is changed
-pub record WritesText (text buf buf' : List ℕ) (status len len' : ℕ) : Type 0 where
-  pub statuses : (status ≡ 0) ⊎ (status ≡ 1)
-  pub length_is : status ≡ 0 → len' ≡ length text
-  pub text_is : status ≡ 0 → buf' ≡ text ++ drop (length text) buf
-  pub fits : status ≡ 0 → length text ≤ length buf
-  pub roomy : length text ≤ length buf → status ≡ 0
-  pub refused : status ≡ 1 → (buf' ≡ buf) × (len' ≡ len)
+-- two ends, the lesser first
+abbrev pub ends : Number → Number → Range
+ends least greatest = record { least = least; greatest = greatest }
+
+-- a range: its status, and its two ends where there are any
+abbrev pub TellsRange : Result (Option (ℕ × ℕ)) DecodeError → ℕ → Range → Range → BadByte → BadByte → Type 0
+TellsRange (Ok (Some (least, greatest))) status range range' bad bad' =
+    (status ≡ 0) × (number_of range'.least ≡ least) × (number_of range'.greatest ≡ greatest) × (bad' ≡ bad)
+TellsRange (Ok None) status range range' bad bad' = (status ≡ 5) × (range' ≡ range) × (bad' ≡ bad)
+TellsRange (Err fault) status range range' bad bad' = TellsFault fault status bad bad' × (range' ≡ range)
+
+-- A text is written to the front of a buffer, with all other bytes as before. Its length is told, or 0 where the
+-- buffer is too small.
+pub record WritesText (text buf buf' : List ℕ) (told : ℕ) : Type 0 where
+  pub written : length text ≤ length buf → (told ≡ length text) × (buf' ≡ text ++ drop (length text) buf)
+  pub refused : length buf < length text → (told ≡ 0) × (buf' ≡ buf)

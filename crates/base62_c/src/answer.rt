@@ -1,11 +1,11 @@
 //! How answers are told by a status and through pointers.
 
-ghost use Rattle.std.specs.Prelude.{◌≡◌, Some, None, OnSome};
+ghost use Rattle.std.specs.Prelude.{◌≡◌, Some, None, OnSome, OnOk, OnErr};
 ghost use Rattle.base62.specs.Alphabet.{IsAlphabet, RepeatsFirst};
 ghost use Rattle.base62.specs.declared.fault.AlphabetError.TheVariants.{Repeated};
-ghost use Rattle.base62_c.specs.Answer.{TellsLength, TellsFault, TellsNumber, TellsRange, WritesText};
+ghost use Rattle.base62_c.specs.Answer.{TellsFault, TellsNumber, TellsCanonical, TellsRange, WritesText};
 
-use crate::number::put_halves;
+use crate::number::{Number, halves};
 use base62::{Alphabet, AlphabetError, DecodeError, EncodeError};
 
 pub(crate) const OK: u32 = 0;
@@ -22,69 +22,95 @@ pub(crate) const NO_KEY: u32 = 5;
 
 pub(crate) const REPEATED_LETTER: u32 = 6;
 
-pub(crate) fn tell_length(answer: Result<usize, EncodeError>, len: &mut usize) -> u32
-    ensures { TellsLength answer result len.old len.new }
+pub(crate) const NOT_CANONICAL: u32 = 7;
+
+/// The numbers from the least to the greatest.
+#[repr(C)]
+#[derive(Clone, Copy)]
+pub struct Range {
+    pub least: Number,
+    pub greatest: Number,
+}
+
+/// A byte that a fault names, and its index.
+#[repr(C)]
+#[derive(Clone, Copy)]
+pub struct BadByte {
+    pub index: usize,
+    pub byte: u8,
+}
+
+// So many places, or 0 where they are too few.
+pub(crate) fn count_filled(answer: Result<(), EncodeError>, places: usize) -> usize
+    ensures ok { OnOk answer (result ≡ places) }
+    ensures err { OnErr answer (result ≡ 0) }
 {
     match answer {
-        Ok(count) => {
-            *len = count;
-            OK
-        }
-        Err(EncodeError::BufferTooSmall) => BUFFER_TOO_SMALL,
+        Ok(()) => places,
+        Err(EncodeError::BufferTooSmall) => 0,
     }
 }
 
 pub(crate) fn tell_number(
     answer: Result<u128, DecodeError>,
-    high: &mut u64,
-    low: &mut u64,
-    byte: &mut u8,
-    index: &mut usize,
+    number: &mut Number,
+    bad: &mut BadByte,
 ) -> u32
-    ensures { TellsNumber answer result (high.old, low.old) (high.new, low.new)
-        (byte.old, index.old) (byte.new, index.new) }
+    ensures { TellsNumber answer result number.old number.new bad.old bad.new }
 {
     match answer {
         Ok(n) => {
-            put_halves(n, high, low);
+            *number = halves(n);
             OK
         }
-        Err(fault) => tell_fault(fault, byte, index),
+        Err(fault) => tell_fault(fault, bad),
+    }
+}
+
+pub(crate) fn tell_canonical(
+    answer: Result<Option<u128>, DecodeError>,
+    number: &mut Number,
+    bad: &mut BadByte,
+) -> u32
+    ensures { TellsCanonical answer result number.old number.new bad.old bad.new }
+{
+    match answer {
+        Ok(Some(n)) => {
+            *number = halves(n);
+            OK
+        }
+        Ok(None) => NOT_CANONICAL,
+        Err(fault) => tell_fault(fault, bad),
     }
 }
 
 pub(crate) fn tell_range(
     answer: Result<Option<(u128, u128)>, DecodeError>,
-    least_high: &mut u64,
-    least_low: &mut u64,
-    greatest_high: &mut u64,
-    greatest_low: &mut u64,
-    byte: &mut u8,
-    index: &mut usize,
+    range: &mut Range,
+    bad: &mut BadByte,
 ) -> u32
-    ensures { TellsRange answer result (least_high.old, least_low.old) (least_high.new, least_low.new)
-        (greatest_high.old, greatest_low.old) (greatest_high.new, greatest_low.new)
-        (byte.old, index.old) (byte.new, index.new) }
+    ensures { TellsRange answer result range.old range.new bad.old bad.new }
 {
     match answer {
         Ok(Some((least, greatest))) => {
-            put_halves(least, least_high, least_low);
-            put_halves(greatest, greatest_high, greatest_low);
+            *range = Range {
+                least: halves(least),
+                greatest: halves(greatest),
+            };
             OK
         }
         Ok(None) => NO_KEY,
-        Err(fault) => tell_fault(fault, byte, index),
+        Err(fault) => tell_fault(fault, bad),
     }
 }
 
-fn tell_fault(fault: DecodeError, byte: &mut u8, index: &mut usize) -> u32
-    ensures { TellsFault fault result (byte.old, index.old) (byte.new, index.new) }
+fn tell_fault(fault: DecodeError, bad: &mut BadByte) -> u32
+    ensures { TellsFault fault result bad.old bad.new }
 {
     match fault {
         DecodeError::EmptyInput => EMPTY_INPUT,
-        DecodeError::InvalidBase62Byte(bad, at) => {
-            *byte = bad;
-            *index = at;
+        DecodeError::InvalidBase62Byte(byte, index) => {
+            *bad = BadByte { index, byte };
             INVALID_BYTE
         }
         DecodeError::ArithmeticOverflow => OVERFLOW,
@@ -92,37 +118,34 @@ fn tell_fault(fault: DecodeError, byte: &mut u8, index: &mut usize) -> u32
 }
 
 // The alphabet of the letters, or none where one is repeated, which is told.
-pub(crate) fn alphabet_of(letters: &[u8; 62], byte: &mut u8, index: &mut usize) -> Option<Alphabet>
-    ensures accepted { IsAlphabet letters.now
-        → (result ≡ Some letters.now) × (byte.new ≡ byte.old) × (index.new ≡ index.old) }
+pub(crate) fn alphabet_of(letters: &[u8; 62], bad: &mut BadByte) -> Option<Alphabet>
+    ensures accepted { IsAlphabet letters.now → (result ≡ Some letters.now) × (bad.new ≡ bad.old) }
     ensures refused { (IsAlphabet letters.now → ⊥)
-        → (result ≡ None) × RepeatsFirst letters.now byte.new index.new }
+        → (result ≡ None) × RepeatsFirst letters.now bad.new.byte bad.new.index }
     ensures alphabet { OnSome result (IsAlphabet letters.now) }
 {
     match Alphabet::new(*letters) {
         Ok(alphabet) => Some(alphabet),
         Err(fault) => {
-            put_repeat(fault, byte, index);
+            put_repeat(fault, bad);
             None
         }
     }
 }
 
-fn put_repeat(fault: AlphabetError, byte: &mut u8, index: &mut usize)
-    ensures { fault ≡ Repeated byte.new index.new }
+fn put_repeat(fault: AlphabetError, bad: &mut BadByte)
+    ensures { fault ≡ Repeated bad.new.byte bad.new.index }
 {
-    let AlphabetError::Repeated(letter, at) = fault;
-    *byte = letter;
-    *index = at;
+    let AlphabetError::Repeated(byte, index) = fault;
+    *bad = BadByte { index, byte };
 }
 
-pub(crate) fn tell_text(text: &[u8], buf: &mut [u8], len: &mut usize) -> u32
-    ensures { WritesText text.now buf.old buf.new result len.old len.new }
+pub(crate) fn tell_text(text: &[u8], buf: &mut [u8]) -> usize
+    ensures { WritesText text.now buf.old buf.new result }
 {
     if buf.len() < text.len() {
-        return BUFFER_TOO_SMALL;
+        return 0;
     }
     buf[..text.len()].copy_from_slice(text);
-    *len = text.len();
-    OK
+    text.len()
 }

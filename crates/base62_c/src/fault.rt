@@ -1,23 +1,35 @@
 //! The texts of faults.
 
-ghost use Rattle.std.specs.Prelude.{◌≡◌};
+ghost use Rattle.std.specs.Prelude.{◌≡◌, ◌≤◌, length};
 ghost use Rattle.std.specs.Fmt.InlineText.{inline_text};
 ghost use Rattle.base62_c.specs.Fault.{fault_text};
 
-use crate::answer::{BUFFER_TOO_SMALL, EMPTY_INPUT, INVALID_BYTE, OVERFLOW, REPEATED_LETTER};
+use crate::answer::{
+    BUFFER_TOO_SMALL, BadByte, EMPTY_INPUT, INVALID_BYTE, NO_KEY, NOT_CANONICAL, OVERFLOW,
+    REPEATED_LETTER,
+};
 use base62::{AlphabetError, DecodeError, EncodeError, MAX_FAULT_TEXT};
 use std::fmt::InlineText;
 
 #[tactic(auto, unfolding(crate::specs::Fault::fault_text))]
-pub(crate) fn text_of(status: u32, byte: u8, index: usize) -> InlineText<MAX_FAULT_TEXT>
-    ensures { inline_text result ≡ fault_text status byte index }
+pub(crate) fn text_of(status: u32, bad: BadByte) -> InlineText<MAX_FAULT_TEXT>
+    ensures { inline_text result ≡ fault_text status bad.byte bad.index }
 {
     match status {
         BUFFER_TOO_SMALL => EncodeError::BufferTooSmall.text(),
         EMPTY_INPUT => DecodeError::EmptyInput.text(),
-        INVALID_BYTE => DecodeError::InvalidBase62Byte(byte, index).text(),
+        INVALID_BYTE => DecodeError::InvalidBase62Byte(bad.byte, bad.index).text(),
         OVERFLOW => DecodeError::ArithmeticOverflow.text(),
-        REPEATED_LETTER => AlphabetError::Repeated(byte, index).text(),
+        NO_KEY => whole("No text of so many letters begins with the front"),
+        REPEATED_LETTER => AlphabetError::Repeated(bad.byte, bad.index).text(),
+        NOT_CANONICAL => whole("Encoded input begins with a needless zero"),
         _ => InlineText::new(),
     }
+}
+
+fn whole(text: &str) -> InlineText<MAX_FAULT_TEXT>
+    requires { length text.now ≤ 77 }
+    ensures { inline_text result ≡ text.now }
+{
+    InlineText::new().and_str(text, MAX_FAULT_TEXT)
 }

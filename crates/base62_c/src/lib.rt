@@ -1,14 +1,15 @@
 //! The calls of `base62` for C: `include/base62.h` declares them and says what they do.
 //!
-//! A `&[u8]` is a pointer and then a length in C, and any other reference a pointer.
+//! A `&[u8]` is a pointer and then a length in C, any other reference a pointer, and a struct a value.
 #![tactic(auto)]
 
 ghost use Rattle.std.specs.Prelude.{◌≡◌, ◌≢◌, ◌≤◌, length};
 ghost use Rattle.base62.specs.Alphabet.{IsAlphabet, RepeatsFirst, standard, alternative};
 ghost use Rattle.base62.specs.Canonical.{DigitCount};
-ghost use Rattle.base62.specs.Decoding.{decoding};
+ghost use Rattle.base62.specs.Decoding.{decoding, canonical_decoding};
 ghost use Rattle.base62.specs.Key.{IsKey, range_of};
-ghost use Rattle.base62_c.specs.Answer.{Encodes, TellsNumber, TellsRange, WritesText};
+ghost use Rattle.base62.specs.Uuid.{uuid_number};
+ghost use Rattle.base62_c.specs.Answer.{Encodes, Fills, TellsNumber, TellsCanonical, TellsRange, WritesText};
 ghost use Rattle.base62_c.specs.Fault.{fault_text};
 ghost use Rattle.base62_c.specs.Number.{number_of};
 
@@ -18,174 +19,258 @@ pub mod laws;
 pub mod model;
 mod number;
 
-use answer::{OK, REPEATED_LETTER, alphabet_of, tell_length, tell_number, tell_range, tell_text};
+use answer::{
+    BadByte, OK, REPEATED_LETTER, Range, alphabet_of, count_filled, tell_canonical, tell_number,
+    tell_range, tell_text,
+};
 use base62::Alphabet;
 use fault::text_of;
-use number::joined;
+use number::{Number, halves, joined};
 
 #[unsafe(no_mangle)]
-pub extern "C" fn base62_encode(high: u64, low: u64, buf: &mut [u8], len: &mut usize) -> u32
-    ensures { Encodes standard (number_of (high, low)) buf.old buf.new result len.old len.new }
+pub extern "C" fn base62_encode(number: Number, buf: &mut [u8]) -> usize
+    ensures { Encodes standard (number_of number) buf.old buf.new result }
 {
-    tell_length(base62::encode_bytes(joined(high, low), buf), len)
+    base62::encode_bytes(joined(number), buf).unwrap_or(0)
 }
 
 #[unsafe(no_mangle)]
-pub extern "C" fn base62_encode_alternative(
-    high: u64,
-    low: u64,
-    buf: &mut [u8],
-    len: &mut usize,
-) -> u32
-    ensures { Encodes alternative (number_of (high, low)) buf.old buf.new result len.old len.new }
+pub extern "C" fn base62_encode_alternative(number: Number, buf: &mut [u8]) -> usize
+    ensures { Encodes alternative (number_of number) buf.old buf.new result }
 {
-    tell_length(
-        base62::encode_alternative_bytes(joined(high, low), buf),
-        len,
-    )
+    base62::encode_alternative_bytes(joined(number), buf).unwrap_or(0)
 }
 
 #[unsafe(no_mangle)]
-pub extern "C" fn base62_encode_with(
-    letters: &[u8; 62],
-    high: u64,
-    low: u64,
-    buf: &mut [u8],
-    len: &mut usize,
-) -> u32
+pub extern "C" fn base62_encode_with(letters: &[u8; 62], number: Number, buf: &mut [u8]) -> usize
     ensures accepted { IsAlphabet letters.now
-        → Encodes letters.now (number_of (high, low)) buf.old buf.new result len.old len.new }
-    ensures refused { (IsAlphabet letters.now → ⊥)
-        → (result ≡ 6) × (buf.new ≡ buf.old) × (len.new ≡ len.old) }
-    ensures alphabet { result ≢ 6 → IsAlphabet letters.now }
+        → Encodes letters.now (number_of number) buf.old buf.new result }
+    ensures refused { (IsAlphabet letters.now → ⊥) → (result ≡ 0) × (buf.new ≡ buf.old) }
+    ensures alphabet { result ≢ 0 → IsAlphabet letters.now }
 {
-    let Ok(alphabet) = Alphabet::new(*letters) else {
-        return REPEATED_LETTER;
-    };
-    tell_length(
-        base62::encode_bytes_with(&alphabet, joined(high, low), buf),
-        len,
+    match Alphabet::new(*letters) {
+        Ok(alphabet) => base62::encode_bytes_with(&alphabet, joined(number), buf).unwrap_or(0),
+        Err(_) => 0,
+    }
+}
+
+#[unsafe(no_mangle)]
+pub extern "C" fn base62_encode_fixed(number: Number, places: &mut [u8]) -> usize
+    ensures { Fills standard (number_of number) places.old places.new result }
+{
+    count_filled(base62::encode_fixed(joined(number), places), places.len())
+}
+
+#[unsafe(no_mangle)]
+pub extern "C" fn base62_encode_alternative_fixed(number: Number, places: &mut [u8]) -> usize
+    ensures { Fills alternative (number_of number) places.old places.new result }
+{
+    count_filled(
+        base62::encode_alternative_fixed(joined(number), places),
+        places.len(),
     )
 }
 
 #[unsafe(no_mangle)]
-pub extern "C" fn base62_decode(
-    text: &[u8],
-    high: &mut u64,
-    low: &mut u64,
-    byte: &mut u8,
-    index: &mut usize,
-) -> u32
-    ensures { TellsNumber (decoding standard text.now) result (high.old, low.old) (high.new, low.new)
-        (byte.old, index.old) (byte.new, index.new) }
+pub extern "C" fn base62_encode_fixed_with(
+    letters: &[u8; 62],
+    number: Number,
+    places: &mut [u8],
+) -> usize
+    ensures accepted { IsAlphabet letters.now
+        → Fills letters.now (number_of number) places.old places.new result }
+    ensures refused { (IsAlphabet letters.now → ⊥) → (result ≡ 0) × (places.new ≡ places.old) }
+    ensures alphabet { result ≢ 0 → IsAlphabet letters.now }
 {
-    tell_number(base62::decode(text), high, low, byte, index)
+    match Alphabet::new(*letters) {
+        Ok(alphabet) => {
+            let answer = base62::encode_fixed_with(&alphabet, joined(number), places);
+            count_filled(answer, places.len())
+        }
+        Err(_) => 0,
+    }
+}
+
+#[unsafe(no_mangle)]
+pub extern "C" fn base62_encode_key(number: Number, key: &mut [u8; 22])
+    ensures { IsKey standard key.new (number_of number) }
+{
+    *key = base62::encode_key(joined(number));
+}
+
+#[unsafe(no_mangle)]
+pub extern "C" fn base62_digit_count(number: Number) -> usize
+    ensures counted { DigitCount (number_of number) result }
+    ensures least { 1 ≤ result }
+    ensures most { result ≤ 22 }
+{
+    base62::digit_count(joined(number))
+}
+
+#[unsafe(no_mangle)]
+pub extern "C" fn base62_decode(text: &[u8], number: &mut Number, bad: &mut BadByte) -> u32
+    ensures { TellsNumber (decoding standard text.now) result number.old number.new bad.old bad.new }
+{
+    tell_number(base62::decode(text), number, bad)
 }
 
 #[unsafe(no_mangle)]
 pub extern "C" fn base62_decode_alternative(
     text: &[u8],
-    high: &mut u64,
-    low: &mut u64,
-    byte: &mut u8,
-    index: &mut usize,
+    number: &mut Number,
+    bad: &mut BadByte,
 ) -> u32
-    ensures { TellsNumber (decoding alternative text.now) result (high.old, low.old) (high.new, low.new)
-        (byte.old, index.old) (byte.new, index.new) }
+    ensures { TellsNumber (decoding alternative text.now) result number.old number.new bad.old bad.new }
 {
-    tell_number(base62::decode_alternative(text), high, low, byte, index)
+    tell_number(base62::decode_alternative(text), number, bad)
 }
 
 #[unsafe(no_mangle)]
 pub extern "C" fn base62_decode_with(
     letters: &[u8; 62],
     text: &[u8],
-    high: &mut u64,
-    low: &mut u64,
-    byte: &mut u8,
-    index: &mut usize,
+    number: &mut Number,
+    bad: &mut BadByte,
 ) -> u32
     ensures accepted { IsAlphabet letters.now
-        → TellsNumber (decoding letters.now text.now) result (high.old, low.old) (high.new, low.new)
-        (byte.old, index.old) (byte.new, index.new) }
+        → TellsNumber (decoding letters.now text.now) result number.old number.new bad.old bad.new }
     ensures refused { (IsAlphabet letters.now → ⊥)
-        → (result ≡ 6) × RepeatsFirst letters.now byte.new index.new
-        × (high.new ≡ high.old) × (low.new ≡ low.old) }
+        → (result ≡ 6) × RepeatsFirst letters.now bad.new.byte bad.new.index × (number.new ≡ number.old) }
     ensures alphabet { result ≢ 6 → IsAlphabet letters.now }
 {
-    let Some(alphabet) = alphabet_of(letters, byte, index) else {
-        return REPEATED_LETTER;
-    };
-    tell_number(base62::decode_with(&alphabet, text), high, low, byte, index)
+    match alphabet_of(letters, bad) {
+        Some(alphabet) => tell_number(base62::decode_with(&alphabet, text), number, bad),
+        None => REPEATED_LETTER,
+    }
 }
 
 #[unsafe(no_mangle)]
-pub extern "C" fn base62_check_alphabet(letters: &[u8; 62], byte: &mut u8, index: &mut usize) -> u32
+pub extern "C" fn base62_decode_canonical(
+    text: &[u8],
+    number: &mut Number,
+    bad: &mut BadByte,
+) -> u32
+    ensures { TellsCanonical (canonical_decoding standard text.now) result number.old number.new bad.old bad.new }
+{
+    tell_canonical(base62::decode_canonical(text), number, bad)
+}
+
+#[unsafe(no_mangle)]
+pub extern "C" fn base62_decode_alternative_canonical(
+    text: &[u8],
+    number: &mut Number,
+    bad: &mut BadByte,
+) -> u32
+    ensures { TellsCanonical (canonical_decoding alternative text.now) result number.old number.new
+        bad.old bad.new }
+{
+    tell_canonical(base62::decode_alternative_canonical(text), number, bad)
+}
+
+#[unsafe(no_mangle)]
+pub extern "C" fn base62_decode_canonical_with(
+    letters: &[u8; 62],
+    text: &[u8],
+    number: &mut Number,
+    bad: &mut BadByte,
+) -> u32
     ensures accepted { IsAlphabet letters.now
-        → (result ≡ 0) × (byte.new ≡ byte.old) × (index.new ≡ index.old) }
+        → TellsCanonical (canonical_decoding letters.now text.now) result number.old number.new bad.old bad.new }
     ensures refused { (IsAlphabet letters.now → ⊥)
-        → (result ≡ 6) × RepeatsFirst letters.now byte.new index.new }
+        → (result ≡ 6) × RepeatsFirst letters.now bad.new.byte bad.new.index × (number.new ≡ number.old) }
     ensures alphabet { result ≢ 6 → IsAlphabet letters.now }
 {
-    match alphabet_of(letters, byte, index) {
+    match alphabet_of(letters, bad) {
+        Some(alphabet) => tell_canonical(
+            base62::decode_canonical_with(&alphabet, text),
+            number,
+            bad,
+        ),
+        None => REPEATED_LETTER,
+    }
+}
+
+#[unsafe(no_mangle)]
+pub extern "C" fn base62_key_range(front: &[u8], range: &mut Range, bad: &mut BadByte) -> u32
+    ensures { TellsRange (range_of standard 22 front.now) result range.old range.new bad.old bad.new }
+{
+    tell_range(base62::key_range(front), range, bad)
+}
+
+#[unsafe(no_mangle)]
+pub extern "C" fn base62_fixed_range(
+    width: usize,
+    front: &[u8],
+    range: &mut Range,
+    bad: &mut BadByte,
+) -> u32
+    ensures { TellsRange (range_of standard width front.now) result range.old range.new bad.old bad.new }
+{
+    tell_range(base62::fixed_range(width, front), range, bad)
+}
+
+#[unsafe(no_mangle)]
+pub extern "C" fn base62_fixed_range_with(
+    letters: &[u8; 62],
+    width: usize,
+    front: &[u8],
+    range: &mut Range,
+    bad: &mut BadByte,
+) -> u32
+    ensures accepted { IsAlphabet letters.now
+        → TellsRange (range_of letters.now width front.now) result range.old range.new bad.old bad.new }
+    ensures refused { (IsAlphabet letters.now → ⊥)
+        → (result ≡ 6) × RepeatsFirst letters.now bad.new.byte bad.new.index × (range.new ≡ range.old) }
+    ensures alphabet { result ≢ 6 → IsAlphabet letters.now }
+{
+    match alphabet_of(letters, bad) {
+        Some(alphabet) => tell_range(
+            base62::fixed_range_with(&alphabet, width, front),
+            range,
+            bad,
+        ),
+        None => REPEATED_LETTER,
+    }
+}
+
+#[unsafe(no_mangle)]
+pub extern "C" fn base62_check_alphabet(letters: &[u8; 62], bad: &mut BadByte) -> u32
+    ensures accepted { IsAlphabet letters.now → (result ≡ 0) × (bad.new ≡ bad.old) }
+    ensures refused { (IsAlphabet letters.now → ⊥)
+        → (result ≡ 6) × RepeatsFirst letters.now bad.new.byte bad.new.index }
+    ensures alphabet { result ≢ 6 → IsAlphabet letters.now }
+{
+    match alphabet_of(letters, bad) {
         Some(_) => OK,
         None => REPEATED_LETTER,
     }
 }
 
 #[unsafe(no_mangle)]
-pub extern "C" fn base62_digit_count(high: u64, low: u64) -> usize
-    ensures counted { DigitCount (number_of (high, low)) result }
-    ensures least { 1 ≤ result }
-    ensures most { result ≤ 22 }
+pub extern "C" fn base62_number_of_uuid(uuid: &[u8; 16]) -> Number
+    ensures { number_of result ≡ uuid_number uuid.now }
 {
-    base62::digit_count(joined(high, low))
+    halves(base62::Number::number(*uuid))
 }
 
 #[unsafe(no_mangle)]
-pub extern "C" fn base62_encode_key(high: u64, low: u64, key: &mut [u8; 22])
-    ensures { IsKey standard key.new (number_of (high, low)) }
+pub extern "C" fn base62_uuid_of_number(number: Number, uuid: &mut [u8; 16])
+    ensures { uuid_number uuid.new ≡ number_of number }
 {
-    *key = base62::encode_key(joined(high, low));
+    *uuid = joined(number).to_be_bytes();
 }
 
 #[unsafe(no_mangle)]
-pub extern "C" fn base62_key_range(
-    front: &[u8],
-    least_high: &mut u64,
-    least_low: &mut u64,
-    greatest_high: &mut u64,
-    greatest_low: &mut u64,
-    byte: &mut u8,
-    index: &mut usize,
-) -> u32
-    ensures { TellsRange (range_of standard 22 front.now) result
-        (least_high.old, least_low.old) (least_high.new, least_low.new)
-        (greatest_high.old, greatest_low.old) (greatest_high.new, greatest_low.new)
-        (byte.old, index.old) (byte.new, index.new) }
+pub extern "C" fn base62_fault_text(status: u32, bad: BadByte, buf: &mut [u8]) -> usize
+    ensures written { WritesText (fault_text status bad.byte bad.index) buf.old buf.new result }
+    ensures most { length (fault_text status bad.byte bad.index) ≤ 77 }
 {
-    let range = base62::key_range(front);
-    tell_range(
-        range,
-        least_high,
-        least_low,
-        greatest_high,
-        greatest_low,
-        byte,
-        index,
-    )
+    tell_text(text_of(status, bad).as_str().as_bytes(), buf)
 }
 
 #[unsafe(no_mangle)]
-pub extern "C" fn base62_fault_text(
-    status: u32,
-    byte: u8,
-    index: usize,
-    buf: &mut [u8],
-    len: &mut usize,
-) -> u32
-    ensures writes { WritesText (fault_text status byte index) buf.old buf.new result len.old len.new }
-    ensures roomy { 77 ≤ length buf.old → result ≡ 0 }
+pub extern "C" fn base62_version_number() -> u32
+    ensures { result ≡ 20000 }
 {
-    tell_text(text_of(status, byte, index).as_str().as_bytes(), buf, len)
+    20000
 }

@@ -2,86 +2,128 @@
 //! in a run.
 #![tactic(auto)]
 
-ghost use Rattle.std.specs.Prelude.{◌≡◌, ◌+◌, ◌-◌, ◌^◌, [], codes, Ok, Err, Some, None};
+ghost use Rattle.std.specs.Prelude.{◌≡◌, ◌+◌, ◌-◌, ◌^◌, ℕ, List, [], codes, Ok, Err, Some, None};
 ghost use Rattle.base62.specs.declared.fault.DecodeError.TheVariants.{ArithmeticOverflow, EmptyInput, InvalidBase62Byte};
-ghost use Rattle.base62.specs.declared.fault.EncodeError.TheVariants.{BufferTooSmall};
-ghost use Rattle.base62_c.specs.Answer.{TellsFault, TellsLength, TellsNumber, TellsRange, WritesText};
+ghost use Rattle.base62_c.specs.Answer.{Encodes, Fills, TellsFault, TellsNumber, TellsCanonical, TellsRange, WritesText, bad_byte, ends};
 ghost use Rattle.base62_c.specs.Fault.{fault_text};
-ghost use Rattle.base62_c.specs.Number.{number_of};
+ghost use Rattle.base62_c.specs.Number.{number_of, pair};
+ghost use Rattle.base62_c.specs.declared.answer.BadByte.{BadByte};
+ghost use Rattle.base62_c.specs.declared.answer.Range.{Range};
+ghost use Rattle.base62_c.specs.declared.number.Number.{Number};
 
 /// Halves, the higher one first.
 pub fn numbers_by_example()
-    ensures low { number_of (0, 1337) ≡ 1337 }
-    ensures high { number_of (1, 5) ≡ 2 ^ 64 + 5 }
-    ensures greatest { number_of (2 ^ 64 - 1, 2 ^ 64 - 1) ≡ 2 ^ 128 - 1 }
+    ensures low { number_of (pair 0 1337) ≡ 1337 }
+    ensures high { number_of (pair 1 5) ≡ 2 ^ 64 + 5 }
+    ensures greatest { number_of (pair (2 ^ 64 - 1) (2 ^ 64 - 1)) ≡ 2 ^ 128 - 1 }
 {}
 
-/// Faults, where 7 and 8 stood at the byte and at its index.
-pub fn faults_by_example()
-    ensures empty { TellsFault EmptyInput 2 (7, 8) (7, 8) }
-    ensures empty_by_another_status { TellsFault EmptyInput 4 (7, 8) (7, 8) → ⊥ }
-    ensures empty_with_a_byte { TellsFault EmptyInput 2 (7, 8) (9, 8) → ⊥ }
-    ensures bad_byte { TellsFault (InvalidBase62Byte 33 5) 3 (7, 8) (33, 5) }
-    ensures bad_byte_by_another_status { TellsFault (InvalidBase62Byte 33 5) 6 (7, 8) (33, 5) → ⊥ }
-    ensures bad_byte_without_its_index { TellsFault (InvalidBase62Byte 33 5) 3 (7, 8) (33, 8) → ⊥ }
-    ensures bad_byte_alone_missing { TellsFault (InvalidBase62Byte 33 5) 3 (7, 8) (7, 5) → ⊥ }
-    ensures overflow { TellsFault ArithmeticOverflow 4 (7, 8) (7, 8) }
-    ensures overflow_by_another_status { TellsFault ArithmeticOverflow 2 (7, 8) (7, 8) → ⊥ }
-    ensures overflow_with_an_index { TellsFault ArithmeticOverflow 4 (7, 8) (7, 9) → ⊥ }
-{}
-
-/// Answers of encoding, where 7 stood at the length.
+/// What tells no number that is encoded into points.
 pub fn lengths_by_example()
-    ensures length { TellsLength (Ok 2) 0 7 2 }
-    ensures length_left { TellsLength (Ok 2) 0 7 7 → ⊥ }
-    ensures length_by_another_status { TellsLength (Ok 2) 1 7 2 → ⊥ }
-    ensures refused { TellsLength (Err BufferTooSmall) 1 7 7 }
-    ensures refused_with_a_length { TellsLength (Err BufferTooSmall) 1 7 2 → ⊥ }
-    ensures refused_by_another_status { TellsLength (Err BufferTooSmall) 0 7 7 → ⊥ }
+    ensures refused_with_a_text { (B : List ℕ) (n : ℕ) → Encodes B n (codes "..") (codes "L.") 0 → ⊥ }
+    ensures longer_than_the_buffer { (B : List ℕ) (n : ℕ) → Encodes B n (codes ".") (codes "LZ") 2 → ⊥ }
+    ensures longer_than_any_text { (B : List ℕ) (n : ℕ) (buf : List ℕ) → Encodes B n buf buf 23 → ⊥ }
+    ensures refused_though_roomy { (B : List ℕ) (n : ℕ)
+        → Encodes B n (codes "......................") (codes "......................") 0 → ⊥ }
+    ensures byte_behind { (B : List ℕ) (n : ℕ) → Encodes B n (codes "...") (codes "LZ?") 2 → ⊥ }
+    ensures places_left { (B : List ℕ) (n : ℕ) → Fills B n (codes "...") (codes "LZ.") 2 → ⊥ }
+    ensures places_refused_with_a_zero { (B : List ℕ) (n : ℕ) → Fills B n (codes "..") (codes "0.") 0 → ⊥ }
+    ensures places_refused_though_roomy { (B : List ℕ) (n : ℕ)
+        → Fills B n (codes "......................") (codes "......................") 0 → ⊥ }
 {}
 
-/// Answers of decoding, where 3 and 4 stood at the halves.
+/// Faults, whatever stood at the byte and its index, or where these were 7 and 8.
+pub fn faults_by_example()
+    ensures empty { (bad : BadByte) → TellsFault EmptyInput 2 bad bad }
+    ensures empty_by_another_status { (bad : BadByte) → TellsFault EmptyInput 4 bad bad → ⊥ }
+    ensures empty_with_a_byte { TellsFault EmptyInput 2 (bad_byte 7 8) (bad_byte 9 8) → ⊥ }
+    ensures bad_byte { (bad : BadByte) → TellsFault (InvalidBase62Byte 33 5) 3 bad (bad_byte 33 5) }
+    ensures bad_byte_by_another_status { (bad : BadByte)
+        → TellsFault (InvalidBase62Byte 33 5) 6 bad (bad_byte 33 5) → ⊥ }
+    ensures bad_byte_without_its_index { TellsFault (InvalidBase62Byte 33 5) 3 (bad_byte 7 8) (bad_byte 33 8) → ⊥ }
+    ensures bad_byte_alone_missing { TellsFault (InvalidBase62Byte 33 5) 3 (bad_byte 7 8) (bad_byte 7 5) → ⊥ }
+    ensures overflow { (bad : BadByte) → TellsFault ArithmeticOverflow 4 bad bad }
+    ensures overflow_by_another_status { (bad : BadByte) → TellsFault ArithmeticOverflow 2 bad bad → ⊥ }
+    ensures overflow_with_an_index { TellsFault ArithmeticOverflow 4 (bad_byte 7 8) (bad_byte 7 9) → ⊥ }
+{}
+
+/// Answers of decoding, whatever stood at the pointers, or where 3 and 4 stood at the halves.
 pub fn answers_by_example()
-    ensures number { TellsNumber (Ok (2 ^ 64 + 5)) 0 (3, 4) (1, 5) (7, 8) (7, 8) }
-    ensures halves_left { TellsNumber (Ok (2 ^ 64 + 5)) 0 (3, 4) (3, 4) (7, 8) (7, 8) → ⊥ }
-    ensures halves_exchanged { TellsNumber (Ok (2 ^ 64 + 5)) 0 (3, 4) (5, 1) (7, 8) (7, 8) → ⊥ }
-    ensures number_with_a_byte { TellsNumber (Ok (2 ^ 64 + 5)) 0 (3, 4) (1, 5) (7, 8) (0, 8) → ⊥ }
-    ensures number_by_another_status { TellsNumber (Ok (2 ^ 64 + 5)) 1 (3, 4) (1, 5) (7, 8) (7, 8) → ⊥ }
-    ensures fault { TellsNumber (Err (InvalidBase62Byte 33 5)) 3 (3, 4) (3, 4) (7, 8) (33, 5) }
-    ensures fault_with_a_half { TellsNumber (Err (InvalidBase62Byte 33 5)) 3 (3, 4) (3, 0) (7, 8) (33, 5) → ⊥ }
-    ensures fault_left { TellsNumber (Err (InvalidBase62Byte 33 5)) 3 (3, 4) (3, 4) (7, 8) (7, 8) → ⊥ }
+    ensures number { (n : Number) (bad : BadByte) → TellsNumber (Ok (2 ^ 64 + 5)) 0 n (pair 1 5) bad bad }
+    ensures halves_left { (bad : BadByte) → TellsNumber (Ok (2 ^ 64 + 5)) 0 (pair 3 4) (pair 3 4) bad bad → ⊥ }
+    ensures halves_exchanged { (n : Number) (bad : BadByte)
+        → TellsNumber (Ok (2 ^ 64 + 5)) 0 n (pair 5 1) bad bad → ⊥ }
+    ensures number_with_a_byte { (n : Number)
+        → TellsNumber (Ok (2 ^ 64 + 5)) 0 n (pair 1 5) (bad_byte 7 8) (bad_byte 0 8) → ⊥ }
+    ensures number_by_another_status { (n : Number) (bad : BadByte)
+        → TellsNumber (Ok (2 ^ 64 + 5)) 1 n (pair 1 5) bad bad → ⊥ }
+    ensures fault { (n : Number) (bad : BadByte)
+        → TellsNumber (Err (InvalidBase62Byte 33 5)) 3 n n bad (bad_byte 33 5) }
+    ensures fault_with_a_half { (bad : BadByte)
+        → TellsNumber (Err (InvalidBase62Byte 33 5)) 3 (pair 3 4) (pair 3 0) bad (bad_byte 33 5) → ⊥ }
+    ensures fault_left { (n : Number)
+        → TellsNumber (Err (InvalidBase62Byte 33 5)) 3 n n (bad_byte 7 8) (bad_byte 7 8) → ⊥ }
 {}
 
-/// Ranges, where 3 and 4 stood at the halves of the least number, and 5 and 6 at those of the greatest.
+/// The same of canonical texts alone.
+pub fn canonical_by_example()
+    ensures number { (n : Number) (bad : BadByte) → TellsCanonical (Ok (Some 5)) 0 n (pair 0 5) bad bad }
+    ensures number_by_another_status { (n : Number) (bad : BadByte)
+        → TellsCanonical (Ok (Some 5)) 7 n (pair 0 5) bad bad → ⊥ }
+    ensures number_left { (bad : BadByte) → TellsCanonical (Ok (Some 5)) 0 (pair 3 4) (pair 3 4) bad bad → ⊥ }
+    ensures needless_zero { (n : Number) (bad : BadByte) → TellsCanonical (Ok None) 7 n n bad bad }
+    ensures needless_zero_with_a_number { (bad : BadByte)
+        → TellsCanonical (Ok None) 7 (pair 3 4) (pair 0 5) bad bad → ⊥ }
+    ensures needless_zero_with_an_index { (n : Number)
+        → TellsCanonical (Ok None) 7 n n (bad_byte 7 8) (bad_byte 7 0) → ⊥ }
+    ensures needless_zero_by_another_status { (n : Number) (bad : BadByte)
+        → TellsCanonical (Ok None) 0 n n bad bad → ⊥ }
+    ensures fault { (n : Number) (bad : BadByte) → TellsCanonical (Err EmptyInput) 2 n n bad bad }
+    ensures fault_with_a_half { (bad : BadByte)
+        → TellsCanonical (Err EmptyInput) 2 (pair 3 4) (pair 3 0) bad bad → ⊥ }
+{}
+
+/// Ranges, whatever stood at the pointers, or where 3 and 4 stood at the halves of an end.
 pub fn ranges_by_example()
-    ensures ends { TellsRange (Ok (Some (1302, 1363))) 0 (3, 4) (0, 1302) (5, 6) (0, 1363) (7, 8) (7, 8) }
-    ensures ends_exchanged { TellsRange (Ok (Some (1302, 1363))) 0 (3, 4) (0, 1363) (5, 6) (0, 1302) (7, 8) (7, 8) → ⊥ }
-    ensures least_left { TellsRange (Ok (Some (1302, 1363))) 0 (3, 4) (3, 4) (5, 6) (0, 1363) (7, 8) (7, 8) → ⊥ }
-    ensures greatest_left { TellsRange (Ok (Some (1302, 1363))) 0 (3, 4) (0, 1302) (5, 6) (5, 6) (7, 8) (7, 8) → ⊥ }
-    ensures ends_with_an_index { TellsRange (Ok (Some (1302, 1363))) 0 (3, 4) (0, 1302) (5, 6) (0, 1363) (7, 8) (7, 0) → ⊥ }
-    ensures none { TellsRange (Ok None) 5 (3, 4) (3, 4) (5, 6) (5, 6) (7, 8) (7, 8) }
-    ensures none_by_another_status { TellsRange (Ok None) 0 (3, 4) (3, 4) (5, 6) (5, 6) (7, 8) (7, 8) → ⊥ }
-    ensures none_with_a_least { TellsRange (Ok None) 5 (3, 4) (0, 0) (5, 6) (5, 6) (7, 8) (7, 8) → ⊥ }
-    ensures none_with_a_greatest { TellsRange (Ok None) 5 (3, 4) (3, 4) (5, 6) (0, 0) (7, 8) (7, 8) → ⊥ }
-    ensures none_with_a_byte { TellsRange (Ok None) 5 (3, 4) (3, 4) (5, 6) (5, 6) (7, 8) (0, 8) → ⊥ }
-    ensures fault { TellsRange (Err (InvalidBase62Byte 45 1)) 3 (3, 4) (3, 4) (5, 6) (5, 6) (7, 8) (45, 1) }
-    ensures fault_with_a_least { TellsRange (Err (InvalidBase62Byte 45 1)) 3 (3, 4) (0, 0) (5, 6) (5, 6) (7, 8) (45, 1) → ⊥ }
-    ensures fault_with_a_greatest { TellsRange (Err (InvalidBase62Byte 45 1)) 3 (3, 4) (3, 4) (5, 6) (0, 0) (7, 8) (45, 1) → ⊥ }
-    ensures fault_left { TellsRange (Err (InvalidBase62Byte 45 1)) 3 (3, 4) (3, 4) (5, 6) (5, 6) (7, 8) (7, 8) → ⊥ }
+    ensures both { (r : Range) (bad : BadByte)
+        → TellsRange (Ok (Some (1302, 1363))) 0 r (ends (pair 0 1302) (pair 0 1363)) bad bad }
+    ensures exchanged { (r : Range) (bad : BadByte)
+        → TellsRange (Ok (Some (1302, 1363))) 0 r (ends (pair 0 1363) (pair 0 1302)) bad bad → ⊥ }
+    ensures least_left { (n : Number) (bad : BadByte)
+        → TellsRange (Ok (Some (5, 6))) 0 (ends (pair 3 4) n) (ends (pair 3 4) (pair 0 6)) bad bad → ⊥ }
+    ensures greatest_left { (n : Number) (bad : BadByte)
+        → TellsRange (Ok (Some (5, 6))) 0 (ends n (pair 3 4)) (ends (pair 0 5) (pair 3 4)) bad bad → ⊥ }
+    ensures both_with_an_index { (r : Range)
+        → TellsRange (Ok (Some (5, 6))) 0 r (ends (pair 0 5) (pair 0 6)) (bad_byte 7 8) (bad_byte 7 0) → ⊥ }
+    ensures none { (r : Range) (bad : BadByte) → TellsRange (Ok None) 5 r r bad bad }
+    ensures none_by_another_status { (r : Range) (bad : BadByte) → TellsRange (Ok None) 0 r r bad bad → ⊥ }
+    ensures none_with_a_least { (n : Number) (bad : BadByte)
+        → TellsRange (Ok None) 5 (ends (pair 3 4) n) (ends (pair 0 0) n) bad bad → ⊥ }
+    ensures none_with_a_greatest { (n : Number) (bad : BadByte)
+        → TellsRange (Ok None) 5 (ends n (pair 3 4)) (ends n (pair 0 0)) bad bad → ⊥ }
+    ensures none_with_a_byte { (r : Range) → TellsRange (Ok None) 5 r r (bad_byte 7 8) (bad_byte 0 8) → ⊥ }
+    ensures fault { (r : Range) (bad : BadByte)
+        → TellsRange (Err (InvalidBase62Byte 45 1)) 3 r r bad (bad_byte 45 1) }
+    ensures fault_with_a_least { (n : Number) (bad : BadByte)
+        → TellsRange (Err EmptyInput) 2 (ends (pair 3 4) n) (ends (pair 0 0) n) bad bad → ⊥ }
+    ensures fault_with_a_greatest { (n : Number) (bad : BadByte)
+        → TellsRange (Err EmptyInput) 2 (ends n (pair 3 4)) (ends n (pair 0 0)) bad bad → ⊥ }
+    ensures fault_left { (r : Range)
+        → TellsRange (Err (InvalidBase62Byte 45 1)) 3 r r (bad_byte 7 8) (bad_byte 7 8) → ⊥ }
 {}
 
-/// Texts into buffers of points, where 7 stood at the length.
+/// Texts into buffers of points.
 pub fn texts_by_example()
-    ensures roomy { WritesText (codes "LZ") (codes "....") (codes "LZ..") 0 7 2 }
-    ensures exact { WritesText (codes "LZ") (codes "..") (codes "LZ") 0 7 2 }
-    ensures refused { WritesText (codes "LZ") (codes ".") (codes ".") 1 7 7 }
-    ensures exact_refused { WritesText (codes "LZ") (codes "..") (codes "..") 1 7 7 → ⊥ }
-    ensures longer_than_the_buffer { WritesText (codes "LZ") (codes ".") (codes "LZ") 0 7 2 → ⊥ }
-    ensures byte_behind { WritesText (codes "LZ") (codes "....") (codes "LZ?.") 0 7 2 → ⊥ }
-    ensures length_left { WritesText (codes "LZ") (codes "....") (codes "LZ..") 0 7 7 → ⊥ }
-    ensures refused_with_a_front { WritesText (codes "LZ") (codes ".") (codes "L") 1 7 7 → ⊥ }
-    ensures refused_with_a_length { WritesText (codes "LZ") (codes ".") (codes ".") 1 7 2 → ⊥ }
-    ensures another_status { WritesText (codes "LZ") (codes "....") (codes "LZ..") 2 7 2 → ⊥ }
+    ensures roomy { WritesText (codes "LZ") (codes "....") (codes "LZ..") 2 }
+    ensures exact { WritesText (codes "LZ") (codes "..") (codes "LZ") 2 }
+    ensures refused { WritesText (codes "LZ") (codes ".") (codes ".") 0 }
+    ensures none { WritesText [] (codes ".") (codes ".") 0 }
+    ensures exact_refused { WritesText (codes "LZ") (codes "..") (codes "..") 0 → ⊥ }
+    ensures longer_than_the_buffer { WritesText (codes "LZ") (codes ".") (codes "LZ") 2 → ⊥ }
+    ensures byte_behind { WritesText (codes "LZ") (codes "....") (codes "LZ?.") 2 → ⊥ }
+    ensures another_length { WritesText (codes "LZ") (codes "....") (codes "LZ..") 4 → ⊥ }
+    ensures refused_with_a_front { WritesText (codes "LZ") (codes ".") (codes "L") 0 → ⊥ }
+    ensures refused_with_a_length { WritesText (codes "LZ") (codes ".") (codes ".") 2 → ⊥ }
 {}
 
 /// What statuses say, with byte 33, which is `!`, and index 5.
@@ -98,7 +140,8 @@ pub fn fault_texts_by_example()
     ensures empty_input { fault_text 2 33 5 ≡ codes "Encoded input is an empty string" }
     ensures invalid_byte { fault_text 3 33 5 ≡ codes "Encoded input contains the invalid byte b'!' at index 5" }
     ensures overflow { fault_text 4 33 5 ≡ codes "Decoded number cannot fit into a `u128`" }
-    ensures no_key { fault_text 5 33 5 ≡ [] }
+    ensures no_key { fault_text 5 33 5 ≡ codes "No text of so many letters begins with the front" }
     ensures repeated_letter { fault_text 6 33 5 ≡ codes "Alphabet repeats the byte b'!' at index 5" }
-    ensures no_status { fault_text 7 33 5 ≡ [] }
+    ensures not_canonical { fault_text 7 33 5 ≡ codes "Encoded input begins with a needless zero" }
+    ensures no_status { fault_text 8 33 5 ≡ [] }
 {}

@@ -3,15 +3,25 @@
 ghost use Rattle.std.specs.Prelude.{◌≡◌};
 ghost use Rattle.base62_c.specs.Number.{number_of};
 
-pub(crate) fn joined(high: u64, low: u64) -> u128
-    ensures { result ≡ number_of (high, low) }
-{
-    (u128::from(high) << 64) + u128::from(low)
+/// A number below 2^128: `high * 2^64 + low`.
+#[repr(C)]
+#[derive(Clone, Copy)]
+pub struct Number {
+    pub high: u64,
+    pub low: u64,
 }
 
-pub(crate) fn put_halves(n: u128, high: &mut u64, low: &mut u64)
-    ensures { number_of (high.new, low.new) ≡ n }
+pub(crate) fn joined(number: Number) -> u128
+    ensures { result ≡ number_of number }
 {
-    *high = (n >> 64) as u64;
-    *low = (n % (1 << 64)) as u64;
+    (u128::from(number.high) << 64) + u128::from(number.low)
+}
+
+pub(crate) fn halves(n: u128) -> Number
+    ensures { number_of result ≡ n }
+{
+    Number {
+        high: (n >> 64) as u64,
+        low: (n % (1 << 64)) as u64,
+    }
 }

@@ -1,29 +1,52 @@
-use Rattle.std.proofs.Common.{◌≡◌, ℕ, List, ◌++◌, ◌≤◌, length, take, drop, Result, Ok, Err, slice_index, refl, ap, sym, ◌∙◌, inl, inr, arith}
+use Rattle.std.proofs.Common.{◌≡◌, ℕ, zero, suc, List, ◌++◌, ◌≤◌, length, take, drop, slice_index, Ok, Err, if◌then◌else◌, refl, ap, sym, subst, ◌∙◌, inl, inr, arith}
+use Rattle.std.proofs.Math.Dec.{eqb-suc-zero}
+use Rattle.std.proofs.Math.Nat.{suc-ne-zero}
 use Rattle.std.proofs.lemmas.Bool.{cases_lt, false≢true}
 use Rattle.std.proofs.lemmas.List.{length-take-le, take-append-drop}
 use Rattle.base62.specs.Alphabet.{RepeatsFirst}
 use Rattle.base62.specs.Canonical.{IsCanonical}
-use Rattle.base62.specs.Encoding.{EncodesInto}
-use Rattle.base62.specs.declared.fault.EncodeError.{EncodeError}
+use Rattle.base62.specs.Encoding.{EncodesInto, FillsPlaces}
+use Rattle.base62.specs.Fixed.{IsFixed}
 use Rattle.base62.specs.declared.fault.EncodeError.TheVariants.{BufferTooSmall}
-use Rattle.base62_c.specs.Answer.{TellsLength}
+use Rattle.base62_c.specs.Answer.{Encodes, Fills}
 use Rattle.base62_c.proofs.laws.one_telling.Goals as goal
 
+-- a length that is not 0 tells that the number is encoded
+encoded_by : (B : List ℕ) (n : ℕ) (buf a : List ℕ) (s : ℕ) → Encodes B n buf a (suc s) → EncodesInto B n buf a (Ok (suc s))
+encoded_by B n buf a s p = subst (λ none. EncodesInto B n buf a (if none then Err BufferTooSmall else Ok (suc s))) (eqb-suc-zero s) p.written
+
 -- a number that has one canonical text is encoded and told in one way
-one_encoding : (B : List ℕ) (number : ℕ) → ((a b : List ℕ) → IsCanonical B a number → IsCanonical B b number → a ≡ b) → (buf a b : List ℕ) (s t len m n : ℕ) (x y : Result ℕ EncodeError)
-    → EncodesInto B number buf a x → EncodesInto B number buf b y → TellsLength x s len m → TellsLength y t len n → (s ≡ t) × (a ≡ b) × (m ≡ n)
-one_encoding B number only buf a b s t len m n (Ok c) (Ok d) p q k l =
-    let text : take c a ≡ take d b = only _ _ p.text.1 q.text.1 in
-    let size : c ≡ d = omega (arith, ap length text, length-take-le c a p.text.0, length-take-le d b q.text.0) in
-    let rest : drop c a ≡ drop d b = p.others ∙ ap (λ i. drop i buf) size ∙ sym q.others in
-    (cc, sym (take-append-drop c a) ∙ ap (λ front. front ++ drop c a) text ∙ ap (λ back. take d b ++ back) rest ∙ take-append-drop d b, cc)
-one_encoding B number only buf a b s t len m n (Ok c) (Err BufferTooSmall) p q k l = absurd (false≢true (q.fits.1 (p.fits.0 refl)))
-one_encoding B number only buf a b s t len m n (Err BufferTooSmall) (Ok d) p q k l = absurd (false≢true (p.fits.1 (q.fits.0 refl)))
-one_encoding B number only buf a b s t len m n (Err BufferTooSmall) (Err BufferTooSmall) p q k l = (cc, p.refused ∙ sym q.refused, cc)
+one_encoding : (B : List ℕ) (n : ℕ) → ((a b : List ℕ) → IsCanonical B a n → IsCanonical B b n → a ≡ b) → (buf a b : List ℕ) (s t : ℕ)
+    → Encodes B n buf a s → Encodes B n buf b t → (s ≡ t) × (a ≡ b)
+one_encoding B n only buf a b zero zero p q = (refl, p.refused refl ∙ sym (q.refused refl))
+one_encoding B n only buf a b (suc s) zero p q = absurd (false≢true (q.written.fits.1 ((encoded_by B n buf a s p).fits.0 refl)))
+one_encoding B n only buf a b zero (suc t) p q = absurd (false≢true (p.written.fits.1 ((encoded_by B n buf b t q).fits.0 refl)))
+one_encoding B n only buf a b (suc s) (suc t) p q =
+    let x = encoded_by B n buf a s p in
+    let y = encoded_by B n buf b t q in
+    let text : take (suc s) a ≡ take (suc t) b = only _ _ x.text.1 y.text.1 in
+    let size : suc s ≡ suc t = omega (arith, ap length text, length-take-le (suc s) a x.text.0, length-take-le (suc t) b y.text.0) in
+    let rest : drop (suc s) a ≡ drop (suc t) b = x.others ∙ ap (λ i. drop i buf) size ∙ sym y.others in
+    (size, sym (take-append-drop (suc s) a) ∙ ap (λ front. front ++ drop (suc s) a) text ∙ ap (λ back. take (suc t) b ++ back) rest ∙ take-append-drop (suc t) b)
 
 pub returns-clause-encoded : goal.returns-clause-encoded
-returns-clause-encoded c = λ B ok number buf a b s t len m n p q.
-    one_encoding B number (c.one_text.ensures.only B ok number) buf a b s t len m n p.answer q.answer p.encodes q.encodes p.tells q.tells
+returns-clause-encoded c = λ B ok n buf a b s t p q. one_encoding B n (c.one_text.ensures.only B ok n) buf a b s t p q
+
+-- a count that is not 0 tells that all places are filled
+filled_by : (B : List ℕ) (n : ℕ) (places a : List ℕ) (s : ℕ) → Fills B n places a (suc s) → FillsPlaces B n places a (Ok tt)
+filled_by B n places a s p = subst (λ none. FillsPlaces B n places a (if none then Err BufferTooSmall else Ok tt)) (eqb-suc-zero s) p.written
+
+-- a number that has one text of each width is written into all places and told in one way
+one_filling : (B : List ℕ) (n : ℕ) → ((w : ℕ) (a b : List ℕ) → IsFixed B w a n → IsFixed B w b n → a ≡ b) → (places a b : List ℕ) (s t : ℕ)
+    → Fills B n places a s → Fills B n places b t → (s ≡ t) × (a ≡ b)
+one_filling B n only places a b zero zero p q = (refl, p.refused refl ∙ sym (q.refused refl))
+one_filling B n only places a b (suc s) zero p q = absurd (false≢true (q.written.fits.1 ((filled_by B n places a s p).fits.0 refl)))
+one_filling B n only places a b zero (suc t) p q = absurd (false≢true (p.written.fits.1 ((filled_by B n places b t q).fits.0 refl)))
+one_filling B n only places a b (suc s) (suc t) p q =
+    (p.whole (suc-ne-zero s) ∙ sym (q.whole (suc-ne-zero t)), only (length places) a b (filled_by B n places a s p).text (filled_by B n places b t q).text)
+
+pub returns-clause-filled : goal.returns-clause-filled
+returns-clause-filled c = λ B ok n places a b s t p q. one_filling B n (λ w. c.fixed_widths.ensures.only B ok w n) places a b s t p q
 
 -- no first repeat stands before another
 not_before : (letters : List ℕ) (byte other index other_index : ℕ) → RepeatsFirst letters byte index → RepeatsFirst letters other other_index → other_index ≤ index

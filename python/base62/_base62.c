@@ -1,11 +1,7 @@
 /* The calls of base62.h for Python: numbers and texts in and out, and exceptions. */
-#define PY_SSIZE_T_CLEAN
 #define Py_LIMITED_API 0x030b0000
 #include <Python.h>
 #include <base62.h>
-
-/* These macros of 3.11 count objects that are immortal since 3.12. Py_IncRef and Py_DecRef are functions of each Python. */
-#pragma GCC poison Py_INCREF Py_DECREF Py_XINCREF Py_XDECREF Py_CLEAR Py_NewRef Py_XNewRef
 
 /* What is held of base62._types, and of its alphabet. */
 enum {
@@ -42,6 +38,7 @@ static PyObject *held(PyObject *module, int which) {
     return all_held(module)[which];
 }
 
+/* Py_IncRef and Py_DecRef are functions of each Python. Macros of 3.11 count objects that are immortal since 3.12. */
 static PyObject *shared(PyObject *object) {
     Py_IncRef(object);
     return object;
@@ -179,8 +176,9 @@ static PyObject *refuse(PyObject *module, base62_status status, base62_bad_byte 
                : status == BASE62_OVERFLOW     ? TOO_LARGE
                : status == BASE62_INVALID_BYTE ? INVALID_BYTE
                                                : REPEATED_LETTER;
-    const char *fields = kind == EMPTY_INPUT || kind == TOO_LARGE ? "(s#)" : "(s#Bn)";
-    PyObject *told = Py_BuildValue(fields, said, (Py_ssize_t)length, bad.byte, (Py_ssize_t)bad.index);
+    PyObject *text = PyUnicode_DecodeASCII(said, (Py_ssize_t)length, NULL);
+    const char *fields = kind == EMPTY_INPUT || kind == TOO_LARGE ? "(N)" : "(NBn)";
+    PyObject *told = text == NULL ? NULL : Py_BuildValue(fields, text, bad.byte, (Py_ssize_t)bad.index);
     if (told != NULL && held(module, kind) != NULL)
         PyErr_SetObject(held(module, kind), told);
     else if (told != NULL)

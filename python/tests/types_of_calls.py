@@ -1,0 +1,75 @@
+"""What mypy finds in calls: exactly these types, and a fault in each line that is marked. Nothing here is run."""
+
+from __future__ import annotations
+
+from typing import assert_type
+from uuid import UUID
+
+import base62
+from base62 import Alphabet, AlphabetError, DecodeError, InvalidByteError
+
+
+def right(number: int, name: UUID, text: str, packed: bytes, own: Alphabet) -> None:
+    assert_type(base62.encode(number), str)
+    assert_type(base62.encode(number=name, alphabet=own), str)
+    assert_type(base62.encode(True, text), str)
+    assert_type(base62.decode(text), int)
+    assert_type(base62.decode(packed, packed), int)
+    assert_type(base62.decode(bytearray(packed), alphabet=text), int)
+    assert_type(base62.decode(text=memoryview(packed), alphabet=own), int)
+    assert_type(base62.digit_count(number), int)
+    assert_type(base62.encode_key(name), str)
+    assert_type(base62.key_range(text), tuple[int, int] | None)
+    assert_type(base62.key_bounds(front=packed), tuple[str, str] | None)
+    assert_type(base62.encode_uuid(name, own), str)
+    assert_type(base62.decode_uuid(text, own), UUID)
+    assert_type(Alphabet(text), Alphabet)
+    assert_type(Alphabet(packed), Alphabet)
+    assert_type((Alphabet.STANDARD, Alphabet.ALTERNATIVE), tuple[Alphabet, Alphabet])
+    assert_type(base62.__version__, str)
+
+
+def told(invalid: InvalidByteError, repeated: AlphabetError) -> None:
+    assert_type((invalid.byte, invalid.index), tuple[int, int])
+    assert_type((repeated.byte, repeated.index), tuple[int, int])
+    fault: DecodeError = invalid
+    fault.byte  # type: ignore[attr-defined]
+    fault = repeated  # type: ignore[assignment]
+
+
+def wrong(number: int, name: UUID, text: str, own: Alphabet) -> None:
+    base62.encode(text)  # type: ignore[arg-type]
+    base62.encode(1.0)  # type: ignore[arg-type]
+    base62.encode(None)  # type: ignore[arg-type]
+    base62.encode(number, number)  # type: ignore[arg-type]
+    base62.encode(number, None)  # type: ignore[arg-type]
+    base62.encode(number, own, own)  # type: ignore[call-arg]
+    base62.encode(number, letters=own)  # type: ignore[call-arg]
+    base62.encode()  # type: ignore[call-arg]
+    base62.decode(number)  # type: ignore[arg-type]
+    base62.decode(None)  # type: ignore[arg-type]
+    base62.decode([text])  # type: ignore[arg-type]
+    base62.decode(text, number)  # type: ignore[arg-type]
+    base62.decode(text, None)  # type: ignore[arg-type]
+    base62.decode(text, letters=own)  # type: ignore[call-arg]
+    base62.decode()  # type: ignore[call-arg]
+    base62.digit_count(text)  # type: ignore[arg-type]
+    base62.digit_count(number, own)  # type: ignore[call-arg]
+    base62.encode_key(text)  # type: ignore[arg-type]
+    base62.encode_key(number, own)  # type: ignore[call-arg]
+    base62.key_range(number)  # type: ignore[arg-type]
+    base62.key_range(text, own)  # type: ignore[call-arg]
+    base62.key_range(text)[0]  # type: ignore[index]
+    base62.key_bounds(number)  # type: ignore[arg-type]
+    base62.key_bounds(text)[0]  # type: ignore[index]
+    base62.encode_uuid(number)  # type: ignore[arg-type]
+    base62.encode_uuid(text)  # type: ignore[arg-type]
+    base62.encode_uuid(name, number)  # type: ignore[arg-type]
+    base62.decode_uuid(name)  # type: ignore[arg-type]
+    base62.decode_uuid(text, number)  # type: ignore[arg-type]
+    Alphabet(number)  # type: ignore[arg-type]
+    Alphabet([text])  # type: ignore[arg-type]
+    Alphabet()  # type: ignore[call-arg]
+    own.letters  # type: ignore[attr-defined]
+    own.name = text  # type: ignore[attr-defined]
+    base62.check_alphabet(text)  # type: ignore[attr-defined]

@@ -37,8 +37,9 @@
 //! `alloc`, the default, has the calls that make or grow a `String`. `std` has those into an `io::Write`, and takes
 //! `alloc` too. With neither, the crate needs `core` alone.
 //!
-//! No call takes memory, but those of `alloc`. Only `encode_with`, `encode_buf_with` and [`encode_fmt_with`] panic, on
-//! letters that are no ASCII. The time of a call depends on its number or text.
+//! No call takes memory, but those of `alloc`, which end the program where it is refused, as a `String` does. Only
+//! `encode_with`, `encode_buf_with` and [`encode_fmt_with`] panic, on letters that are no ASCII. The time of a call
+//! depends on its number or text.
 
 #![no_std]
 #![deny(unsafe_op_in_unsafe_fn)]

@@ -132,19 +132,12 @@ impl<A: Codec, B: Codec> Both<A, B> {
     }
 
     fn texts(&mut self, letters: Letters, num: u128, with_faults: bool) -> Result<(), String> {
-        let canonical = B::encode(letters, num);
-        same(
-            "decode",
-            &canonical,
+        let canonical = A::encode(letters, num);
+        let (x, y) = (
             A::decode(letters, &canonical),
-            Ok(num),
-        )?;
-        same(
-            "decode",
-            &canonical,
             B::decode(letters, &canonical),
-            Ok(num),
-        )?;
+        );
+        same("decode", &(letters, &canonical), x, y)?;
         self.counts.calls += 1;
         self.counts.decoded += 1;
         for _ in 0..3 {

@@ -27,7 +27,7 @@ fn calls<'a, C: Codec + 'a>(nums: &'a [u128], texts: &'a [String]) -> [Call<'a>;
     let mut bytes = Vec::with_capacity(64);
     [
         each(nums, move |num| {
-            black_box(C::encode_bytes(Standard, num, black_box(&mut buf)));
+            black_box(C::encode_bytes(Standard, num, black_box(&mut buf[..])));
         }),
         each(nums, |num| {
             black_box(C::encode(Standard, num));

@@ -27,6 +27,14 @@ pub fn digit_count(n: u128) -> usize
     ensures least { 1 ≤ result }
     ensures most { result ≤ MAX_DIGITS }
 {
+    letter_count(n)
+}
+
+// The count alone, of which the clauses of the public call follow.
+#[inline(always)]
+fn letter_count(n: u128) -> usize
+    ensures { DigitCount n result }
+{
     if n <= 0xffffffff_ffffffff {
         narrow_count(n as u64)
     } else {

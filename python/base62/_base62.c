@@ -13,6 +13,7 @@ enum {
     INVALID_BYTE,
     TOO_LARGE,
     REPEATED_LETTER,
+    HALF_WIDTH,
     STANDARD,
     ALTERNATIVE,
     HELD
@@ -37,9 +38,11 @@ static PyObject **all_held(PyObject *module) {
     return ((struct state *)PyModule_GetState(module))->held;
 }
 
-/* NULL after the module is cleared. */
 static PyObject *held(PyObject *module, int which) {
-    return all_held(module)[which];
+    PyObject *object = all_held(module)[which];
+    if (object == NULL)
+        PyErr_SetString(PyExc_SystemError, "the module is cleared");
+    return object;
 }
 
 /* Py_IncRef and Py_DecRef are functions of each Python. Macros of 3.11 count objects that are immortal since 3.12. */
@@ -50,7 +53,8 @@ static PyObject *shared(PyObject *object) {
 
 /* What Python makes of an argument that is not of the usual type. */
 static PyObject *converted(PyObject *module, int by, PyObject *given) {
-    return PyObject_CallFunctionObjArgs(held(module, by), given, NULL);
+    PyObject *call = held(module, by);
+    return call == NULL ? NULL : PyObject_CallFunctionObjArgs(call, given, NULL);
 }
 
 /* Arguments */
@@ -91,9 +95,8 @@ static int out_of_range(void) {
 }
 
 /* The halves of a number of 2^63 or more. */
-static int wide_halves(PyObject *whole, struct halves *number) {
-    PyObject *width = PyLong_FromLong(64), *high = width == NULL ? NULL : PyNumber_Rshift(whole, width);
-    Py_DecRef(width);
+static int wide_halves(PyObject *module, PyObject *whole, struct halves *number) {
+    PyObject *width = held(module, HALF_WIDTH), *high = width == NULL ? NULL : PyNumber_Rshift(whole, width);
     if (high == NULL)
         return -1;
     number->high = PyLong_AsUnsignedLongLong(high);
@@ -104,18 +107,22 @@ static int wide_halves(PyObject *whole, struct halves *number) {
     return number->low == UINT64_MAX && PyErr_Occurred() != NULL ? -1 : 0;
 }
 
-static int halves_of(PyObject *module, PyObject *given, struct halves *number) {
-    PyObject *whole = PyLong_CheckExact(given) ? shared(given) : converted(module, WHOLE_OF, given);
-    if (whole == NULL)
-        return -1;
-    int beyond, fault = 0;
+static int halves_of_int(PyObject *module, PyObject *whole, struct halves *number) {
+    int beyond;
     long long narrow = PyLong_AsLongLongAndOverflow(whole, &beyond);
     if (beyond > 0)
-        fault = wide_halves(whole, number);
-    else if (narrow < 0)
-        fault = PyErr_Occurred() == NULL ? out_of_range() : -1;
-    else
-        *number = (struct halves){0, (uint64_t)narrow};
+        return wide_halves(module, whole, number);
+    if (narrow < 0)
+        return PyErr_Occurred() == NULL ? out_of_range() : -1;
+    *number = (struct halves){0, (uint64_t)narrow};
+    return 0;
+}
+
+static int halves_of(PyObject *module, PyObject *given, struct halves *number) {
+    if (PyLong_CheckExact(given))
+        return halves_of_int(module, given, number);
+    PyObject *whole = converted(module, WHOLE_OF, given);
+    int fault = whole == NULL ? -1 : halves_of_int(module, whole, number);
     Py_DecRef(whole);
     return fault;
 }
@@ -157,18 +164,17 @@ static int letters_of(PyObject *module, PyObject *alphabet, struct text *letters
 
 /* Answers */
 
-static PyObject *number_of(struct halves halves) {
+static PyObject *number_of(PyObject *module, struct halves halves) {
     if (halves.high == 0)
         return PyLong_FromUnsignedLongLong(halves.low);
     PyObject *high = PyLong_FromUnsignedLongLong(halves.high), *low = PyLong_FromUnsignedLongLong(halves.low);
-    PyObject *width = PyLong_FromLong(64), *front = NULL, *number = NULL;
+    PyObject *width = held(module, HALF_WIDTH), *front = NULL, *number = NULL;
     if (high != NULL && low != NULL && width != NULL)
         front = PyNumber_Lshift(high, width);
     if (front != NULL)
         number = PyNumber_Or(front, low);
     Py_DecRef(high);
     Py_DecRef(low);
-    Py_DecRef(width);
     Py_DecRef(front);
     return number;
 }
@@ -184,10 +190,9 @@ static PyObject *refuse(PyObject *module, base62_status status, unsigned char by
     PyObject *text = PyUnicode_DecodeASCII(said, (Py_ssize_t)length, NULL);
     const char *fields = kind == EMPTY_INPUT || kind == TOO_LARGE ? "(N)" : "(NBn)";
     PyObject *told = text == NULL ? NULL : Py_BuildValue(fields, text, byte, (Py_ssize_t)index);
-    if (told != NULL && held(module, kind) != NULL)
-        PyErr_SetObject(held(module, kind), told);
-    else if (told != NULL)
-        PyErr_SetString(PyExc_SystemError, "the module is cleared");
+    PyObject *type = told == NULL ? NULL : held(module, kind);
+    if (type != NULL)
+        PyErr_SetObject(type, told);
     Py_DecRef(told);
     return NULL;
 }
@@ -245,9 +250,9 @@ static PyObject *encode(PyObject *module, PyObject *const *given, Py_ssize_t cou
         return NULL;
     char text[BASE62_MAX_DIGITS];
     size_t length;
-    if (found[1] == NULL || found[1] == held(module, STANDARD))
+    if (found[1] == NULL || found[1] == all_held(module)[STANDARD])
         base62_encode(number.high, number.low, text, sizeof text, &length);
-    else if (found[1] == held(module, ALTERNATIVE))
+    else if (found[1] == all_held(module)[ALTERNATIVE])
         base62_encode_alternative(number.high, number.low, text, sizeof text, &length);
     else
         return encode_with(module, found[1], number);
@@ -259,9 +264,9 @@ static PyObject *decode_over(PyObject *module, PyObject *alphabet, struct text t
     unsigned char byte = 0;
     size_t index = 0, length = (size_t)text.length;
     base62_status status;
-    if (alphabet == NULL || alphabet == held(module, STANDARD))
+    if (alphabet == NULL || alphabet == all_held(module)[STANDARD])
         status = base62_decode(text.bytes, length, &number.high, &number.low, &byte, &index);
-    else if (alphabet == held(module, ALTERNATIVE))
+    else if (alphabet == all_held(module)[ALTERNATIVE])
         status = base62_decode_alternative(text.bytes, length, &number.high, &number.low, &byte, &index);
     else {
         struct text letters;
@@ -270,7 +275,7 @@ static PyObject *decode_over(PyObject *module, PyObject *alphabet, struct text t
         status = base62_decode_with(letters.bytes, text.bytes, length, &number.high, &number.low, &byte, &index);
         Py_DecRef(letters.held);
     }
-    return status == BASE62_OK ? number_of(number) : refuse(module, status, byte, index);
+    return status == BASE62_OK ? number_of(module, number) : refuse(module, status, byte, index);
 }
 
 PyDoc_STRVAR(decode_doc, "decode($module, /, text, alphabet=Alphabet.STANDARD)\n--\n\n"
@@ -289,7 +294,8 @@ static PyObject *decode(PyObject *module, PyObject *const *given, Py_ssize_t cou
     if (unpack(&of, given, count, keywords, found) != 0 || text_of(module, found[0], &text) != 0)
         return NULL;
     PyObject *answer = decode_over(module, found[1], text);
-    Py_DecRef(text.held);
+    if (text.held != NULL)
+        Py_DecRef(text.held);
     return answer;
 }
 
@@ -350,7 +356,7 @@ static PyObject *key_range(PyObject *module, PyObject *const *given, Py_ssize_t 
         return shared(Py_None);
     if (status != BASE62_OK)
         return refuse(module, status, byte, index);
-    return Py_BuildValue("NN", number_of(least), number_of(greatest));
+    return Py_BuildValue("NN", number_of(module, least), number_of(module, greatest));
 }
 
 /* The module */
@@ -370,7 +376,8 @@ static PyMethodDef methods[] = {
 static int execute(PyObject *module) {
     static const char *const names[HELD] = {
         "Alphabet",         "whole_of",      "bytes_of",      "letters_of", "EmptyInputError",
-        "InvalidByteError", "TooLargeError", "AlphabetError", "STANDARD",   "ALTERNATIVE",
+        "InvalidByteError", "TooLargeError", "AlphabetError", "HALF_WIDTH", "STANDARD",
+        "ALTERNATIVE",
     };
     if (PyModule_GetState(module) == NULL)
         return -1;
@@ -388,13 +395,13 @@ static int execute(PyObject *module) {
 
 static int traverse(PyObject *module, visitproc visit, void *arg) {
     for (int i = 0; i < HELD; i++)
-        Py_VISIT(held(module, i));
+        Py_VISIT(all_held(module)[i]);
     return 0;
 }
 
 static int clear(PyObject *module) {
     for (int i = 0; i < HELD; i++) {
-        PyObject *was = held(module, i);
+        PyObject *was = all_held(module)[i];
         all_held(module)[i] = NULL;
         Py_DecRef(was);
     }

@@ -13,6 +13,7 @@ enum {
     INVALID_BYTE,
     TOO_LARGE,
     REPEATED_LETTER,
+    HALF_WIDTH,
     STANDARD,
     ALTERNATIVE,
     HELD
@@ -33,9 +34,11 @@ static PyObject **all_held(PyObject *module) {
     return ((struct state *)PyModule_GetState(module))->held;
 }
 
-/* NULL after the module is cleared. */
 static PyObject *held(PyObject *module, int which) {
-    return all_held(module)[which];
+    PyObject *object = all_held(module)[which];
+    if (object == NULL)
+        PyErr_SetString(PyExc_SystemError, "the module is cleared");
+    return object;
 }
 
 /* Py_IncRef and Py_DecRef are functions of each Python. Macros of 3.11 count objects that are immortal since 3.12. */
@@ -46,7 +49,8 @@ static PyObject *shared(PyObject *object) {
 
 /* What Python makes of an argument that is not of the usual type. */
 static PyObject *converted(PyObject *module, int by, PyObject *given) {
-    return PyObject_CallFunctionObjArgs(held(module, by), given, NULL);
+    PyObject *call = held(module, by);
+    return call == NULL ? NULL : PyObject_CallFunctionObjArgs(call, given, NULL);
 }
 
 /* Arguments */
@@ -87,9 +91,8 @@ static int out_of_range(void) {
 }
 
 /* A number of 2^63 or more. */
-static int wide_number_of(PyObject *whole, base62_number *number) {
-    PyObject *width = PyLong_FromLong(64), *high = width == NULL ? NULL : PyNumber_Rshift(whole, width);
-    Py_DecRef(width);
+static int wide_number_of(PyObject *module, PyObject *whole, base62_number *number) {
+    PyObject *width = held(module, HALF_WIDTH), *high = width == NULL ? NULL : PyNumber_Rshift(whole, width);
     if (high == NULL)
         return -1;
     number->high = PyLong_AsUnsignedLongLong(high);
@@ -100,18 +103,22 @@ static int wide_number_of(PyObject *whole, base62_number *number) {
     return number->low == UINT64_MAX && PyErr_Occurred() != NULL ? -1 : 0;
 }
 
-static int number_of(PyObject *module, PyObject *given, base62_number *number) {
-    PyObject *whole = PyLong_CheckExact(given) ? shared(given) : converted(module, WHOLE_OF, given);
-    if (whole == NULL)
-        return -1;
-    int beyond, fault = 0;
+static int number_of_int(PyObject *module, PyObject *whole, base62_number *number) {
+    int beyond;
     long long narrow = PyLong_AsLongLongAndOverflow(whole, &beyond);
     if (beyond > 0)
-        fault = wide_number_of(whole, number);
-    else if (narrow < 0)
-        fault = PyErr_Occurred() == NULL ? out_of_range() : -1;
-    else
-        *number = base62_from_u64((uint64_t)narrow);
+        return wide_number_of(module, whole, number);
+    if (narrow < 0)
+        return PyErr_Occurred() == NULL ? out_of_range() : -1;
+    *number = base62_from_u64((uint64_t)narrow);
+    return 0;
+}
+
+static int number_of(PyObject *module, PyObject *given, base62_number *number) {
+    if (PyLong_CheckExact(given))
+        return number_of_int(module, given, number);
+    PyObject *whole = converted(module, WHOLE_OF, given);
+    int fault = whole == NULL ? -1 : number_of_int(module, whole, number);
     Py_DecRef(whole);
     return fault;
 }
@@ -153,18 +160,17 @@ static int letters_of(PyObject *module, PyObject *alphabet, struct text *letters
 
 /* Answers */
 
-static PyObject *whole_of(base62_number number) {
+static PyObject *whole_of(PyObject *module, base62_number number) {
     if (number.high == 0)
         return PyLong_FromUnsignedLongLong(number.low);
     PyObject *high = PyLong_FromUnsignedLongLong(number.high), *low = PyLong_FromUnsignedLongLong(number.low);
-    PyObject *width = PyLong_FromLong(64), *front = NULL, *whole = NULL;
+    PyObject *width = held(module, HALF_WIDTH), *front = NULL, *whole = NULL;
     if (high != NULL && low != NULL && width != NULL)
         front = PyNumber_Lshift(high, width);
     if (front != NULL)
         whole = PyNumber_Or(front, low);
     Py_DecRef(high);
     Py_DecRef(low);
-    Py_DecRef(width);
     Py_DecRef(front);
     return whole;
 }
@@ -179,10 +185,9 @@ static PyObject *refuse(PyObject *module, base62_status status, base62_bad_byte 
     PyObject *text = PyUnicode_DecodeASCII(said, (Py_ssize_t)length, NULL);
     const char *fields = kind == EMPTY_INPUT || kind == TOO_LARGE ? "(N)" : "(NBn)";
     PyObject *told = text == NULL ? NULL : Py_BuildValue(fields, text, bad.byte, (Py_ssize_t)bad.index);
-    if (told != NULL && held(module, kind) != NULL)
-        PyErr_SetObject(held(module, kind), told);
-    else if (told != NULL)
-        PyErr_SetString(PyExc_SystemError, "the module is cleared");
+    PyObject *type = told == NULL ? NULL : held(module, kind);
+    if (type != NULL)
+        PyErr_SetObject(type, told);
     Py_DecRef(told);
     return NULL;
 }
@@ -238,9 +243,9 @@ static PyObject *encode(PyObject *module, PyObject *const *given, Py_ssize_t cou
         return NULL;
     char text[BASE62_MAX_DIGITS];
     size_t length;
-    if (found[1] == NULL || found[1] == held(module, STANDARD))
+    if (found[1] == NULL || found[1] == all_held(module)[STANDARD])
         length = base62_encode(number, text, sizeof text);
-    else if (found[1] == held(module, ALTERNATIVE))
+    else if (found[1] == all_held(module)[ALTERNATIVE])
         length = base62_encode_alternative(number, text, sizeof text);
     else
         return encode_with(module, found[1], number);
@@ -252,9 +257,9 @@ static PyObject *decode_over(PyObject *module, PyObject *alphabet, struct text t
     base62_bad_byte bad = {0, 0};
     size_t length = (size_t)text.length;
     base62_status status;
-    if (alphabet == NULL || alphabet == held(module, STANDARD))
+    if (alphabet == NULL || alphabet == all_held(module)[STANDARD])
         status = base62_decode(text.bytes, length, &number, &bad);
-    else if (alphabet == held(module, ALTERNATIVE))
+    else if (alphabet == all_held(module)[ALTERNATIVE])
         status = base62_decode_alternative(text.bytes, length, &number, &bad);
     else {
         struct text letters;
@@ -263,7 +268,7 @@ static PyObject *decode_over(PyObject *module, PyObject *alphabet, struct text t
         status = base62_decode_with(letters.bytes, text.bytes, length, &number, &bad);
         Py_DecRef(letters.held);
     }
-    return status == BASE62_OK ? whole_of(number) : refuse(module, status, bad);
+    return status == BASE62_OK ? whole_of(module, number) : refuse(module, status, bad);
 }
 
 PyDoc_STRVAR(decode_doc, "decode($module, /, text, alphabet=Alphabet.STANDARD)\n--\n\n"
@@ -282,7 +287,8 @@ static PyObject *decode(PyObject *module, PyObject *const *given, Py_ssize_t cou
     if (unpack(&of, given, count, keywords, found) != 0 || text_of(module, found[0], &text) != 0)
         return NULL;
     PyObject *answer = decode_over(module, found[1], text);
-    Py_DecRef(text.held);
+    if (text.held != NULL)
+        Py_DecRef(text.held);
     return answer;
 }
 
@@ -341,7 +347,7 @@ static PyObject *key_range(PyObject *module, PyObject *const *given, Py_ssize_t 
         return shared(Py_None);
     if (status != BASE62_OK)
         return refuse(module, status, bad);
-    return Py_BuildValue("NN", whole_of(range.least), whole_of(range.greatest));
+    return Py_BuildValue("NN", whole_of(module, range.least), whole_of(module, range.greatest));
 }
 
 /* The module */
@@ -361,7 +367,8 @@ static PyMethodDef methods[] = {
 static int execute(PyObject *module) {
     static const char *const names[HELD] = {
         "Alphabet",         "whole_of",      "bytes_of",      "letters_of", "EmptyInputError",
-        "InvalidByteError", "TooLargeError", "AlphabetError", "STANDARD",   "ALTERNATIVE",
+        "InvalidByteError", "TooLargeError", "AlphabetError", "HALF_WIDTH", "STANDARD",
+        "ALTERNATIVE",
     };
     if (PyModule_GetState(module) == NULL)
         return -1;
@@ -379,13 +386,13 @@ static int execute(PyObject *module) {
 
 static int traverse(PyObject *module, visitproc visit, void *arg) {
     for (int i = 0; i < HELD; i++)
-        Py_VISIT(held(module, i));
+        Py_VISIT(all_held(module)[i]);
     return 0;
 }
 
 static int clear(PyObject *module) {
     for (int i = 0; i < HELD; i++) {
-        PyObject *was = held(module, i);
+        PyObject *was = all_held(module)[i];
         all_held(module)[i] = NULL;
         Py_DecRef(was);
     }

@@ -46,6 +46,10 @@ Alphabet.STANDARD = bytes.__new__(Alphabet, b"0123456789ABCDEFGHIJKLMNOPQRSTUVWX
 Alphabet.ALTERNATIVE = bytes.__new__(Alphabet, b"0123456789abcdefghijklmnopqrstuvwxyzABCDEFGHIJKLMNOPQRSTUVWXYZ")
 
 
+# The bits of half a number, as the library has it.
+HALF_WIDTH = 64
+
+
 class _BadByteError(ValueError):
     byte: int
     index: int

@@ -65,7 +65,7 @@ typedef struct base62_number {
     uint64_t low;
 } base62_number;
 
-/* The numbers from the least to the greatest, both of them too. */
+/* The numbers from the least to the greatest, both included. */
 typedef struct base62_range {
     base62_number least;
     base62_number greatest;
@@ -77,6 +77,7 @@ typedef struct base62_bad_byte {
     unsigned char byte;
 } base62_bad_byte;
 
+/* No call answers BASE62_BUFFER_TOO_SMALL: it names the 0 of a call that encodes, for base62_fault_text. */
 typedef enum base62_status {
     BASE62_OK = 0,
     BASE62_BUFFER_TOO_SMALL = 1,

@@ -21,7 +21,7 @@ LARGEST = 2**128 - 1
 
 # Values from outside, with which digits, fixed, decoded, canonical and range_of have to agree: numbers with their
 # standard and their alternative text, standard texts of a width (none where the number has none), standard texts that
-# are refused, those that are refused for their zeros, fronts with the ranges of keys and of texts of a width, and UUIDs.
+# are refused, and those for their zeros alone, fronts with their ranges of keys and of texts of a width, and UUIDs.
 NUMBERS = [
     (1337, "LZ", "lz"),
     (2975, "lz", "LZ"),

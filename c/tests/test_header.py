@@ -1,4 +1,4 @@
-"""Tests of the header that gcc finds as <base62.h>: what it declares, what its attributes warn of, and what it leaves."""
+"""Tests of the header that gcc finds as <base62.h>: what it declares, what compilers warn of, and what it leaves."""
 
 import pathlib
 import re
@@ -70,14 +70,15 @@ def gcc(source, *options, language="c"):
 
 def own_text(*options):
     """What the header has beside its includes, in one line."""
-    text = gcc(f"{INCLUDES}it_begins_here\n{HEADER}", "-E", "-P", *options).stdout
+    # For a compiler that is not GNU glibc defines away what it lacks.
+    text = gcc(f"{INCLUDES}#undef __attribute__\nit_begins_here\n{HEADER}", "-E", "-P", *options).stdout
     return re.sub(r"\s+", " ", text.split("it_begins_here")[1]).strip()
 
 
 def declared(*options):
     """The functions of the header: the attributes of each, its result, and its parameters as they are written."""
     attribute = r"__attribute__\(\(.*?\)\) "
-    pattern = rf"((?:{attribute})*)(?:static inline )?(\w+) (base62_\w+)\(([^()]*)\)(?:;| {{)"
+    pattern = rf"(?<=[;}}] )((?:{attribute})*)(?:static inline )?(\w+) (base62_\w+)\(([^()]*)\)(?:;| {{)"
     return {
         name: (attributes.strip(), result, [] if inner == "void" else inner.split(", "))
         for attributes, result, name, inner in re.findall(pattern, own_text(*options))
@@ -188,12 +189,15 @@ class Header(unittest.TestCase):
             ([], "nonnull|access"),
             (["-U__has_attribute"], "nonnull"),
             (["-D__has_attribute(name)=0"], "nonnull"),
-            (["-U__GNUC__"], "none"),
+            (["-U__GNUC__"], "access"),
+            (["-U__GNUC__", "-U__has_attribute"], "none"),
         ):
             with self.subTest(options):
-                for name, (attributes, *function) in declared(*options).items():
-                    wanted = [attribute for attribute in attributes_of(*function) if re.search(left, attribute)]
-                    self.assertEqual(attributes, " ".join(wanted), name)
+                wanted = {
+                    name: " ".join(attribute for attribute in attributes_of(*function) if re.search(left, attribute))
+                    for name, (_, *function) in declared().items()
+                }
+                self.assertEqual({name: found[0] for name, found in declared(*options).items()}, wanted)
 
     def test_warnings(self):
         wanted = [call for name, (_, *function) in declared().items() for call in calls(name, *function)]

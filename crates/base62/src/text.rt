@@ -38,7 +38,8 @@ impl Text {
         }
     }
 
-    // The text over the alphabet of the tables takes the place of what stood here.
+    // The text over the alphabet of the tables takes the place of what stood here. A text that is set is not copied, as
+    // one that `over` answers is.
     pub(crate) fn set<T: Number>(&mut self, tables: &Tables, num: T)
         requires { AreTables tables.now }
         ensures text { IsCanonical tables.now.letters self.new (T.meaning num) }

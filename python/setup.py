@@ -28,10 +28,11 @@ class Wheel(bdist_wheel):
         python, abi, system = super().get_tag()
         extension = self.get_finalized_command("build_ext").get_ext_fullpath("base62._base62")
         told = subprocess.run(["readelf", "-dVW", extension], check=True, capture_output=True, text=True).stdout
-        names = re.findall(r"Name: (\S+)", told)
-        if re.findall(r"\(NEEDED\).*\[(.*)\]", told) == ["libc.so.6"] and all(re.match(r"GLIBC_2\.\d", n) for n in names):
+        libraries = re.findall(r"\(NEEDED\).*\[(.*)\]", told)
+        minors = [re.match(r"GLIBC_2\.(\d+)", name) for name in re.findall(r"Name: (\S+)", told)]
+        if libraries == ["libc.so.6"] and all(minors):
             # manylinux_2_5 is the earliest.
-            system = system.replace("linux", f"manylinux_2_{max(5, *(int(name.split('.')[1]) for name in names))}")
+            system = system.replace("linux", f"manylinux_2_{max(5, *(int(minor[1]) for minor in minors))}")
         return python, abi, system
 
 

@@ -21,8 +21,8 @@ import uuid
 
 import base62
 
-# Keys sort by their bytes as their numbers do, and BINARY compares bytes. NOCASE takes A and a for one letter: two links
-# would be one, and their order not that of the numbers.
+# Keys sort by their bytes as their numbers do, and BINARY compares bytes. NOCASE takes A and a for one letter: two
+# links would be one, and their order not that of the numbers.
 TABLE = "CREATE TABLE IF NOT EXISTS link (key TEXT COLLATE BINARY PRIMARY KEY, target TEXT NOT NULL) WITHOUT ROWID"
 BETWEEN = "SELECT key, target FROM link WHERE key BETWEEN ? AND ? ORDER BY key"
 

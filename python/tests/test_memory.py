@@ -19,13 +19,15 @@ TEXT = "7n42DGM5Tflk9n8mt7Fhc7"
 # More requests than any of the calls makes.
 BEYOND = 120
 
+Call = Callable[..., object]
+
 try:
     memory: Any = importlib.import_module("_testcapi")
 except ImportError:
     memory = None
 
 
-def outcome(call: Callable[..., object], given: tuple[object, ...], named: dict[str, object]) -> object:
+def outcome(call: Call, given: tuple[object, ...], named: dict[str, object]) -> object:
     try:
         return call(*given, **named)
     except (ValueError, TypeError, OverflowError) as error:
@@ -47,7 +49,7 @@ def load_extension() -> str:
 
 @unittest.skipIf(memory is None, "this Python has no _testcapi, by which memory is refused")
 class Refused(unittest.TestCase):
-    def is_told(self, wanted: object, first: int, last: int, call: Callable[..., object], *given: Any, **named: Any) -> bool:
+    def is_told(self, wanted: object, first: int, last: int, call: Call, *given: Any, **named: Any) -> bool:
         """Whether a call tells that requests from the first to before the last failed. Else it answers as ever."""
         try:
             memory.set_nomemory(first, last)
@@ -64,7 +66,7 @@ class Refused(unittest.TestCase):
         self.assertEqual(answer, wanted)
         return False
 
-    def sweep(self, call: Callable[..., object], *given: Any, **named: Any) -> None:
+    def sweep(self, call: Call, *given: Any, **named: Any) -> None:
         """Each request of the call is refused in turn, first alone and then with all that follow."""
         wanted = outcome(call, given, named)
         for follow in (False, True):
@@ -75,8 +77,8 @@ class Refused(unittest.TestCase):
             self.assertFalse(any(told[-20:]), f"{call} makes more requests")
             self.told += sum(told)
 
-    def is_refused(self, call: Callable[..., object], *given: Any, **named: Any) -> None:
-        """No refusal keeps memory: in twenty sweeps that would be twenty blocks. The first ones fill CPython's stores."""
+    def is_refused(self, call: Call, *given: Any, **named: Any) -> None:
+        """No refusal keeps memory: twenty sweeps would keep twenty blocks. The first ones fill CPython's stores."""
         blocks = []
         for sweeps in (10, 20):
             for _ in range(sweeps):
@@ -111,7 +113,7 @@ class Refused(unittest.TestCase):
         self.is_refused(base62.decode_uuid, TEXT)
 
     def test_refusals(self) -> None:
-        rows: list[tuple[Callable[..., object], list[tuple[Any, ...]]]] = [
+        rows: list[tuple[Call, list[tuple[Any, ...]]]] = [
             (base62.encode, [(-1,), (WIDE + 1,), (10**100,), (1.0,), (), (1, OWN, 1)]),
             (base62.encode, [(1, None), (1, "short"), (1, "0" * 62), (1, bytes(range(194, 256))), (1, "é" * 62)]),
             (base62.decode, [("",), ("-",), (b"-",), (bytearray(b"-"),), ("é",), ("\ud800",), ("z" * 22,), (5,)]),

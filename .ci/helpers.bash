@@ -1,4 +1,23 @@
-# Sourced by .ci/c-library and .ci/python-package, which have a folder work: builds that are refused, or not proved.
+# What .ci/c-library and .ci/python-package share, which source it at the top, with set -Eeuo pipefail.
+
+export LC_ALL=C
+work=$(mktemp -d)
+trap 'rm -rf "$work"' EXIT
+trap 'echo "$0: line $LINENO fails" >&2' ERR
+read -r version <VERSION
+
+quietly() {
+    "$@" >"$work/said" 2>&1 || {
+        cat "$work/said" >&2
+        exit 1
+    }
+}
+
+# The file "found" is what comes on standard input.
+finds() {
+    cat >"$work/wanted"
+    diff "$work/wanted" "$work/found" >&2
+}
 
 # An rt that tells that it was called, and proves nothing.
 mkdir "$work/bin" "$work/tools"

@@ -1,4 +1,4 @@
-# What .ci/c-library and .ci/python-package share, which source it at the top, with set -Eeuo pipefail.
+# What .ci/c-library, .ci/python-package and .ci/rust-crate share. Each sources it at the top, with set -Eeuo pipefail.
 
 export LC_ALL=C
 work=$(mktemp -d)

@@ -1,7 +1,6 @@
-use Rattle.std.proofs.Common.{codes, refl, inl, inr, lit≤, arith}
+use Rattle.std.proofs.Common.{codes, refl, lit≤, arith}
 use Rattle.base62.specs.Alphabet.{standard}
 use Rattle.base62.proofs.AlphabetLemmas.{standard_is_alphabet}
-use Rattle.base62.proofs.LiteralLemmas.{canonical_1337, fixed_by}
 use Rattle.base62.proofs.OnLiterals.{base62_on_literals}
 use Rattle.base62.proofs.ReadingLemmas.{reads_refused, reads_none, reads_number}
 use Rattle.base62.proofs.model.decodings.canonical_by_example.Goals as goal

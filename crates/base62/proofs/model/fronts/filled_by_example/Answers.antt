@@ -1,4 +1,4 @@
-use Rattle.std.proofs.Common.{codes, [], refl, lit≤, arith}
+use Rattle.std.proofs.Common.{codes, refl, lit≤, arith}
 use Rattle.base62.specs.Alphabet.{standard}
 use Rattle.base62.proofs.AlphabetLemmas.{standard_is_alphabet}
 use Rattle.base62.proofs.LiteralLemmas.{fixed_by}

@@ -31,7 +31,7 @@ def outcome(call: Call, given: tuple[object, ...], named: dict[str, object]) -> 
     try:
         return call(*given, **named)
     except (ValueError, TypeError, OverflowError) as error:
-        if not str(error):
+        if not str(error) and type(error) in (ValueError, TypeError, OverflowError):
             # An earlier 3.11 drops a message for which there is no memory.
             raise MemoryError from error
         return type(error), str(error), vars(error)

@@ -3,6 +3,8 @@
 #![tactic(auto)]
 
 #[cfg(test)]
+mod canonical;
+#[cfg(test)]
 mod codec;
 #[cfg(test)]
 mod count;
@@ -10,6 +12,8 @@ mod count;
 mod failing;
 #[cfg(test)]
 mod fault;
+#[cfg(test)]
+mod fixed;
 #[cfg(test)]
 mod hostile;
 #[cfg(test)]

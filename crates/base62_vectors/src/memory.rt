@@ -101,6 +101,13 @@ fn assert_no_memory(rt: &impl Abort, text: &mut String) {
     assert_eq!(rt; encode_key(0_u8), *b"0000000000000000000000");
     let range = (340236514539200045093703517809706795008, u128::MAX);
     assert_eq!(rt; key_range(b"7n"), Ok(Some(range)));
+    let standard = Letters::Standard;
+    let mut places = [FILLER; 5];
+    assert_eq!(rt; standard.encode_fixed(1337_u32, &mut places), Ok(()));
+    assert_eq!(rt; places, *b"000LZ");
+    assert_eq!(rt; standard.fixed_range(5, b"000L"), Ok(Some((1302, 1363))));
+    assert_eq!(rt; standard.decode_canonical(b"LZ"), Ok(Some(1337)));
+    assert_eq!(rt; standard.decode_canonical(b"0LZ"), Ok(None));
     let fault = DecodeError::InvalidBase62Byte(b'!', 7);
     assert_eq!(rt;
         fault.text().as_str(),

@@ -2,11 +2,13 @@
 
 use base62::{
     Alphabet, DecodeError, EncodeError, Number, Work, decode, decode_alternative,
-    decode_alternative_counted, decode_counted, decode_with, decode_with_counted, encode,
+    decode_alternative_canonical, decode_alternative_counted, decode_canonical,
+    decode_canonical_with, decode_counted, decode_with, decode_with_counted, encode,
     encode_alternative, encode_alternative_buf, encode_alternative_bytes,
-    encode_alternative_bytes_counted, encode_alternative_io, encode_buf, encode_buf_with,
-    encode_bytes, encode_bytes_counted, encode_bytes_with, encode_bytes_with_counted, encode_fmt,
-    encode_fmt_alt, encode_fmt_with, encode_io, encode_io_with, encode_with,
+    encode_alternative_bytes_counted, encode_alternative_fixed, encode_alternative_io, encode_buf,
+    encode_buf_with, encode_bytes, encode_bytes_counted, encode_bytes_with,
+    encode_bytes_with_counted, encode_fixed, encode_fixed_with, encode_fmt, encode_fmt_alt,
+    encode_fmt_with, encode_io, encode_io_with, encode_with, fixed_range, fixed_range_with,
 };
 use std::alloc::{AllocError, Global};
 use std::io::{self, Write};
@@ -114,6 +116,38 @@ impl Letters {
             Letters::Standard => decode_counted(text, work),
             Letters::Alternative => decode_alternative_counted(text, work),
             _ => decode_with_counted(&self.own(), text, work),
+        }
+    }
+
+    pub(crate) fn encode_fixed<T: Number>(
+        self,
+        number: T,
+        places: &mut [u8],
+    ) -> Result<(), EncodeError> {
+        match self {
+            Letters::Standard => encode_fixed(number, places),
+            Letters::Alternative => encode_alternative_fixed(number, places),
+            _ => encode_fixed_with(&self.own(), number, places),
+        }
+    }
+
+    // There is no twin over the alternative alphabet.
+    pub(crate) fn fixed_range(
+        self,
+        width: usize,
+        front: &[u8],
+    ) -> Result<Option<(u128, u128)>, DecodeError> {
+        match self {
+            Letters::Standard => fixed_range(width, front),
+            _ => fixed_range_with(&self.own(), width, front),
+        }
+    }
+
+    pub(crate) fn decode_canonical(self, text: &[u8]) -> Result<Option<u128>, DecodeError> {
+        match self {
+            Letters::Standard => decode_canonical(text),
+            Letters::Alternative => decode_alternative_canonical(text),
+            _ => decode_canonical_with(&self.own(), text),
         }
     }
 

@@ -4,15 +4,21 @@
 use base62::DecodeError;
 use base62::DecodeError::{ArithmeticOverflow, EmptyInput, InvalidBase62Byte};
 
-// A number in 22 letters by repeated division, the last digit first.
+// A number in 22 letters.
 pub(crate) fn plain_letters(letters: &[u8; 62], number: u128) -> [u8; 22] {
     let mut text = [letters[0]; 22];
+    let _ = plain_fixed(letters, number, &mut text);
+    text
+}
+
+// A number in all places by repeated division, the last digit first, and whether nothing was left of it.
+pub(crate) fn plain_fixed(letters: &[u8; 62], number: u128, places: &mut [u8]) -> bool {
     let mut left = number;
-    for place in 1..=22 {
-        text[22 - place] = letters[(left % 62) as usize];
+    for place in places.iter_mut().rev() {
+        *place = letters[(left % 62) as usize];
         left /= 62;
     }
-    text
+    left == 0
 }
 
 // How many zeros the text begins with.

@@ -1,0 +1,347 @@
+//! Texts of a fixed number of letters, and the ranges of the numbers whose texts begin alike.
+
+use crate::support::alphabets::{FOUR, Letters};
+use crate::support::checks::FILLER;
+use crate::support::reference::{plain_digit, plain_fixed};
+use base62::DecodeError;
+use base62::DecodeError::InvalidBase62Byte;
+use base62::EncodeError::BufferTooSmall;
+use std::process::Abort;
+
+// The greatest width that a test goes to.
+const WIDEST: usize = 100;
+
+const WIDTHS: [usize; 9] = [0, 1, 2, 5, 11, 21, 22, 23, WIDEST];
+
+// Into so many places behind a first byte: they all get the text, or stay where it has more letters or none.
+fn assert_fills(
+    rt: &impl Abort,
+    alphabet: Letters,
+    number: u128,
+    width: usize,
+    text: Option<&[u8]>,
+) {
+    assert!(rt; width <= WIDEST, "{width} places");
+    let mut wanted = [FILLER; WIDEST + 2];
+    if let Some(text) = text {
+        assert_eq!(rt; text.len(), width, "the text of {number}");
+        wanted[1..][..width].copy_from_slice(text);
+    }
+    let mut bytes = [FILLER; WIDEST + 2];
+    let outcome = alphabet.encode_fixed(number, &mut bytes[1..][..width]);
+    let answer = text.map(|_| ()).ok_or(BufferTooSmall);
+    assert_eq!(rt; outcome, answer, "{number} in {width} places, {alphabet:?}");
+    assert_eq!(rt; bytes, wanted, "{number} in {width} places, {alphabet:?}");
+}
+
+#[test]
+fn texts_of_widths(rt: HostRuntime) {
+    let mut zeros = [b'0'; WIDEST];
+    let cases = [
+        (Letters::Standard, 0, 0, None),
+        (Letters::Standard, 0, 1, Some(b"0".as_slice())),
+        (Letters::Standard, 61, 1, Some(b"z")),
+        (Letters::Standard, 62, 1, None),
+        (Letters::Standard, 1337, 2, Some(b"LZ")),
+        (Letters::Alternative, 1337, 5, Some(b"000lz")),
+        (Letters::Descending, 1337, 5, Some(b"zzzeQ")),
+        (Letters::Wide, 1337, 3, Some(b"\xff\xea\xdc")),
+        // 62^5 and the number before it.
+        (Letters::Standard, 916132831, 5, Some(b"zzzzz")),
+        (Letters::Standard, 916132832, 5, None),
+        (Letters::Standard, 916132832, 6, Some(b"100000")),
+        (
+            Letters::Standard,
+            18446744073709551615,
+            11,
+            Some(b"LygHa16AHYF"),
+        ),
+        (Letters::Standard, 18446744073709551615, 10, None),
+        // 62^21 and the number before it.
+        (
+            Letters::Standard,
+            43674252383913877424036476406214950911,
+            21,
+            Some(b"zzzzzzzzzzzzzzzzzzzzz"),
+        ),
+        (
+            Letters::Standard,
+            43674252383913877424036476406214950912,
+            21,
+            None,
+        ),
+        (
+            Letters::Standard,
+            43674252383913877424036476406214950912,
+            22,
+            Some(b"1000000000000000000000"),
+        ),
+        (Letters::Standard, u128::MAX, 21, None),
+        (
+            Letters::Standard,
+            u128::MAX,
+            22,
+            Some(b"7n42DGM5Tflk9n8mt7Fhc7"),
+        ),
+        (
+            Letters::Alternative,
+            u128::MAX,
+            23,
+            Some(b"07N42dgm5tFLK9N8MT7fHC7"),
+        ),
+    ];
+    for (alphabet, number, width, text) in cases {
+        assert_fills(&rt, alphabet, number, width, text);
+    }
+    assert_fills(&rt, Letters::Standard, 0, WIDEST, Some(&zeros));
+    zeros[WIDEST - 22..].copy_from_slice(b"7n42DGM5Tflk9n8mt7Fhc7");
+    assert_fills(&rt, Letters::Standard, u128::MAX, WIDEST, Some(&zeros));
+}
+
+// Those about 0, about each power of 62, about 2^64 and below 2^128.
+fn borders() -> [u128; 73] {
+    let mut borders = [u128::MAX; 73];
+    let mut center: u128 = 1;
+    for exponent in 0..22_usize {
+        for (place, number) in borders[3 * exponent..][..3].iter_mut().enumerate() {
+            *number = center.wrapping_sub(1).wrapping_add(place as u128);
+        }
+        center = center.wrapping_mul(62);
+    }
+    borders[66] = 18446744073709551615;
+    borders[67] = 18446744073709551616;
+    borders[68] = u128::MAX - 1;
+    borders[69] = 1337;
+    // 7 * 62^21 and the number before it, where the first letter of keys changes last.
+    borders[70] = 305719766687397141968255334843504656383;
+    borders[71] = 305719766687397141968255334843504656384;
+    borders
+}
+
+#[test]
+fn texts_by_division(rt: HostRuntime) {
+    for alphabet in FOUR {
+        for width in WIDTHS {
+            assert!(rt; width <= WIDEST, "{width} places");
+            for number in borders() {
+                let mut places = [0; WIDEST];
+                let fits = plain_fixed(alphabet.letters(), number, &mut places[..width])
+                    && width > 0;
+                let text = if fits { Some(&places[..width]) } else { None };
+                assert_fills(&rt, alphabet, number, width, text);
+            }
+        }
+    }
+}
+
+#[test]
+fn ranges_of_fronts(rt: HostRuntime) {
+    let all = Ok(Some((0, u128::MAX)));
+    let rows = [
+        // No text has no letters.
+        (0, "", Ok(None)),
+        (0, "0", Ok(None)),
+        (0, "!", Err(InvalidBase62Byte(b'!', 0))),
+        (1, "", Ok(Some((0, 61)))),
+        (1, "0", Ok(Some((0, 0)))),
+        (1, "z", Ok(Some((61, 61)))),
+        (1, "00", Ok(None)),
+        (1, "0-!", Err(InvalidBase62Byte(b'-', 1))),
+        (5, "", Ok(Some((0, 916132831)))),
+        (5, "000L", Ok(Some((1302, 1363)))),
+        (
+            11,
+            "L",
+            Ok(Some((17625286683235144704, 18464586049103484927))),
+        ),
+        (
+            21,
+            "",
+            Ok(Some((0, 43674252383913877424036476406214950911))),
+        ),
+        (22, "", all),
+        (
+            22,
+            "7n",
+            Ok(Some((340236514539200045093703517809706795008, u128::MAX))),
+        ),
+        (22, "7o", Ok(None)),
+        (22, "7o!", Err(InvalidBase62Byte(b'!', 2))),
+        (23, "", all),
+        (23, "0", all),
+        (
+            23,
+            "00",
+            Ok(Some((0, 43674252383913877424036476406214950911))),
+        ),
+        (
+            23,
+            "07n",
+            Ok(Some((340236514539200045093703517809706795008, u128::MAX))),
+        ),
+        (23, "07o", Ok(None)),
+        // It is 62^22.
+        (23, "1", Ok(None)),
+        (
+            23,
+            "07n42DGM5Tflk9n8mt7Fhc7",
+            Ok(Some((u128::MAX, u128::MAX))),
+        ),
+        (23, "07n42DGM5Tflk9n8mt7Fhc8", Ok(None)),
+        (23, "000000000000000000000000", Ok(None)),
+        (100, "", all),
+        (100, "000", all),
+        (100, "0001", Ok(None)),
+        (100, "000!", Err(InvalidBase62Byte(b'!', 3))),
+    ];
+    for (width, front, answer) in rows {
+        assert_eq!(rt;
+            Letters::Standard.fixed_range(width, front.as_bytes()),
+            answer,
+            "the range of {front:?} in {width} letters"
+        );
+    }
+}
+
+// The ends of fronts of zeros, one letter more at a time, in 100 letters: all numbers, and then those of fewer letters.
+#[test]
+fn ranges_of_zeros(rt: HostRuntime) {
+    for alphabet in FOUR {
+        let zeros = [alphabet.letters()[0]; WIDEST + 1];
+        for length in 0..=WIDEST {
+            let greatest = match 62u128.checked_pow((WIDEST - length) as u32) {
+                Some(power) => power.saturating_sub(1),
+                None => u128::MAX,
+            };
+            let range = alphabet.fixed_range(WIDEST, &zeros[..length]);
+            assert_eq!(rt;
+                range,
+                Ok(Some((0, greatest))),
+                "{length} zeros, {alphabet:?}"
+            );
+        }
+        assert_eq!(rt;
+            alphabet.fixed_range(WIDEST, &zeros),
+            Ok(None),
+            "{alphabet:?}"
+        );
+    }
+}
+
+fn assert_begins(
+    rt: &impl Abort,
+    alphabet: Letters,
+    width: usize,
+    number: u128,
+    front: &[u8],
+    begins: bool,
+) {
+    assert!(rt; width <= WIDEST, "{width} letters");
+    let mut places = [0; WIDEST];
+    let text = &mut places[..width];
+    let has_text = plain_fixed(alphabet.letters(), number, text) && width > 0;
+    assert_eq!(rt;
+        has_text && text.starts_with(front),
+        begins,
+        "does {number} in {width} letters begin with {front:?}, {alphabet:?}"
+    );
+}
+
+// The least number of a front with zeros up to so many letters, where it has no more and that is below 2^128.
+fn least_of(alphabet: Letters, width: usize, front: &[u8]) -> Option<u128> {
+    let zeros = width.checked_sub(front.len())?;
+    let mut value: u128 = 0;
+    for letter in front {
+        value = value
+            .checked_mul(62)?
+            .checked_add(plain_digit(alphabet.letters(), *letter)?)?;
+    }
+    for _ in 0..zeros {
+        value = value.checked_mul(62)?;
+    }
+    Some(value)
+}
+
+// The texts of the ends begin with the front, those of the numbers just outside do not, and that of the given number
+// does where it is within. Where there is no range, the front is too long or too large, or no text has letters.
+fn assert_range(rt: &impl Abort, alphabet: Letters, width: usize, front: &[u8], number: u128) {
+    let Ok(range) = alphabet.fixed_range(width, front) else {
+        panic!(rt; "the front {front:?} of letters is refused, {alphabet:?}");
+    };
+    let least = if width > 0 {
+        least_of(alphabet, width, front)
+    } else {
+        None
+    };
+    assert_eq!(rt;
+        range.map(|ends| ends.0),
+        least,
+        "{front:?} of {width}, {alphabet:?}"
+    );
+    let Some((least, greatest)) = range else {
+        assert_begins(rt, alphabet, width, number, front, false);
+        return;
+    };
+    let is_within = least <= number && number <= greatest;
+    assert_begins(rt, alphabet, width, number, front, is_within);
+    assert_begins(rt, alphabet, width, least, front, true);
+    assert_begins(rt, alphabet, width, greatest, front, true);
+    if let Some(before) = least.checked_sub(1) {
+        assert_begins(rt, alphabet, width, before, front, false);
+    }
+    if let Some(after) = greatest.checked_add(1) {
+        assert_begins(rt, alphabet, width, after, front, false);
+    }
+}
+
+// The first letters of a text and a zero, as they are and with the zero or the last letter as their last one.
+#[test]
+fn ranges_by_plain_texts(rt: HostRuntime) {
+    for alphabet in FOUR {
+        let (zero, last) = (alphabet.letters()[0], alphabet.letters()[61]);
+        for width in [0, 1, 5, 22, 23, WIDEST] {
+            assert!(rt; width <= WIDEST, "{width} letters");
+            for number in borders() {
+                let mut letters = [zero; WIDEST + 1];
+                let _ = plain_fixed(alphabet.letters(), number, &mut letters[..width]);
+                for length in 0..=width + 1 {
+                    assert_range(&rt, alphabet, width, &letters[..length], number);
+                    let Some(place) = length.checked_sub(1) else {
+                        continue;
+                    };
+                    for letter in [zero, last] {
+                        let mut changed = letters;
+                        changed[place] = letter;
+                        assert_range(&rt, alphabet, width, &changed[..length], number);
+                    }
+                }
+            }
+        }
+    }
+}
+
+// The byte is named at the end of a front and before more letters, in a front longer than any text too.
+#[test]
+fn bytes_that_are_no_letters(rt: HostRuntime) {
+    for alphabet in FOUR {
+        let byte = b'!';
+        for width in WIDTHS {
+            for place in [0, 1, 21, 22, 23, WIDEST - 1, WIDEST] {
+                assert!(rt; place <= WIDEST, "the place {place}");
+                let mut front = [alphabet.letters()[0]; WIDEST + 1];
+                front[place] = byte;
+                let refused: Result<Option<(u128, u128)>, DecodeError> = Err(InvalidBase62Byte(
+                    byte, place,
+                ));
+                for front in [&front[..], &front[..=place]] {
+                    let range = alphabet.fixed_range(width, front);
+                    assert_eq!(rt;
+                        range,
+                        refused,
+                        "the byte at {place} of {width}, {alphabet:?}"
+                    );
+                }
+            }
+        }
+    }
+}

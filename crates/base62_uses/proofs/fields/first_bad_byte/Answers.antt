@@ -1,3 +1,4 @@
+-- The search takes no field of what a law says of each text.
 use Rattle.base62.specs.Alphabet.{standard}
 use Rattle.base62_uses.proofs.fields.first_bad_byte.Goals as goal
 

@@ -1,3 +1,4 @@
+-- The law ends in `↔` behind its variables, where the search does not use it.
 use Rattle.std.proofs.lemmas.Result.{IfOk-weaker}
 use Rattle.base62_uses.proofs.tokens.token_of_text.Goals as goal
 

@@ -32,7 +32,7 @@ class Wheel(bdist_wheel):
         minors = [re.match(r"GLIBC_2\.(\d+)", name) for name in re.findall(r"Name: (\S+)", told)]
         if libraries == ["libc.so.6"] and all(minors):
             # manylinux_2_5 is the earliest.
-            system = system.replace("linux", f"manylinux_2_{max(5, *(int(minor[1]) for minor in minors))}")
+            system = system.replace("linux", f"manylinux_2_{max([5, *(int(minor[1]) for minor in minors)])}")
         return python, abi, system
 
 

@@ -40,7 +40,7 @@ sum_of_lowest (suc k) n =
     (sym (mod-mul n {m = 256} {c = 256 ^ k} (omega arith) some) ∙ ap (λ m. n % m) (omega arith))
 
 -- so all sixteen denote it, if it is below 2^128
-pub number_of_bytes : (n : ℕ) → n < 2 ^ 128 → uuid_number (to_be_bytes w128 n) ≡ n
+number_of_bytes : (n : ℕ) → n < 2 ^ 128 → uuid_number (to_be_bytes w128 n) ≡ n
 number_of_bytes n small = sum_of_lowest 16 n ∙ omega (arith, small)
 
 bytes_are_uuid : (n : ℕ) → IsUuid (to_be_bytes w128 n)

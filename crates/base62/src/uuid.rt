@@ -11,8 +11,9 @@ use crate::fault::DecodeError;
 
 /// The sixteen bytes, the highest first, of the number that [`decode`] answers for `input`, as those of a UUID.
 ///
-/// `Err` comes exactly where [`decode`] has it, with its fault: each number below 2^128 is that of one UUID. A UUID is
-/// encoded as any other [`Number`], so its text is read back to the same bytes. It takes no memory.
+/// `Err` comes exactly where [`decode`] has it, with its fault: each number below 2^128 is that of one UUID, and
+/// no version or variant is looked at. A UUID is encoded as any other [`Number`], so its text is read back to the same
+/// bytes. It takes no memory.
 ///
 /// ```rust
 /// let uuid = base62::decode_uuid(b"LZ").unwrap();

@@ -1,4 +1,3 @@
--- The search does not put the slice in the place of the array that was made of it.
 use Rattle.base62_uses.proofs.alphabets.configured_alphabet.Goals as goal
 
 pub returns-in-Err-clause-repeated : goal.returns-in-Err-clause-repeated

@@ -1,4 +1,3 @@
--- That two parts compare as their number does goes by cases, which the search does not make.
 use Rattle.std.proofs.Common.{refl, rules, ◌≡◌, ℕ, ◌+◌, ◌*◌, ◌^◌, ◌<◌, Less, Equal, Greater, sym, ◌∙◌, arith}
 use Rattle.std.specs.Ordering.{ordering_then, MatchOrdering}
 use Rattle.std.specs.declared.cmp.Ordering.{Ordering}

@@ -1,4 +1,3 @@
--- What the loop keeps: the count so far, and its work.
 use Rattle.std.proofs.Common.{◌≡◌, ◌+◌, ◌*◌, ◌≤◌, take, count_by}
 use Rattle.std.specs.Result.{is_ok}
 use Rattle.base62.specs.Alphabet.{standard}

@@ -1,6 +1,6 @@
 //! The reply to one line.
 
-ghost use Rattle.std.specs.Prelude.{◌≡◌, ◌≤◌, ℕ, ◌∷◌, [], ◌++◌, List, take, decimal, OnOk, Some, None, if◌then◌else◌};
+ghost use Rattle.std.specs.Prelude.{◌≡◌, ◌<◌, ◌≤◌, ◌+◌, ◌*◌, ◌^◌, ℕ, ◌∷◌, [], ◌++◌, List, take, decimal, OnOk, Some, None, if◌then◌else◌};
 ghost use Rattle.base62.specs.Canonical.{IsCanonical};
 ghost use Rattle.base62.specs.Decoding.{decoding};
 ghost use Rattle.base62_cli.specs.BuiltIn.{alphabet_of};
@@ -12,6 +12,9 @@ use std::io::{self, Write};
 use std::str;
 
 const TEN_TO_19: u128 = 10_000_000_000_000_000_000;
+
+// 2^127 / 10^19, rounded down.
+const INVERSE: u128 = 17_014_118_346_046_923_173;
 
 // The built-in alphabet that a command speaks of.
 #[derive(Clone, Copy)]
@@ -81,8 +84,21 @@ fn push_number(number: u128, out: &mut Vec<u8>) -> io::Result<()>
     if number <= u128::from(u64::MAX) {
         return writeln!(out, "{number}");
     }
-    let high = number / TEN_TO_19;
-    writeln!(out, "{high}{:019}", number - high * TEN_TO_19)
+    let (high, low) = cut_by_19(number);
+    writeln!(out, "{high}{low:019}")
+}
+
+// What stands before the last 19 digits, and the number of those. The quotient is estimated from the upper half, and
+// what it lacks is a quotient of 64 bits: the language's `/` of 128 bits calls the C runtime.
+fn cut_by_19(number: u128) -> (u128, u128)
+    ensures whole { result.0 * 10 ^ 19 + result.1 ≡ number }
+    ensures low { result.1 < 10 ^ 19 }
+{
+    let estimate = ((number >> 64) * INVERSE) >> 63;
+    let rest = number - estimate * TEN_TO_19;
+    // The rest is below 5 * 10^19, and 4 divides both.
+    let more = u128::from((rest >> 2) as u64 / (TEN_TO_19 >> 2) as u64);
+    (estimate + more, rest - more * TEN_TO_19)
 }
 
 fn decode(alphabet: BuiltIn, text: &[u8]) -> Result<u128, DecodeError>

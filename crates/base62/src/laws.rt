@@ -149,18 +149,6 @@ pub fn fixed_widths()
         → IsFixed B w (replicate (w - length text) (zero_letter B) ++ text) n }
 {}
 
-/// What is encoded into as many places as the number has letters, behind zero letters, is its text of so many letters.
-pub fn zeros_in_front(alphabet: &Alphabet, zeros: &[u8], text: &[u8], number: u128)
-    ensures { (before : List ℕ) (answer : Result ℕ EncodeError) (count w : ℕ)
-        → zeros.now ≡ replicate (length zeros.now) (zero_letter alphabet.now)
-        → EncodesInto alphabet.now number before text.now answer → DigitCount number count
-        → length before ≡ count → length text.now ≡ count → length zeros.now + count ≡ w
-        → IsFixed alphabet.now w (zeros.now ++ text.now) number }
-{
-    // Its contract says that they are an alphabet.
-    let _ = alphabet.letters();
-}
-
 /// Over an alphabet whose letters ascend by byte, as the standard ones do, texts of letters of one length
 /// compare by their bytes as their values, and so texts of w letters as their numbers. Canonical texts compare as
 /// their numbers where the shorter comes first and texts of one length go by their bytes.

@@ -150,8 +150,8 @@ pub fn fixed_widths()
 {}
 
 /// Over an alphabet whose letters ascend by byte, as the standard ones do, texts of letters of one length
-/// compare by their bytes as their values, and so texts of w letters as their numbers. Canonical texts compare as
-/// their numbers where the shorter comes first and texts of one length go by their bytes.
+/// compare in lexicographic order as their values, and so texts of w letters as their numbers. Canonical texts
+/// compare in shortlex order as their numbers.
 #[tactic(auto, using(crate::proofs::OrderLemmas::texts_in_order))]
 pub fn order_of_texts()
     ensures standard { Ascends standard }
@@ -164,8 +164,8 @@ pub fn order_of_texts()
         → IsCanonical B a m → IsCanonical B b n → shortlex_order a b ≡ nat_cmp m n }
 {}
 
-/// Over an alphabet that ascends, two texts of so many letters compare by their bytes as their numbers, and two canonical
-/// texts do so where the shorter comes first.
+/// Over an alphabet that ascends, two texts of so many letters compare in lexicographic order as their numbers, and two
+/// canonical texts in shortlex order.
 #[tactic(auto, using(crate::proofs::OrderLemmas::texts_in_order))]
 pub fn order_of_two(alphabet: &Alphabet, width: usize, a: &[u8], b: &[u8], m: u128, n: u128)
     ensures order { Ascends alphabet.now → IsFixed alphabet.now width a.now m
@@ -224,7 +224,8 @@ pub fn fronts()
 {}
 
 /// Over an alphabet that ascends, a text of so many letters, of a value below 2^128, begins with a front exactly where
-/// it stands in byte order from the text of the least to the text of the greatest number of the front's range.
+/// it stands in lexicographic order from the text of the least to the text of the greatest number of the front's
+/// range.
 pub fn scan_of_front(
     alphabet: &Alphabet,
     width: usize,

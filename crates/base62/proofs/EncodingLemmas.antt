@@ -8,7 +8,7 @@ use Rattle.base62.specs.Fixed.{fixed, WritesFixed}
 use Rattle.base62.specs.Steps.{EncodesCounted, encoding_steps}
 use Rattle.base62.proofs.FixedLemmas.{length-fixed, has_letters_some, letters_exact, canonical_has}
 use Rattle.base62.proofs.AnswerLemmas.{decoding-denotes}
-use Rattle.base62.proofs.WritingLemmas.{written_front, written_rest, written_length}
+use Rattle.base62.proofs.WritingLemmas.{written_front, written_others, written_length}
 use Rattle.base62.proofs.StepsLemmas.{most_steps}
 
 -- a number of so many letters
@@ -23,7 +23,7 @@ module _ (B : List ℕ) (ok : IsAlphabet B) (n count : ℕ) (small : n < 2 ^ 128
           fits = (λ _. (fixed B count n, canonical, omega (arith, length-fixed B count n)), λ _. refl);
           text = (omega (arith, written_length B count n old new writes room), rw text canonical);
           back = rw text (decoding-denotes B ok n small (fixed B count n) canonical.denotes);
-          others = written_rest B count n old new writes;
+          others = written_others B count n old new writes;
           short = (has_letters_some B ok n count has, few);
           refused = tt;
           roomy = λ _. refl;

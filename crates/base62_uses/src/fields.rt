@@ -3,7 +3,7 @@
 ghost use Rattle.std.specs.Prelude.{◌≡◌, ◌<◌, ◌≤◌, ◌^◌, ◌∷◌, ℕ, List, length, slice_index, true, Err};
 ghost use Rattle.base62.specs.Alphabet.{AreLetters, is_letter, standard, zero_letter};
 ghost use Rattle.base62.specs.Value.{value};
-ghost use Rattle.base62.specs.Decoding.{decoding, rest, IsFirstInvalid};
+ghost use Rattle.base62.specs.Decoding.{decoding, after_zeros, IsFirstInvalid};
 ghost use Rattle.base62.specs.Laws.{AgreesAtLetters};
 
 use base62::{Alphabet, DecodeError};
@@ -28,7 +28,8 @@ pub fn verdict_on(text: &[u8]) -> Verdict
     ensures empty { result ≡ Verdict.Empty → length text.now ≡ 0 }
     ensures bad_letter { (byte index : ℕ) → result ≡ Verdict.BadLetter byte index
         → IsFirstInvalid standard text.now byte index }
-    ensures too_large { result ≡ Verdict.TooLarge → is_letter standard (slice_index (rest standard text.now) 0) ≡ true
+    ensures too_large { result ≡ Verdict.TooLarge
+        → is_letter standard (slice_index (after_zeros standard text.now) 0) ≡ true
         → (other : List ℕ) → AgreesAtLetters standard text.now other → 2 ^ 128 ≤ value standard other }
 {
     base62::laws::built_in_alphabets();

@@ -59,7 +59,7 @@ pub fn number_behind_zero(alphabet: &Alphabet, text: &[u8]) -> Result<u128, Deco
     ensures { (typed : List ℕ) → 0 < length typed → text.now ≡ zero_letter alphabet.now ∷ typed
         → result ≡ decoding alphabet.now typed }
 {
-    let _ = alphabet.letters();
+    base62::laws::letters_are_distinct(alphabet);
     base62::laws::zero_in_front();
     match base62::decode_with(alphabet, text) {
         Err(DecodeError::InvalidBase62Byte(byte, index)) if index > 0 => {

@@ -50,7 +50,7 @@ pub fn compare_timed(a: TimedId, b: TimedId) -> Ordering
     ensures { result ≡ ordering_then (nat_cmp a.milliseconds b.milliseconds)
         (nat_cmp a.sequence b.sequence) }
 {
-    base62::laws::order_of_texts();
+    base62::laws::built_in_alphabets();
     let (first, second) = (timed_key(a), timed_key(b));
     base62::laws::order_of_two(
         &Alphabet::standard(),

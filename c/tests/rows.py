@@ -141,21 +141,21 @@ def first_bad(letters, text):
 
 def decoded(letters, text):
     """The first case of the table that fits a text."""
-    rest = text.lstrip(letters[:1])
+    after_zeros = text.lstrip(letters[:1])
     named = first_bad(letters, text)
     if not text:
         return EMPTY_INPUT, None
-    if len(rest) > 22:
+    if len(after_zeros) > 22:
         return OVERFLOW, None
-    if first_bad(letters, rest[:10]):
+    if first_bad(letters, after_zeros[:10]):
         return INVALID_BYTE, named
-    if len(rest) == 22 and value(letters, rest[:10]) * 62**12 > LARGEST:
+    if len(after_zeros) == 22 and value(letters, after_zeros[:10]) * 62**12 > LARGEST:
         return OVERFLOW, None
     if named:
         return INVALID_BYTE, named
-    if value(letters, rest) > LARGEST:
+    if value(letters, after_zeros) > LARGEST:
         return OVERFLOW, None
-    return OK, value(letters, rest)
+    return OK, value(letters, after_zeros)
 
 
 def canonical(letters, text):

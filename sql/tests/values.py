@@ -81,15 +81,15 @@ def bad_byte(given: bytes) -> Fault | None:
 def decoded(given: str) -> int | Fault:
     """The first case of the table that fits a text."""
     whole = given.encode()
-    rest = whole.lstrip(b"0")
+    after_zeros = whole.lstrip(b"0")
     named = bad_byte(whole)
     if not whole:
         return Fault(EMPTY)
-    if len(rest) > 22:
+    if len(after_zeros) > 22:
         return Fault(TOO_LARGE)
-    if named and bad_byte(rest[:10]):
+    if named and bad_byte(after_zeros[:10]):
         return named
-    if len(rest) == 22 and value(rest[:10].decode()) * 62**12 > LARGEST:
+    if len(after_zeros) == 22 and value(after_zeros[:10].decode()) * 62**12 > LARGEST:
         return Fault(TOO_LARGE)
     if named:
         return named

@@ -12,13 +12,13 @@ use Rattle.base62.specs.declared.fault.DecodeError.TheVariants.{ArithmeticOverfl
 use Rattle.base62.specs.Alphabet.{IsAlphabet, AreLetters, is_letter, zero_letter}
 use Rattle.base62.specs.Value.{value}
 use Rattle.base62.specs.Canonical.{Denotes, IsCanonical}
-use Rattle.base62.specs.Decoding.{decoding, leading_zeros, rest, first_ten, invalid_index, first_invalid, IsFirstInvalid, RefusesLarge}
+use Rattle.base62.specs.Decoding.{decoding, leading_zeros, after_zeros, first_ten, invalid_index, first_invalid, IsFirstInvalid, RefusesLarge}
 use Rattle.base62.specs.Laws.{AgreesAtLetters, AnswerTells, number_or_overflow, without_zeros}
 use Rattle.base62.proofs.AlphabetLemmas.{IsLetter}
 use Rattle.base62.proofs.ValueLemmas.{value-nil, value-append, value-one}
-use Rattle.base62.proofs.ZeroLemmas.{letters_from_rest, value-rest, rest_some, rest_first, zero_is_letter, zero_digit}
+use Rattle.base62.proofs.ZeroLemmas.{letters_from_after_zeros, value-after_zeros, after_zeros_some, after_zeros_first, zero_is_letter, zero_digit}
 use Rattle.base62.proofs.LengthLemmas.{canonical_of_value}
-use Rattle.base62.proofs.OverflowLemmas.{over_long, over_first, over_rest}
+use Rattle.base62.proofs.OverflowLemmas.{over_long, over_first, over_letters}
 
 -- a list whose front does not all pass does not all pass
 not_all-take : (p : ℕ → Bool) (xs : List ℕ) (n : ℕ) → list_all p (take n xs) ≡ false → list_all p xs ≡ false
@@ -28,15 +28,15 @@ not_all-take p xs n bad =
 -- what holds in each case of decoding, where that case is reached, holds of the answer
 decoding_cases : (B text : List ℕ) (P : Result ℕ DecodeError → Type 0)
     → (length text ≡ 0 → P (Err EmptyInput))
-    → (22 < length (rest B text) → P (Err ArithmeticOverflow))
-    → (list_all (is_letter B) (rest B text) ≡ false → P (Err (first_invalid B text)))
-    → (length (rest B text) ≡ 22 → AreLetters B (first_ten B text) → 2 ^ 128 ≤ value B (first_ten B text) * 62 ^ 12 → P (Err ArithmeticOverflow))
-    → (AreLetters B (rest B text) → 2 ^ 128 ≤ value B (rest B text) → P (Err ArithmeticOverflow))
-    → (0 < length text → AreLetters B (rest B text) → value B (rest B text) < 2 ^ 128 → P (Ok (value B text)))
+    → (22 < length (after_zeros B text) → P (Err ArithmeticOverflow))
+    → (list_all (is_letter B) (after_zeros B text) ≡ false → P (Err (first_invalid B text)))
+    → (length (after_zeros B text) ≡ 22 → AreLetters B (first_ten B text) → 2 ^ 128 ≤ value B (first_ten B text) * 62 ^ 12 → P (Err ArithmeticOverflow))
+    → (AreLetters B (after_zeros B text) → 2 ^ 128 ≤ value B (after_zeros B text) → P (Err ArithmeticOverflow))
+    → (0 < length text → AreLetters B (after_zeros B text) → value B (after_zeros B text) < 2 ^ 128 → P (Ok (value B text)))
     → P (decoding B text)
 unfolding decoding
 decoding_cases B text P empty long bad first_over over fine =
-    let r : List ℕ = rest B text in
+    let r : List ℕ = after_zeros B text in
     let letters = AllPass-from_list_all (is_letter B) in
     cond_both _ _ _ P (λ t. empty (eqb-true _ _ t)) (λ f1.
     cond_both _ _ _ P (λ t. long (ltb-true _ _ t)) (λ f2.
@@ -73,13 +73,13 @@ first_invalid_named B text byte index b i is first =
 -- whatever letters stand in place of its bad bytes, the text denotes 2^128 or more, if it has more than
 -- leading zeros and the first byte after those is a letter
 abbrev MustOverflow : List ℕ → List ℕ → Type 0
-MustOverflow B text = IsLetter B (get_or (rest B text) 0 0) → (other : List ℕ) → AgreesAtLetters B text other → 2 ^ 128 ≤ value B other
+MustOverflow B text = IsLetter B (get_or (after_zeros B text) 0 0) → (other : List ℕ) → AgreesAtLetters B text other → 2 ^ 128 ≤ value B other
 
 module _ (B : List ℕ) (ok : IsAlphabet B) where
   -- what holds of each answer, given what that answer tells of the text, holds of the one that is given
   pub answer_cases : (text : List ℕ) (P : Result ℕ DecodeError → Type 0)
       → (length text ≡ 0 → P (Err EmptyInput))
-      → (0 < length (rest B text) → MustOverflow B text → P (Err ArithmeticOverflow))
+      → (0 < length (after_zeros B text) → MustOverflow B text → P (Err ArithmeticOverflow))
       → ((byte index : ℕ) → IsFirstInvalid B text byte index → P (Err (InvalidBase62Byte byte index)))
       → (Denotes B text (value B text) → value B text < 2 ^ 128 → P (Ok (value B text)))
       → P (decoding B text)
@@ -88,8 +88,8 @@ module _ (B : List ℕ) (ok : IsAlphabet B) where
       (λ long. over (omega arith) (λ letter other a. over_long B ok text other a long letter))
       (λ t. bad _ _ (first_invalid_is B text (leading_zeros B text) t))
       (λ full letters big. over (omega arith) (λ letter other a. over_first B ok text other a full letters big))
-      (λ letters big. over (rest_some B text (omega arith)) (λ letter other a. over_rest B ok text other a letters big))
-      (λ some letters small. fine (record { nonempty = some; letters = letters_from_rest B ok text letters; value_is = refl }) (omega (arith, value-rest B ok text)))
+      (λ letters big. over (after_zeros_some B text (omega arith)) (λ letter other a. over_letters B ok text other a letters big))
+      (λ some letters small. fine (record { nonempty = some; letters = letters_from_after_zeros B ok text letters; value_is = refl }) (omega (arith, value-after_zeros B ok text)))
 
   -- what is accepted is a nonempty text of letters that denotes the answer, a number below 2^128
   pub decoding_accepts : (text : List ℕ) (n : ℕ) → decoding B text ≡ Ok n → Denotes B text n × (n < 2 ^ 128)
@@ -102,7 +102,7 @@ module _ (B : List ℕ) (ok : IsAlphabet B) where
   -- a nonempty text of letters is accepted where its value is below 2^128, and else overflows
   decoding-letters : (text : List ℕ) → 0 < length text → AreLetters B text → decoding B text ≡ number_or_overflow (value B text)
   decoding-letters text some letters =
-      let others : AreLetters B (rest B text) = All-drop (IsLetter B) (leading_zeros B text) text letters in
+      let others : AreLetters B (after_zeros B text) = All-drop (IsLetter B) (leading_zeros B text) text letters in
       let itself : AgreesAtLetters B text text = record { size = refl; letters = letters; agrees = λ i h p. refl } in
       answer_cases text (λ r. r ≡ number_or_overflow (value B text))
       (λ e. absurd (omega arith))
@@ -134,26 +134,26 @@ module _ (B : List ℕ) (ok : IsAlphabet B) where
       decoding-letters (a ++ b) (omega (arith, length-append a b, front.nonempty)) letters ∙ ap number_or_overflow sum
 
   -- the one zero letter that stands for a text of zeros alone is canonical
-  zero_canonical : (text : List ℕ) (n : ℕ) → Denotes B text n → length (rest B text) ≡ 0 → IsCanonical B (zero_letter B ∷ []) n
+  zero_canonical : (text : List ℕ) (n : ℕ) → Denotes B text n → length (after_zeros B text) ≡ 0 → IsCanonical B (zero_letter B ∷ []) n
   zero_canonical text n denotes none =
-      let zero_value : value B text ≡ 0 = value-rest B ok text ∙ ap (value B) (nil_from_length (rest B text) none) ∙ value-nil B in
+      let zero_value : value B text ≡ 0 = value-after_zeros B ok text ∙ ap (value B) (nil_from_length (after_zeros B text) none) ∙ value-nil B in
       let same : value B (zero_letter B ∷ []) ≡ n = value-one B (zero_letter B) ∙ zero_digit B ok ∙ sym zero_value ∙ denotes.value_is in
       let letters : AreLetters B (zero_letter B ∷ []) = All-cons (IsLetter B) (zero_letter B) [] (zero_is_letter B ok) (All-nil (IsLetter B)) in
       rw same at (canonical_of_value B ok (zero_letter B ∷ []) letters (omega arith, inl refl))
 
   -- what follows the leading zeros, if anything does, is canonical
-  rest_canonical : (text : List ℕ) (n : ℕ) → Denotes B text n → 0 < length (rest B text) → IsCanonical B (rest B text) n
-  rest_canonical text n denotes some =
-      let r : List ℕ = rest B text in
+  after_zeros_canonical : (text : List ℕ) (n : ℕ) → Denotes B text n → 0 < length (after_zeros B text) → IsCanonical B (after_zeros B text) n
+  after_zeros_canonical text n denotes some =
+      let r : List ℕ = after_zeros B text in
       let letters : AreLetters B r = All-drop (IsLetter B) (leading_zeros B text) text denotes.letters in
-      let same : value B r ≡ n = sym (value-rest B ok text) ∙ denotes.value_is in
-      rw same at (canonical_of_value B ok r letters (some, inr (rest_first B text some)))
+      let same : value B r ≡ n = sym (value-after_zeros B ok text) ∙ denotes.value_is in
+      rw same at (canonical_of_value B ok r letters (some, inr (after_zeros_first B text some)))
 
   -- a text without its needless zeros is canonical
   pub without_zeros_canonical : (text : List ℕ) (n : ℕ) → Denotes B text n → IsCanonical B (without_zeros B text) n
   without_zeros_canonical text n denotes = cond_both _ _ _ (λ xs. IsCanonical B xs n)
       (λ t. zero_canonical text n denotes (eqb-true _ _ t))
-      (λ f. rest_canonical text n denotes (omega (arith, eqb-false (length (rest B text)) 0 f)))
+      (λ f. after_zeros_canonical text n denotes (omega (arith, eqb-false (length (after_zeros B text)) 0 f)))
 
   -- which texts are accepted
   decoding_accepts_iff : (text : List ℕ) → (IsOk (decoding B text) ↔ ((0 < length text) × AreLetters B text × (value B text < 2 ^ 128)))

@@ -14,7 +14,7 @@ use Rattle.base62.specs.Alphabet.{AreLetters, standard, alternative, digit_of, i
 use Rattle.base62.specs.Places.{sum_over_places}
 use Rattle.base62.specs.Value.{value, digit_or_zero}
 use Rattle.base62.specs.Canonical.{Denotes, IsCanonical}
-use Rattle.base62.specs.Decoding.{decoding, leading_zeros, rest, invalid_index, first_invalid}
+use Rattle.base62.specs.Decoding.{decoding, leading_zeros, after_zeros, invalid_index, first_invalid}
 use Rattle.base62.specs.Case.{other_case, exchange_case}
 use Rattle.base62.proofs.ComputedLemmas.{same_on_range}
 use Rattle.base62.proofs.AlphabetLemmas.{letter-digit_of, standard_is_ascii, alternative_is_ascii}
@@ -118,8 +118,8 @@ zero_exchanged b = elim (cases_lt b 128) [
 zeros_exchanged : (text : List ℕ) → leading_zeros alternative text ≡ leading_zeros standard (exchange_case text)
 zeros_exchanged text = prefix_len-changed (λ b. b == zero_letter alternative) (λ b. b == zero_letter standard) other_case zero_exchanged text
 
-rest_exchanged : (text : List ℕ) → exchange_case (rest alternative text) ≡ rest standard (exchange_case text)
-rest_exchanged text = sym (drop-map other_case (leading_zeros alternative text) text) ∙ ap (λ z. drop z (exchange_case text)) (zeros_exchanged text)
+after_zeros_exchanged : (text : List ℕ) → exchange_case (after_zeros alternative text) ≡ after_zeros standard (exchange_case text)
+after_zeros_exchanged text = sym (drop-map other_case (leading_zeros alternative text) text) ∙ ap (λ z. drop z (exchange_case text)) (zeros_exchanged text)
 
 -- a byte that is no letter has no other case
 stays : (b : ℕ) → is_letter alternative b ≡ false → other_case b ≡ b
@@ -160,8 +160,8 @@ first_invalid_exchanged text =
 pub decoding_exchanged : (text : List ℕ) → decoding alternative text ≡ decoding standard (exchange_case text)
 unfolding decoding
 decoding_exchanged text =
-    let r : List ℕ = rest alternative text in
+    let r : List ℕ = after_zeros alternative text in
     let values = value_exchanged alternative standard digit_in_standard in
     let all = all_exchanged alternative standard digit_in_standard in
-    rw (← rest_exchanged text, length-map text other_case, length-map r other_case, take-map other_case 10 r)
+    rw (← after_zeros_exchanged text, length-map text other_case, length-map r other_case, take-map other_case 10 r)
     (rw (← all (take 10 r), ← all r, ← values (take 10 r), ← values r, ← values text, ← first_invalid_exchanged text))

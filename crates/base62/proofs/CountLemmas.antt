@@ -4,7 +4,7 @@ use Rattle.std.proofs.Math.Nat.{pow-le-pow_left}
 use Rattle.base62.specs.declared.powers.TheConstants.{GREATEST, GREATEST_NARROW}
 use Rattle.base62.specs.Canonical.{DigitCount}
 use Rattle.base62.proofs.ComputedLemmas.{same_on_range, at_most_on_range}
-use Rattle.base62.proofs.FixedLemmas.{has_letters}
+use Rattle.base62.proofs.FixedLemmas.{digit_count_is}
 
 -- a count by six bits a letter, which a power of 2 shows, as 64 is 2^6
 abbrev estimate : ℕ → ℕ
@@ -40,11 +40,11 @@ module _ (n b limit greatest : ℕ) (few : b < 128) (low : 2 ^ b ≤ n) (high : 
   estimate_right within =
       let back : estimate b - 1 ≡ b * 43 / 256 = omega arith in
       let least : 62 ^ (estimate b - 1) ≤ n = rw back (omega (arith, power_of_62_le_64 (b * 43 / 256), from_power_of_64 n b few low)) in
-      has_letters n (estimate b) (omega arith) (omega (arith, within, threshold)) (inr least)
+      digit_count_is n (estimate b) (omega arith) (omega (arith, within, threshold)) (inr least)
 
   pub estimate_short : greatest < n → DigitCount n (estimate b + 1)
   estimate_short beyond =
       let back : estimate b + 1 - 1 ≡ estimate b = omega arith in
       let least : 62 ^ (estimate b + 1 - 1) ≤ n = rw back (omega (arith, beyond, small, threshold)) in
       let fits : n < 62 ^ (estimate b + 1) = omega (arith, below_power_of_64 n b few high, power_of_64_le_62 (estimate b) (omega (arith, few))) in
-      has_letters n (estimate b + 1) (omega arith) fits (inr least)
+      digit_count_is n (estimate b + 1) (omega arith) fits (inr least)

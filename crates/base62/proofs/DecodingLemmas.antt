@@ -14,29 +14,29 @@ use Rattle.base62.specs.declared.fault.DecodeError.{DecodeError}
 use Rattle.base62.specs.declared.fault.DecodeError.TheVariants.{ArithmeticOverflow, EmptyInput, InvalidBase62Byte}
 use Rattle.base62.specs.Alphabet.{IsAlphabet, is_letter}
 use Rattle.base62.specs.Value.{value}
-use Rattle.base62.specs.Decoding.{decoding, leading_zeros, rest, first_ten, shows_overflow, invalid_index, first_invalid}
+use Rattle.base62.specs.Decoding.{decoding, leading_zeros, after_zeros, first_ten, shows_overflow, invalid_index, first_invalid}
 use Rattle.base62.specs.Steps.{decoding_steps, DecodesCounted}
 use Rattle.base62.specs.Parts.{HasRead, HasRefused, ReadsPart, after_number}
 use Rattle.base62.specs.Laws.{number_or_overflow}
-use Rattle.base62.proofs.ZeroLemmas.{zeros_within, value-rest, zeros_letters}
+use Rattle.base62.proofs.ZeroLemmas.{zeros_within, value-after_zeros, zeros_letters}
 use Rattle.base62.proofs.PartLemmas.{prefix_len-letters, read_below, refuses_cut, reads_cut}
 
 -- the first bad byte of the text stands among the bytes after the leading zeros
-invalid_index-rest : (B text : List ℕ) → IsAlphabet B → invalid_index B text ≡ leading_zeros B text + invalid_index B (rest B text)
-invalid_index-rest B text ok =
+invalid_index-after_zeros : (B text : List ℕ) → IsAlphabet B → invalid_index B text ≡ leading_zeros B text + invalid_index B (after_zeros B text)
+invalid_index-after_zeros B text ok =
     let z = leading_zeros B text in
     let front = prefix_len-letters B (take z text) (zeros_letters B ok text) in
     let size = length-take-le z text (zeros_within B text) in
-    ap (prefix_len (is_letter B)) (sym (take-append-drop z text)) ∙ prefix_len-append (is_letter B) (take z text) (rest B text) ∙ rw
+    ap (prefix_len (is_letter B)) (sym (take-append-drop z text)) ∙ prefix_len-append (is_letter B) (take z text) (after_zeros B text) ∙ rw
     (eq-eqb (prefix_len (is_letter B) (take z text)) (length (take z text)) front, size) refl
 
-first_invalid-rest : (B text : List ℕ) → IsAlphabet B
-    → first_invalid B text ≡ InvalidBase62Byte (get_or (rest B text) (invalid_index B (rest B text)) 0) (leading_zeros B text + invalid_index B (rest B text))
-first_invalid-rest B text ok =
+first_invalid-after_zeros : (B text : List ℕ) → IsAlphabet B
+    → first_invalid B text ≡ InvalidBase62Byte (get_or (after_zeros B text) (invalid_index B (after_zeros B text)) 0) (leading_zeros B text + invalid_index B (after_zeros B text))
+first_invalid-after_zeros B text ok =
     let z = leading_zeros B text in
-    let i = invalid_index B (rest B text) in
-    let place = invalid_index-rest B text ok in
-    let byte : get_or (rest B text) i 0 ≡ get_or text (z + i) 0 = get_or-drop z text i 0 in
+    let i = invalid_index B (after_zeros B text) in
+    let place = invalid_index-after_zeros B text ok in
+    let byte : get_or (after_zeros B text) i 0 ≡ get_or text (z + i) 0 = get_or-drop z text i 0 in
     rw (place, byte) refl
 
 -- a text that is read up to a bad byte is not letters alone
@@ -52,10 +52,10 @@ pub decodes_empty : (B text : List ℕ) (old : ℕ) → length text ≡ 0 → De
 unfolding decoding decoding_steps
 decodes_empty B text old h = record { answer = rw h refl; steps = rw h (omega arith); most = omega arith }
 
-pub decodes_long : (B text : List ℕ) (old : ℕ) → 0 < length text → 22 < length (rest B text) → DecodesCounted B text old old (Err ArithmeticOverflow)
+pub decodes_long : (B text : List ℕ) (old : ℕ) → 0 < length text → 22 < length (after_zeros B text) → DecodesCounted B text old old (Err ArithmeticOverflow)
 unfolding decoding decoding_steps
 decodes_long B text old some long =
-    let above = lt-ltb 22 (length (rest B text)) long in
+    let above = lt-ltb 22 (length (after_zeros B text)) long in
     record { answer = rw (not_empty text some, above) refl; steps = rw (not_empty text some, above) (omega arith); most = omega arith }
 
 -- a number, or an overflow where it is 2^128 or more; a fault stays
@@ -63,25 +63,25 @@ abbrev pub or_overflow : Result ℕ DecodeError → Result ℕ DecodeError
 or_overflow (Ok number) = number_or_overflow number
 or_overflow (Err fault) = Err fault
 
-module _ (B text : List ℕ) (ok : IsAlphabet B) (some : 0 < length text) (short : length (rest B text) ≤ 22) (old new : ℕ) where
-  not_above : ltb 22 (length (rest B text)) ≡ false
-  not_above = le-ltb 22 (length (rest B text)) short
+module _ (B text : List ℕ) (ok : IsAlphabet B) (some : 0 < length text) (short : length (after_zeros B text) ≤ 22) (old new : ℕ) where
+  not_above : ltb 22 (length (after_zeros B text)) ≡ false
+  not_above = le-ltb 22 (length (after_zeros B text)) short
 
   -- a bad byte, where letters alone among the first ten show no overflow
-  refused_answer : (fault : DecodeError) (first : Bool) → HasRefused B (rest B text) (leading_zeros B text) old new fault
+  refused_answer : (fault : DecodeError) (first : Bool) → HasRefused B (after_zeros B text) (leading_zeros B text) old new fault
       → list_all (is_letter B) (first_ten B text) ≡ first → (first ≡ true → shows_overflow B text ≡ false) → DecodesCounted B text old new (Err fault)
   unfolding decoding decoding_steps
   refused_answer fault true refused test fits =
-      let all = not_all B (rest B text) (leading_zeros B text) old new fault _ refused refl in
-      let names : fault ≡ first_invalid B text = refused.names ∙ sym (first_invalid-rest B text ok) in
-      let place = invalid_index-rest B text ok in record {
+      let all = not_all B (after_zeros B text) (leading_zeros B text) old new fault _ refused refl in
+      let names : fault ≡ first_invalid B text = refused.names ∙ sym (first_invalid-after_zeros B text ok) in
+      let place = invalid_index-after_zeros B text ok in record {
         answer = rw (not_empty text some, not_above, test, fits refl, all) (ap Err names);
         steps = rw (not_empty text some, not_above, test, fits refl, all) (omega (arith, refused.steps, place));
         most = omega (arith, refused.steps, refused.within);
       }
   refused_answer fault false refused test fits =
-      let names : fault ≡ first_invalid B text = refused.names ∙ sym (first_invalid-rest B text ok) in
-      let place = invalid_index-rest B text ok in record {
+      let names : fault ≡ first_invalid B text = refused.names ∙ sym (first_invalid-after_zeros B text ok) in
+      let place = invalid_index-after_zeros B text ok in record {
         answer = rw (not_empty text some, not_above, test) (ap Err names);
         steps = rw (not_empty text some, not_above, test) (omega (arith, refused.steps, place));
         most = omega (arith, refused.steps, refused.within);
@@ -91,55 +91,55 @@ module _ (B text : List ℕ) (ok : IsAlphabet B) (some : 0 < length text) (short
   first_refused_answer : (fault : DecodeError) → HasRefused B (first_ten B text) (leading_zeros B text) old new fault → DecodesCounted B text old new (Err fault)
   first_refused_answer fault refused =
       let z = leading_zeros B text in
-      refused_answer fault _ (refuses_cut B (rest B text) (first_ten B text) 10 z old refl new fault refused) refl
+      refused_answer fault _ (refuses_cut B (after_zeros B text) (first_ten B text) 10 z old refl new fault refused) refl
       (λ e. absurd (false≢true (sym (not_all B (first_ten B text) z old new fault _ refused refl) ∙ e)))
 
   -- letters alone, of which the first ten show no overflow
-  read_answer : (number : ℕ) → shows_overflow B text ≡ false → HasRead B (rest B text) old new number → (over : Bool)
-      → leb (2 ^ 128) (value B (rest B text)) ≡ over → DecodesCounted B text old new (if over then Err ArithmeticOverflow else Ok number)
+  read_answer : (number : ℕ) → shows_overflow B text ≡ false → HasRead B (after_zeros B text) old new number → (over : Bool)
+      → leb (2 ^ 128) (value B (after_zeros B text)) ≡ over → DecodesCounted B text old new (if over then Err ArithmeticOverflow else Ok number)
   unfolding decoding decoding_steps
   read_answer number fits read over test =
-      let all = list_all-from_AllPass (is_letter B) (rest B text) read.letters in
-      let first = list_all-from_AllPass (is_letter B) (first_ten B text) (All-take (λ b. is_letter B b ≡ true) 10 (rest B text) read.letters) in
-      let same : number ≡ value B text = read.value_is ∙ sym (value-rest B ok text) in record {
+      let all = list_all-from_AllPass (is_letter B) (after_zeros B text) read.letters in
+      let first = list_all-from_AllPass (is_letter B) (first_ten B text) (All-take (λ b. is_letter B b ≡ true) 10 (after_zeros B text) read.letters) in
+      let same : number ≡ value B text = read.value_is ∙ sym (value-after_zeros B ok text) in record {
         answer = rw (not_empty text some, not_above, first, fits, all, test, same) refl;
         steps = rw (not_empty text some, not_above, first, fits, all) read.steps;
         most = omega (arith, read.steps);
       }
 
   -- what was read of the bytes after the leading zeros, of which the first ten show no overflow
-  rest_answer : (r : Result ℕ DecodeError) → shows_overflow B text ≡ false → ReadsPart B (rest B text) (leading_zeros B text) old new r → DecodesCounted B text old new (or_overflow r)
-  rest_answer (Err fault) fits refused = refused_answer fault _ refused refl (λ _. fits)
-  rest_answer (Ok number) fits read = elim (cases_lt number (2 ^ 128)) [
+  after_zeros_answer : (r : Result ℕ DecodeError) → shows_overflow B text ≡ false → ReadsPart B (after_zeros B text) (leading_zeros B text) old new r → DecodesCounted B text old new (or_overflow r)
+  after_zeros_answer (Err fault) fits refused = refused_answer fault _ refused refl (λ _. fits)
+  after_zeros_answer (Ok number) fits read = elim (cases_lt number (2 ^ 128)) [
     | inl less ↦ rw (lt-ltb number (2 ^ 128) less) (read_answer number fits read false (lt-leb _ _ (rw read.value_is at less)))
     | inr more ↦ rw (le-ltb number (2 ^ 128) more) (read_answer number fits read true (le-leb _ _ (rw read.value_is at more)))
   ]
 
   -- fewer than 22 bytes show no overflow
-  none_shown : length (rest B text) < 22 → shows_overflow B text ≡ false
-  none_shown less = rw (ne_eqb (length (rest B text)) 22 (λ e. omega arith)) refl
+  none_shown : length (after_zeros B text) < 22 → shows_overflow B text ≡ false
+  none_shown less = rw (ne_eqb (length (after_zeros B text)) 22 (λ e. omega arith)) refl
 
   -- at most 21 bytes after the leading zeros never overflow
-  pub decodes_few : (r : Result ℕ DecodeError) → length (rest B text) ≤ 21 → ReadsPart B (rest B text) (leading_zeros B text) old new r → DecodesCounted B text old new r
-  decodes_few (Err fault) less refused = rest_answer (Err fault) (none_shown (omega arith)) refused
+  pub decodes_few : (r : Result ℕ DecodeError) → length (after_zeros B text) ≤ 21 → ReadsPart B (after_zeros B text) (leading_zeros B text) old new r → DecodesCounted B text old new r
+  decodes_few (Err fault) less refused = after_zeros_answer (Err fault) (none_shown (omega arith)) refused
   decodes_few (Ok number) less read =
-      let below = read_below B (rest B text) old new number 21 ok read less in
+      let below = read_below B (after_zeros B text) old new number 21 ok read less in
       let small : ltb number (2 ^ 128) ≡ true = lt-ltb number (2 ^ 128) (omega arith) in
-      rw small at (rest_answer (Ok number) (none_shown (omega arith)) read)
+      rw small at (after_zeros_answer (Ok number) (none_shown (omega arith)) read)
 
 -- a text is cut after its leading zeros, and after ten bytes more
 pub record IsCut (B text first later : List ℕ) (zeros : ℕ) : Type 0 where
   pub zeros_are : zeros ≡ leading_zeros B text
   pub first_is : first ≡ first_ten B text
-  pub later_is : later ≡ drop 10 (rest B text)
-  pub size : 10 + length later ≡ length (rest B text)
-  pub short : length (rest B text) ≤ 22
+  pub later_is : later ≡ drop 10 (after_zeros B text)
+  pub size : 10 + length later ≡ length (after_zeros B text)
+  pub short : length (after_zeros B text) ≤ 22
   pub some : 0 < length text
 
 pub cut_at : {B text after first later : List ℕ} {zeros : ℕ} → zeros ≡ leading_zeros B text → after ≡ drop zeros text → first ≡ take 10 after → later ≡ drop 10 after
     → 10 < length after → length after ≤ 22 → IsCut B text first later zeros
 cut_at {B = B} {text = text} {after = after} {zeros = zeros} zeros_are behind front back long short =
-    let after_is : after ≡ rest B text = rw zeros_are at behind in
+    let after_is : after ≡ after_zeros B text = rw zeros_are at behind in
     let left : length after ≡ length text - zeros = ap length behind ∙ length-drop zeros text in
     record {
       zeros_are = zeros_are;
@@ -158,7 +158,7 @@ module _ {B text first later : List ℕ} {zeros old : ℕ} (ok : IsAlphabet B) (
   -- they are read
   module _ {mid number : ℕ} (read : HasRead B first old mid number) where
     ten : length first ≡ 10
-    ten = ap length cut.first_is ∙ length-take-le 10 (rest B text) (omega (arith, cut.size))
+    ten = ap length cut.first_is ∙ length-take-le 10 (after_zeros B text) (omega (arith, cut.size))
 
     value_is : number ≡ value B (first_ten B text)
     value_is = read.value_is ∙ ap (value B) cut.first_is
@@ -178,24 +178,24 @@ module _ {B text first later : List ℕ} {zeros old : ℕ} (ok : IsAlphabet B) (
     weighed_overflows : 2 ^ 128 ≤ number * 62 ^ length later → shows_overflow B text ≡ true
     weighed_overflows big =
         let twelve = weighed_full big in
-        let left : length (rest B text) ≡ 22 = omega (arith, cut.size) in
+        let left : length (after_zeros B text) ≡ 22 = omega (arith, cut.size) in
         let over : leb (2 ^ 128) (value B (first_ten B text) * 62 ^ 12) ≡ true = le-leb _ _ (rw (twelve, value_is) at big) in
         rw (left, over) refl
 
     weighed_fits : number * 62 ^ length later < 2 ^ 128 → shows_overflow B text ≡ false
-    weighed_fits small = elim (cases_eq (length (rest B text)) 22) [
+    weighed_fits small = elim (cases_eq (length (after_zeros B text)) 22) [
       | inl left ↦
           let twelve : length later ≡ 12 = omega (arith, cut.size) in
           let under : leb (2 ^ 128) (value B (first_ten B text) * 62 ^ 12) ≡ false = lt-leb _ _ (rw (twelve, value_is) at small) in
           rw (left, under) refl
-      | inr other ↦ rw (ne_eqb (length (rest B text)) 22 other) refl
+      | inr other ↦ rw (ne_eqb (length (after_zeros B text)) 22 other) refl
     ]
 
     pub decodes_shown : 2 ^ 128 ≤ number * 62 ^ length later → DecodesCounted B text old mid (Err ArithmeticOverflow)
     unfolding decoding decoding_steps
     decodes_shown big =
         let letters = list_all-from_AllPass (is_letter B) (first_ten B text) (rw cut.first_is at read.letters) in
-        let not_above = le-ltb 22 (length (rest B text)) cut.short in record {
+        let not_above = le-ltb 22 (length (after_zeros B text)) cut.short in record {
           answer = rw (not_empty text cut.some, not_above, letters, weighed_overflows big) refl;
           steps = rw (not_empty text cut.some, not_above, letters, weighed_overflows big) (omega (arith, read.steps, ten));
           most = omega (arith, read.steps, ten);
@@ -203,16 +203,16 @@ module _ {B text first later : List ℕ} {zeros old : ℕ} (ok : IsAlphabet B) (
 
     -- and so are the others
     module _ (new : ℕ) (r : Result ℕ DecodeError) (others : ReadsPart B later (zeros + 10) mid new r) where
-      whole : ReadsPart B (rest B text) (leading_zeros B text) old new (after_number number (length later) r)
+      whole : ReadsPart B (after_zeros B text) (leading_zeros B text) old new (after_number number (length later) r)
       whole =
           rw cut.zeros_are at
-          (reads_cut B (rest B text) first 10 zeros old cut.first_is later mid new number (length later) r cut.later_is cut.size read others)
+          (reads_cut B (after_zeros B text) first 10 zeros old cut.first_is later mid new number (length later) r cut.later_is cut.size read others)
 
       pub decodes_short : length later ≤ 11 → DecodesCounted B text old new (after_number number (length later) r)
       decodes_short few = decodes_few B text ok cut.some cut.short old new (after_number number (length later) r) (omega (arith, cut.size)) whole
 
       pub decodes_later : number * 62 ^ length later < 2 ^ 128 → DecodesCounted B text old new (or_overflow (after_number number (length later) r))
-      decodes_later small = rest_answer B text ok cut.some cut.short old new (after_number number (length later) r) (weighed_fits small) whole
+      decodes_later small = after_zeros_answer B text ok cut.some cut.short old new (after_number number (length later) r) (weighed_fits small) whole
 
 -- ---- checked arithmetic
 

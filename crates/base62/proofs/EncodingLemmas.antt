@@ -6,9 +6,9 @@ use Rattle.base62.specs.Alphabet.{IsAlphabet}
 use Rattle.base62.specs.Canonical.{IsCanonical, DigitCount}
 use Rattle.base62.specs.Fixed.{fixed, WritesFixed}
 use Rattle.base62.specs.Steps.{EncodesCounted, encoding_steps}
-use Rattle.base62.proofs.FixedLemmas.{length-fixed, has_letters_some, letters_exact, canonical_has}
+use Rattle.base62.proofs.FixedLemmas.{length-fixed, digit_count_some, digit_count_exact, digit_count_canonical}
 use Rattle.base62.proofs.AnswerLemmas.{decoding-denotes}
-use Rattle.base62.proofs.WritingLemmas.{written_front, written_rest, written_length}
+use Rattle.base62.proofs.WritingLemmas.{written_front, written_others, written_length}
 use Rattle.base62.proofs.StepsLemmas.{most_steps}
 
 -- a number of so many letters
@@ -17,14 +17,14 @@ module _ (B : List ℕ) (ok : IsAlphabet B) (n count : ℕ) (small : n < 2 ^ 128
   pub encodes : (old new : List ℕ) (before after : ℕ) → count ≤ length old → WritesFixed B count n old new → after ≡ before + encoding_steps count → EncodesCounted B n old new before after (Ok count)
   encodes old new before after room writes steps =
       let text : take count new ≡ fixed B count n = written_front B count n old new writes in
-      let canonical : IsCanonical B (fixed B count n) n = canonical_has B ok n count has in
+      let canonical : IsCanonical B (fixed B count n) n = digit_count_canonical B ok n count has in
       record {
         answer = record {
           fits = (λ _. (fixed B count n, canonical, omega (arith, length-fixed B count n)), λ _. refl);
           text = (omega (arith, written_length B count n old new writes room), rw text canonical);
           back = rw text (decoding-denotes B ok n small (fixed B count n) canonical.denotes);
-          others = written_rest B count n old new writes;
-          short = (has_letters_some B ok n count has, few);
+          others = written_others B count n old new writes;
+          short = (digit_count_some B ok n count has, few);
           refused = tt;
           roomy = λ _. refl;
         };
@@ -36,7 +36,7 @@ module _ (B : List ℕ) (ok : IsAlphabet B) (n count : ℕ) (small : n < 2 ^ 128
   pub encodes_none : (old : List ℕ) (before : ℕ) → length old < count → EncodesCounted B n old old before before (Err BufferTooSmall)
   encodes_none old before short = record {
     answer = record {
-      fits = (λ e. absurd (false≢true e), λ fits. absurd (omega (arith, letters_exact B ok n count has fits.0 fits.1, fits.2)));
+      fits = (λ e. absurd (false≢true e), λ fits. absurd (omega (arith, digit_count_exact B ok n count has fits.0 fits.1, fits.2)));
       text = tt;
       back = tt;
       others = tt;

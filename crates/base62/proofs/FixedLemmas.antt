@@ -70,38 +70,38 @@ module _ (B : List ℕ) (ok : IsAlphabet B) where
   -- a number of w letters
   module _ (n w : ℕ) (has : DigitCount n w) where
     -- they hold it
-    pub has_letters_fits : n < 62 ^ w
-    has_letters_fits =
+    pub digit_count_fits : n < 62 ^ w
+    digit_count_fits =
         let one = has B ok in
         let below = value-lt B ok one.0 in
         rw (one.1.denotes.value_is, one.2) at below
 
-    pub has_letters_some : 1 ≤ w
-    has_letters_some = let one = has B ok in omega (arith, one.1.denotes.nonempty, one.2)
+    pub digit_count_some : 1 ≤ w
+    digit_count_some = let one = has B ok in omega (arith, one.1.denotes.nonempty, one.2)
 
     -- a number below 62^k takes at most k letters
-    pub has_letters_most : (k : ℕ) → 1 ≤ k → n < 62 ^ k → w ≤ k
-    has_letters_most k some small =
+    pub digit_count_most : (k : ℕ) → 1 ≤ k → n < 62 ^ k → w ≤ k
+    digit_count_most k some small =
         let one = has B ok in omega (arith, one.1.shortest (fixed B k n) (denotes-fixed k n some small), one.2, length-fixed B k n)
 
     -- and one letter less would not hold it
-    has_letters_least : NeedsLetters w n
-    has_letters_least = elim (cases_lt n (62 ^ (w - 1))) [
+    digit_count_least : NeedsLetters w n
+    digit_count_least = elim (cases_lt n (62 ^ (w - 1))) [
       | inr more ↦ inr more
       | inl less ↦ elim (cases_lt 1 w) [
-        | inr one ↦ inl (omega (arith, one, has_letters_some))
-        | inl two ↦ absurd (omega (arith, two, has_letters_most (w - 1) (omega arith) less))
+        | inr one ↦ inl (omega (arith, one, digit_count_some))
+        | inl two ↦ absurd (omega (arith, two, digit_count_most (w - 1) (omega arith) less))
       ]
     ]
 
     -- the canonical text is the one of that many letters
-    pub canonical_has : IsCanonical B (fixed B w n) n
-    canonical_has = canonical-fixed w n has_letters_some has_letters_fits has_letters_least
+    pub digit_count_canonical : IsCanonical B (fixed B w n) n
+    digit_count_canonical = canonical-fixed w n digit_count_some digit_count_fits digit_count_least
 
     -- each canonical text has as many letters
-    pub letters_exact : (text : List ℕ) → IsCanonical B text n → length text ≡ w
-    letters_exact text canonical = let one = has B ok in ap length (one_canonical B ok n text one.0 canonical one.1) ∙ one.2
+    pub digit_count_exact : (text : List ℕ) → IsCanonical B text n → length text ≡ w
+    digit_count_exact text canonical = let one = has B ok in ap length (one_canonical B ok n text one.0 canonical one.1) ∙ one.2
 
 -- n has a canonical text of the least number of letters from 1 on that holds it
-pub has_letters : (n w : ℕ) → 0 < w → n < 62 ^ w → NeedsLetters w n → DigitCount n w
-has_letters n w some fits least = λ B ok. (fixed B w n, canonical-fixed B ok w n some fits least, length-fixed B w n)
+pub digit_count_is : (n w : ℕ) → 0 < w → n < 62 ^ w → NeedsLetters w n → DigitCount n w
+digit_count_is n w some fits least = λ B ok. (fixed B w n, canonical-fixed B ok w n some fits least, length-fixed B w n)

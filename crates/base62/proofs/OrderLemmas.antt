@@ -112,7 +112,7 @@ module _ (B : List ℕ) (ok : IsAlphabet B) where
     letters_compare x y p q =
         compared_alike (digit_or_zero B x) (digit_or_zero B y) x y (greater_letter x y p q) (same_letter B x y p q) (greater_letter y x q p)
 
-    -- texts of one length compare by their bytes as their values
+    -- texts of one length compare in lexicographic order as their values
     pub texts_compare : (a b : List ℕ) → AreLetters B a → AreLetters B b → length a ≡ length b → lexicographic_order a b ≡ nat_cmp (value B a) (value B b)
     texts_compare [] [] p q len = sym (compared (value B []) (value B []) Equal refl)
     texts_compare [] (y ∷ ys) p q len = absurd (omega arith)
@@ -124,12 +124,12 @@ module _ (B : List ℕ) (ok : IsAlphabet B) where
         let places = place_compares (digit_or_zero B x) (value B xs) (digit_or_zero B y) (value B ys) (62 ^ length xs) (value-lt B ok xs) (rw tails (value-lt B ok ys)) in
         rw (value-cons B x xs, value-cons B y ys, ← tails, places, first, later)
 
-    -- texts of w letters compare by their bytes as their numbers
+    -- texts of w letters compare in lexicographic order as their numbers
     pub fixed_compare : (w : ℕ) (a b : List ℕ) (m n : ℕ) → IsFixed B w a m → IsFixed B w b n → lexicographic_order a b ≡ nat_cmp m n
     fixed_compare w a b m n p q =
         rw (p.denotes.value_is, q.denotes.value_is) at (texts_compare a b p.denotes.letters q.denotes.letters (p.size ∙ sym q.size))
 
-    -- canonical texts compare as their numbers where the shorter comes first
+    -- canonical texts compare in shortlex order as their numbers
     pub canonical_compare : (a b : List ℕ) (m n : ℕ) → IsCanonical B a m → IsCanonical B b n → shortlex_order a b ≡ nat_cmp m n
     canonical_compare a b m n p q = elim (cases_order (length a) (length b)) [
       | inl e ↦ rw (compared (length a) (length b) Equal e) (rw (p.denotes.value_is, q.denotes.value_is) at (texts_compare a b p.denotes.letters q.denotes.letters e))

@@ -25,7 +25,7 @@ prefix_len-letters B text letters =
 pub read_below : (B part : List ℕ) (old new number k : ℕ) → IsAlphabet B → HasRead B part old new number → length part ≤ k → number < 62 ^ k
 read_below B part old new number k ok read short = rw read.value_is (value-lt_most B ok part k short)
 
--- a byte by its entry in the table
+-- a byte by its digit in the tables
 pub read_one : (B : List ℕ) (b old new : ℕ) → digit_or_255 B b ≤ 61 → new ≡ old + 1 → HasRead B (b ∷ []) old new (digit_or_255 B b)
 read_one B b old new low step = record {
   letters = let P : ℕ → Type 0 = λ x. is_letter B x ≡ true in All-cons P b [] (digit-letter B b low) (All-nil P);

@@ -18,9 +18,9 @@ module _ (B : List ℕ) (v w m : ℕ) (old part : List ℕ) (room : v + w ≤ le
   part_written : put_from v old part ≡ take v old ++ (fixed B w m ++ drop (v + w) old)
   part_written =
       let behind : length (drop v old) ≤ length old - v = omega (arith, length-drop v old) in
-      let rest : places_from v old ≡ drop v old = take_all (length old - v) (drop v old) behind in
+      let places : places_from v old ≡ drop v old = take_all (length old - v) (drop v old) behind in
       let none : post_of v (length old - v) old ≡ [] = drop_all (length old - v) (drop v old) behind in
-      rw (none, append-nil, writes, rest, drop-drop w v old) refl
+      rw (none, append-nil, writes, places, drop-drop w v old) refl
 
   pub part_length : length (put_from v old part) ≡ length old
   part_length =
@@ -37,8 +37,8 @@ module _ (B : List ℕ) (v n : ℕ) (old new : List ℕ) (writes : WritesFixed B
   written_front = ap (take v) writes ∙ take_at (fixed B v n) (drop v old) v (length-fixed B v n)
 
   -- and nothing after it changes
-  pub written_rest : drop v new ≡ drop v old
-  written_rest = ap (drop v) writes ∙ drop_at (fixed B v n) (drop v old) v (length-fixed B v n)
+  pub written_others : drop v new ≡ drop v old
+  written_others = ap (drop v) writes ∙ drop_at (fixed B v n) (drop v old) v (length-fixed B v n)
 
   pub written_length : v ≤ length old → length new ≡ length old
   written_length room = ap length writes ∙ length-append (fixed B v n) (drop v old) ∙ omega (arith, room, length-fixed B v n, length-drop v old)
@@ -60,7 +60,7 @@ module _ (B : List ℕ) (v w t n q m : ℕ) (both : v + w ≡ t) (quotient : q �
     pub written_on : WritesFixed B v q old mid → WritesFixed B t n old (put_from v mid part)
     written_on front =
         let same = written_length B v q old mid front (omega (arith, room, both)) in
-        let behind = sym (drop-drop w v mid) ∙ ap (drop w) (written_rest B v q old mid front) ∙ drop-drop w v old in
+        let behind = sym (drop-drop w v mid) ∙ ap (drop w) (written_others B v q old mid front) ∙ drop-drop w v old in
         let others : drop t mid ≡ drop t old = rw (← both) behind in
         front_first same (written_front B v q old mid front) others
 
@@ -70,8 +70,8 @@ pub back_first : (B : List ℕ) (v w t n : ℕ) → v + w ≡ t → (old part ne
 back_first B v w t n both old part new room back front =
     let size : length (take v old) ≡ v = length-take-le v old (omega (arith, room, both)) in
     let written = part_written B v w _ old part (omega (arith, room, both)) back in
-    let rest : drop v (put_from v old part) ≡ fixed B w (n - n / 62 ^ w * 62 ^ w) ++ drop (v + w) old = ap (drop v) written ∙ drop_at (take v old) _ v size in
-    front ∙ rw rest (joined B v w t n (n / 62 ^ w) _ both refl (remainder_is n (62 ^ w)) old)
+    let behind : drop v (put_from v old part) ≡ fixed B w (n - n / 62 ^ w * 62 ^ w) ++ drop (v + w) old = ap (drop v) written ∙ drop_at (take v old) _ v size in
+    front ∙ rw behind (joined B v w t n (n / 62 ^ w) _ both refl (remainder_is n (62 ^ w)) old)
 
 -- a letter
 pub letter_written : (B old : List ℕ) (x letter : ℕ) → 1 ≤ length old → x < 62 → letter ≡ get_or B x 0

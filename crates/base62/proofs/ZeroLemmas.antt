@@ -9,7 +9,7 @@ use Rattle.base62.specs.declared.fault.DecodeError.{DecodeError}
 use Rattle.base62.specs.declared.fault.DecodeError.TheVariants.{InvalidBase62Byte}
 use Rattle.base62.specs.Alphabet.{IsAlphabet, AreLetters, is_letter, zero_letter}
 use Rattle.base62.specs.Value.{value, digit_or_zero}
-use Rattle.base62.specs.Decoding.{decoding, leading_zeros, rest, invalid_index, first_invalid}
+use Rattle.base62.specs.Decoding.{decoding, leading_zeros, after_zeros, invalid_index, first_invalid}
 use Rattle.base62.specs.Laws.{one_place_on}
 use Rattle.base62.proofs.AlphabetLemmas.{IsLetter, is_letter-letter, digit_or_zero-letter}
 use Rattle.base62.proofs.ValueLemmas.{value-nil, value-cons, value-cut, value_more}
@@ -22,23 +22,23 @@ pub zeros_within : (B text : List ℕ) → leading_zeros B text ≤ length text
 zeros_within B text = prefix_len-le-length (λ b. b == zero_letter B) text
 
 -- a text that denotes a number above 0 has more than leading zeros
-pub rest_some : (B text : List ℕ) → 0 < value B (rest B text) → 0 < length (rest B text)
-rest_some B text h = elim (cases_eq (length (rest B text)) 0) [
-  | inl none ↦ let zero_value = ap (value B) (nil_from_length (rest B text) none) ∙ value-nil B in absurd (omega arith)
+pub after_zeros_some : (B text : List ℕ) → 0 < value B (after_zeros B text) → 0 < length (after_zeros B text)
+after_zeros_some B text h = elim (cases_eq (length (after_zeros B text)) 0) [
+  | inl none ↦ let zero_value = ap (value B) (nil_from_length (after_zeros B text) none) ∙ value-nil B in absurd (omega arith)
   | inr some ↦ omega arith
 ]
 
 -- the first byte after the leading zeros is not the zero letter
-pub rest_first : (B text : List ℕ) → 0 < length (rest B text) → get_or (rest B text) 0 0 ≢ zero_letter B
-rest_first B text some same =
+pub after_zeros_first : (B text : List ℕ) → 0 < length (after_zeros B text) → get_or (after_zeros B text) 0 0 ≢ zero_letter B
+after_zeros_first B text some same =
     let z = leading_zeros B text in
-    let place : get_or (rest B text) 0 0 ≡ get_or text z 0 = get_or-drop z text 0 0 ∙ ap (λ k. get_or text k 0) (omega arith) in
+    let place : get_or (after_zeros B text) 0 0 ≡ get_or text z 0 = get_or-drop z text 0 0 ∙ ap (λ k. get_or text k 0) (omega arith) in
     let stops = prefix_len_stops (λ b. b == zero_letter B) text 0 (omega (arith, length-drop z text)) in
     eqb-false _ _ stops (sym place ∙ same)
 
--- a zero letter in front is one more leading zero, before the same rest
-rest_front : (B text : List ℕ) → rest B (zero_letter B ∷ text) ≡ rest B text
-rest_front B text =
+-- a zero letter in front is one more leading zero, with the same text after the zeros
+after_zeros_front : (B text : List ℕ) → after_zeros B (zero_letter B ∷ text) ≡ after_zeros B text
+after_zeros_front B text =
     let zeros : leading_zeros B (zero_letter B ∷ text) ≡ suc (leading_zeros B text) = rw (eq-eqb (zero_letter B) (zero_letter B) refl) (omega arith) in
     ap (λ k. drop k (zero_letter B ∷ text)) zeros
 
@@ -63,10 +63,10 @@ module _ (B : List ℕ) (ok : IsAlphabet B) where
       ap (is_letter B) (get_or-take z text k 0 below ∙ zero_before B text k below) ∙ zero_is_letter)
 
   -- so a text is letters alone if what follows them is
-  pub letters_from_rest : (text : List ℕ) → AreLetters B (rest B text) → AreLetters B text
-  letters_from_rest text letters =
+  pub letters_from_after_zeros : (text : List ℕ) → AreLetters B (after_zeros B text) → AreLetters B text
+  letters_from_after_zeros text letters =
       let z = leading_zeros B text in
-      subst (AreLetters B) (take-append-drop z text) (All-append (IsLetter B) (take z text) (rest B text) (zeros_letters text) letters)
+      subst (AreLetters B) (take-append-drop z text) (All-append (IsLetter B) (take z text) (after_zeros B text) (zeros_letters text) letters)
 
   zeros_value : (text : List ℕ) (k : ℕ) → k ≤ leading_zeros B text → value B (take k text) ≡ 0
   zeros_value text zero h = value-nil B
@@ -78,8 +78,8 @@ module _ (B : List ℕ) (ok : IsAlphabet B) where
       rw (e, more, front, digit) refl
 
   -- leading zeros add nothing
-  pub value-rest : (text : List ℕ) → value B text ≡ value B (rest B text)
-  value-rest text =
+  pub value-after_zeros : (text : List ℕ) → value B text ≡ value B (after_zeros B text)
+  value-after_zeros text =
       let z = leading_zeros B text in
       let none = zeros_value text z (omega arith) in
       value-cut B text z ∙ rw none (omega arith)
@@ -102,4 +102,4 @@ module _ (B : List ℕ) (ok : IsAlphabet B) where
   decoding-zero_front text some =
       let more = ne_eqb (suc (length text)) 0 (λ e. omega arith) in
       let nonempty = ne_eqb (length text) 0 (λ e. omega arith) in
-      rw (more, nonempty, rest_front B text, first_invalid_front text, value_front text) (simp one_place_on-if)
+      rw (more, nonempty, after_zeros_front B text, first_invalid_front text, value_front text) (simp one_place_on-if)

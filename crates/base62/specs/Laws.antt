@@ -5,7 +5,7 @@ use Rattle.base62.specs.declared.fault.DecodeError.TheVariants.{ArithmeticOverfl
 use Rattle.base62.specs.Alphabet.{AreLetters, is_letter, zero_letter}
 use Rattle.base62.specs.Value.{value}
 use Rattle.base62.specs.Canonical.{IsCanonical}
-use Rattle.base62.specs.Decoding.{decoding, rest, IsFirstInvalid}
+use Rattle.base62.specs.Decoding.{decoding, after_zeros, IsFirstInvalid}
 
 -- a nonempty text has one letter, or begins with another than the zero letter
 abbrev pub HasNoNeedlessZero : List ℕ → List ℕ → Type 0
@@ -13,7 +13,8 @@ HasNoNeedlessZero B text = (0 < length text) × ((length text ≡ 1) ⊎ (slice_
 
 -- a text without its leading zeros, but for the last where it has nothing else
 abbrev pub without_zeros : List ℕ → List ℕ → List ℕ
-without_zeros B text = if length (rest B text) == 0 then zero_letter B ∷ [] else rest B text
+without_zeros B text =
+    if length (after_zeros B text) == 0 then zero_letter B ∷ [] else after_zeros B text
 
 -- another text of the same length is letters alone, and has each letter of the text at its place
 pub record AgreesAtLetters (B text other : List ℕ) : Type 0 where
@@ -22,7 +23,7 @@ pub record AgreesAtLetters (B text other : List ℕ) : Type 0 where
   pub agrees : (i : ℕ) → i < length text → is_letter B (slice_index text i) ≡ true → slice_index other i ≡ slice_index text i
 
 -- What an answer of decoding tells of the text: which texts are accepted, of which value and canonical text;
--- which byte a fault names; and that an overflow that is answered where the rest begins with a letter would
+-- which byte a fault names; and that an overflow that is answered where a letter follows the leading zeros would
 -- be one whatever letters stood in place of the bad bytes.
 pub record AnswerTells (B text : List ℕ) : Type 0 where
   pub accepted : IsOk (decoding B text) ↔ ((0 < length text) × AreLetters B text × (value B text < 2 ^ 128))
@@ -30,7 +31,8 @@ pub record AnswerTells (B text : List ℕ) : Type 0 where
   pub canonical : (n : ℕ) → decoding B text ≡ Ok n → IsCanonical B (without_zeros B text) n
   pub empty : decoding B text ≡ Err EmptyInput → length text ≡ 0
   pub named : (byte index : ℕ) → decoding B text ≡ Err (InvalidBase62Byte byte index) → IsFirstInvalid B text byte index
-  pub overflow : decoding B text ≡ Err ArithmeticOverflow → is_letter B (slice_index (rest B text) 0) ≡ true
+  pub overflow : decoding B text ≡ Err ArithmeticOverflow
+      → is_letter B (slice_index (after_zeros B text) 0) ≡ true
       → (other : List ℕ) → AgreesAtLetters B text other → 2 ^ 128 ≤ value B other
 
 -- a number, or an overflow where it is 2^128 or more

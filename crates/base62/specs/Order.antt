@@ -4,15 +4,15 @@ use Rattle.std.specs.Ordering.{is_le, nat_cmp, ordering_then}
 use Rattle.std.specs.Cmp.Lexicographic.{slice_cmp}
 use Rattle.std.specs.declared.cmp.Ordering.{Ordering}
 
--- byte order: at the first place where two texts differ the lesser byte decides, and a proper beginning is less
+-- lexicographic order: at the first place where two texts differ the lesser byte decides, and a proper beginning is less
 abbrev pub lexicographic_order : List ℕ → List ℕ → Ordering
 lexicographic_order a b = slice_cmp nat_cmp a b
 
--- one text is before another in byte order, or is the same
+-- one text is before another in lexicographic order, or is the same
 abbrev pub IsNotAfter : List ℕ → List ℕ → Type 0
 IsNotAfter a b = IsTrue (is_le (lexicographic_order a b))
 
--- length-first order: the shorter text is less, and texts of one length go by byte order
+-- shortlex order: the shorter text is less, and texts of one length go by lexicographic order
 abbrev pub shortlex_order : List ℕ → List ℕ → Ordering
 shortlex_order a b = ordering_then (nat_cmp (length a) (length b)) (lexicographic_order a b)
 

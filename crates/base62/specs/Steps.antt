@@ -4,7 +4,7 @@ use Rattle.std.specs.List.{list_all}
 use Rattle.base62.specs.declared.fault.DecodeError.{DecodeError}
 use Rattle.base62.specs.declared.fault.EncodeError.{EncodeError}
 use Rattle.base62.specs.Alphabet.{is_letter}
-use Rattle.base62.specs.Decoding.{decoding, leading_zeros, rest, first_ten, invalid_index, shows_overflow}
+use Rattle.base62.specs.Decoding.{decoding, leading_zeros, after_zeros, first_ten, invalid_index, shows_overflow}
 use Rattle.base62.specs.Encoding.{EncodesInto}
 
 -- one for each byte after the leading zeros, up to and with the first that is no letter
@@ -17,11 +17,11 @@ steps_to_invalid B text = invalid_index B text - leading_zeros B text + 1
 unfoldable pub decoding_steps : List ℕ → List ℕ → ℕ
 decoding_steps B text =
     if length text == 0 then 0
-    else if nat_lt 22 (length (rest B text)) then 0
+    else if nat_lt 22 (length (after_zeros B text)) then 0
     else if not (list_all (is_letter B) (first_ten B text)) then steps_to_invalid B text
     else if shows_overflow B text then 10
-    else if not (list_all (is_letter B) (rest B text)) then steps_to_invalid B text
-    else length (rest B text)
+    else if not (list_all (is_letter B) (after_zeros B text)) then steps_to_invalid B text
+    else length (after_zeros B text)
 
 -- a counted call answers as decoding does, and takes exactly its steps from wherever the counter stood
 pub record DecodesCounted (B text : List ℕ) (old new : ℕ) (result : Result ℕ DecodeError) : Type 0 where

@@ -12,7 +12,7 @@ digit_or_255 B b = unwrap_or (digit_of B b) 255
 unfoldable pub digits_of_bytes : List ℕ → List ℕ
 digits_of_bytes B = map (digit_or_255 B) (range_with_len 0 256)
 
--- the letters are an alphabet, and the table has the digits of all bytes over it
+-- the letters are an alphabet, and the digits are those of all bytes over it
 pub record AreTables (t : Tables) : Type 0 where
   pub alphabet : IsAlphabet t.letters
-  pub digits : t.table ≡ digits_of_bytes t.letters
+  pub digits : t.digits ≡ digits_of_bytes t.letters

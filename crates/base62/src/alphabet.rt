@@ -50,7 +50,7 @@ impl Model for Alphabet {
 
     ghost invariant = { λ a. AreTables a.tables };
 
-    ghost inverse = { λ letters. record { tables = record { letters = letters; table = digits_of_bytes letters } } };
+    ghost inverse = { λ letters. record { tables = record { letters = letters; digits = digits_of_bytes letters } } };
 }
 
 impl Alphabet {
@@ -69,16 +69,16 @@ impl Alphabet {
         ensures named { (byte index : ℕ) → result ≡ Err (Repeated byte index)
             → RepeatsFirst letters byte index }
     {
-        let mut table = [255u8; 256];
+        let mut digits = [255u8; 256];
         'letters: for index in 0..62 {
             let byte = letters[index];
-            if table[byte as usize] != 255 {
+            if digits[byte as usize] != 255 {
                 return Err(AlphabetError::Repeated(byte, index));
             }
-            table[byte as usize] = index as u8;
+            digits[byte as usize] = index as u8;
         }
         Ok(Alphabet {
-            tables: Tables { letters, table },
+            tables: Tables { letters, digits },
         })
     }
 

@@ -1,4 +1,6 @@
 //! Why a text is not decoded, a number not encoded, and a list of letters no alphabet.
+//!
+//! Each is called a fault; only the types have `..Error` in their names, as in the Rust crate.
 
 ghost use Rattle.std.specs.Prelude.{◌≡◌, ◌+◌, ◌<◌, ◌≤◌, [], ◌∷◌, ◌++◌, Some, decimal, length};
 ghost use Rattle.std.specs.Char.{digit_char};

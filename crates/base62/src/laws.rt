@@ -1,4 +1,4 @@
-//! What follows from the definitions alone. No call here takes part in a run.
+//! What follows from the definitions alone. No call here does anything in a run.
 
 ghost use Rattle.std.specs.Prelude.{◌≡◌, ◌+◌, ◌-◌, ◌*◌, ◌<◌, ◌≤◌, ◌^◌, ◌↔◌, [], ◌∷◌, ◌++◌, ℕ, Bool, List, length, map, nat_lt, replicate, true, Result, Ok, Some, None};
 ghost use Rattle.std.specs.List.{AllPass, list_all, range_with_len};
@@ -28,12 +28,20 @@ use crate::alphabet::Alphabet;
 use crate::fault;
 use std::hash::Hash;
 
-/// The standard and the alternative alphabet each are 62 bytes, of which no two are equal.
-#[tactic(auto, using(crate::proofs::AlphabetLemmas::standard_is_alphabet, crate::proofs::AlphabetLemmas::alternative_is_alphabet))]
+/// The standard and the alternative alphabet each are 62 bytes, of which no two are equal. The standard one ascends.
+#[tactic(auto, using(crate::proofs::AlphabetLemmas::standard_is_alphabet, crate::proofs::AlphabetLemmas::alternative_is_alphabet, crate::proofs::OrderLemmas::standard_ascends))]
 pub fn built_in_alphabets()
     ensures standard { IsAlphabet standard }
     ensures alternative { IsAlphabet alternative }
+    ensures ascends { Ascends standard }
 {}
+
+/// The letters of an alphabet are 62 bytes, of which no two are equal. Laws over any alphabet ask for this.
+pub fn letters_are_distinct(alphabet: &Alphabet)
+    ensures { IsAlphabet alphabet.now }
+{
+    let _ = alphabet.letters();
+}
 
 /// Over any alphabet each number below 2^128 has a canonical text, and only one, of 1 to 22 letters; that of a number
 /// below 62^k has at most k, for k from 1 on. A text of letters is the canonical text of its value exactly where it
@@ -59,7 +67,7 @@ pub fn text_of_number(alphabet: &Alphabet, text: &[u8], number: u128)
         → without_zeros alphabet.now text.now ≡ text.now
         → (other : List ℕ) → IsCanonical alphabet.now other number → other ≡ text.now }
 {
-    let _ = alphabet.letters();
+    letters_are_distinct(alphabet);
     accepted_and_refused();
     one_text();
 }
@@ -90,8 +98,7 @@ pub fn texts_of_two(alphabet: &Alphabet, first: &[u8], second: &[u8], m: u128, n
     ensures numbers { IsCanonical alphabet.now first.now m → IsCanonical alphabet.now second.now n
         → first.now ≡ second.now → m ≡ n }
 {
-    // Its contract says that they are an alphabet.
-    let _ = alphabet.letters();
+    letters_are_distinct(alphabet);
 }
 
 /// Two UUIDs are the same where their numbers are.
@@ -150,8 +157,8 @@ pub fn fixed_widths()
 {}
 
 /// Over an alphabet whose letters ascend by byte, as the standard ones do, texts of letters of one length
-/// compare by their bytes as their values, and so texts of w letters as their numbers. Canonical texts compare as
-/// their numbers where the shorter comes first and texts of one length go by their bytes.
+/// compare in lexicographic order as their values, and so texts of w letters as their numbers. Canonical texts
+/// compare in shortlex order as their numbers.
 #[tactic(auto, using(crate::proofs::OrderLemmas::texts_in_order))]
 pub fn order_of_texts()
     ensures standard { Ascends standard }
@@ -164,8 +171,8 @@ pub fn order_of_texts()
         → IsCanonical B a m → IsCanonical B b n → shortlex_order a b ≡ nat_cmp m n }
 {}
 
-/// Over an alphabet that ascends, two texts of so many letters compare by their bytes as their numbers, and two canonical
-/// texts do so where the shorter comes first.
+/// Over an alphabet that ascends, two texts of so many letters compare in lexicographic order as their numbers, and two
+/// canonical texts in shortlex order.
 #[tactic(auto, using(crate::proofs::OrderLemmas::texts_in_order))]
 pub fn order_of_two(alphabet: &Alphabet, width: usize, a: &[u8], b: &[u8], m: u128, n: u128)
     ensures order { Ascends alphabet.now → IsFixed alphabet.now width a.now m
@@ -177,8 +184,7 @@ pub fn order_of_two(alphabet: &Alphabet, width: usize, a: &[u8], b: &[u8], m: u1
     ensures canonical { Ascends alphabet.now → IsCanonical alphabet.now a.now m
         → IsCanonical alphabet.now b.now n → shortlex_order a.now b.now ≡ nat_cmp m n }
 {
-    // Its contract says that they are an alphabet.
-    let _ = alphabet.letters();
+    letters_are_distinct(alphabet);
 }
 
 /// Two numbers of a high part and a low one below a base compare by the high parts, and then by the low ones. Of a third
@@ -200,8 +206,7 @@ pub fn of_text(alphabet: &Alphabet, width: usize, text: &[u8])
     ensures number { (n : ℕ) → n < 2 ^ 128 → IsFixed alphabet.now width text.now n
         → decoding alphabet.now text.now ≡ Ok n }
 {
-    // Its contract says that they are an alphabet.
-    let _ = alphabet.letters();
+    letters_are_distinct(alphabet);
 }
 
 /// Over any alphabet a front of a text of w letters is at most w letters. The text of w letters of a number below
@@ -224,7 +229,8 @@ pub fn fronts()
 {}
 
 /// Over an alphabet that ascends, a text of so many letters, of a value below 2^128, begins with a front exactly where
-/// it stands in byte order from the text of the least to the text of the greatest number of the front's range.
+/// it stands in lexicographic order from the text of the least to the text of the greatest number of the front's
+/// range.
 pub fn scan_of_front(
     alphabet: &Alphabet,
     width: usize,
@@ -247,8 +253,7 @@ pub fn scan_of_front(
         → length text.now ≡ width → AreLetters alphabet.now text.now → value alphabet.now text.now < 2 ^ 128
         → IsNotAfter low.now text.now → IsNotAfter text.now high.now → BeginsWith front.now text.now }
 {
-    // Its contract says that they are an alphabet.
-    let _ = alphabet.letters();
+    letters_are_distinct(alphabet);
 }
 
 /// What a test tells of each byte of an alphabet holds of each letter of a text.

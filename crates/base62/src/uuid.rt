@@ -8,6 +8,7 @@ ghost use Rattle.base62.specs.Uuid.{DecodesUuid};
 use crate::alphabet::Alphabet;
 use crate::codec::{decode, decode_alternative, decode_with};
 use crate::fault::DecodeError;
+use crate::laws::letters_are_distinct;
 
 /// The sixteen bytes, the highest first, of the number that [`decode`] answers for `input`, as those of a UUID.
 ///
@@ -52,8 +53,7 @@ pub fn decode_alternative_uuid(input: &[u8]) -> Result<[u8; 16], DecodeError>
 pub fn decode_uuid_with(alphabet: &Alphabet, input: &[u8]) -> Result<[u8; 16], DecodeError>
     ensures { DecodesUuid alphabet.now input.now result }
 {
-    // Its contract says that they are an alphabet.
-    let _ = alphabet.letters();
+    letters_are_distinct(alphabet);
     bytes_of(decode_with(alphabet, input))
 }
 

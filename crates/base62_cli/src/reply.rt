@@ -95,10 +95,10 @@ fn cut_by_19(number: u128) -> (u128, u128)
     ensures low { result.1 < 10 ^ 19 }
 {
     let estimate = ((number >> 64) * INVERSE) >> 63;
-    let rest = number - estimate * TEN_TO_19;
-    // The rest is below 5 * 10^19, and 4 divides both.
-    let more = u128::from((rest >> 2) as u64 / (TEN_TO_19 >> 2) as u64);
-    (estimate + more, rest - more * TEN_TO_19)
+    let remainder = number - estimate * TEN_TO_19;
+    // The remainder is below 5 * 10^19, and 4 divides both.
+    let more = u128::from((remainder >> 2) as u64 / (TEN_TO_19 >> 2) as u64);
+    (estimate + more, remainder - more * TEN_TO_19)
 }
 
 fn decode(alphabet: BuiltIn, text: &[u8]) -> Result<u128, DecodeError>

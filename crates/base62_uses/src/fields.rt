@@ -3,7 +3,7 @@
 ghost use Rattle.std.specs.Prelude.{◌≡◌, ◌<◌, ◌≤◌, ◌^◌, ◌∷◌, ℕ, List, length, slice_index, true, Err};
 ghost use Rattle.base62.specs.Alphabet.{AreLetters, is_letter, standard, zero_letter};
 ghost use Rattle.base62.specs.Value.{value};
-ghost use Rattle.base62.specs.Decoding.{decoding, rest, IsFirstInvalid};
+ghost use Rattle.base62.specs.Decoding.{decoding, after_zeros, IsFirstInvalid};
 ghost use Rattle.base62.specs.Laws.{AgreesAtLetters};
 
 use base62::{Alphabet, DecodeError};
@@ -28,7 +28,8 @@ pub fn verdict_on(text: &[u8]) -> Verdict
     ensures empty { result ≡ Verdict.Empty → length text.now ≡ 0 }
     ensures bad_letter { (byte index : ℕ) → result ≡ Verdict.BadLetter byte index
         → IsFirstInvalid standard text.now byte index }
-    ensures too_large { result ≡ Verdict.TooLarge → is_letter standard (slice_index (rest standard text.now) 0) ≡ true
+    ensures too_large { result ≡ Verdict.TooLarge
+        → is_letter standard (slice_index (after_zeros standard text.now) 0) ≡ true
         → (other : List ℕ) → AgreesAtLetters standard text.now other → 2 ^ 128 ≤ value standard other }
 {
     base62::laws::built_in_alphabets();
@@ -58,7 +59,7 @@ pub fn number_behind_zero(alphabet: &Alphabet, text: &[u8]) -> Result<u128, Deco
     ensures { (typed : List ℕ) → 0 < length typed → text.now ≡ zero_letter alphabet.now ∷ typed
         → result ≡ decoding alphabet.now typed }
 {
-    let _ = alphabet.letters();
+    base62::laws::letters_are_distinct(alphabet);
     base62::laws::zero_in_front();
     match base62::decode_with(alphabet, text) {
         Err(DecodeError::InvalidBase62Byte(byte, index)) if index > 0 => {

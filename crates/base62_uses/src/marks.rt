@@ -45,8 +45,7 @@ pub fn borders_of_joined_marks()
         → decoding mark_letters front ≡ Ok (2 ^ 128 - 1) → decoding mark_letters back ≡ Ok 0
         → decoding mark_letters (front ++ back) ≡ Err ArithmeticOverflow }
 {
-    // Its contract says that they are an alphabet.
-    let _ = mark_alphabet().letters();
+    base62::laws::letters_are_distinct(&mark_alphabet());
     base62::laws::concatenation();
 }
 
@@ -63,7 +62,7 @@ pub fn borders_of_zeros_in_front()
         → decoding mark_letters mark ≡ Err (InvalidBase62Byte 48 21)
         → decoding mark_letters (194 ∷ mark) ≡ Err (InvalidBase62Byte 48 22) }
 {
-    let _ = mark_alphabet().letters();
+    base62::laws::letters_are_distinct(&mark_alphabet());
     base62::laws::zero_in_front();
 }
 

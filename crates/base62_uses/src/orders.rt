@@ -10,8 +10,8 @@ ghost use Rattle.base62.specs.Key.{IsKey};
 use base62::{Alphabet, Number};
 use std::cmp::Ordering;
 
-/// How two links compare in a listing: the shorter one is less, and those of one length go by their bytes. So the
-/// links of ids sort as the ids.
+/// How two links compare in a listing: in shortlex order, by length and then by bytes. So the links of ids sort as
+/// the ids.
 pub fn compare_links(a: &[u8], b: &[u8]) -> Ordering
     ensures { (m n : ℕ) → IsCanonical standard a.now m → IsCanonical standard b.now n
         → result ≡ nat_cmp m n }
@@ -50,7 +50,7 @@ pub fn compare_timed(a: TimedId, b: TimedId) -> Ordering
     ensures { result ≡ ordering_then (nat_cmp a.milliseconds b.milliseconds)
         (nat_cmp a.sequence b.sequence) }
 {
-    base62::laws::order_of_texts();
+    base62::laws::built_in_alphabets();
     let (first, second) = (timed_key(a), timed_key(b));
     base62::laws::order_of_two(
         &Alphabet::standard(),

@@ -89,7 +89,7 @@ fn number_of_both(alphabet: &Alphabet, both: &[u8], front: &[u8], back: &[u8], m
     requires back { decoding alphabet.now back.now ≡ Ok n }
     ensures { decoding alphabet.now both.now ≡ number_or_overflow (m * 62 ^ length back.now + n) }
 {
-    let _ = alphabet.letters();
+    base62::laws::letters_are_distinct(alphabet);
     base62::laws::concatenation();
 }
 

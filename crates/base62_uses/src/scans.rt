@@ -14,7 +14,7 @@ pub fn is_scanned(front: &[u8], key: &[u8; 22]) -> bool
     ensures { (n : ℕ) → n < 2 ^ 128 → IsKey standard key.now n
         → (IsTrue result ↔ BeginsWith front.now key.now) }
 {
-    base62::laws::order_of_texts();
+    base62::laws::built_in_alphabets();
     let Ok(Some(ends)) = base62::key_range(front) else {
         return false;
     };

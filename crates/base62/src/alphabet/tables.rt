@@ -10,7 +10,7 @@ use super::Work;
 #[derive(Clone, Copy)]
 pub(crate) struct Tables {
     pub(super) letters: [u8; 62],
-    pub(super) table: [u8; 256],
+    pub(super) digits: [u8; 256],
 }
 
 impl Tables {
@@ -22,7 +22,7 @@ impl Tables {
         ensures step { work.new ≡ work.old + 1 }
     {
         work.tick();
-        self.table[byte as usize]
+        self.digits[byte as usize]
     }
 
     // Whether a byte is the zero letter.
@@ -63,7 +63,7 @@ impl Tables {
 
 static STANDARD: Tables = Tables {
     letters: *b"0123456789ABCDEFGHIJKLMNOPQRSTUVWXYZabcdefghijklmnopqrstuvwxyz",
-    table: [
+    digits: [
         255, 255, 255, 255, 255, 255, 255, 255, 255, 255, 255, 255, 255, 255, 255, 255, 255, 255,
         255, 255, 255, 255, 255, 255, 255, 255, 255, 255, 255, 255, 255, 255, 255, 255, 255, 255,
         255, 255, 255, 255, 255, 255, 255, 255, 255, 255, 255, 255, 0, 1, 2, 3, 4, 5, 6, 7, 8, 9,
@@ -83,7 +83,7 @@ static STANDARD: Tables = Tables {
 
 static ALTERNATIVE: Tables = Tables {
     letters: *b"0123456789abcdefghijklmnopqrstuvwxyzABCDEFGHIJKLMNOPQRSTUVWXYZ",
-    table: [
+    digits: [
         255, 255, 255, 255, 255, 255, 255, 255, 255, 255, 255, 255, 255, 255, 255, 255, 255, 255,
         255, 255, 255, 255, 255, 255, 255, 255, 255, 255, 255, 255, 255, 255, 255, 255, 255, 255,
         255, 255, 255, 255, 255, 255, 255, 255, 255, 255, 255, 255, 0, 1, 2, 3, 4, 5, 6, 7, 8, 9,

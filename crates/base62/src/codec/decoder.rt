@@ -26,14 +26,14 @@ pub(crate) fn decode_over(
         return Err(DecodeError::EmptyInput);
     }
     let zeros = count_zeros(tables, input);
-    let (_, rest) = input.split_at(zeros);
-    if rest.len() > MAX_DIGITS {
+    let (_, after_zeros) = input.split_at(zeros);
+    if after_zeros.len() > MAX_DIGITS {
         return Err(DecodeError::ArithmeticOverflow);
     }
-    if rest.len() <= 10 {
-        return Ok(read_up_to_10(tables, rest, zeros, work)? as u128);
+    if after_zeros.len() <= 10 {
+        return Ok(read_up_to_10(tables, after_zeros, zeros, work)? as u128);
     }
-    read_long(tables, rest, zeros, work)
+    read_long(tables, after_zeros, zeros, work)
 }
 
 // How many zero letters a text begins with.
@@ -59,19 +59,19 @@ fn count_zeros(tables: &Tables, input: &[u8]) -> usize
 #[inline(always)]
 fn read_long(
     tables: &Tables,
-    rest: &[u8],
+    after_zeros: &[u8],
     zeros: usize,
     work: &mut Work,
 ) -> Result<u128, DecodeError>
     requires tables { AreTables tables.now }
-    requires long { 10 < length rest.now }
-    requires short { length rest.now ≤ MAX_DIGITS }
-    requires within { zeros + length rest.now < 2 ^ 64 }
+    requires long { 10 < length after_zeros.now }
+    requires short { length after_zeros.now ≤ MAX_DIGITS }
+    requires within { zeros + length after_zeros.now < 2 ^ 64 }
     ensures { (input : List ℕ) → zeros ≡ leading_zeros tables.now.letters input
-        → rest.now ≡ drop zeros input
+        → after_zeros.now ≡ drop zeros input
         → DecodesCounted tables.now.letters input work.old work.new result }
 {
-    let (first, later) = rest.split_at(10);
+    let (first, later) = after_zeros.split_at(10);
     let high = read_10(tables, first, zeros, work)?;
     if later.len() <= 10 {
         let high = high as u128 * power(later.len()) as u128;

@@ -65,8 +65,8 @@ fn write_narrow(tables: &Tables, n: u64, count: usize, buf: &mut [u8], work: &mu
         let quotient = n / POWER_10;
         // For ten letters the first is written over.
         buf[0] = tables.letter(quotient as u32, work);
-        let rest = n - quotient * POWER_10;
-        write_10(tables, rest, &mut buf[count - 10..], work);
+        let remainder = n - quotient * POWER_10;
+        write_10(tables, remainder, &mut buf[count - 10..], work);
     }
 }
 
@@ -80,8 +80,8 @@ fn write_wide(tables: &Tables, n: u128, count: usize, buf: &mut [u8], work: &mut
     ensures steps { work.new ≡ work.old + encoding_steps count }
 {
     if count > 20 {
-        let (top, rest) = cut_by_20(n);
-        let (middle, low) = cut_by_10(rest);
+        let (top, remainder) = cut_by_20(n);
+        let (middle, low) = cut_by_10(remainder);
         write_1_or_2(tables, top, count - 20, buf, work);
         write_20(tables, middle, low, &mut buf[count - 20..], work);
     } else if count == 20 {
@@ -102,23 +102,23 @@ fn cut_by_20(n: u128) -> (u32, u128)
 {
     let upper = (n >> 96) as u64;
     let estimate = ((upper * 123664) >> 40) as u32;
-    let rest = n - estimate as u128 * POWER_20;
-    if rest < POWER_20 {
-        (estimate, rest)
+    let remainder = n - estimate as u128 * POWER_20;
+    if remainder < POWER_20 {
+        (estimate, remainder)
     } else {
-        one_more_20(estimate, rest)
+        one_more_20(estimate, remainder)
     }
 }
 
 #[cold]
 #[inline(never)]
-fn one_more_20(estimate: u32, rest: u128) -> (u32, u128)
+fn one_more_20(estimate: u32, remainder: u128) -> (u32, u128)
     requires few { estimate ≤ 483 }
-    requires some { 62 ^ 20 ≤ rest }
+    requires some { 62 ^ 20 ≤ remainder }
     ensures quotient { result.0 ≡ estimate + 1 }
-    ensures remainder { result.1 ≡ rest - 62 ^ 20 }
+    ensures remainder { result.1 ≡ remainder - 62 ^ 20 }
 {
-    (estimate + 1, rest - POWER_20)
+    (estimate + 1, remainder - POWER_20)
 }
 
 // The quotient and the remainder by 62^10. The upper bits times 2^123 / 62^10 tell the quotient, or one less.
@@ -130,23 +130,23 @@ fn cut_by_10(n: u128) -> (u64, u64)
 {
     let upper = (n >> 56) as u64;
     let estimate = ((upper as u128 * 12669882045338564946) >> 67) as u64;
-    let rest = (n - estimate as u128 * POWER_10 as u128) as u64;
-    if rest < POWER_10 {
-        (estimate, rest)
+    let remainder = (n - estimate as u128 * POWER_10 as u128) as u64;
+    if remainder < POWER_10 {
+        (estimate, remainder)
     } else {
-        one_more_10(estimate, rest)
+        one_more_10(estimate, remainder)
     }
 }
 
 #[cold]
 #[inline(never)]
-fn one_more_10(estimate: u64, rest: u64) -> (u64, u64)
+fn one_more_10(estimate: u64, remainder: u64) -> (u64, u64)
     requires few { estimate < 62 ^ 10 }
-    requires some { 62 ^ 10 ≤ rest }
+    requires some { 62 ^ 10 ≤ remainder }
     ensures quotient { result.0 ≡ estimate + 1 }
-    ensures remainder { result.1 ≡ rest - 62 ^ 10 }
+    ensures remainder { result.1 ≡ remainder - 62 ^ 10 }
 {
-    (estimate + 1, rest - POWER_10)
+    (estimate + 1, remainder - POWER_10)
 }
 
 // One to nine letters, from the last to the first, two turns of two letters at once where there are more than four.
@@ -159,10 +159,10 @@ fn write_up_to_9(tables: &Tables, n: u64, places: usize, buf: &mut [u8], work: &
     ensures steps { work.new ≡ work.old + (places + 1) / 2 }
 {
     if places > 4 {
-        let rest = n / POWER_4 as u64;
-        let last = (n - rest * POWER_4 as u64) as u32;
+        let quotient = n / POWER_4 as u64;
+        let last = (n - quotient * POWER_4 as u64) as u32;
         write_4(tables, last, &mut buf[places - 4..], work);
-        write_up_to_5(tables, rest as u32, places - 4, buf, work);
+        write_up_to_5(tables, quotient as u32, places - 4, buf, work);
     } else {
         write_up_to_5(tables, n as u32, places, buf, work);
     }
@@ -179,13 +179,13 @@ fn write_up_to_5(tables: &Tables, n: u32, places: usize, buf: &mut [u8], work: &
     ensures steps { work.new ≡ work.old + (places + 1) / 2 }
 {
     if places > 4 {
-        let rest = n / POWER_4;
-        write_4(tables, n - rest * POWER_4, &mut buf[places - 4..], work);
-        write_1_or_2(tables, rest, places - 4, buf, work);
+        let quotient = n / POWER_4;
+        write_4(tables, n - quotient * POWER_4, &mut buf[places - 4..], work);
+        write_1_or_2(tables, quotient, places - 4, buf, work);
     } else if places > 2 {
-        let rest = n / POWER_2;
-        write_2(tables, n - rest * POWER_2, &mut buf[places - 2..], work);
-        write_1_or_2(tables, rest, places - 2, buf, work);
+        let quotient = n / POWER_2;
+        write_2(tables, n - quotient * POWER_2, &mut buf[places - 2..], work);
+        write_1_or_2(tables, quotient, places - 2, buf, work);
     } else {
         write_1_or_2(tables, n, places, buf, work);
     }
@@ -225,9 +225,9 @@ fn write_4(tables: &Tables, x: u32, buf: &mut [u8], work: &mut Work)
     ensures written { WritesFixed tables.now.letters 4 x buf.old buf.new }
     ensures steps { work.new ≡ work.old + 2 }
 {
-    let rest = x / POWER_2;
-    write_2(tables, x - rest * POWER_2, &mut buf[2..], work);
-    write_2(tables, rest, buf, work);
+    let quotient = x / POWER_2;
+    write_2(tables, x - quotient * POWER_2, &mut buf[2..], work);
+    write_2(tables, quotient, buf, work);
 }
 
 // Five letters.
@@ -237,10 +237,10 @@ fn write_5(tables: &Tables, x: u32, buf: &mut [u8], work: &mut Work)
     ensures written { WritesFixed tables.now.letters 5 x buf.old buf.new }
     ensures steps { work.new ≡ work.old + 3 }
 {
-    let rest = x / POWER_2;
-    let top = rest / POWER_2;
-    write_2(tables, x - rest * POWER_2, &mut buf[3..], work);
-    write_2(tables, rest - top * POWER_2, &mut buf[1..], work);
+    let quotient = x / POWER_2;
+    let top = quotient / POWER_2;
+    write_2(tables, x - quotient * POWER_2, &mut buf[3..], work);
+    write_2(tables, quotient - top * POWER_2, &mut buf[1..], work);
     buf[0] = tables.letter(top, work);
 }
 

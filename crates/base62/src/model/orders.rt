@@ -7,8 +7,8 @@ ghost use Rattle.std.specs.declared.cmp.Ordering.TheVariants.{Less, Equal, Great
 ghost use Rattle.base62.specs.Alphabet.{alternative};
 ghost use Rattle.base62.specs.Order.{lexicographic_order, IsNotAfter, shortlex_order, Ascends};
 
-/// How some texts compare by their bytes.
-pub fn byte_order_by_example()
+/// How some texts compare in lexicographic order.
+pub fn lexicographic_order_by_example()
     ensures first_difference { lexicographic_order (codes "10") (codes "z") ≡ Less }
     ensures first_difference_back { lexicographic_order (codes "z") (codes "10") ≡ Greater }
     ensures later_difference { lexicographic_order (codes "1z0") (codes "1a9") ≡ Greater }
@@ -22,8 +22,8 @@ pub fn byte_order_by_example()
     ensures after_beginning { IsNotAfter (codes "10") (codes "1") → ⊥ }
 {}
 
-/// How some texts compare by their lengths and then by their bytes.
-pub fn length_order_by_example()
+/// How some texts compare in shortlex order.
+pub fn shortlex_order_by_example()
     ensures shorter { shortlex_order (codes "z") (codes "10") ≡ Less }
     ensures longer { shortlex_order (codes "10") (codes "z") ≡ Greater }
     ensures empty { shortlex_order [] (codes "0") ≡ Less }

@@ -1,14 +1,14 @@
 use Rattle.std.proofs.Common.{arith}
 use Rattle.base62.specs.Alphabet.{standard}
 use Rattle.base62.proofs.AlphabetLemmas.{standard_is_alphabet}
-use Rattle.base62.proofs.FixedLemmas.{has_letters_some, has_letters_most}
+use Rattle.base62.proofs.FixedLemmas.{digit_count_some, digit_count_most}
 use Rattle.base62.proofs.count.digit_count.Goals as goal
 
 pub returns-clause-within : goal.returns-clause-within
-returns-clause-within c = λ k some fits. has_letters_most standard standard_is_alphabet _ _ c.letter_count.ensures k some fits
+returns-clause-within c = λ k some fits. digit_count_most standard standard_is_alphabet _ _ c.letter_count.ensures k some fits
 
 pub returns-clause-least : goal.returns-clause-least
-returns-clause-least c = has_letters_some standard standard_is_alphabet _ _ c.letter_count.ensures
+returns-clause-least c = digit_count_some standard standard_is_alphabet _ _ c.letter_count.ensures
 
 pub returns-clause-most : goal.returns-clause-most
-returns-clause-most c = has_letters_most standard standard_is_alphabet _ _ c.letter_count.ensures 22 (omega arith) (omega (arith, c.ranges.n.fits))
+returns-clause-most c = digit_count_most standard standard_is_alphabet _ _ c.letter_count.ensures 22 (omega arith) (omega (arith, c.ranges.n.fits))

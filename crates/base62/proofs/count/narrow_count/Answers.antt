@@ -1,10 +1,10 @@
 use Rattle.std.proofs.Common.{◌^◌, ◌<◌, inl, refl, arith}
-use Rattle.base62.proofs.FixedLemmas.{has_letters}
+use Rattle.base62.proofs.FixedLemmas.{digit_count_is}
 use Rattle.base62.proofs.CountLemmas.{greatest_narrow_is, estimate_right, estimate_short}
 use Rattle.base62.proofs.count.narrow_count.Goals as goal
 
 pub returns-then-n-eq0 : goal.returns-then-n-eq0
-returns-then-n-eq0 c = has_letters c.args.n 1 (omega arith) (omega (arith, c.if-n-eq0.true)) (inl refl)
+returns-then-n-eq0 c = digit_count_is c.args.n 1 (omega arith) (omega (arith, c.if-n-eq0.true)) (inl refl)
 
 pub returns-then-n-estimate : goal.returns-then-n-estimate
 returns-then-n-estimate c =

@@ -19,10 +19,10 @@ scanned B front low text high least greatest w ok up range lo hi size letters sm
     begins_between B ok w front up least greatest (range_ends B ok w front _ refl least greatest range) low text high (value B text) small lo is hi
 
 pub returns-clause-from : goal.returns-clause-from
-returns-clause-from c = λ up range lo hi size letters small begins. ((scanned _ _ _ _ c.args.high.now _ _ _ c.letters.ensures.alphabet up range lo hi size letters small).0 begins).0
+returns-clause-from c = λ up range lo hi size letters small begins. ((scanned _ _ _ _ c.args.high.now _ _ _ c.letters_are_distinct.ensures up range lo hi size letters small).0 begins).0
 
 pub returns-clause-to : goal.returns-clause-to
-returns-clause-to c = λ up range lo hi size letters small begins. ((scanned _ _ c.args.low.now _ _ _ _ _ c.letters.ensures.alphabet up range lo hi size letters small).0 begins).1
+returns-clause-to c = λ up range lo hi size letters small begins. ((scanned _ _ c.args.low.now _ _ _ _ _ c.letters_are_distinct.ensures up range lo hi size letters small).0 begins).1
 
 pub returns-clause-taken : goal.returns-clause-taken
-returns-clause-taken c = λ up range lo hi size letters small below above. (scanned _ _ _ _ _ _ _ _ c.letters.ensures.alphabet up range lo hi size letters small).1 (below, above)
+returns-clause-taken c = λ up range lo hi size letters small below above. (scanned _ _ _ _ _ _ _ _ c.letters_are_distinct.ensures up range lo hi size letters small).1 (below, above)

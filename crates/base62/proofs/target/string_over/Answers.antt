@@ -5,7 +5,7 @@ use Rattle.base62.specs.Alphabet.{IsAlphabet}
 use Rattle.base62.specs.Canonical.{IsCanonical, DigitCount}
 use Rattle.base62.specs.Fixed.{fixed, WritesFixed}
 use Rattle.base62.proofs.AnswerLemmas.{decoding-denotes}
-use Rattle.base62.proofs.FixedLemmas.{length-fixed, canonical_has}
+use Rattle.base62.proofs.FixedLemmas.{length-fixed, digit_count_canonical}
 use Rattle.base62.proofs.CanonicalLemmas.{canonical_is_ascii}
 use Rattle.base62.proofs.target.string_over.Goals as goal
 
@@ -14,7 +14,7 @@ whole : (B : List ℕ) → IsAlphabet B → (n count len : ℕ) (old new behind 
     → IsCanonical B (take len (new ++ behind)) n
 whole B ok n count len old new behind has writes same =
     let written = take_at (fixed B count n) (drop count old ++ behind) count (length-fixed B count n) in
-    rw (same, writes, append_assoc (fixed B count n) (drop count old) behind, written) (canonical_has B ok n count has)
+    rw (same, writes, append_assoc (fixed B count n) (drop count old) behind, written) (digit_count_canonical B ok n count has)
 
 pub from_utf8_unchecked-requires : goal.from_utf8_unchecked-requires
 from_utf8_unchecked-requires g c =

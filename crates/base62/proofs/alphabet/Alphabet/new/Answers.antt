@@ -12,8 +12,8 @@ letters-init c = record {
   bytes = λ x fits. inl (get_or-replicate 256 x 255 0 fits);
 }
 
-done : (c : goal.After-letters) → IsAlphabet c.args.letters × (c.letters.table ≡ digits_of_bytes c.args.letters)
-done c = alphabet_of_all c.args.letters c.letters.table c.letters.index (omega arith) (λ k. search rules) c.letters-test.false c.letters.auto.index-end c.letters.invariant
+done : (c : goal.After-letters) → IsAlphabet c.args.letters × (c.letters.digits ≡ digits_of_bytes c.args.letters)
+done c = alphabet_of_all c.args.letters c.letters.digits c.letters.index (omega arith) (λ k. search rules) c.letters-test.false c.letters.auto.index-end c.letters.invariant
 
 pub invariant_of-result : goal.invariant_of-result
 invariant_of-result c = record { alphabet = (done c).0; digits = (done c).1 }

@@ -3,8 +3,8 @@ use Rattle.base62.proofs.PowerLemmas.{fits_more, quotient_fits}
 use Rattle.base62.proofs.WritingLemmas.{back_first}
 use Rattle.base62.proofs.codec.encoder.write_up_to_9.Goals as goal
 
-pub overflow_cast-rest-then-places-gt4 : goal.overflow_cast-rest-then-places-gt4
-overflow_cast-rest-then-places-gt4 c =
+pub overflow_cast-quotient-then-places-gt4 : goal.overflow_cast-quotient-then-places-gt4
+overflow_cast-quotient-then-places-gt4 c =
     let few : c.args.n < 62 ^ 9 = fits_more c.args.n c.args.places 9 c.requires.fits c.requires.most in
     omega (arith, few)
 

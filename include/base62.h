@@ -1,18 +1,19 @@
 /*
- * Base62 texts of numbers below 2^128, and back.
+ * Whole numbers below 2^128 as short texts in base 62, and back.
  *
- * A text is a pointer and a length, and no byte with the value 0 ends it. The standard alphabet is the digits, then the
- * capital letters, then the small ones; the alternative one has the small letters before the capital ones. A call
- * whose name ends in _with has an alphabet of the caller's own: 62 distinct bytes, of which the first is its zero. It
- * looks at all 62 each time. Zeros in front change no number.
+ * Texts. A text is a pointer and a length. No null byte ends it. The standard alphabet is the digits, then the capital
+ * letters, then the small ones. The alternative one has the small letters before the capital ones. A call whose name
+ * ends in _with takes an alphabet of the caller's own: 62 distinct bytes, of which the first is the zero. It checks all
+ * 62 each time. Leading zeros do not change the number of a text.
  *
- * What a call does not say that it writes, it leaves as it was. It reads and writes nothing beyond the lengths that
- * it is given, takes no memory and keeps nothing, so threads may call at once. Its time depends on the number or the
- * text: compare secrets by other means.
+ * Memory. A call writes what its comment says, and nothing else. It stays within the lengths that it is given. It
+ * allocates no memory and keeps no state, so threads may call at the same time.
  *
- * The caller owes valid memory: no pointer is null, also where a length is 0, and what a call writes overlaps with
- * nothing else that it is given. A null pointer to a base62_bad_byte shows late, since only a bad byte or a repeated
- * letter is written there.
+ * Pointers. Each has to point to valid memory. None may be null, even if a length is 0. What a call writes must not
+ * overlap with anything else that it is given. Test with bad input too: the pointer to a base62_bad_byte is used only
+ * for a bad byte or a repeated letter, so a null one goes unnoticed until then.
+ *
+ * Time. It depends on the number or the text. Compare secrets by other means.
  *
  *     char text[BASE62_MAX_DIGITS];
  *     size_t length = base62_encode(base62_from_u64(1337), text, sizeof text);
@@ -35,7 +36,7 @@
 extern "C" {
 #endif
 
-/* The version of this header. base62_version_number tells that of the library. */
+/* The version of this header. base62_version_number returns that of the library. */
 #define BASE62_VERSION "2.0.0"
 #define BASE62_VERSION_MAJOR 2
 #define BASE62_VERSION_MINOR 0
@@ -44,19 +45,19 @@ extern "C" {
 /* The major version times 10000, the minor one times 100, and the patch. */
 #define BASE62_VERSION_NUMBER 20000
 
-/* The letters of the longest text of a number without zeros in front. No buffer of this size is too small for one. */
+/* The length of the longest text that base62_encode writes. A buffer of this size is always large enough. */
 #define BASE62_MAX_DIGITS 22
 
-/* The letters of each key. */
+/* The length of a key. */
 #define BASE62_KEY_LENGTH 22
 
-/* The letters of an alphabet. */
+/* The number of letters in an alphabet. */
 #define BASE62_ALPHABET_LENGTH 62
 
-/* The bytes of a UUID. */
+/* The number of bytes in a UUID. */
 #define BASE62_UUID_LENGTH 16
 
-/* The bytes of the longest text of a status. */
+/* The length of the longest text that base62_fault_text writes. */
 #define BASE62_MAX_FAULT_TEXT 77
 
 /* The number high * 2^64 + low. */
@@ -65,19 +66,19 @@ typedef struct base62_number {
     uint64_t low;
 } base62_number;
 
-/* The numbers from the least to the greatest, both included. */
+/* All numbers from the least to the greatest, both included. */
 typedef struct base62_range {
     base62_number least;
     base62_number greatest;
 } base62_range;
 
-/* A byte that a status names, and its index, counted from 0. */
+/* A bad byte of a text, or a repeated letter of an alphabet, and its index, counted from 0. */
 typedef struct base62_bad_byte {
     size_t index;
     unsigned char byte;
 } base62_bad_byte;
 
-/* No call answers BASE62_BUFFER_TOO_SMALL: it names the 0 of a call that encodes, for base62_fault_text. */
+/* No call returns BASE62_BUFFER_TOO_SMALL. Give it to base62_fault_text if an encoding call has returned 0. */
 typedef enum base62_status {
     BASE62_OK = 0,
     BASE62_BUFFER_TOO_SMALL = 1,
@@ -89,7 +90,7 @@ typedef enum base62_status {
     BASE62_NOT_CANONICAL = 7
 } base62_status;
 
-/* For compilers that have attributes: no pointer is null, an answer is looked at, so many bytes are read or written. */
+/* Compilers with attributes warn of a null pointer, an unused result, and a length that is greater than the array. */
 #ifdef __GNUC__
 #define BASE62_NO_NULL __attribute__((__nonnull__))
 #define BASE62_LOOK_AT __attribute__((__nonnull__, __warn_unused_result__))
@@ -108,7 +109,7 @@ typedef enum base62_status {
 #define BASE62_WRITES(buffer, size)
 #endif
 
-/* The number of 64 bits. */
+/* Returns the number of a value of 64 bits. */
 static inline base62_number base62_from_u64(uint64_t value) {
     base62_number number;
     number.high = 0;
@@ -116,7 +117,7 @@ static inline base62_number base62_from_u64(uint64_t value) {
     return number;
 }
 
-/* Writes the number at value and answers 1. Or answers 0 where it is 2^64 or more, and writes nothing. */
+/* Writes the number to *value and returns 1. If it is 2^64 or more, returns 0 and writes nothing. */
 BASE62_LOOK_AT
 static inline int base62_to_u64(base62_number number, uint64_t *value) {
     if (number.high != 0)
@@ -125,7 +126,7 @@ static inline int base62_to_u64(base62_number number, uint64_t *value) {
     return 1;
 }
 
-/* Where the compiler has numbers of 128 bits: the number of one, and back. */
+/* If the compiler has integers of 128 bits: the number of such a value, and back. */
 #ifdef __SIZEOF_INT128__
 __extension__ typedef unsigned __int128 base62_u128;
 
@@ -143,151 +144,156 @@ static inline base62_u128 base62_to_u128(base62_number number) {
 #endif
 
 /*
- * Writes the text of a number to the front of a buffer: the shortest nonempty one that denotes it.
+ * Writes the text of a number to the start of a buffer. It is the shortest nonempty text that denotes the number.
  *
- * It answers the length of the text, from 1 to 22. Or it answers 0 and writes nothing, where size is less than that
- * length, so never at BASE62_MAX_DIGITS or more.
+ * Returns the length of the text, from 1 to 22. If size is less, returns 0 and writes nothing. This never happens if
+ * size is BASE62_MAX_DIGITS or more.
  */
 BASE62_LOOK_AT BASE62_WRITES(2, 3)
 size_t base62_encode(base62_number number, char *buffer, size_t size);
 
-/* The same over the alternative alphabet. */
+/* As base62_encode, over the alternative alphabet. */
 BASE62_LOOK_AT BASE62_WRITES(2, 3)
 size_t base62_encode_alternative(base62_number number, char *buffer, size_t size);
 
-/* The same over an alphabet of the caller's own. It answers 0 also where a letter is repeated. */
+/*
+ * As base62_encode, over an alphabet of the caller's own. If a letter is repeated, it also returns 0 and writes
+ * nothing.
+ */
 BASE62_LOOK_AT BASE62_WRITES(3, 4)
 size_t base62_encode_with(const char letters[BASE62_ALPHABET_LENGTH], base62_number number, char *buffer, size_t size);
 
 /*
- * Writes the text of a number that has exactly width letters, with zeros in front. Texts of one width sort by memcmp
- * as their numbers, and base62_decode reads them.
+ * Writes the text of a number with exactly width letters, with zeros in front. Texts of one width sort by memcmp as
+ * their numbers do. base62_decode reads them.
  *
- * It answers width. Or it answers 0 and writes nothing, where width is 0 or the number takes more letters, which none
- * does from a width of 22 on.
+ * Returns width. If width is 0, or the number needs more letters, returns 0 and writes nothing. No number needs more
+ * than 22 letters.
  */
 BASE62_LOOK_AT BASE62_WRITES(2, 3)
 size_t base62_encode_fixed(base62_number number, char *places, size_t width);
 
-/* The same over the alternative alphabet, whose texts do not sort as their numbers. */
+/* As base62_encode_fixed, over the alternative alphabet. These texts do not sort as their numbers. */
 BASE62_LOOK_AT BASE62_WRITES(2, 3)
 size_t base62_encode_alternative_fixed(base62_number number, char *places, size_t width);
 
 /*
- * The same over an alphabet of the caller's own. It answers 0 also where a letter is repeated. The texts sort as their
- * numbers where each letter is a greater byte than the one before it.
+ * As base62_encode_fixed, over an alphabet of the caller's own. If a letter is repeated, it also returns 0 and writes
+ * nothing. The texts sort as their numbers if each letter is a greater byte than the one before it.
  */
 BASE62_LOOK_AT BASE62_WRITES(3, 4)
 size_t base62_encode_fixed_with(const char letters[BASE62_ALPHABET_LENGTH], base62_number number, char *places,
                                 size_t width);
 
-/* Writes the key of a number: its text by base62_encode_fixed of BASE62_KEY_LENGTH letters, which each number has. */
+/* Writes the key of a number: its text by base62_encode_fixed with BASE62_KEY_LENGTH letters. Each number has one. */
 BASE62_NO_NULL
 void base62_encode_key(base62_number number, char key[BASE62_KEY_LENGTH]);
 
-/* The length of the text of a number, from 1 to 22, over any alphabet. */
+/* Returns the length of the text of a number, from 1 to 22. It is the same over every alphabet. */
 size_t base62_digit_count(base62_number number);
 
 /*
- * Reads the number that a text denotes. The first of these that fits decides:
+ * Reads the number that a text denotes. Returns the first status of this list whose condition holds. The remaining
+ * bytes are those after the leading zeros.
  *
  * BASE62_EMPTY_INPUT: the length is 0.
- * BASE62_OVERFLOW: more than 22 bytes follow the zeros in front.
- * BASE62_INVALID_BYTE: one of the first ten of those is no letter. The first such is written at bad, with its index,
- *     counted from the start of the text.
- * BASE62_OVERFLOW: there are 22 of them, and the first ten with twelve zeros behind denote 2^128 or more.
- * BASE62_INVALID_BYTE: a later byte is no letter. It is written as above.
+ * BASE62_OVERFLOW: more than 22 bytes remain.
+ * BASE62_INVALID_BYTE: one of the first ten remaining bytes is not a letter. The first such byte is written to *bad,
+ *     with its index in the whole text.
+ * BASE62_OVERFLOW: 22 bytes remain, and the first ten of them with twelve zeros behind denote 2^128 or more.
+ * BASE62_INVALID_BYTE: a later byte is not a letter. The first such byte is written as above.
  * BASE62_OVERFLOW: the text denotes 2^128 or more.
- * BASE62_OK: the number is written at number.
+ * BASE62_OK: everything else. The number is written to *number.
  */
 BASE62_LOOK_AT BASE62_READS(1, 2)
 base62_status base62_decode(const char *text, size_t length, base62_number *number, base62_bad_byte *bad);
 
-/* The same over the alternative alphabet. */
+/* As base62_decode, over the alternative alphabet. */
 BASE62_LOOK_AT BASE62_READS(1, 2)
 base62_status base62_decode_alternative(const char *text, size_t length, base62_number *number, base62_bad_byte *bad);
 
 /*
- * The same over an alphabet of the caller's own.
+ * As base62_decode, over an alphabet of the caller's own. One status comes before the others:
  *
- * BASE62_REPEATED_LETTER: a letter of the alphabet is repeated, and told as by base62_check_alphabet. This comes before
- *     the others.
+ * BASE62_REPEATED_LETTER: a letter of the alphabet is repeated. It is written to *bad as by base62_check_alphabet.
  */
 BASE62_LOOK_AT BASE62_READS(2, 3)
 base62_status base62_decode_with(const char letters[BASE62_ALPHABET_LENGTH], const char *text, size_t length,
                                  base62_number *number, base62_bad_byte *bad);
 
 /*
- * Reads a number as base62_decode, but only from the text that base62_encode writes for it. So no two texts that are
- * accepted denote one number.
+ * As base62_decode, but it accepts only the texts that base62_encode writes. For each number that is one text.
  *
- * BASE62_NOT_CANONICAL: base62_decode accepts the text, and a zero that it does not need stands in front.
+ * BASE62_NOT_CANONICAL: base62_decode accepts the text, but it begins with a needless zero.
  */
 BASE62_LOOK_AT BASE62_READS(1, 2)
 base62_status base62_decode_canonical(const char *text, size_t length, base62_number *number, base62_bad_byte *bad);
 
-/* The same over the alternative alphabet. */
+/* As base62_decode_canonical, over the alternative alphabet. */
 BASE62_LOOK_AT BASE62_READS(1, 2)
 base62_status base62_decode_alternative_canonical(const char *text, size_t length, base62_number *number,
                                                   base62_bad_byte *bad);
 
-/* The same over an alphabet of the caller's own. BASE62_REPEATED_LETTER comes as by base62_decode_with. */
+/*
+ * As base62_decode_canonical, over an alphabet of the caller's own. It returns BASE62_REPEATED_LETTER as
+ * base62_decode_with does.
+ */
 BASE62_LOOK_AT BASE62_READS(2, 3)
 base62_status base62_decode_canonical_with(const char letters[BASE62_ALPHABET_LENGTH], const char *text, size_t length,
                                            base62_number *number, base62_bad_byte *bad);
 
 /*
- * Finds the numbers whose keys begin with a front, which may be empty.
+ * Finds the numbers whose keys begin with front, a prefix that may be empty. Returns the first status of this list
+ * whose condition holds.
  *
- * BASE62_INVALID_BYTE: a byte is no letter. The first such is written at bad, with its index. This comes before the
- *     others.
- * BASE62_NO_KEY: no key of a number below 2^128 begins so.
- * BASE62_OK: they are the numbers from the least to the greatest, which are written at range.
+ * BASE62_INVALID_BYTE: a byte of the prefix is not a letter. The first such byte is written to *bad, with its index.
+ * BASE62_NO_KEY: no key of a number below 2^128 begins with the prefix.
+ * BASE62_OK: some do. Their numbers are those from the least to the greatest, which are written to *range.
  */
 BASE62_LOOK_AT BASE62_READS(1, 2)
 base62_status base62_key_range(const char *front, size_t length, base62_range *range, base62_bad_byte *bad);
 
-/*
- * The same of the texts by base62_encode_fixed of width letters in place of keys. With a width of 0 there are none.
- */
+/* As base62_key_range, for texts of width letters by base62_encode_fixed. If width is 0, there are none. */
 BASE62_LOOK_AT BASE62_READS(2, 3)
 base62_status base62_fixed_range(size_t width, const char *front, size_t length, base62_range *range,
                                  base62_bad_byte *bad);
 
-/* The same over an alphabet of the caller's own. BASE62_REPEATED_LETTER comes as by base62_decode_with. */
+/*
+ * As base62_fixed_range, over an alphabet of the caller's own. It returns BASE62_REPEATED_LETTER as base62_decode_with
+ * does.
+ */
 BASE62_LOOK_AT BASE62_READS(3, 4)
 base62_status base62_fixed_range_with(const char letters[BASE62_ALPHABET_LENGTH], size_t width, const char *front,
                                       size_t length, base62_range *range, base62_bad_byte *bad);
 
 /*
- * Tells whether no letter of an alphabet is repeated.
+ * Checks that the letters of an alphabet are distinct.
  *
- * BASE62_OK: none is.
- * BASE62_REPEATED_LETTER: the first letter that stands before its place too is written at bad, with that place as its
- *     index.
+ * BASE62_OK: they are.
+ * BASE62_REPEATED_LETTER: they are not. The first letter that equals an earlier one is written to *bad, with its index.
  */
 BASE62_LOOK_AT
 base62_status base62_check_alphabet(const char letters[BASE62_ALPHABET_LENGTH], base62_bad_byte *bad);
 
-/* The number whose bytes a UUID is, the highest first. Each number is that of one UUID. */
+/* Returns the number whose 16 bytes are the UUID, the highest first. Each number has one UUID. */
 BASE62_NO_NULL
 base62_number base62_number_of_uuid(const unsigned char uuid[BASE62_UUID_LENGTH]);
 
-/* Writes the UUID whose number it is. */
+/* Writes the UUID of a number. */
 BASE62_NO_NULL
 void base62_uuid_of_number(base62_number number, unsigned char uuid[BASE62_UUID_LENGTH]);
 
 /*
- * Writes what a status says to the front of a buffer, with the byte and the index for BASE62_INVALID_BYTE and
- * BASE62_REPEATED_LETTER, which alone look at bad.
+ * Writes the meaning of a status to the start of a buffer, as an English text. For BASE62_INVALID_BYTE and
+ * BASE62_REPEATED_LETTER the text names the byte and the index of bad. For other statuses bad does not matter.
  *
- * It answers the length of the text. Or it answers 0 and writes nothing, where size is less than that length, so never
- * at BASE62_MAX_FAULT_TEXT or more, and where the status is BASE62_OK or a number that is no status.
+ * Returns the length of the text. If size is less, returns 0 and writes nothing. This never happens if size is
+ * BASE62_MAX_FAULT_TEXT or more. BASE62_OK and numbers that are not statuses have no text: it returns 0 for them too.
  */
 BASE62_LOOK_AT BASE62_WRITES(3, 4)
 size_t base62_fault_text(base62_status status, base62_bad_byte bad, char *buffer, size_t size);
 
-/* The version of the library, which is BASE62_VERSION_NUMBER of its own header. */
+/* Returns the version of the library, in the form of BASE62_VERSION_NUMBER. */
 uint32_t base62_version_number(void);
 
 #undef BASE62_NO_NULL

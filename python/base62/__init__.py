@@ -1,11 +1,11 @@
-"""Base62 texts of numbers below 2**128, and back.
+"""Whole numbers below 2**128 and UUIDs as short texts in base 62, and back.
 
 >>> encode(1337)
 'LZ'
 >>> decode("LZ")
 1337
 
-Texts and numbers are made by the library for C, which is proved and part of this package.
+The package contains a proved C library, which writes the texts and reads the numbers.
 """
 
 from __future__ import annotations
@@ -44,7 +44,7 @@ __all__ = [
 
 
 def encode_uuid(value: uuid.UUID, alphabet: AnyAlphabet = Alphabet.STANDARD) -> str:
-    """The text of the number of a UUID, as encode gives it.
+    """Return the text of the number of a UUID, as encode does.
 
     >>> encode_uuid(uuid.UUID("12345678-1234-5678-1234-567812345678"))
     'YLmNWW2NwaipfRR50HIPA'
@@ -55,7 +55,7 @@ def encode_uuid(value: uuid.UUID, alphabet: AnyAlphabet = Alphabet.STANDARD) -> 
 
 
 def decode_uuid(text: Text, alphabet: AnyAlphabet = Alphabet.STANDARD) -> uuid.UUID:
-    """The UUID of the number that a text denotes, as decode gives it.
+    """Return the UUID of the number that a text denotes. Raises what decode raises.
 
     >>> decode_uuid("YLmNWW2NwaipfRR50HIPA")
     UUID('12345678-1234-5678-1234-567812345678')
@@ -64,9 +64,9 @@ def decode_uuid(text: Text, alphabet: AnyAlphabet = Alphabet.STANDARD) -> uuid.U
 
 
 def key_bounds(front: Text) -> tuple[str, str] | None:
-    """The least and the greatest key that begins so, or None if there is none: what a database looks between.
+    """Return the least and the greatest key that begins with a prefix, or None if there is none.
 
-    Raises an InvalidByteError.
+    In a database these are the bounds of a search. Raises InvalidByteError.
 
     >>> key_bounds("00000000000000000000L")
     ('00000000000000000000L0', '00000000000000000000Lz')

@@ -3,7 +3,7 @@
 #include <Python.h>
 #include <base62.h>
 
-/* What is held of base62._types, and of its alphabet. */
+/* The objects that the module holds: those of base62._types, and the two alphabets of its class. */
 enum {
     ALPHABET,
     WHOLE_OF,
@@ -23,7 +23,7 @@ struct state {
     PyObject *held[HELD];
 };
 
-/* Bytes that stand as long as what is held. Where that is NULL, they are those of a str of the caller. */
+/* Bytes, and the object that has them, which is held. If it is NULL, a str of the caller has them. */
 struct text {
     const char *bytes;
     Py_ssize_t length;
@@ -41,13 +41,14 @@ static PyObject *held(PyObject *module, int which) {
     return object;
 }
 
-/* Py_IncRef and Py_DecRef are functions of each Python. Macros of 3.11 count objects that are immortal since 3.12. */
+/* Py_IncRef and Py_DecRef are functions of the running Python. Macros of 3.11 would count objects that are immortal
+   since 3.12. */
 static PyObject *shared(PyObject *object) {
     Py_IncRef(object);
     return object;
 }
 
-/* What Python makes of an argument that is not of the usual type. */
+/* Converts an argument of a rarer type, by a function of base62._types. */
 static PyObject *converted(PyObject *module, int by, PyObject *given) {
     PyObject *call = held(module, by);
     return call == NULL ? NULL : PyObject_CallFunctionObjArgs(call, given, NULL);
@@ -60,7 +61,7 @@ struct parameters {
     Py_ssize_t most;
 };
 
-/* Borrows the arguments from the caller. Python's own parser has the rare cases, and all faults. */
+/* Borrows the arguments from the caller. Python's own parser does the rare cases, and raises all exceptions. */
 static int unpack(const struct parameters *of, PyObject *const *given, Py_ssize_t count, PyObject *keywords,
                   PyObject *found[2]) {
     found[1] = NULL;
@@ -123,7 +124,7 @@ static int number_of(PyObject *module, PyObject *given, base62_number *number) {
     return fault;
 }
 
-/* Takes over what has to be bytes. */
+/* Takes over a reference, which has to be one to bytes. */
 static int hold(PyObject *bytes, struct text *text) {
     text->held = bytes;
     text->bytes = bytes == NULL ? NULL : PyBytes_AsString(bytes);
@@ -195,7 +196,7 @@ static PyObject *refuse(PyObject *module, base62_status status, base62_bad_byte 
 /* Calls */
 
 PyDoc_STRVAR(check_alphabet_doc, "check_alphabet($module, letters, /)\n--\n\n"
-                                 "The bytes of letters that are an alphabet.");
+                                 "Return the letters of an alphabet as bytes, once they are checked.");
 
 static PyObject *check_alphabet(PyObject *module, PyObject *alphabet) {
     struct text letters;
@@ -214,12 +215,12 @@ static PyObject *encode_with(PyObject *module, PyObject *alphabet, base62_number
     if (letters_of(module, alphabet, &letters) != 0)
         return NULL;
     char text[BASE62_MAX_DIGITS];
-    /* Letters that no str has are refused, also where the text has none of them. */
+    /* Letters that are not ASCII are refused, even if the text has none of them. */
     PyObject *answer = PyUnicode_DecodeASCII(letters.bytes, letters.length, NULL);
     if (answer != NULL) {
         Py_DecRef(answer);
         size_t length = base62_encode_with(letters.bytes, number, text, sizeof text);
-        /* The text has room, so a letter is repeated. */
+        /* The buffer is large enough, so a letter is repeated. */
         answer = length == 0 ? check_alphabet(module, letters.held)
                              : PyUnicode_DecodeASCII(text, (Py_ssize_t)length, NULL);
     }
@@ -228,8 +229,8 @@ static PyObject *encode_with(PyObject *module, PyObject *alphabet, base62_number
 }
 
 PyDoc_STRVAR(encode_doc, "encode($module, /, number, alphabet=Alphabet.STANDARD)\n--\n\n"
-                         "The text of a number: the shortest one that denotes it.\n\n"
-                         "Raises an OverflowError if the number is negative, or 2**128 or more.\n\n"
+                         "Return the text of a number: the shortest one that denotes it.\n\n"
+                         "Raises OverflowError if the number is negative, or 2**128 or more.\n\n"
                          ">>> encode(1337), encode(1337, Alphabet.ALTERNATIVE), encode(0)\n"
                          "('LZ', 'lz', '0')\n"
                          ">>> encode(uuid.UUID(\"12345678-1234-5678-1234-567812345678\"))\n"
@@ -272,8 +273,8 @@ static PyObject *decode_over(PyObject *module, PyObject *alphabet, struct text t
 }
 
 PyDoc_STRVAR(decode_doc, "decode($module, /, text, alphabet=Alphabet.STANDARD)\n--\n\n"
-                         "The number that a text denotes, whatever zeros are in front.\n\n"
-                         "Raises an EmptyInputError, an InvalidByteError or a TooLargeError.\n\n"
+                         "Return the number that a text denotes. Zeros in front change nothing.\n\n"
+                         "Raises EmptyInputError, InvalidByteError or TooLargeError.\n\n"
                          ">>> decode(\"00LZ\"), decode(b\"lz\", Alphabet.ALTERNATIVE)\n"
                          "(1337, 1337)\n"
                          ">>> decode(\"7n42DGM5Tflk9n8mt7Fhc8\")\n"
@@ -293,8 +294,8 @@ static PyObject *decode(PyObject *module, PyObject *const *given, Py_ssize_t cou
 }
 
 PyDoc_STRVAR(digit_count_doc, "digit_count($module, /, number)\n--\n\n"
-                              "The length of the text of a number, from 1 to 22.\n\n"
-                              "Raises an OverflowError as encode.\n\n"
+                              "Return the length of the text of a number, from 1 to 22.\n\n"
+                              "Raises OverflowError as encode does.\n\n"
                               ">>> digit_count(61), digit_count(62)\n"
                               "(1, 2)");
 
@@ -309,9 +310,8 @@ static PyObject *digit_count(PyObject *module, PyObject *const *given, Py_ssize_
 
 PyDoc_STRVAR(encode_key_doc,
              "encode_key($module, /, number)\n--\n\n"
-             "The standard text of 22 letters, with zeros in front. Keys sort as their numbers, and decode reads "
-             "them.\n\n"
-             "Raises an OverflowError as encode.\n\n"
+             "Return the key of a number: its standard text with zeros in front, of 22 letters.\n\n"
+             "Keys sort as their numbers. decode reads them. Raises OverflowError as encode does.\n\n"
              ">>> encode_key(1337)\n"
              "'00000000000000000000LZ'");
 
@@ -326,12 +326,13 @@ static PyObject *encode_key(PyObject *module, PyObject *const *given, Py_ssize_t
     return PyUnicode_DecodeASCII(key, sizeof key, NULL);
 }
 
-PyDoc_STRVAR(key_range_doc, "key_range($module, /, front)\n--\n\n"
-                            "The least and the greatest number whose key begins so, or None if there is none.\n\n"
-                            "Raises an InvalidByteError.\n\n"
-                            ">>> key_range(\"00000000000000000000L\")\n"
-                            "(1302, 1363)\n"
-                            ">>> key_range(\"8\")");
+PyDoc_STRVAR(key_range_doc,
+             "key_range($module, /, front)\n--\n\n"
+             "Return the least and the greatest number whose key begins with a prefix, or None if there is none.\n\n"
+             "Raises InvalidByteError.\n\n"
+             ">>> key_range(\"00000000000000000000L\")\n"
+             "(1302, 1363)\n"
+             ">>> key_range(\"8\")");
 
 static PyObject *key_range(PyObject *module, PyObject *const *given, Py_ssize_t count, PyObject *keywords) {
     static const struct parameters of = {"O:key_range", {"front", NULL}, 1};

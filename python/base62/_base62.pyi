@@ -3,9 +3,9 @@ from base62._types import Alphabet as Alphabet, AnyAlphabet, Number, Text
 __version__: str
 
 def encode(number: Number, alphabet: AnyAlphabet = Alphabet.STANDARD) -> str:
-    """The text of a number: the shortest one that denotes it.
+    """Return the text of a number: the shortest one that denotes it.
 
-    Raises an OverflowError if the number is negative, or 2**128 or more.
+    Raises OverflowError if the number is negative, or 2**128 or more.
 
     >>> encode(1337), encode(1337, Alphabet.ALTERNATIVE), encode(0)
     ('LZ', 'lz', '0')
@@ -14,9 +14,9 @@ def encode(number: Number, alphabet: AnyAlphabet = Alphabet.STANDARD) -> str:
     """
 
 def decode(text: Text, alphabet: AnyAlphabet = Alphabet.STANDARD) -> int:
-    """The number that a text denotes, whatever zeros are in front.
+    """Return the number that a text denotes. Zeros in front change nothing.
 
-    Raises an EmptyInputError, an InvalidByteError or a TooLargeError.
+    Raises EmptyInputError, InvalidByteError or TooLargeError.
 
     >>> decode("00LZ"), decode(b"lz", Alphabet.ALTERNATIVE)
     (1337, 1337)
@@ -26,27 +26,27 @@ def decode(text: Text, alphabet: AnyAlphabet = Alphabet.STANDARD) -> int:
     """
 
 def digit_count(number: Number) -> int:
-    """The length of the text of a number, from 1 to 22.
+    """Return the length of the text of a number, from 1 to 22.
 
-    Raises an OverflowError as encode.
+    Raises OverflowError as encode does.
 
     >>> digit_count(61), digit_count(62)
     (1, 2)
     """
 
 def encode_key(number: Number) -> str:
-    """The standard text of 22 letters, with zeros in front. Keys sort as their numbers, and decode reads them.
+    """Return the key of a number: its standard text with zeros in front, of 22 letters.
 
-    Raises an OverflowError as encode.
+    Keys sort as their numbers. decode reads them. Raises OverflowError as encode does.
 
     >>> encode_key(1337)
     '00000000000000000000LZ'
     """
 
 def key_range(front: Text) -> tuple[int, int] | None:
-    """The least and the greatest number whose key begins so, or None if there is none.
+    """Return the least and the greatest number whose key begins with a prefix, or None if there is none.
 
-    Raises an InvalidByteError.
+    Raises InvalidByteError.
 
     >>> key_range("00000000000000000000L")
     (1302, 1363)
@@ -54,4 +54,4 @@ def key_range(front: Text) -> tuple[int, int] | None:
     """
 
 def check_alphabet(letters: str | bytes, /) -> bytes:
-    """The bytes of letters that are an alphabet."""
+    """Return the letters of an alphabet as bytes, once they are checked."""

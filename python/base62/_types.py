@@ -1,4 +1,4 @@
-"""What the extension leaves to Python: its classes, and what becomes of arguments of rarer types."""
+"""What the extension has in Python: its classes, and the conversions of arguments of rarer types."""
 
 from __future__ import annotations
 
@@ -10,9 +10,9 @@ from uuid import UUID
 class Alphabet(bytes):
     """The 62 letters of an alphabet, in the order of their digits.
 
-    It is made of a str of letters of ASCII, or of bytes, and a call over an alphabet takes those too. Other letters
-    raise a ValueError, which is an AlphabetError where one of 62 is repeated. Letters that are no ASCII can be bytes,
-    to decode over.
+    The letters are distinct. They are given as a str in ASCII or as bytes. A call over an alphabet also takes such a
+    str or bytes. Raises AlphabetError if one of 62 letters is repeated, and otherwise ValueError. Bytes that are not
+    ASCII can be letters for decoding, but not for encoding.
 
     >>> own = Alphabet("23456789ABCDEFGHJKLMNPQRSTUVWXYZabcdefghijkmnpqrstuvwxyz-_.~!*")
     >>> encode(62, own), decode("32", own)
@@ -26,7 +26,7 @@ class Alphabet(bytes):
     ALTERNATIVE: ClassVar[Alphabet]
 
     def __new__(cls, letters: str | bytes) -> Self:
-        # The extension is made with this class at hand.
+        # Not above, since the extension imports this module.
         from base62._base62 import check_alphabet
 
         return super().__new__(cls, check_alphabet(letters))
@@ -41,12 +41,12 @@ Number = SupportsIndex | UUID
 Text = str | bytes | bytearray | memoryview
 AnyAlphabet = Alphabet | str | bytes
 
-# The library has these two built in, and the extension knows them as these objects.
+# The library has these two built in. The extension knows them by identity.
 Alphabet.STANDARD = bytes.__new__(Alphabet, b"0123456789ABCDEFGHIJKLMNOPQRSTUVWXYZabcdefghijklmnopqrstuvwxyz")
 Alphabet.ALTERNATIVE = bytes.__new__(Alphabet, b"0123456789abcdefghijklmnopqrstuvwxyzABCDEFGHIJKLMNOPQRSTUVWXYZ")
 
 
-# The bits of half a number, as the library has it.
+# The library has a number in two halves of so many bits.
 HALF_WIDTH = 64
 
 
@@ -61,7 +61,7 @@ class _BadByteError(ValueError):
 
 
 class AlphabetError(_BadByteError):
-    """An alphabet with a letter that is repeated.
+    """An alphabet repeats a letter.
 
     >>> Alphabet("0" * 62)
     Traceback (most recent call last):
@@ -71,33 +71,36 @@ class AlphabetError(_BadByteError):
     __module__ = "base62"
 
     byte: int
-    """The first letter that stands before its place too."""
+    """The first letter that equals an earlier one."""
 
     index: int
-    """That place, counted from 0."""
+    """Its index, counted from 0."""
 
 
 class DecodeError(ValueError):
-    """A text that denotes no number below 2**128."""
+    """A text does not denote a number below 2**128."""
 
     __module__ = "base62"
 
 
 class EmptyInputError(DecodeError):
-    """A text with nothing in it."""
+    """A text is empty."""
 
     __module__ = "base62"
 
 
 class TooLargeError(DecodeError):
-    """A text of 2**128 or more, or with more than 22 bytes after the zeros in front, or with 22 of which the first ten
-    show already that it would be so much. A str is taken in UTF-8."""
+    """A text denotes 2**128 or more.
+
+    A text with more than 22 bytes after its leading zeros is always too large, even if some are not letters. So is one
+    with exactly 22 if the first ten of them are letters and already show it. The bytes of a str are those of UTF-8.
+    """
 
     __module__ = "base62"
 
 
 class InvalidByteError(_BadByteError, DecodeError):
-    """A text with a byte that is no letter.
+    """A byte of a text is not a letter.
 
     >>> try:
     ...     decode("00LZ-")
@@ -109,14 +112,14 @@ class InvalidByteError(_BadByteError, DecodeError):
     __module__ = "base62"
 
     byte: int
-    """The first byte that is no letter. The bytes of a str are those of UTF-8."""
+    """The first byte that is not a letter. The bytes of a str are those of UTF-8."""
 
     index: int
-    """Its index among the bytes. Where all letters are ASCII, it is also the index of its character in a str."""
+    """Its index among the bytes, counted from 0. If all letters are ASCII, its character in a str has that index."""
 
 
 def whole_of(number: Number) -> int:
-    """The number of what is not just an int."""
+    """Return the int of a number that is not exactly an int."""
     if isinstance(number, UUID):
         return operator.index(number.int)
     if not hasattr(type(number), "__index__"):
@@ -125,7 +128,7 @@ def whole_of(number: Number) -> int:
 
 
 def bytes_of(text: Text) -> bytes:
-    """The bytes of a text that is neither bytes nor has UTF-8."""
+    """Return the bytes of a text that is neither bytes nor a str with UTF-8."""
     if isinstance(text, str):
         # A lone surrogate is no letter either. A subclass may have an encode of its own.
         return str.encode(text, "utf-8", "surrogatepass")
@@ -140,7 +143,7 @@ def bytes_of(text: Text) -> bytes:
 
 
 def letters_of(alphabet: AnyAlphabet) -> bytes:
-    """The letters of an alphabet that is not in bytes."""
+    """Return the letters of an alphabet that is not bytes."""
     if not isinstance(alphabet, str):
         raise TypeError(f"an alphabet is an Alphabet, a str or bytes, not {type(alphabet)}")
     return str.encode(alphabet, "ascii")

@@ -1,10 +1,65 @@
-# What .ci/c-library, .ci/python-package and .ci/rust-crate share. Each sources it at the top, with set -Eeuo pipefail.
+# What .ci/setup and the tests of packages share. Each sources it at the top, with set -Eeuo pipefail.
 
 export LC_ALL=C
 work=$(mktemp -d)
 trap 'rm -rf "$work"' EXIT
 trap 'echo "$0: line $LINENO fails" >&2' ERR
 read -r version <VERSION
+
+# What the gate needs besides the kit, and the packages of Debian that have it.
+declare -A packages=(
+    [cargo]=cargo
+    [cargo-clippy]=rust-clippy
+    [clang]=clang
+    [cmake]=cmake
+    [ensurepip]=python3-venv
+    [g++]=g++
+    [gcc]='gcc libc6-dev'
+    [git]=git
+    [make]=make
+    [musl-gcc]=musl-tools
+    [mypy]=mypy
+    [objcopy]=binutils
+    [pip]=python3-pip
+    [pkg-config]=pkg-config
+    [postgres]=postgresql
+    [postgres.h]=postgresql-server-dev-all
+    [Python.h]=python3-dev
+    [python3]=python3
+    [/usr/bin/python3]=python3
+    [rustfmt]=rustfmt
+    [setuptools]=python3-setuptools
+    [sqlite3]=sqlite3
+    [sqlite3ext.h]=libsqlite3-dev
+    [wheel]=python3-wheel-whl
+    [xz]=xz-utils
+)
+
+# THING, by its name there.
+is_here() {
+    case $1 in
+        ensurepip | pip | setuptools) python3 -c "import $1" ;;
+        # Debian's file of wheel serves each Python.
+        wheel) python3 -c 'import wheel' || compgen -G '/usr/share/python-wheels/wheel-*.whl' ;;
+        Python.h) python3 -c 'import os, sysconfig; os.stat(sysconfig.get_path("include") + "/Python.h")' ;;
+        postgres) compgen -G '/usr/lib/postgresql/*/bin/postgres' ;;
+        postgres.h) compgen -G '/usr/include/postgresql/*/server/postgres.h' ;;
+        sqlite3ext.h) [[ -e /usr/include/sqlite3ext.h ]] ;;
+        *) command -v "$1" ;;
+    esac >/dev/null 2>&1
+}
+
+# THING.. The test ends here, where one is missing.
+needs() {
+    local thing has
+    for thing; do
+        has=${packages[$thing]}
+        is_here "$thing" || {
+            echo "$0: $thing is missing: install $has" >&2
+            exit 1
+        }
+    done
+}
 
 quietly() {
     "$@" >"$work/said" 2>&1 || {

@@ -48,7 +48,7 @@ extern "C" {
 /* The length of the longest text that base62_encode writes. A buffer of this size is always large enough. */
 #define BASE62_MAX_DIGITS 22
 
-/* The length of a key. */
+/* The length of a key, which base62_encode_key writes. */
 #define BASE62_KEY_LENGTH 22
 
 /* The number of letters in an alphabet. */
@@ -78,7 +78,7 @@ typedef struct base62_bad_byte {
     unsigned char byte;
 } base62_bad_byte;
 
-/* No call returns BASE62_BUFFER_TOO_SMALL. Give it to base62_fault_text if an encoding call has returned 0. */
+/* No call returns BASE62_BUFFER_TOO_SMALL. Give it to base62_fault_text for the text of a buffer that was too small. */
 typedef enum base62_status {
     BASE62_OK = 0,
     BASE62_BUFFER_TOO_SMALL = 1,
@@ -164,8 +164,8 @@ BASE62_LOOK_AT BASE62_WRITES(3, 4)
 size_t base62_encode_with(const char letters[BASE62_ALPHABET_LENGTH], base62_number number, char *buffer, size_t size);
 
 /*
- * Writes the text of a number with exactly width letters, with zeros in front. Texts of one width sort by memcmp as
- * their numbers do. base62_decode reads them.
+ * Fills places with the text of a number in exactly width letters, with zeros in front. Texts of one width sort by
+ * memcmp as their numbers do. base62_decode reads them.
  *
  * Returns width. If width is 0, or the number needs more letters, returns 0 and writes nothing. No number needs more
  * than 22 letters.
@@ -200,7 +200,7 @@ size_t base62_digit_count(base62_number number);
  * BASE62_OVERFLOW: more than 22 bytes remain.
  * BASE62_INVALID_BYTE: one of the first ten remaining bytes is not a letter. The first such byte is written to *bad,
  *     with its index in the whole text.
- * BASE62_OVERFLOW: 22 bytes remain, and the first ten of them with twelve zeros behind denote 2^128 or more.
+ * BASE62_OVERFLOW: 22 bytes remain, and the first ten of them, followed by twelve zeros, denote 2^128 or more.
  * BASE62_INVALID_BYTE: a later byte is not a letter. The first such byte is written as above.
  * BASE62_OVERFLOW: the text denotes 2^128 or more.
  * BASE62_OK: everything else. The number is written to *number.
@@ -222,7 +222,7 @@ base62_status base62_decode_with(const char letters[BASE62_ALPHABET_LENGTH], con
                                  base62_number *number, base62_bad_byte *bad);
 
 /*
- * As base62_decode, but it accepts only the texts that base62_encode writes. For each number that is one text.
+ * As base62_decode, but it accepts only the texts that base62_encode writes. Each number has exactly one.
  *
  * BASE62_NOT_CANONICAL: base62_decode accepts the text, but it begins with a needless zero.
  */
@@ -248,12 +248,12 @@ base62_status base62_decode_canonical_with(const char letters[BASE62_ALPHABET_LE
  *
  * BASE62_INVALID_BYTE: a byte of the prefix is not a letter. The first such byte is written to *bad, with its index.
  * BASE62_NO_KEY: no key of a number below 2^128 begins with the prefix.
- * BASE62_OK: some do. Their numbers are those from the least to the greatest, which are written to *range.
+ * BASE62_OK: some do. They are the keys of all numbers from the least to the greatest, which are written to *range.
  */
 BASE62_LOOK_AT BASE62_READS(1, 2)
 base62_status base62_key_range(const char *front, size_t length, base62_range *range, base62_bad_byte *bad);
 
-/* As base62_key_range, for texts of width letters by base62_encode_fixed. If width is 0, there are none. */
+/* As base62_key_range, for texts of width letters by base62_encode_fixed. A width of 0 has none: BASE62_NO_KEY. */
 BASE62_LOOK_AT BASE62_READS(2, 3)
 base62_status base62_fixed_range(size_t width, const char *front, size_t length, base62_range *range,
                                  base62_bad_byte *bad);

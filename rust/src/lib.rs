@@ -1,8 +1,8 @@
 //! Numbers below 2^128 as short texts over `0` to `9`, `A` to `Z`, `a` to `z`, and back.
 //!
-//! The calls of the crate `base62` 2.2.6 have their names, types, features and answers here. Under them stands a
-//! codec that is proved: a static library of the project `base62`, written in Rattle, Rust with contracts. This crate
-//! passes arguments to it and answers what it answers. The package has the library for 64-bit Linux on x86-64.
+//! The calls of the crate `base62` 2.2.6 have their names, types, features and answers here. The codec under them is
+//! proved: it is a static library of the project `base62`, written in Rattle, a dialect of Rust with contracts. This
+//! crate passes arguments to it and returns what it returns. The package has the library for 64-bit Linux on x86-64.
 //!
 //! ```
 //! let mut buffer = [0; base62::MAX_DIGITS];
@@ -15,8 +15,8 @@
 //! # Numbers and texts
 //!
 //! A number is any `T: Into<u128>`: `u8` to `u128`, `bool`, `char`, `NonZero<u128>`, `Ipv6Addr`. A bare literal is an
-//! `i32`, which is none, so write `1337_u32`. The text of a number is the shortest nonempty one that denotes it, and
-//! has 1 to 22 letters.
+//! `i32`, which can be negative and is no such number, so write `1337_u32`. The text of a number is the shortest
+//! nonempty one that denotes it, and has 1 to 22 letters.
 //!
 //! In the standard alphabet the letters are `0` to `9`, `A` to `Z`, `a` to `z`, and in the alternative one `0` to `9`,
 //! `a` to `z`, `A` to `Z`. An [`Alphabet`] has 62 letters of your own, and the calls over it end in `_with`.
@@ -27,18 +27,18 @@
 //! | a `String` | `encode`, `encode_buf`, with the feature `alloc` |
 //! | a format string | [`encode_fmt`] |
 //! | a writer | `encode_io`, with the feature `std` |
-//! | a number | [`decode`], and [`decode_canonical`] where each number may have one text alone |
+//! | a number | [`decode`], or [`decode_canonical`] to refuse all texts but one of each number |
 //! | a UUID | [`decode_uuid`] |
 //! | keys and columns, which sort as their numbers | [`encode_key`], [`encode_fixed`] |
-//! | a scan of those that begin alike | [`key_range`], [`fixed_range`] |
+//! | a scan of those with one prefix | [`key_range`], [`fixed_range`] |
 //!
 //! # Features
 //!
-//! `alloc`, the default, has the calls that make or grow a `String`. `std` has those into an `io::Write`, and takes
-//! `alloc` too. With neither, the crate needs `core` alone.
+//! `alloc`, the default, adds the calls that make or grow a `String`. `std` adds the calls that write to an `io::Write`,
+//! and includes `alloc`. With neither, the crate needs `core` alone.
 //!
-//! No call takes memory, but those of `alloc`, which end the program where it is refused, as a `String` does. Only
-//! `encode_with`, `encode_buf_with` and [`encode_fmt_with`] panic, on letters that are no ASCII. The time of a call
+//! Only the calls of `alloc` allocate. If memory is refused, they end the program, as a `String` does. Only
+//! `encode_with`, `encode_buf_with` and [`encode_fmt_with`] panic, on letters that are not ASCII. The time of a call
 //! depends on its number or text.
 
 #![no_std]

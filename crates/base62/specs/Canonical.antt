@@ -18,6 +18,7 @@ pub record IsCanonical (B text : List ℕ) (n : ℕ) : Type 0 where
 abbrev pub CanonicalFits : List ℕ → ℕ → ℕ → Type 0
 CanonicalFits B n room = (text : List ℕ) × IsCanonical B text n × (length text ≤ room)
 
--- over any alphabet n has a canonical text, of count letters
+-- over each alphabet n has a canonical text of count letters
 abbrev pub DigitCount : ℕ → ℕ → Type 0
-DigitCount n count = (B : List ℕ) → IsAlphabet B → (text : List ℕ) × IsCanonical B text n × (length text ≡ count)
+DigitCount n count =
+    (B : List ℕ) → IsAlphabet B → (text : List ℕ) × IsCanonical B text n × (length text ≡ count)

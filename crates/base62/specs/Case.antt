@@ -1,7 +1,7 @@
 -- Exchange of capital and small letters.
 use Rattle.std.specs.Prelude.{ℕ, ◌+◌, ◌-◌, ◌&&◌, nat_le, if◌then◌else◌, List, map}
 
--- a capital letter of ASCII, 65 to 90, as the small one, and a small one, 97 to 122, as the capital; others stay
+-- a letter of ASCII in its other case: capitals are 65 to 90, small letters 97 to 122; others stay
 unfoldable pub other_case : ℕ → ℕ
 other_case b =
     if nat_le 65 b && nat_le b 90 then b + 32

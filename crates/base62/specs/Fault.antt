@@ -10,9 +10,9 @@ use Rattle.base62.specs.declared.fault.DecodeError.TheVariants.{ArithmeticOverfl
 use Rattle.base62.specs.declared.fault.EncodeError.{EncodeError}
 use Rattle.base62.specs.declared.fault.EncodeError.TheVariants.{BufferTooSmall}
 
--- A byte as ASCII's default escape writes it: a tab, a line feed, a carriage return, both quotes and
--- the backslash by a backslash and one character, any other byte from 32 to 126 as itself, and all
--- others by their two hexadecimal digits, in lower case.
+-- A byte in ASCII's default escape. A tab, a line feed, a carriage return, a quote of either kind
+-- and a backslash become a backslash and one character. Any other byte from 32 to 126 stays. All
+-- others become `\x` and two hexadecimal digits in lower case.
 unfoldable pub escaped : ℕ → List ℕ
 escaped b =
     if b == 9 then codes "\\t"
@@ -24,7 +24,7 @@ escaped b =
     else if nat_le 32 b && nat_le b 126 then b ∷ []
     else codes "\\x" ++ hex_digit_at 16 b ∷ hex_digit_at 1 b ∷ []
 
--- a byte that is named, and its index
+-- how a text names a byte and its index
 unfoldable pub byte_at_index : ℕ → ℕ → List ℕ
 byte_at_index byte index = codes "byte b'" ++ escaped byte ++ codes "' at index " ++ decimal index
 
@@ -41,19 +41,20 @@ encode_error_text BufferTooSmall = codes "Buffer too small to encode the number"
 
 -- what a fault of an alphabet says
 unfoldable pub alphabet_error_text : AlphabetError → List ℕ
-alphabet_error_text (Repeated byte index) = codes "Alphabet repeats the " ++ byte_at_index byte index
+alphabet_error_text (Repeated byte index) =
+    codes "Alphabet repeats the " ++ byte_at_index byte index
 
--- by the byte and then by the index
+-- a byte and its index compare with others by the byte, and then by the index
 abbrev pub byte_then_index : ℕ → ℕ → ℕ → ℕ → Ordering
 byte_then_index b i c j = ordering_then (nat_cmp b c) (nat_cmp i j)
 
--- the kinds of faults of decoding, in their order
+-- the place of each kind of fault in the order
 abbrev pub decode_error_rank : DecodeError → ℕ
 decode_error_rank ArithmeticOverflow = 0
 decode_error_rank EmptyInput = 1
 decode_error_rank (InvalidBase62Byte byte index) = 2
 
--- faults of one kind go by byte and then by index, and others by their kinds
+-- two bad bytes compare by byte and then by index, and any other two faults by their kinds
 abbrev pub decode_error_order : DecodeError → DecodeError → Ordering
 decode_error_order (InvalidBase62Byte b i) (InvalidBase62Byte c j) = byte_then_index b i c j
 decode_error_order d e = nat_cmp (decode_error_rank d) (decode_error_rank e)

@@ -1,4 +1,4 @@
--- What the laws of texts speak of, over the definitions alone.
+-- Definitions that the laws on texts cite.
 use Rattle.std.specs.Prelude.{◌≡◌, ◌≢◌, ℕ, ◌+◌, ◌<◌, ◌≤◌, ◌==◌, ◌^◌, ◌↔◌, ◌⊎◌, nat_lt, true, if◌then◌else◌, List, [], ◌∷◌, length, slice_index, Result, Ok, Err, IsOk}
 use Rattle.base62.specs.declared.fault.DecodeError.{DecodeError}
 use Rattle.base62.specs.declared.fault.DecodeError.TheVariants.{ArithmeticOverflow, EmptyInput, InvalidBase62Byte}
@@ -7,26 +7,29 @@ use Rattle.base62.specs.Value.{value}
 use Rattle.base62.specs.Canonical.{IsCanonical}
 use Rattle.base62.specs.Decoding.{decoding, after_zeros, IsFirstInvalid}
 
--- a nonempty text has one letter, or begins with another than the zero letter
+-- a nonempty text has one byte, or does not begin with the zero letter
 abbrev pub HasNoNeedlessZero : List ℕ → List ℕ → Type 0
-HasNoNeedlessZero B text = (0 < length text) × ((length text ≡ 1) ⊎ (slice_index text 0 ≢ zero_letter B))
+HasNoNeedlessZero B text =
+    (0 < length text) × ((length text ≡ 1) ⊎ (slice_index text 0 ≢ zero_letter B))
 
--- a text without its leading zeros, but for the last where it has nothing else
+-- what follows the leading zeros of a text, or one zero letter where nothing does
 abbrev pub without_zeros : List ℕ → List ℕ → List ℕ
 without_zeros B text =
     if length (after_zeros B text) == 0 then zero_letter B ∷ [] else after_zeros B text
 
--- another text of the same length is letters alone, and has each letter of the text at its place
+-- the other text is as long and has letters alone, and keeps each letter of the text at its place
 pub record AgreesAtLetters (B text other : List ℕ) : Type 0 where
   pub size : length other ≡ length text
   pub letters : AreLetters B other
-  pub agrees : (i : ℕ) → i < length text → is_letter B (slice_index text i) ≡ true → slice_index other i ≡ slice_index text i
+  pub agrees : (i : ℕ) → i < length text → is_letter B (slice_index text i) ≡ true
+      → slice_index other i ≡ slice_index text i
 
 -- What an answer of decoding tells of the text: which texts are accepted, of which value and canonical text;
 -- which byte a fault names; and that an overflow that is answered where a letter follows the leading zeros would
 -- be one whatever letters stood in place of the bad bytes.
 pub record AnswerTells (B text : List ℕ) : Type 0 where
-  pub accepted : IsOk (decoding B text) ↔ ((0 < length text) × AreLetters B text × (value B text < 2 ^ 128))
+  pub accepted : IsOk (decoding B text)
+      ↔ ((0 < length text) × AreLetters B text × (value B text < 2 ^ 128))
   pub value_is : (n : ℕ) → decoding B text ≡ Ok n → n ≡ value B text
   pub canonical : (n : ℕ) → decoding B text ≡ Ok n → IsCanonical B (without_zeros B text) n
   pub empty : decoding B text ≡ Err EmptyInput → length text ≡ 0
@@ -39,7 +42,7 @@ pub record AnswerTells (B text : List ℕ) : Type 0 where
 abbrev pub number_or_overflow : ℕ → Result ℕ DecodeError
 number_or_overflow n = if nat_lt n (2 ^ 128) then Ok n else Err ArithmeticOverflow
 
--- the same answer, where a bad byte stands one place further on
+-- the same answer, but the index of a bad byte is one greater
 abbrev pub one_place_on : Result ℕ DecodeError → Result ℕ DecodeError
 one_place_on (Err (InvalidBase62Byte byte index)) = Err (InvalidBase62Byte byte (index + 1))
 one_place_on answer = answer

@@ -1,5 +1,5 @@
--- Callers need not read Tables, Parts, and of Fixed what it says of writing: private contracts alone cite these, and of
--- Tables also the model of Alphabet.
+-- Callers need not read Tables, Parts, or what Fixed says of writing. Only private contracts cite
+-- these, and the model of Alphabet cites Tables.
 pub mod Alphabet
 pub mod Tables
 pub mod Places

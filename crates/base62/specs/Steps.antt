@@ -1,4 +1,5 @@
--- How many steps calls take: a step is one reading of a byte's digit, of a digit's letter, or of two letters at once.
+-- How many steps calls take. A step reads the digit of a byte, the letter of a digit, or two
+-- letters at once.
 use Rattle.std.specs.Prelude.{◌≡◌, ℕ, ◌+◌, ◌-◌, ◌≤◌, ◌==◌, nat_lt, not, if◌then◌else◌, List, [], ◌∷◌, length, slice_index, Result, MatchResult}
 use Rattle.std.specs.List.{list_all}
 use Rattle.base62.specs.declared.fault.DecodeError.{DecodeError}
@@ -7,13 +8,14 @@ use Rattle.base62.specs.Alphabet.{is_letter}
 use Rattle.base62.specs.Decoding.{decoding, leading_zeros, after_zeros, first_ten, invalid_index, shows_overflow}
 use Rattle.base62.specs.Encoding.{EncodesInto}
 
--- one for each byte after the leading zeros, up to and with the first that is no letter
+-- one for each byte after the leading zeros, up to the first that is no letter and with it
 abbrev pub steps_to_invalid : List ℕ → List ℕ → ℕ
 steps_to_invalid B text = invalid_index B text - leading_zeros B text + 1
 
--- The steps of decoding, by its cases: none for an empty text, nor where more than 22 bytes follow the leading
--- zeros; up to a bad byte among the first ten; ten, where those show an overflow; up to a later bad byte; and one
--- for each byte after the leading zeros.
+-- The steps of decoding, by its cases. An empty text takes none; nor does one with more than 22
+-- bytes after its leading zeros. A bad byte among the first ten is the last that is read. Ten are
+-- read where those show an overflow. A later bad byte is the last that is read. Of any other text
+-- each byte after the leading zeros is read.
 unfoldable pub decoding_steps : List ℕ → List ℕ → ℕ
 decoding_steps B text =
     if length text == 0 then 0
@@ -23,19 +25,25 @@ decoding_steps B text =
     else if not (list_all (is_letter B) (after_zeros B text)) then steps_to_invalid B text
     else length (after_zeros B text)
 
--- a counted call answers as decoding does, and takes exactly its steps from wherever the counter stood
-pub record DecodesCounted (B text : List ℕ) (old new : ℕ) (result : Result ℕ DecodeError) : Type 0 where
+-- a counted call answers what decoding does, and moves the counter by exactly its steps, at most 22
+pub record DecodesCounted
+    (B text : List ℕ) (old new : ℕ) (result : Result ℕ DecodeError) : Type 0 where
   pub answer : result ≡ decoding B text
   pub steps : new ≡ old + decoding_steps B text
   pub most : new ≤ old + 22
 
 -- the steps of encoding, by the number of letters, from 1 to 22
 unfoldable pub encoding_steps : ℕ → ℕ
-encoding_steps d = slice_index (1 ∷ 1 ∷ 2 ∷ 2 ∷ 3 ∷ 3 ∷ 4 ∷ 4 ∷ 5 ∷ 7 ∷ 7 ∷ 7 ∷ 8 ∷ 8 ∷ 9 ∷ 9 ∷ 10 ∷ 10 ∷ 11 ∷ 12 ∷ 13 ∷ 13 ∷ []) (d - 1)
+encoding_steps d = slice_index
+    (1 ∷ 1 ∷ 2 ∷ 2 ∷ 3 ∷ 3 ∷ 4 ∷ 4 ∷ 5 ∷ 7 ∷ 7
+    ∷ 7 ∷ 8 ∷ 8 ∷ 9 ∷ 9 ∷ 10 ∷ 10 ∷ 11 ∷ 12 ∷ 13 ∷ 13 ∷ [])
+    (d - 1)
 
--- a counted call encodes into a buffer, and takes exactly the steps for the length that it answers, or none where it
--- refuses
-pub record EncodesCounted (B : List ℕ) (n : ℕ) (old new : List ℕ) (before after : ℕ) (result : Result ℕ EncodeError) : Type 0 where
+-- a counted call encodes into a buffer, and moves the counter by exactly the steps for the length
+-- that it answers, at most 13; a refusal takes none
+pub record EncodesCounted
+    (B : List ℕ) (n : ℕ) (old new : List ℕ) (before after : ℕ) (result : Result ℕ EncodeError)
+    : Type 0 where
   pub answer : EncodesInto B n old new result
   pub steps : MatchResult result (λ len. after ≡ before + encoding_steps len) (λ _. after ≡ before)
   pub most : after ≤ before + 13

@@ -8,7 +8,7 @@ use Rattle.base62.specs.Alphabet.{IsAlphabet, digit_of}
 abbrev pub digit_or_255 : List ℕ → ℕ → ℕ
 digit_or_255 B b = unwrap_or (digit_of B b) 255
 
--- that of each byte from 0 to 255
+-- the same for each byte from 0 to 255
 unfoldable pub digits_of_bytes : List ℕ → List ℕ
 digits_of_bytes B = map (digit_or_255 B) (range_with_len 0 256)
 

@@ -17,7 +17,8 @@ uuid_number uuid = sum_over_places 256 uuid
 -- A text is decoded to the UUID of its number, and has the faults of decoding.
 pub record DecodesUuid (B text : List ℕ) (result : Result (List ℕ) DecodeError) : Type 0 where
   pub number : (uuid : List ℕ) → result ≡ Ok uuid → decoding B text ≡ Ok (uuid_number uuid)
-  pub uuid : (uuid : List ℕ) → IsUuid uuid → decoding B text ≡ Ok (uuid_number uuid) → result ≡ Ok uuid
+  pub uuid : (uuid : List ℕ) → IsUuid uuid → decoding B text ≡ Ok (uuid_number uuid)
+      → result ≡ Ok uuid
   pub denoted : (uuid : List ℕ) → IsUuid uuid → Denotes B text (uuid_number uuid) → result ≡ Ok uuid
   pub refused : (fault : DecodeError) → result ≡ Err fault → decoding B text ≡ Err fault
   pub fault : (fault : DecodeError) → decoding B text ≡ Err fault → result ≡ Err fault

@@ -18,11 +18,11 @@ use std::marker::Model;
 pub(crate) use tables::{Tables, alternative_tables, standard_tables};
 pub use work::Work;
 
-/// 62 distinct bytes, which are the letters of the digits 0 to 61 in order. The first is the zero letter.
+/// 62 distinct bytes: the letters of the digits 0 to 61, in order. The first is the zero letter.
 ///
-/// The calls over an alphabet have `_with` in their names: [`decode_with`] is [`decode`] over letters of yours.
-/// Contracts see an alphabet as the list of its letters. It holds them with the digits of all bytes, in 318 bytes,
-/// and takes no memory.
+/// The calls over an alphabet have `_with` in their names: [`decode_with`] is [`decode`] over your
+/// own letters. Contracts see an alphabet as the list of its letters. Its size is 318 bytes: it
+/// holds its letters and the digits of all bytes. It takes no memory besides.
 ///
 /// ```rust
 /// // Digits and letters, but none that look alike, and some marks.
@@ -54,10 +54,10 @@ impl Model for Alphabet {
 }
 
 impl Alphabet {
-    /// The alphabet of these letters.
+    /// The alphabet of these letters, which may be any bytes, ASCII or not.
     ///
-    /// `Err(Repeated(byte, index))` comes exactly where a byte is repeated, and names the first that is: the byte at
-    /// the least index whose byte stands before it too. Any bytes may be letters, also those that are no ASCII.
+    /// `Err(Repeated(byte, index))` comes exactly where a byte is repeated. The index is the least
+    /// one whose byte stands at an earlier index too. The call takes no memory.
     ///
     /// ```rust
     /// let repeated = base62::Alphabet::new([b'a'; 62]);
@@ -82,13 +82,14 @@ impl Alphabet {
         })
     }
 
-    /// The alphabet of letters that are written out: computing shows that 62 bytes are distinct.
+    /// The alphabet of letters that are written out in the program.
     ///
-    /// It refuses nothing, for letters that repeat a byte break its `requires`. Letters that are read go to
-    /// [`new`](Alphabet::new).
+    /// It requires 62 distinct bytes, which the prover finds by computing. So it refuses nothing
+    /// and takes no memory. Letters that come as input go to [`new`](Alphabet::new).
     ///
     /// ```rust
-    /// let alphabet = base62::Alphabet::of(*b"ABCDEFGHIJKLMNOPQRSTUVWXYZabcdefghijklmnopqrstuvwxyz0123456789");
+    /// let letters = *b"ABCDEFGHIJKLMNOPQRSTUVWXYZabcdefghijklmnopqrstuvwxyz0123456789";
+    /// let alphabet = base62::Alphabet::of(letters);
     /// assert_eq!(rt; base62::decode_with(&alphabet, b"BA"), Ok(62));
     /// ```
     #[tactic(auto, using(crate::proofs::AlphabetLemmas::alphabet_by_test))]
@@ -117,7 +118,7 @@ impl Alphabet {
         }
     }
 
-    /// The letters, that of digit d at place d.
+    /// The letters: the one at index d has digit d.
     pub fn letters(&self) -> &[u8; 62]
         ensures letters { result.now ≡ self.now }
         ensures alphabet { IsAlphabet self.now }
@@ -125,20 +126,20 @@ impl Alphabet {
         &self.tables.letters
     }
 
-    /// Whether each letter is below 128, as the calls into strings and displays want.
+    /// Whether each letter is below 128. The calls that make strings and displays require it.
     pub fn is_ascii(&self) -> bool
         ensures { IsTrue result ↔ IsAscii self.now }
     {
         self.tables.letters.is_ascii()
     }
 
-    /// Whether each letter is a greater byte than the one before it. Texts of one length then sort by their bytes as
-    /// their numbers.
+    /// Whether each letter is a greater byte than the one before it. Then the lexicographic
+    /// order of texts of one length is the order of their numbers.
     #[tactic(auto, using(crate::proofs::OrderLemmas::is_sorted_ascends))]
     pub fn is_ascending(&self) -> bool
         ensures { IsTrue result ↔ Ascends self.now }
     {
-        // Its letters are distinct, so of two in a row one is greater.
+        // The letters are distinct, so no two in a row are equal.
         self.tables.letters.is_sorted()
     }
 

@@ -7,7 +7,7 @@ ghost use Rattle.base62.specs.Canonical.{IsCanonical, DigitCount};
 
 use crate::powers::{GREATEST, GREATEST_NARROW};
 
-/// The length of the longest text of a number below 2^128: that of `u128::MAX`.
+/// The length of the longest text of a number below 2^128, as `u128::MAX` has it.
 pub const MAX_DIGITS: usize = 22;
 
 /// The length of the text of `n`, which is 1 to 22, over any alphabet.
@@ -30,7 +30,7 @@ pub fn digit_count(n: u128) -> usize
     letter_count(n)
 }
 
-// The count alone, of which the clauses of the public call follow.
+// The count alone. The clauses of the public call follow from it.
 #[inline(always)]
 fn letter_count(n: u128) -> usize
     ensures { DigitCount n result }
@@ -42,7 +42,7 @@ fn letter_count(n: u128) -> usize
     }
 }
 
-// A letter holds a little less than six bits, so the highest bit tells the number of letters, or one too few.
+// A letter holds almost six bits. The highest bit tells the number of letters, or one less.
 #[inline(always)]
 fn narrow_count(n: u64) -> usize
     ensures { DigitCount n result }

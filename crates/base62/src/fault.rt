@@ -15,8 +15,8 @@ use std::{error, fmt, str};
 /// Why a text is no number below 2^128.
 #[derive(Clone, Copy, Debug, PartialEq, Eq, PartialOrd, Ord, Hash)]
 pub enum DecodeError {
-    /// The text denotes 2^128 or more, or more than 22 bytes follow its leading zeros, or the first ten of
-    /// 22 show already that it would denote so much.
+    /// The text denotes 2^128 or more, or more than 22 bytes follow its leading zeros. Or 22 bytes
+    /// do, and the first ten of them with twelve zeros behind denote 2^128 or more.
     ArithmeticOverflow,
     /// The text is empty.
     EmptyInput,
@@ -35,23 +35,24 @@ pub enum EncodeError {
 /// Why 62 bytes are no alphabet.
 #[derive(Clone, Copy, Debug, PartialEq, Eq, PartialOrd, Ord, Hash)]
 pub enum AlphabetError {
-    /// The byte at the least index whose byte stands before it too, and that index, which is 1 to 61.
+    /// The first byte that stands at an earlier index too, and its index, which is 1 to 61.
     Repeated(u8, usize),
 }
 
-/// The most characters that the text of a fault has: a byte takes four of them, and its index twenty.
+/// The most characters that the text of a fault has: a byte has up to four, its index up to twenty.
 pub const MAX_FAULT_TEXT: usize = 77;
 
 impl DecodeError {
     /// What the fault says, in at most 77 characters of ASCII.
     ///
-    /// A byte is told by ASCII's default escape: `\t`, `\n`, `\r`, `\"`, `\'`, `\\`, the byte itself
-    /// from 32 to 126, and else `\x` with two lower-case hexadecimal digits. The call takes no memory and
-    /// refuses nothing.
+    /// A byte is shown in ASCII's default escape: `\t`, `\n`, `\r`, `\"`, `\'` or `\\`, any other
+    /// byte from 32 to 126 as itself, and the others as `\x` with two hexadecimal digits in lower
+    /// case. The call takes no memory and refuses nothing.
     ///
     /// ```rust
     /// let fault = base62::decode(b"LZ-").unwrap_err();
-    /// assert_eq!(rt; fault.text().as_str(), "Encoded input contains the invalid byte b'-' at index 2");
+    /// let text = "Encoded input contains the invalid byte b'-' at index 2";
+    /// assert_eq!(rt; fault.text().as_str(), text);
     /// ```
     #[tactic(auto, unfolding(crate::specs::Fault::decode_error_text))]
     pub fn text(&self) -> InlineText<MAX_FAULT_TEXT>
@@ -119,8 +120,8 @@ impl fmt::Display for EncodeError {
 impl error::Error for EncodeError {}
 
 impl AlphabetError {
-    /// What the fault says, in at most 63 characters of ASCII, with the byte as [`DecodeError::text`] tells one.
-    /// It takes no memory and refuses nothing.
+    /// What the fault says, in at most 63 characters of ASCII, with the byte shown as by
+    /// [`DecodeError::text`]. The call takes no memory and refuses nothing.
     #[tactic(auto, unfolding(crate::specs::Fault::alphabet_error_text))]
     pub fn text(&self) -> InlineText<MAX_FAULT_TEXT>
         ensures { inline_text result ≡ alphabet_error_text self.now }

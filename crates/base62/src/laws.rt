@@ -53,15 +53,16 @@ pub fn one_text()
         → IsCanonical B a n → IsCanonical B b n → a ≡ b }
     ensures lengths { (B : List ℕ) → IsAlphabet B → (n : ℕ) → n < 2 ^ 128 → (text : List ℕ)
         → IsCanonical B text n → (1 ≤ length text) × (length text ≤ 22) }
-    ensures within { (B : List ℕ) → IsAlphabet B → (k n : ℕ) → 0 < k → n < 62 ^ k → CanonicalFits B n k }
+    ensures within { (B : List ℕ) → IsAlphabet B → (k n : ℕ) → 0 < k → n < 62 ^ k
+        → CanonicalFits B n k }
     ensures plain { (B : List ℕ) → IsAlphabet B → (text : List ℕ) (n : ℕ)
         → Denotes B text n → HasNoNeedlessZero B text → IsCanonical B text n }
     ensures needless { (B : List ℕ) → IsAlphabet B → (text : List ℕ) (n : ℕ)
         → IsCanonical B text n → HasNoNeedlessZero B text }
 {}
 
-/// A text without needless zeros is the only canonical text of the number that decoding gives for it. Where text and
-/// number are written out, computing tells both.
+/// A text without needless zeros is the only canonical text of the number that decoding gives for
+/// it. Where text and number are written out, computing shows both conditions.
 pub fn text_of_number(alphabet: &Alphabet, text: &[u8], number: u128)
     ensures { decoding alphabet.now text.now ≡ Ok number
         → without_zeros alphabet.now text.now ≡ text.now
@@ -72,8 +73,8 @@ pub fn text_of_number(alphabet: &Alphabet, text: &[u8], number: u128)
     one_text();
 }
 
-/// Over any alphabet decoding gives back the number below 2^128 of its canonical text, and no text is the
-/// canonical text of two numbers.
+/// Over any alphabet the canonical text of a number below 2^128 decodes to the number. No text is
+/// the canonical text of two numbers.
 pub fn round_trip()
     ensures back { (B : List ℕ) → IsAlphabet B → (n : ℕ) → n < 2 ^ 128 → (text : List ℕ)
         → IsCanonical B text n → decoding B text ≡ Ok n }
@@ -81,7 +82,7 @@ pub fn round_trip()
         → IsCanonical B text m → IsCanonical B text n → m ≡ n }
 {}
 
-/// Over any alphabet decoding answers a number exactly where the text denotes it and it is below 2^128.
+/// Over any alphabet decoding answers n exactly where the text denotes n, and n is below 2^128.
 pub fn decoded_numbers()
     ensures decoded { (B : List ℕ) → IsAlphabet B → (text : List ℕ) (n : ℕ)
         → Denotes B text n → n < 2 ^ 128 → decoding B text ≡ Ok n }
@@ -106,31 +107,33 @@ pub fn uuids_of_two(a: [u8; 16], b: [u8; 16])
     ensures { uuid_number a ≡ uuid_number b → a ≡ b }
 {}
 
-/// Over any alphabet decoding accepts exactly the nonempty texts of letters of a value below 2^128, and the
-/// canonical text of that value is the text without its leading zeros. A fault that names a byte names the
-/// first that is not a letter. Where an overflow is answered and the first byte after the leading zeros is a
-/// letter, the text denotes 2^128 or more, whatever letters stand in place of its bad bytes.
+/// Over any alphabet decoding accepts exactly the nonempty texts of letters whose value is below
+/// 2^128. The canonical text of that value is the text without its needless zeros. A fault that
+/// names a byte names the first that is no letter. If a text overflows, and a letter follows its
+/// leading zeros, it denotes 2^128 or more with any letters in place of its bad bytes.
 pub fn accepted_and_refused()
     ensures { (B : List ℕ) → IsAlphabet B → (text : List ℕ) → AnswerTells B text }
 {}
 
-/// Over any alphabet a text of number m followed by one of k letters and number n denotes m * 62^k + n, or
-/// overflows where that is 2^128 or more.
+/// Two texts in a row, over any alphabet: the first has the number m, and the second k letters and
+/// the number n. Together they decode to m * 62^k + n, or overflow where that is 2^128 or more.
 pub fn concatenation()
     ensures { (B : List ℕ) → IsAlphabet B → (a b : List ℕ) (m n : ℕ)
         → decoding B a ≡ Ok m → decoding B b ≡ Ok n
         → decoding B (a ++ b) ≡ number_or_overflow (m * 62 ^ length b + n) }
 {}
 
-/// Over any alphabet a zero letter in front of a nonempty text changes nothing but the index of a bad byte.
+/// Over any alphabet a zero letter in front of a nonempty text changes nothing but the index of a
+/// bad byte.
 pub fn zero_in_front()
     ensures { (B : List ℕ) → IsAlphabet B → (text : List ℕ) → 0 < length text
         → decoding B (zero_letter B ∷ text) ≡ one_place_on (decoding B text) }
 {}
 
-/// The alternative alphabet is the standard one with the case of its letters exchanged, and so are the
-/// canonical texts. Decoding a text over the alternative alphabet answers what decoding it with its case
-/// exchanged answers over the standard one, faults included.
+/// The alternative alphabet is the standard one with the case of each letter exchanged. The
+/// canonical texts are those of the standard one with their case exchanged. Decoding a text over
+/// the alternative alphabet answers what the standard one answers for the text with its case
+/// exchanged, faults included.
 #[tactic(auto, unfolding(crate::specs::Alphabet::standard, crate::specs::Alphabet::alternative, crate::specs::Case::other_case))]
 pub fn exchange_of_case()
     ensures alphabets { exchange_case standard ≡ alternative }
@@ -140,9 +143,10 @@ pub fn exchange_of_case()
         → decoding alternative text ≡ decoding standard (exchange_case text) }
 {}
 
-/// Over any alphabet a number has a text of exactly w letters, for w from 1 on, exactly where it is below 62^w, and
-/// only one. Decoding gives back the number below 2^128 of that text. A shorter text of a number is that text once
-/// zero letters in front fill it up. Keys are these texts for w = 22.
+/// Over any alphabet, for w from 1 on, a number has a text of exactly w letters if and only if it
+/// is below 62^w, and it has only one. The text decodes to the number, if that is below 2^128. A
+/// shorter text becomes the number's text of w letters once zero letters in front fill it up. Keys
+/// are these texts for w = 22.
 #[tactic(auto, using(crate::proofs::WidthLemmas::one_fixed, crate::proofs::WidthLemmas::fixed_decodes))]
 pub fn fixed_widths()
     ensures exists { (B : List ℕ) → IsAlphabet B → (w n : ℕ) → 0 < w
@@ -187,8 +191,8 @@ pub fn order_of_two(alphabet: &Alphabet, width: usize, a: &[u8], b: &[u8], m: u1
     letters_are_distinct(alphabet);
 }
 
-/// Two numbers of a high part and a low one below a base compare by the high parts, and then by the low ones. Of a third
-/// part the same is said with the first two as the high one.
+/// Two numbers `high * base + low`, whose low parts are below the base, compare by their high
+/// parts, and then by their low ones. With three parts, the first two are the high one.
 #[tactic(auto, using(crate::proofs::OrderLemmas::place_compares))]
 pub fn order_of_parts(high: u128, low: u128, other_high: u128, other_low: u128, base: u128)
     ensures { low < base → other_low < base
@@ -196,8 +200,9 @@ pub fn order_of_parts(high: u128, low: u128, other_high: u128, other_low: u128, 
         ≡ ordering_then (nat_cmp high other_high) (nat_cmp low other_low) }
 {}
 
-/// What a text is of the number that it decodes to: a text of at most so many letters has a number that these hold, and one
-/// of exactly so many is its text of that width, which decodes to it.
+/// If a text of at most `width` letters decodes to a number, the number is below 62^width. If it
+/// has exactly `width` letters, it is the number's text of this width. The text of this width of a
+/// number below 2^128 decodes to the number.
 pub fn of_text(alphabet: &Alphabet, width: usize, text: &[u8])
     ensures small { (n : ℕ) → decoding alphabet.now text.now ≡ Ok n → length text.now ≤ width
         → n < 62 ^ width }
@@ -209,22 +214,25 @@ pub fn of_text(alphabet: &Alphabet, width: usize, text: &[u8])
     letters_are_distinct(alphabet);
 }
 
-/// Over any alphabet a front of a text of w letters is at most w letters. The text of w letters of a number below
-/// 2^128 begins with a front of at most w letters exactly where the number is in the front's interval. The numbers
-/// from the one end of an interval to the other are those in it, and there are no ends exactly where it is empty.
-/// Where letters ascend, the texts that begin with the front are those between the texts of the ends.
+/// Texts of w letters over any alphabet, and their fronts. A front is a prefix, and has at most w
+/// letters. The text of a number below 2^128 begins with a front exactly where the number is in the
+/// front's interval. The interval has exactly the numbers from one of its ends to the other. It has
+/// no ends exactly where it is empty. Where the letters ascend, the texts that begin with the front
+/// are those from the text of the one end to the text of the other.
 pub fn fronts()
-    ensures letters { (B : List ℕ) (w : ℕ) (front text : List ℕ) (n : ℕ) → IsFixed B w text n → BeginsWith front text
-        → AreLetters B front × (length front ≤ w) }
-    ensures begins { (B : List ℕ) → IsAlphabet B → (w : ℕ) (front text : List ℕ) (n : ℕ) → n < 2 ^ 128
-        → AreLetters B front → IsFixed B w text n
+    ensures letters { (B : List ℕ) (w : ℕ) (front text : List ℕ) (n : ℕ) → IsFixed B w text n
+        → BeginsWith front text → AreLetters B front × (length front ≤ w) }
+    ensures begins { (B : List ℕ) → IsAlphabet B → (w : ℕ) (front text : List ℕ) (n : ℕ)
+        → n < 2 ^ 128 → AreLetters B front → IsFixed B w text n
         → (BeginsWith front text ↔ IsInInterval B w front n) }
     ensures none { (B : List ℕ) → IsAlphabet B → (w : ℕ) (front : List ℕ) → AreLetters B front
         → (interval_ends B w front ≡ None ↔ ((n : ℕ) → IsInInterval B w front n → ⊥)) }
     ensures ends { (B : List ℕ) → IsAlphabet B → (w : ℕ) (front : List ℕ) (least greatest : ℕ)
         → AreLetters B front → interval_ends B w front ≡ Some (least, greatest)
-        → (least ≤ greatest) × ((n : ℕ) → (IsInInterval B w front n ↔ ((least ≤ n) × (n ≤ greatest)))) }
-    ensures between { (B : List ℕ) → IsAlphabet B → Ascends B → (w : ℕ) (front : List ℕ) (least greatest : ℕ)
+        → (least ≤ greatest)
+        × ((n : ℕ) → (IsInInterval B w front n ↔ ((least ≤ n) × (n ≤ greatest)))) }
+    ensures between { (B : List ℕ) → IsAlphabet B → Ascends B
+        → (w : ℕ) (front : List ℕ) (least greatest : ℕ)
         → BeginsTextsOf B w front least greatest → BeginsTextsBetween B w front least greatest }
 {}
 
@@ -242,27 +250,32 @@ pub fn scan_of_front(
 )
     ensures from { Ascends alphabet.now → range_of alphabet.now width front.now ≡ Ok (Some ends)
         → IsFixed alphabet.now width low.now ends.0 → IsFixed alphabet.now width high.now ends.1
-        → length text.now ≡ width → AreLetters alphabet.now text.now → value alphabet.now text.now < 2 ^ 128
+        → length text.now ≡ width → AreLetters alphabet.now text.now
+        → value alphabet.now text.now < 2 ^ 128
         → BeginsWith front.now text.now → IsNotAfter low.now text.now }
     ensures to { Ascends alphabet.now → range_of alphabet.now width front.now ≡ Ok (Some ends)
         → IsFixed alphabet.now width low.now ends.0 → IsFixed alphabet.now width high.now ends.1
-        → length text.now ≡ width → AreLetters alphabet.now text.now → value alphabet.now text.now < 2 ^ 128
+        → length text.now ≡ width → AreLetters alphabet.now text.now
+        → value alphabet.now text.now < 2 ^ 128
         → BeginsWith front.now text.now → IsNotAfter text.now high.now }
     ensures taken { Ascends alphabet.now → range_of alphabet.now width front.now ≡ Ok (Some ends)
         → IsFixed alphabet.now width low.now ends.0 → IsFixed alphabet.now width high.now ends.1
-        → length text.now ≡ width → AreLetters alphabet.now text.now → value alphabet.now text.now < 2 ^ 128
-        → IsNotAfter low.now text.now → IsNotAfter text.now high.now → BeginsWith front.now text.now }
+        → length text.now ≡ width → AreLetters alphabet.now text.now
+        → value alphabet.now text.now < 2 ^ 128
+        → IsNotAfter low.now text.now → IsNotAfter text.now high.now
+        → BeginsWith front.now text.now }
 {
     letters_are_distinct(alphabet);
 }
 
-/// What a test tells of each byte of an alphabet holds of each letter of a text.
+/// If each byte of an alphabet passes a test, each letter of a text passes it.
 pub fn letters_of_a_kind()
     ensures { (B text : List ℕ) (p : ℕ → Bool) → AllPass p B → AreLetters B text → AllPass p text }
 {}
 
-/// The built-in alphabets are ASCII, and over an alphabet that is, so is each text of letters. A text of ASCII that
-/// stands at the right of a wider column has as many fills in front, if they are ASCII, as it is short of bytes.
+/// The built-in alphabets are ASCII. Over an alphabet of ASCII letters each text of letters is
+/// ASCII. Right-aligned to a width, an ASCII text has in front as many ASCII fills as it is bytes
+/// short of the width.
 #[tactic(auto, using(crate::proofs::AlphabetLemmas::standard_is_ascii, crate::proofs::AlphabetLemmas::alternative_is_ascii, crate::proofs::PaddingLemmas::padded_right))]
 pub fn texts_of_ascii()
     ensures standard { IsAscii standard }
@@ -273,8 +286,8 @@ pub fn texts_of_ascii()
 {}
 
 /// How faults of decoding compare: an overflow is least, then comes the empty input, and then bad
-/// bytes by byte and then by index. Two faults are equal exactly where they are one value, exactly those
-/// compare as equal, and equal ones are hashed alike.
+/// bytes, by byte and then by index. Two faults are equal, and compare as equal, exactly where they
+/// are one value. Equal faults are hashed alike.
 pub fn order_of_decode_errors()
     ensures order { (d e : DecodeError)
         → ⟦<fault::DecodeError as Ord>⟧.cmp d e ≡ decode_error_order d e }
@@ -284,19 +297,21 @@ pub fn order_of_decode_errors()
         → (⟦<fault::DecodeError as Ord>⟧.cmp d e ≡ Equal) ↔ (d ≡ e) }
     ensures hashed_alike { (d e : DecodeError)
         → ⟦<fault::DecodeError as PartialEq>⟧.eq d e ≡ true
-        → ⟦<fault::DecodeError as Hash>⟧.hash_input d ≡ ⟦<fault::DecodeError as Hash>⟧.hash_input e }
+        → ⟦<fault::DecodeError as Hash>⟧.hash_input d
+        ≡ ⟦<fault::DecodeError as Hash>⟧.hash_input e }
 {}
 
-/// There is one fault of encoding, which is equal to itself, compares as equal and is hashed alike.
+/// There is one fault of encoding. It is equal to itself, compares as equal and is hashed alike.
 pub fn order_of_encode_errors()
     ensures equal { (d e : EncodeError) → ⟦<fault::EncodeError as PartialEq>⟧.eq d e ≡ true }
     ensures compare_equal { (d e : EncodeError) → ⟦<fault::EncodeError as Ord>⟧.cmp d e ≡ Equal }
     ensures hashed_alike { (d e : EncodeError)
-        → ⟦<fault::EncodeError as Hash>⟧.hash_input d ≡ ⟦<fault::EncodeError as Hash>⟧.hash_input e }
+        → ⟦<fault::EncodeError as Hash>⟧.hash_input d
+        ≡ ⟦<fault::EncodeError as Hash>⟧.hash_input e }
 {}
 
-/// How faults of alphabets compare: by byte and then by index. Two are equal exactly where they are one value,
-/// exactly those compare as equal, and equal ones are hashed alike.
+/// How faults of alphabets compare: by byte and then by index. Two are equal, and compare as equal,
+/// exactly where they are one value. Equal faults are hashed alike.
 pub fn order_of_alphabet_errors()
     ensures order { (d e : AlphabetError)
         → ⟦<fault::AlphabetError as Ord>⟧.cmp d e ≡ alphabet_error_order d e }
@@ -306,7 +321,8 @@ pub fn order_of_alphabet_errors()
         → (⟦<fault::AlphabetError as Ord>⟧.cmp d e ≡ Equal) ↔ (d ≡ e) }
     ensures hashed_alike { (d e : AlphabetError)
         → ⟦<fault::AlphabetError as PartialEq>⟧.eq d e ≡ true
-        → ⟦<fault::AlphabetError as Hash>⟧.hash_input d ≡ ⟦<fault::AlphabetError as Hash>⟧.hash_input e }
+        → ⟦<fault::AlphabetError as Hash>⟧.hash_input d
+        ≡ ⟦<fault::AlphabetError as Hash>⟧.hash_input e }
 {}
 
 /// Two alphabets are equal exactly where their letters are.
@@ -322,22 +338,26 @@ pub fn clones_of_alphabets()
 
 /// A clone of a fault is the fault, and making one never fails.
 pub fn clones_of_errors()
-    ensures decode_error { (d e : DecodeError) → ⟦<fault::DecodeError as Clone>⟧.is_clone d e → e ≡ d }
+    ensures decode_error { (d e : DecodeError) → ⟦<fault::DecodeError as Clone>⟧.is_clone d e
+        → e ≡ d }
     ensures decode_error_always { (d : DecodeError)
         → ⟦<fault::DecodeError as Clone>⟧.is_infallible d }
-    ensures encode_error { (d e : EncodeError) → ⟦<fault::EncodeError as Clone>⟧.is_clone d e → e ≡ d }
+    ensures encode_error { (d e : EncodeError) → ⟦<fault::EncodeError as Clone>⟧.is_clone d e
+        → e ≡ d }
     ensures encode_error_always { (d : EncodeError)
         → ⟦<fault::EncodeError as Clone>⟧.is_infallible d }
-    ensures alphabet_error { (d e : AlphabetError) → ⟦<fault::AlphabetError as Clone>⟧.is_clone d e → e ≡ d }
+    ensures alphabet_error { (d e : AlphabetError) → ⟦<fault::AlphabetError as Clone>⟧.is_clone d e
+        → e ≡ d }
     ensures alphabet_error_always { (d : AlphabetError)
         → ⟦<fault::AlphabetError as Clone>⟧.is_infallible d }
 {}
 
-/// What digits denote in a base, one at a time: no digits denote 0, and a digit in front adds itself times the base to
-/// the number of digits after it.
+/// What digits denote in a base, one at a time. No digits denote 0. A digit in front of k digits
+/// adds itself times base^k.
 #[tactic(auto, using(crate::proofs::PlacesLemmas::one_at_a_time))]
 pub fn sums_over_places()
     ensures none { (base : ℕ) → sum_over_places base [] ≡ 0 }
     ensures front { (base digit : ℕ) (digits : List ℕ)
-        → sum_over_places base (digit ∷ digits) ≡ digit * base ^ length digits + sum_over_places base digits }
+        → sum_over_places base (digit ∷ digits)
+        ≡ digit * base ^ length digits + sum_over_places base digits }
 {}

@@ -1,7 +1,7 @@
-//! The definitions that the contracts cite, which stand in `specs/`, computed on examples: beside what holds stands what
-//! does not.
+//! The definitions that contracts cite, from `specs/`, computed on examples. Beside what holds
+//! stands what does not.
 //!
-//! No call here takes part in a run: each states facts about the definitions alone.
+//! No call here does anything in a run. Each states facts about the definitions alone.
 
 pub mod alphabets;
 pub mod decodings;

@@ -4,9 +4,9 @@ ghost use Rattle.std.specs.Prelude.{◌≡◌, ℕ, if◌then◌else◌};
 
 /// A type whose values each mean a whole number from 0 to 2^128 - 1.
 ///
-/// An `impl` states the number that a value means as its ghost `meaning`, and its `number` answers that
-/// number. A caller's own type may have one, and is then encoded as the numbers here are. `number` takes
-/// no memory and refuses nothing.
+/// An `impl` states as its ghost `meaning` what number a value means, and its `number` answers that
+/// number. A caller's own type may have an `impl`, and can then be encoded. `number` takes no
+/// memory and refuses nothing.
 ///
 /// ```rust
 /// use base62::Number;
@@ -88,7 +88,7 @@ impl Number for u128 {
     }
 }
 
-/// Sixteen bytes, as those of a UUID, mean the number of the bytes, the highest first.
+/// Sixteen bytes, such as those of a UUID, mean their number in base 256, the highest byte first.
 #[tactic(auto, using(crate::proofs::UuidLemmas::number_from_bytes))]
 impl Number for [u8; 16] {
     ghost use Rattle.base62.specs.Uuid.{uuid_number};

@@ -13,8 +13,8 @@ use crate::text::Text;
 use std::fmt;
 use std::marker::Model;
 
-/// A number that displays as its standard text: what [`encode_fmt`] answers. It holds the text, as which contracts
-/// see it.
+/// A number that displays as its standard text: what [`encode_fmt`] answers. It holds the text, and
+/// contracts see it as that text.
 #[derive(Drop)]
 pub struct Fmt {
     text: Text,
@@ -30,10 +30,11 @@ impl Model for Fmt {
 
 /// Writes the text, padded to the formatter's width.
 ///
-/// A width counts characters, and one that is not greater than the text leaves it whole. The fill is a space
-/// where none is stated. A text with no stated alignment is left-aligned; a centred one has half of the
-/// padding, rounded down, in front. A stated precision cuts the text, and nothing is promised of what is left.
-/// `Err` is the error of the underlying writer. It takes no memory of its own.
+/// A width counts characters. One that is not greater than the text leaves it as it is. The fill is
+/// a space where none is stated. A text with no stated alignment is left-aligned. A centred one has
+/// half of the padding in front, rounded down. A stated precision cuts the text, and nothing is
+/// promised of what is left. `Err` is the error of the underlying writer. The call takes no memory
+/// of its own.
 impl fmt::Display for Fmt {
     ghost output = { λ text. Some text };
 
@@ -45,8 +46,8 @@ impl fmt::Display for Fmt {
     }
 }
 
-/// A number that displays as its text over the alternative alphabet: what [`encode_fmt_alt`] answers. It holds the
-/// text, as [`Fmt`] does.
+/// A number that displays as its text over the alternative alphabet: what [`encode_fmt_alt`]
+/// answers. It holds the text, as [`Fmt`] does.
 #[derive(Drop)]
 pub struct FmtAlternative {
     text: Text,
@@ -71,8 +72,8 @@ impl fmt::Display for FmtAlternative {
     }
 }
 
-/// A number that displays as its text over an alphabet of the caller's: what [`encode_fmt_with`] answers. It holds
-/// the text, as [`Fmt`] does, and no alphabet.
+/// A number that displays as its text over an alphabet of the caller's: what [`encode_fmt_with`]
+/// answers. It holds the text, as [`Fmt`] does, and no alphabet.
 #[derive(Drop)]
 pub struct FmtWith {
     text: Text,
@@ -101,7 +102,8 @@ impl fmt::Display for FmtWith {
 #[tactic(auto, using(crate::proofs::PaddingLemmas::pad_displays))]
 fn pad<W: fmt::Write>(text: &Text, f: &mut fmt::Formatter<W>) -> fmt::Result
     requires { IsAscii text.now }
-    ensures writes { DisplaysOnOk W.write_str_gives f.old result (⟦<Fmt as fmt::Display>⟧.output text.now) f.new }
+    ensures writes { DisplaysOnOk W.write_str_gives f.old result
+        (⟦<Fmt as fmt::Display>⟧.output text.now) f.new }
     ensures styled { DisplaysStyledOnOk W.write_str_gives f.old result
         (⟦<Fmt as fmt::Display>⟧.styled_output text.now (formatter_spec f.old)) f.new }
 {

@@ -14,10 +14,10 @@ use crate::text::Text;
 use std::alloc::{AllocError, Global};
 use std::io::{self, Write};
 
-/// The standard text of `num`, which has 1 to 22 letters and is the one that [`encode_bytes`] writes.
+/// The standard text of `num`: the 1 to 22 letters that [`encode_bytes`] writes.
 ///
-/// Memory for the text is requested once, and `Err` says that the request was refused. It takes no other
-/// memory.
+/// Memory for the text is requested once. `Err` says that the request was refused. The call takes
+/// no other memory.
 ///
 /// ```rust
 /// let text = base62::encode(rt.alloc(), 1234567890_u64)?;
@@ -45,8 +45,8 @@ pub fn encode_alternative<T: Number>(alloc: Global, num: T) -> Result<String, Al
     string_over(alloc, alternative_tables(), num)
 }
 
-/// As [`encode`], over an alphabet of the caller's. Its letters have to be ASCII, as
-/// [`is_ascii`](Alphabet::is_ascii) tells, for a string is UTF-8.
+/// As [`encode`], over an alphabet of the caller's. Its letters have to be ASCII, since a string is
+/// UTF-8; [`is_ascii`](Alphabet::is_ascii) tells.
 ///
 /// ```rust
 /// let alphabet = base62::Alphabet::alternative();
@@ -69,9 +69,9 @@ pub fn encode_with<T: Number>(
 
 /// Appends the standard text of `num`, which has 1 to 22 letters, to `buf`.
 ///
-/// `Err` says that memory was refused, and leaves `buf` as it was. Room for the whole text is requested once,
-/// before any of it is appended, unless `buf` has that much spare capacity: 22 spare bytes are always enough.
-/// The capacity never shrinks. It takes no other memory.
+/// `Err` says that memory was refused, and leaves `buf` as it was. Where its spare capacity is too
+/// small, room for the whole text is requested once, before any of it is appended. 22 spare bytes
+/// are always enough. The capacity never shrinks. The call takes no other memory.
 ///
 /// ```rust
 /// let mut link = String::from_str(rt.alloc(), "https://example.org/")?;
@@ -99,7 +99,8 @@ pub fn encode_alternative_buf<T: Number>(num: T, buf: &mut String) -> Result<(),
     append_over(alternative_tables(), num, buf)
 }
 
-/// As [`encode_buf`], over an alphabet of the caller's. Its letters have to be ASCII, as for [`encode_with`].
+/// As [`encode_buf`], over an alphabet of the caller's. Its letters have to be ASCII, as for
+/// [`encode_with`].
 ///
 /// ```rust
 /// let alphabet = base62::Alphabet::alternative();
@@ -146,16 +147,16 @@ fn append_over<T: Number>(tables: &Tables, num: T, buf: &mut String) -> Result<(
     text.set(tables, num);
     let text = text.as_str();
     buf.reserve(text.len())?;
-    // There is room now, so this can't be refused.
+    // There is room now, so nothing is refused here.
     buf.push_str(text).unwrap();
     Ok(())
 }
 
 /// Writes the standard text of `num`, which has 1 to 22 letters, to `w`.
 ///
-/// The text is handed to the writer whole, and the writer is not flushed. `Err` is the writer's own error, or
-/// says that it took nothing or was interrupted without end; how many bytes it had taken by then is not
-/// specified. It takes no memory of its own.
+/// The text is handed to the writer whole, and the writer is not flushed. `Err` is the writer's own
+/// error, or says that the writer took nothing or was interrupted without end. How many bytes it
+/// had taken by then is not specified. The call takes no memory of its own.
 ///
 /// ```rust
 /// let mut out = Vec::new(rt.alloc());
@@ -163,7 +164,8 @@ fn append_over<T: Number>(tables: &Tables, num: T, buf: &mut String) -> Result<(
 /// assert_eq!(rt; out.as_slice(), b"LZ".as_slice());
 /// ```
 pub fn encode_io<T: Number, W: Write>(num: T, w: &mut W) -> io::Result<()>
-    ensures { OnOk result (WritesCanonical standard (T.meaning num) (W.contents w.old) (W.contents w.new)) }
+    ensures { OnOk result
+        (WritesCanonical standard (T.meaning num) (W.contents w.old) (W.contents w.new)) }
 {
     write_over(standard_tables(), num, w)
 }
@@ -176,12 +178,13 @@ pub fn encode_io<T: Number, W: Write>(num: T, w: &mut W) -> io::Result<()>
 /// assert_eq!(rt; out.as_slice(), b"lz".as_slice());
 /// ```
 pub fn encode_alternative_io<T: Number, W: Write>(num: T, w: &mut W) -> io::Result<()>
-    ensures { OnOk result (WritesCanonical alternative (T.meaning num) (W.contents w.old) (W.contents w.new)) }
+    ensures { OnOk result
+        (WritesCanonical alternative (T.meaning num) (W.contents w.old) (W.contents w.new)) }
 {
     write_over(alternative_tables(), num, w)
 }
 
-/// As [`encode_io`], over an alphabet of the caller's, of any bytes.
+/// As [`encode_io`], over an alphabet of the caller's, which may have any bytes.
 ///
 /// ```rust
 /// let alphabet = base62::Alphabet::alternative();
@@ -190,7 +193,8 @@ pub fn encode_alternative_io<T: Number, W: Write>(num: T, w: &mut W) -> io::Resu
 /// assert_eq!(rt; out.as_slice(), b"lz".as_slice());
 /// ```
 pub fn encode_io_with<T: Number, W: Write>(alphabet: &Alphabet, num: T, w: &mut W) -> io::Result<()>
-    ensures { OnOk result (WritesCanonical alphabet.now (T.meaning num) (W.contents w.old) (W.contents w.new)) }
+    ensures { OnOk result
+        (WritesCanonical alphabet.now (T.meaning num) (W.contents w.old) (W.contents w.new)) }
 {
     write_over(alphabet.as_tables(), num, w)
 }
@@ -198,7 +202,8 @@ pub fn encode_io_with<T: Number, W: Write>(alphabet: &Alphabet, num: T, w: &mut 
 // Writes the text over the alphabet of the tables.
 fn write_over<T: Number, W: Write>(tables: &Tables, num: T, w: &mut W) -> io::Result<()>
     requires { AreTables tables.now }
-    ensures { OnOk result (WritesCanonical tables.now.letters (T.meaning num) (W.contents w.old) (W.contents w.new)) }
+    ensures { OnOk result
+        (WritesCanonical tables.now.letters (T.meaning num) (W.contents w.old) (W.contents w.new)) }
 {
     let mut text = Text::new();
     text.set(tables, num);

@@ -38,8 +38,8 @@ impl Text {
         }
     }
 
-    // The text over the alphabet of the tables takes the place of what stood here. A text that is set is not copied, as
-    // one that `over` answers is.
+    // Replaces the text by that of a number over the alphabet of the tables. Unlike `over`, it
+    // copies no text.
     pub(crate) fn set<T: Number>(&mut self, tables: &Tables, num: T)
         requires { AreTables tables.now }
         ensures text { IsCanonical tables.now.letters self.new (T.meaning num) }

@@ -1,4 +1,4 @@
-//! UUIDs, sixteen bytes as one number.
+//! UUIDs: sixteen bytes as one number.
 
 ghost use Rattle.std.specs.Prelude.{◌≡◌, ℕ, List};
 ghost use Rattle.base62.specs.Alphabet.{IsAlphabet, standard, alternative};
@@ -10,11 +10,11 @@ use crate::codec::{decode, decode_alternative, decode_with};
 use crate::fault::DecodeError;
 use crate::laws::letters_are_distinct;
 
-/// The sixteen bytes, the highest first, of the number that [`decode`] answers for `input`, as those of a UUID.
+/// The UUID of a text: the sixteen bytes of the number that [`decode`] answers, the highest first.
 ///
-/// `Err` comes exactly where [`decode`] has it, with its fault: each number below 2^128 is that of one UUID, and
-/// no version or variant is looked at. A UUID is encoded as any other [`Number`], so its text is read back to the same
-/// bytes. It takes no memory.
+/// `Err` comes exactly where [`decode`] has it, with the same fault. Each number below 2^128 is
+/// that of one UUID, whose version and variant are not looked at. A UUID is encoded as any other
+/// [`Number`] is, and its text is read back to the same bytes. The call takes no memory.
 ///
 /// ```rust
 /// let uuid = base62::decode_uuid(b"LZ").unwrap();
@@ -60,7 +60,8 @@ pub fn decode_uuid_with(alphabet: &Alphabet, input: &[u8]) -> Result<[u8; 16], D
 // The bytes of the number that was decoded.
 #[tactic(auto, using(crate::proofs::UuidLemmas::number_decoded, crate::proofs::UuidLemmas::fault_decoded))]
 fn bytes_of(answer: Result<u128, DecodeError>) -> Result<[u8; 16], DecodeError>
-    ensures { (B text : List ℕ) → IsAlphabet B → answer ≡ decoding B text → DecodesUuid B text result }
+    ensures { (B text : List ℕ) → IsAlphabet B → answer ≡ decoding B text
+        → DecodesUuid B text result }
 {
     match answer {
         Ok(number) => Ok(number.to_be_bytes()),

@@ -1,4 +1,5 @@
--- How C is told an answer: by a length or a status, and by what stands at its pointers before and after the call.
+-- How C is told an answer: by a length or a status, and by what stands at its pointers before and
+-- after the call.
 use Rattle.std.specs.Prelude.{◌≡◌, ◌≢◌, ◌≤◌, ◌<◌, ◌==◌, if◌then◌else◌, ◌++◌, ℕ, List, length, drop, Option, Some, None, Result, Ok, Err}
 use Rattle.base62.specs.declared.fault.DecodeError.{DecodeError}
 use Rattle.base62.specs.declared.fault.DecodeError.TheVariants.{ArithmeticOverflow, EmptyInput, InvalidBase62Byte}
@@ -9,7 +10,8 @@ use Rattle.base62_c.specs.declared.answer.Range.{Range}
 use Rattle.base62_c.specs.declared.number.Number.{Number}
 use Rattle.base62_c.specs.Number.{number_of}
 
--- A number is encoded into a buffer. The length of its text is told, or 0 where the buffer is too small.
+-- A number is encoded into a buffer. The length of its text is told, or 0 where the buffer is too
+-- small.
 pub record Encodes (B : List ℕ) (n : ℕ) (buf buf' : List ℕ) (told : ℕ) : Type 0 where
   pub written : EncodesInto B n buf buf' (if told == 0 then Err BufferTooSmall else Ok told)
   pub within : told ≤ length buf
@@ -31,33 +33,45 @@ bad_byte byte index = record { byte = byte; index = index }
 -- a fault of decoding: its status, and the bad byte with its index where it names them
 abbrev pub TellsFault : DecodeError → ℕ → BadByte → BadByte → Type 0
 TellsFault EmptyInput status bad bad' = (status ≡ 2) × (bad' ≡ bad)
-TellsFault (InvalidBase62Byte byte index) status bad bad' = (status ≡ 3) × (bad' ≡ bad_byte byte index)
+TellsFault (InvalidBase62Byte byte index) status bad bad' =
+    (status ≡ 3) × (bad' ≡ bad_byte byte index)
 TellsFault ArithmeticOverflow status bad bad' = (status ≡ 4) × (bad' ≡ bad)
 
 -- an answer of decoding: its status, and the number where there is one
 abbrev pub TellsNumber : Result ℕ DecodeError → ℕ → Number → Number → BadByte → BadByte → Type 0
-TellsNumber (Ok n) status number number' bad bad' = (status ≡ 0) × (number_of number' ≡ n) × (bad' ≡ bad)
-TellsNumber (Err fault) status number number' bad bad' = TellsFault fault status bad bad' × (number' ≡ number)
+TellsNumber (Ok n) status number number' bad bad' =
+    (status ≡ 0) × (number_of number' ≡ n) × (bad' ≡ bad)
+TellsNumber (Err fault) status number number' bad bad' =
+    TellsFault fault status bad bad' × (number' ≡ number)
 
--- the same of canonical texts alone, where another one's number is not told
-abbrev pub TellsCanonical : Result (Option ℕ) DecodeError → ℕ → Number → Number → BadByte → BadByte → Type 0
-TellsCanonical (Ok (Some n)) status number number' bad bad' = TellsNumber (Ok n) status number number' bad bad'
-TellsCanonical (Ok None) status number number' bad bad' = (status ≡ 7) × (number' ≡ number) × (bad' ≡ bad)
-TellsCanonical (Err fault) status number number' bad bad' = TellsNumber (Err fault) status number number' bad bad'
+-- the same for canonical texts alone; the number of a text with a needless zero is not told
+abbrev pub TellsCanonical :
+    Result (Option ℕ) DecodeError → ℕ → Number → Number → BadByte → BadByte → Type 0
+TellsCanonical (Ok (Some n)) status number number' bad bad' =
+    TellsNumber (Ok n) status number number' bad bad'
+TellsCanonical (Ok None) status number number' bad bad' =
+    (status ≡ 7) × (number' ≡ number) × (bad' ≡ bad)
+TellsCanonical (Err fault) status number number' bad bad' =
+    TellsNumber (Err fault) status number number' bad bad'
 
 -- two ends, the lesser first
 abbrev pub ends : Number → Number → Range
 ends least greatest = record { least = least; greatest = greatest }
 
 -- a range: its status, and its two ends where there are any
-abbrev pub TellsRange : Result (Option (ℕ × ℕ)) DecodeError → ℕ → Range → Range → BadByte → BadByte → Type 0
+abbrev pub TellsRange :
+    Result (Option (ℕ × ℕ)) DecodeError → ℕ → Range → Range → BadByte → BadByte → Type 0
 TellsRange (Ok (Some (least, greatest))) status range range' bad bad' =
-    (status ≡ 0) × (number_of range'.least ≡ least) × (number_of range'.greatest ≡ greatest) × (bad' ≡ bad)
-TellsRange (Ok None) status range range' bad bad' = (status ≡ 5) × (range' ≡ range) × (bad' ≡ bad)
-TellsRange (Err fault) status range range' bad bad' = TellsFault fault status bad bad' × (range' ≡ range)
+    (status ≡ 0) × (number_of range'.least ≡ least) × (number_of range'.greatest ≡ greatest)
+    × (bad' ≡ bad)
+TellsRange (Ok None) status range range' bad bad' =
+    (status ≡ 5) × (range' ≡ range) × (bad' ≡ bad)
+TellsRange (Err fault) status range range' bad bad' =
+    TellsFault fault status bad bad' × (range' ≡ range)
 
--- A text is written to the front of a buffer, with all other bytes as before. Its length is told, or 0 where the
--- buffer is too small.
+-- A text is written to the start of a buffer, and all other bytes stay. Its length is told, or 0
+-- where the buffer is too small.
 pub record WritesText (text buf buf' : List ℕ) (told : ℕ) : Type 0 where
-  pub written : length text ≤ length buf → (told ≡ length text) × (buf' ≡ text ++ drop (length text) buf)
+  pub written : length text ≤ length buf
+      → (told ≡ length text) × (buf' ≡ text ++ drop (length text) buf)
   pub refused : length buf < length text → (told ≡ 0) × (buf' ≡ buf)

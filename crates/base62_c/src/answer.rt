@@ -40,7 +40,7 @@ pub struct BadByte {
     pub byte: u8,
 }
 
-// So many places, or 0 where they are too few.
+// The count of the places, or 0 where they are too few.
 pub(crate) fn count_filled(answer: Result<(), EncodeError>, places: usize) -> usize
     ensures ok { OnOk answer (result ≡ places) }
     ensures err { OnErr answer (result ≡ 0) }
@@ -117,7 +117,8 @@ fn tell_fault(fault: DecodeError, bad: &mut BadByte) -> u32
     }
 }
 
-// The alphabet of the letters, or none where one is repeated, which is told.
+// The alphabet of the letters. Where a letter is repeated, there is none, and `bad` names the
+// letter.
 pub(crate) fn alphabet_of(letters: &[u8; 62], bad: &mut BadByte) -> Option<Alphabet>
     ensures accepted { IsAlphabet letters.now → (result ≡ Some letters.now) × (bad.new ≡ bad.old) }
     ensures refused { (IsAlphabet letters.now → ⊥)

@@ -1,4 +1,4 @@
-//! What follows from how answers are told. No call here takes part in a run.
+//! What follows from how answers are told. No call here does anything in a run.
 
 ghost use Rattle.std.specs.Prelude.{◌≡◌, ◌≢◌, ◌<◌, ◌^◌, ℕ, List, take, Option, Result};
 ghost use Rattle.base62.specs.Alphabet.{IsAlphabet, RepeatsFirst};
@@ -13,27 +13,33 @@ ghost use Rattle.base62_c.specs.declared.answer.BadByte.{BadByte};
 ghost use Rattle.base62_c.specs.declared.answer.Range.{Range};
 ghost use Rattle.base62_c.specs.declared.number.Number.{Number};
 
-/// The numbers below 2^128 are those of two halves of 64 bits, and each is that of only two.
+/// Each number below 2^128 is that of exactly one pair of halves of 64 bits, and each pair has such
+/// a number.
 pub fn one_pair_of_halves()
-    ensures exists { (n : ℕ) → n < 2 ^ 128 → (halves : Number) × AreHalves halves × (number_of halves ≡ n) }
+    ensures exists { (n : ℕ) → n < 2 ^ 128
+        → (halves : Number) × AreHalves halves × (number_of halves ≡ n) }
     ensures only { (a b : Number) → AreHalves a → AreHalves b → number_of a ≡ number_of b → a ≡ b }
     ensures bounded { (halves : Number) → AreHalves halves → number_of halves < 2 ^ 128 }
 {}
 
-/// Where two answers are told by the same status and the same things at the pointers, they are the same, whatever
-/// stood there before. With a length that is not 0, a text that is written is the front of the buffer, and no two
-/// numbers are encoded alike, nor written alike into all places.
+/// Two answers that are told by the same status and the same things at the pointers are the same,
+/// whatever stood there before. If the length that is told is not 0, the buffer begins with the
+/// text that is written, and no two numbers are encoded alike, or written alike into all places.
 pub fn one_answer()
     ensures faults { (a b : DecodeError) (status : ℕ) (bad other bad' : BadByte)
         → TellsFault a status bad bad' → TellsFault b status other bad' → a ≡ b }
-    ensures numbers { (a b : Result ℕ DecodeError) (status : ℕ) (number m number' : Number) (bad other bad' : BadByte)
-        → TellsNumber a status number number' bad bad' → TellsNumber b status m number' other bad' → a ≡ b }
-    ensures canonical { (a b : Result (Option ℕ) DecodeError) (status : ℕ) (number m number' : Number)
+    ensures numbers { (a b : Result ℕ DecodeError) (status : ℕ) (number m number' : Number)
         (bad other bad' : BadByte)
-        → TellsCanonical a status number number' bad bad' → TellsCanonical b status m number' other bad' → a ≡ b }
-    ensures ranges { (a b : Result (Option (ℕ × ℕ)) DecodeError) (status : ℕ) (range r range' : Range)
-        (bad other bad' : BadByte)
-        → TellsRange a status range range' bad bad' → TellsRange b status r range' other bad' → a ≡ b }
+        → TellsNumber a status number number' bad bad' → TellsNumber b status m number' other bad'
+        → a ≡ b }
+    ensures canonical { (a b : Result (Option ℕ) DecodeError) (status : ℕ)
+        (number m number' : Number) (bad other bad' : BadByte)
+        → TellsCanonical a status number number' bad bad'
+        → TellsCanonical b status m number' other bad' → a ≡ b }
+    ensures ranges { (a b : Result (Option (ℕ × ℕ)) DecodeError) (status : ℕ)
+        (range r range' : Range) (bad other bad' : BadByte)
+        → TellsRange a status range range' bad bad' → TellsRange b status r range' other bad'
+        → a ≡ b }
     ensures texts { (text buf buf' : List ℕ) (told : ℕ)
         → told ≢ 0 → WritesText text buf buf' told → text ≡ take told buf' }
     ensures encoded { (B : List ℕ) (m n : ℕ) (buf other buf' : List ℕ) (told : ℕ)
@@ -42,21 +48,25 @@ pub fn one_answer()
         → told ≢ 0 → Fills B m places places' told → Fills B n other places' told → m ≡ n }
 {}
 
-/// One answer, or one text or number that is written, is told by only one status or length and only one thing at each
-/// pointer, given what stood there before. Letters that are no alphabet have only one byte and index that are told.
+/// Given what stood at the pointers before, an answer is told by only one status, and by only one
+/// thing at each pointer. A text or a number that is written is told by only one length, and leaves
+/// only one buffer. Letters that are no alphabet have only one first repeated byte, with one index.
 pub fn one_telling()
     ensures faults { (fault : DecodeError) (s t : ℕ) (bad a b : BadByte)
         → TellsFault fault s bad a → TellsFault fault t bad b → (s ≡ t) × (a ≡ b) }
-    ensures numbers { (answer : Result ℕ DecodeError) (s t : ℕ) (number m n : Number) (bad a b : BadByte)
-        → AreHalves m → AreHalves n
-        → TellsNumber answer s number m bad a → TellsNumber answer t number n bad b → (s ≡ t) × (m ≡ n) × (a ≡ b) }
-    ensures canonical { (answer : Result (Option ℕ) DecodeError) (s t : ℕ) (number m n : Number) (bad a b : BadByte)
-        → AreHalves m → AreHalves n
+    ensures numbers { (answer : Result ℕ DecodeError) (s t : ℕ) (number m n : Number)
+        (bad a b : BadByte) → AreHalves m → AreHalves n
+        → TellsNumber answer s number m bad a → TellsNumber answer t number n bad b
+        → (s ≡ t) × (m ≡ n) × (a ≡ b) }
+    ensures canonical { (answer : Result (Option ℕ) DecodeError) (s t : ℕ) (number m n : Number)
+        (bad a b : BadByte) → AreHalves m → AreHalves n
         → TellsCanonical answer s number m bad a → TellsCanonical answer t number n bad b
         → (s ≡ t) × (m ≡ n) × (a ≡ b) }
-    ensures ranges { (answer : Result (Option (ℕ × ℕ)) DecodeError) (s t : ℕ) (range m n : Range) (bad a b : BadByte)
+    ensures ranges { (answer : Result (Option (ℕ × ℕ)) DecodeError) (s t : ℕ) (range m n : Range)
+        (bad a b : BadByte)
         → AreHalves m.least → AreHalves m.greatest → AreHalves n.least → AreHalves n.greatest
-        → TellsRange answer s range m bad a → TellsRange answer t range n bad b → (s ≡ t) × (m ≡ n) × (a ≡ b) }
+        → TellsRange answer s range m bad a → TellsRange answer t range n bad b
+        → (s ≡ t) × (m ≡ n) × (a ≡ b) }
     ensures texts { (text buf a b : List ℕ) (s t : ℕ)
         → WritesText text buf a s → WritesText text buf b t → (s ≡ t) × (a ≡ b) }
     ensures encoded { (B : List ℕ) → IsAlphabet B → (n : ℕ) (buf a b : List ℕ) (s t : ℕ)
@@ -71,12 +81,16 @@ pub fn one_telling()
     base62::laws::fixed_widths();
 }
 
-/// The text of a status, with the byte and the index that are told by it, is that of the fault that is told. Status 1
-/// is that of a buffer that is too small, and status 6 that of a repeated letter.
+/// A status that tells a fault of decoding, with the byte and the index that are told, has the text
+/// of that fault. Status 1 has the text of a buffer that is too small, and status 6 that of a
+/// repeated letter.
 #[tactic(auto, unfolding(crate::specs::Fault::fault_text))]
 pub fn text_of_told_fault()
     ensures decoding { (fault : DecodeError) (status : ℕ) (bad bad' : BadByte)
-        → TellsFault fault status bad bad' → fault_text status bad'.byte bad'.index ≡ decode_error_text fault }
-    ensures encoding { (byte index : ℕ) → fault_text 1 byte index ≡ encode_error_text BufferTooSmall }
-    ensures alphabets { (byte index : ℕ) → fault_text 6 byte index ≡ alphabet_error_text (Repeated byte index) }
+        → TellsFault fault status bad bad'
+        → fault_text status bad'.byte bad'.index ≡ decode_error_text fault }
+    ensures encoding { (byte index : ℕ)
+        → fault_text 1 byte index ≡ encode_error_text BufferTooSmall }
+    ensures alphabets { (byte index : ℕ)
+        → fault_text 6 byte index ≡ alphabet_error_text (Repeated byte index) }
 {}

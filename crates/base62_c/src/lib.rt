@@ -1,6 +1,7 @@
 //! The calls of `base62` for C: `include/base62.h` declares them and says what they do.
 //!
-//! A `&[u8]` is a pointer and then a length in C, any other reference a pointer, and a struct a value.
+//! In C a `&[u8]` is a pointer and then a length. Any other reference is a pointer, and a struct is
+//! a value.
 #![tactic(auto)]
 
 ghost use Rattle.std.specs.Prelude.{◌≡◌, ◌≢◌, ◌≤◌, length};
@@ -109,7 +110,8 @@ pub extern "C" fn base62_digit_count(number: Number) -> usize
 
 #[unsafe(no_mangle)]
 pub extern "C" fn base62_decode(text: &[u8], number: &mut Number, bad: &mut BadByte) -> u32
-    ensures { TellsNumber (decoding standard text.now) result number.old number.new bad.old bad.new }
+    ensures { TellsNumber (decoding standard text.now) result number.old number.new
+        bad.old bad.new }
 {
     tell_number(base62::decode(text), number, bad)
 }
@@ -120,7 +122,8 @@ pub extern "C" fn base62_decode_alternative(
     number: &mut Number,
     bad: &mut BadByte,
 ) -> u32
-    ensures { TellsNumber (decoding alternative text.now) result number.old number.new bad.old bad.new }
+    ensures { TellsNumber (decoding alternative text.now) result number.old number.new
+        bad.old bad.new }
 {
     tell_number(base62::decode_alternative(text), number, bad)
 }
@@ -135,7 +138,8 @@ pub extern "C" fn base62_decode_with(
     ensures accepted { IsAlphabet letters.now
         → TellsNumber (decoding letters.now text.now) result number.old number.new bad.old bad.new }
     ensures refused { (IsAlphabet letters.now → ⊥)
-        → (result ≡ 6) × RepeatsFirst letters.now bad.new.byte bad.new.index × (number.new ≡ number.old) }
+        → (result ≡ 6) × RepeatsFirst letters.now bad.new.byte bad.new.index
+        × (number.new ≡ number.old) }
     ensures alphabet { result ≢ 6 → IsAlphabet letters.now }
 {
     match alphabet_of(letters, bad) {
@@ -150,7 +154,8 @@ pub extern "C" fn base62_decode_canonical(
     number: &mut Number,
     bad: &mut BadByte,
 ) -> u32
-    ensures { TellsCanonical (canonical_decoding standard text.now) result number.old number.new bad.old bad.new }
+    ensures { TellsCanonical (canonical_decoding standard text.now) result number.old number.new
+        bad.old bad.new }
 {
     tell_canonical(base62::decode_canonical(text), number, bad)
 }
@@ -175,9 +180,11 @@ pub extern "C" fn base62_decode_canonical_with(
     bad: &mut BadByte,
 ) -> u32
     ensures accepted { IsAlphabet letters.now
-        → TellsCanonical (canonical_decoding letters.now text.now) result number.old number.new bad.old bad.new }
+        → TellsCanonical (canonical_decoding letters.now text.now) result number.old number.new
+        bad.old bad.new }
     ensures refused { (IsAlphabet letters.now → ⊥)
-        → (result ≡ 6) × RepeatsFirst letters.now bad.new.byte bad.new.index × (number.new ≡ number.old) }
+        → (result ≡ 6) × RepeatsFirst letters.now bad.new.byte bad.new.index
+        × (number.new ≡ number.old) }
     ensures alphabet { result ≢ 6 → IsAlphabet letters.now }
 {
     match alphabet_of(letters, bad) {
@@ -192,7 +199,8 @@ pub extern "C" fn base62_decode_canonical_with(
 
 #[unsafe(no_mangle)]
 pub extern "C" fn base62_key_range(front: &[u8], range: &mut Range, bad: &mut BadByte) -> u32
-    ensures { TellsRange (range_of standard 22 front.now) result range.old range.new bad.old bad.new }
+    ensures { TellsRange (range_of standard 22 front.now) result range.old range.new
+        bad.old bad.new }
 {
     tell_range(base62::key_range(front), range, bad)
 }
@@ -204,7 +212,8 @@ pub extern "C" fn base62_fixed_range(
     range: &mut Range,
     bad: &mut BadByte,
 ) -> u32
-    ensures { TellsRange (range_of standard width front.now) result range.old range.new bad.old bad.new }
+    ensures { TellsRange (range_of standard width front.now) result range.old range.new
+        bad.old bad.new }
 {
     tell_range(base62::fixed_range(width, front), range, bad)
 }
@@ -218,9 +227,11 @@ pub extern "C" fn base62_fixed_range_with(
     bad: &mut BadByte,
 ) -> u32
     ensures accepted { IsAlphabet letters.now
-        → TellsRange (range_of letters.now width front.now) result range.old range.new bad.old bad.new }
+        → TellsRange (range_of letters.now width front.now) result range.old range.new
+        bad.old bad.new }
     ensures refused { (IsAlphabet letters.now → ⊥)
-        → (result ≡ 6) × RepeatsFirst letters.now bad.new.byte bad.new.index × (range.new ≡ range.old) }
+        → (result ≡ 6) × RepeatsFirst letters.now bad.new.byte bad.new.index
+        × (range.new ≡ range.old) }
     ensures alphabet { result ≢ 6 → IsAlphabet letters.now }
 {
     match alphabet_of(letters, bad) {

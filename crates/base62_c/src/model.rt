@@ -1,5 +1,5 @@
-//! The definitions of `specs/`, computed on examples: what tells an answer, and what doesn't. No call here takes part
-//! in a run.
+//! The definitions of `specs/`, computed on examples: what tells an answer, and what doesn't. No
+//! call here does anything in a run.
 #![tactic(auto)]
 
 ghost use Rattle.std.specs.Prelude.{◌≡◌, ◌+◌, ◌-◌, ◌^◌, ℕ, List, [], codes, Ok, Err, Some, None};
@@ -18,21 +18,25 @@ pub fn numbers_by_example()
     ensures greatest { number_of (pair (2 ^ 64 - 1) (2 ^ 64 - 1)) ≡ 2 ^ 128 - 1 }
 {}
 
-/// What tells no number that is encoded into points.
+/// What never tells that a number was encoded into a buffer of full stops.
 pub fn lengths_by_example()
-    ensures refused_with_a_text { (B : List ℕ) (n : ℕ) → Encodes B n (codes "..") (codes "L.") 0 → ⊥ }
-    ensures longer_than_the_buffer { (B : List ℕ) (n : ℕ) → Encodes B n (codes ".") (codes "LZ") 2 → ⊥ }
-    ensures longer_than_any_text { (B : List ℕ) (n : ℕ) (buf : List ℕ) → Encodes B n buf buf 23 → ⊥ }
+    ensures refused_with_a_text { (B : List ℕ) (n : ℕ) → Encodes B n (codes "..") (codes "L.") 0
+        → ⊥ }
+    ensures longer_than_the_buffer { (B : List ℕ) (n : ℕ) → Encodes B n (codes ".") (codes "LZ") 2
+        → ⊥ }
+    ensures longer_than_any_text { (B : List ℕ) (n : ℕ) (buf : List ℕ) → Encodes B n buf buf 23
+        → ⊥ }
     ensures refused_though_roomy { (B : List ℕ) (n : ℕ)
         → Encodes B n (codes "......................") (codes "......................") 0 → ⊥ }
     ensures byte_behind { (B : List ℕ) (n : ℕ) → Encodes B n (codes "...") (codes "LZ?") 2 → ⊥ }
     ensures places_left { (B : List ℕ) (n : ℕ) → Fills B n (codes "...") (codes "LZ.") 2 → ⊥ }
-    ensures places_refused_with_a_zero { (B : List ℕ) (n : ℕ) → Fills B n (codes "..") (codes "0.") 0 → ⊥ }
+    ensures places_refused_with_a_zero { (B : List ℕ) (n : ℕ)
+        → Fills B n (codes "..") (codes "0.") 0 → ⊥ }
     ensures places_refused_though_roomy { (B : List ℕ) (n : ℕ)
         → Fills B n (codes "......................") (codes "......................") 0 → ⊥ }
 {}
 
-/// Faults, whatever stood at the byte and its index, or where these were 7 and 8.
+/// How faults are told, whatever stood at the byte and its index, or where 7 and 8 stood there.
 pub fn faults_by_example()
     ensures empty { (bad : BadByte) → TellsFault EmptyInput 2 bad bad }
     ensures empty_by_another_status { (bad : BadByte) → TellsFault EmptyInput 4 bad bad → ⊥ }
@@ -40,17 +44,23 @@ pub fn faults_by_example()
     ensures bad_byte { (bad : BadByte) → TellsFault (InvalidBase62Byte 33 5) 3 bad (bad_byte 33 5) }
     ensures bad_byte_by_another_status { (bad : BadByte)
         → TellsFault (InvalidBase62Byte 33 5) 6 bad (bad_byte 33 5) → ⊥ }
-    ensures bad_byte_without_its_index { TellsFault (InvalidBase62Byte 33 5) 3 (bad_byte 7 8) (bad_byte 33 8) → ⊥ }
-    ensures bad_byte_alone_missing { TellsFault (InvalidBase62Byte 33 5) 3 (bad_byte 7 8) (bad_byte 7 5) → ⊥ }
+    ensures bad_byte_without_its_index { TellsFault (InvalidBase62Byte 33 5) 3 (bad_byte 7 8)
+        (bad_byte 33 8) → ⊥ }
+    ensures bad_byte_alone_missing { TellsFault (InvalidBase62Byte 33 5) 3 (bad_byte 7 8)
+        (bad_byte 7 5) → ⊥ }
     ensures overflow { (bad : BadByte) → TellsFault ArithmeticOverflow 4 bad bad }
-    ensures overflow_by_another_status { (bad : BadByte) → TellsFault ArithmeticOverflow 2 bad bad → ⊥ }
-    ensures overflow_with_an_index { TellsFault ArithmeticOverflow 4 (bad_byte 7 8) (bad_byte 7 9) → ⊥ }
+    ensures overflow_by_another_status { (bad : BadByte) → TellsFault ArithmeticOverflow 2 bad bad
+        → ⊥ }
+    ensures overflow_with_an_index { TellsFault ArithmeticOverflow 4 (bad_byte 7 8) (bad_byte 7 9)
+        → ⊥ }
 {}
 
-/// Answers of decoding, whatever stood at the pointers, or where 3 and 4 stood at the halves.
+/// How decoding is told, whatever stood at the pointers, or where 3 and 4 stood at the halves.
 pub fn answers_by_example()
-    ensures number { (n : Number) (bad : BadByte) → TellsNumber (Ok (2 ^ 64 + 5)) 0 n (pair 1 5) bad bad }
-    ensures halves_left { (bad : BadByte) → TellsNumber (Ok (2 ^ 64 + 5)) 0 (pair 3 4) (pair 3 4) bad bad → ⊥ }
+    ensures number { (n : Number) (bad : BadByte)
+        → TellsNumber (Ok (2 ^ 64 + 5)) 0 n (pair 1 5) bad bad }
+    ensures halves_left { (bad : BadByte)
+        → TellsNumber (Ok (2 ^ 64 + 5)) 0 (pair 3 4) (pair 3 4) bad bad → ⊥ }
     ensures halves_exchanged { (n : Number) (bad : BadByte)
         → TellsNumber (Ok (2 ^ 64 + 5)) 0 n (pair 5 1) bad bad → ⊥ }
     ensures number_with_a_byte { (n : Number)
@@ -60,17 +70,20 @@ pub fn answers_by_example()
     ensures fault { (n : Number) (bad : BadByte)
         → TellsNumber (Err (InvalidBase62Byte 33 5)) 3 n n bad (bad_byte 33 5) }
     ensures fault_with_a_half { (bad : BadByte)
-        → TellsNumber (Err (InvalidBase62Byte 33 5)) 3 (pair 3 4) (pair 3 0) bad (bad_byte 33 5) → ⊥ }
+        → TellsNumber (Err (InvalidBase62Byte 33 5)) 3 (pair 3 4) (pair 3 0) bad (bad_byte 33 5)
+        → ⊥ }
     ensures fault_left { (n : Number)
         → TellsNumber (Err (InvalidBase62Byte 33 5)) 3 n n (bad_byte 7 8) (bad_byte 7 8) → ⊥ }
 {}
 
-/// The same of canonical texts alone.
+/// How decoding of canonical texts alone is told.
 pub fn canonical_by_example()
-    ensures number { (n : Number) (bad : BadByte) → TellsCanonical (Ok (Some 5)) 0 n (pair 0 5) bad bad }
+    ensures number { (n : Number) (bad : BadByte)
+        → TellsCanonical (Ok (Some 5)) 0 n (pair 0 5) bad bad }
     ensures number_by_another_status { (n : Number) (bad : BadByte)
         → TellsCanonical (Ok (Some 5)) 7 n (pair 0 5) bad bad → ⊥ }
-    ensures number_left { (bad : BadByte) → TellsCanonical (Ok (Some 5)) 0 (pair 3 4) (pair 3 4) bad bad → ⊥ }
+    ensures number_left { (bad : BadByte)
+        → TellsCanonical (Ok (Some 5)) 0 (pair 3 4) (pair 3 4) bad bad → ⊥ }
     ensures needless_zero { (n : Number) (bad : BadByte) → TellsCanonical (Ok None) 7 n n bad bad }
     ensures needless_zero_with_a_number { (bad : BadByte)
         → TellsCanonical (Ok None) 7 (pair 3 4) (pair 0 5) bad bad → ⊥ }
@@ -83,25 +96,30 @@ pub fn canonical_by_example()
         → TellsCanonical (Err EmptyInput) 2 (pair 3 4) (pair 3 0) bad bad → ⊥ }
 {}
 
-/// Ranges, whatever stood at the pointers, or where 3 and 4 stood at the halves of an end.
+/// How ranges are told, whatever stood at the pointers, or where 3 and 4 stood at an end's halves.
 pub fn ranges_by_example()
     ensures both { (r : Range) (bad : BadByte)
         → TellsRange (Ok (Some (1302, 1363))) 0 r (ends (pair 0 1302) (pair 0 1363)) bad bad }
     ensures exchanged { (r : Range) (bad : BadByte)
         → TellsRange (Ok (Some (1302, 1363))) 0 r (ends (pair 0 1363) (pair 0 1302)) bad bad → ⊥ }
     ensures least_left { (n : Number) (bad : BadByte)
-        → TellsRange (Ok (Some (5, 6))) 0 (ends (pair 3 4) n) (ends (pair 3 4) (pair 0 6)) bad bad → ⊥ }
+        → TellsRange (Ok (Some (5, 6))) 0 (ends (pair 3 4) n) (ends (pair 3 4) (pair 0 6)) bad bad
+        → ⊥ }
     ensures greatest_left { (n : Number) (bad : BadByte)
-        → TellsRange (Ok (Some (5, 6))) 0 (ends n (pair 3 4)) (ends (pair 0 5) (pair 3 4)) bad bad → ⊥ }
+        → TellsRange (Ok (Some (5, 6))) 0 (ends n (pair 3 4)) (ends (pair 0 5) (pair 3 4)) bad bad
+        → ⊥ }
     ensures both_with_an_index { (r : Range)
-        → TellsRange (Ok (Some (5, 6))) 0 r (ends (pair 0 5) (pair 0 6)) (bad_byte 7 8) (bad_byte 7 0) → ⊥ }
+        → TellsRange (Ok (Some (5, 6))) 0 r (ends (pair 0 5) (pair 0 6)) (bad_byte 7 8)
+        (bad_byte 7 0) → ⊥ }
     ensures none { (r : Range) (bad : BadByte) → TellsRange (Ok None) 5 r r bad bad }
-    ensures none_by_another_status { (r : Range) (bad : BadByte) → TellsRange (Ok None) 0 r r bad bad → ⊥ }
+    ensures none_by_another_status { (r : Range) (bad : BadByte)
+        → TellsRange (Ok None) 0 r r bad bad → ⊥ }
     ensures none_with_a_least { (n : Number) (bad : BadByte)
         → TellsRange (Ok None) 5 (ends (pair 3 4) n) (ends (pair 0 0) n) bad bad → ⊥ }
     ensures none_with_a_greatest { (n : Number) (bad : BadByte)
         → TellsRange (Ok None) 5 (ends n (pair 3 4)) (ends n (pair 0 0)) bad bad → ⊥ }
-    ensures none_with_a_byte { (r : Range) → TellsRange (Ok None) 5 r r (bad_byte 7 8) (bad_byte 0 8) → ⊥ }
+    ensures none_with_a_byte { (r : Range)
+        → TellsRange (Ok None) 5 r r (bad_byte 7 8) (bad_byte 0 8) → ⊥ }
     ensures fault { (r : Range) (bad : BadByte)
         → TellsRange (Err (InvalidBase62Byte 45 1)) 3 r r bad (bad_byte 45 1) }
     ensures fault_with_a_least { (n : Number) (bad : BadByte)
@@ -112,7 +130,7 @@ pub fn ranges_by_example()
         → TellsRange (Err (InvalidBase62Byte 45 1)) 3 r r (bad_byte 7 8) (bad_byte 7 8) → ⊥ }
 {}
 
-/// Texts into buffers of points.
+/// How texts are written into buffers of full stops.
 pub fn texts_by_example()
     ensures roomy { WritesText (codes "LZ") (codes "....") (codes "LZ..") 2 }
     ensures exact { WritesText (codes "LZ") (codes "..") (codes "LZ") 2 }
@@ -138,10 +156,12 @@ pub fn fault_texts_by_example()
     ensures ok { fault_text 0 33 5 ≡ [] }
     ensures buffer_too_small { fault_text 1 33 5 ≡ codes "Buffer too small to encode the number" }
     ensures empty_input { fault_text 2 33 5 ≡ codes "Encoded input is an empty string" }
-    ensures invalid_byte { fault_text 3 33 5 ≡ codes "Encoded input contains the invalid byte b'!' at index 5" }
+    ensures invalid_byte { fault_text 3 33 5
+        ≡ codes "Encoded input contains the invalid byte b'!' at index 5" }
     ensures overflow { fault_text 4 33 5 ≡ codes "Decoded number cannot fit into a `u128`" }
     ensures no_key { fault_text 5 33 5 ≡ codes "No text of so many letters begins with the front" }
-    ensures repeated_letter { fault_text 6 33 5 ≡ codes "Alphabet repeats the byte b'!' at index 5" }
+    ensures repeated_letter { fault_text 6 33 5
+        ≡ codes "Alphabet repeats the byte b'!' at index 5" }
     ensures not_canonical { fault_text 7 33 5 ≡ codes "Encoded input begins with a needless zero" }
     ensures no_status { fault_text 8 33 5 ≡ [] }
 {}

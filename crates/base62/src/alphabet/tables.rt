@@ -6,7 +6,7 @@ ghost use Rattle.base62.specs.Tables.{AreTables, digit_or_255};
 
 use super::Work;
 
-// The letters of an alphabet, that of digit d at place d, and the digits of all bytes, 255 where a byte has none.
+// The letters of an alphabet by their digits, and the digit of each byte, 255 where it has none.
 #[derive(Clone, Copy)]
 pub(crate) struct Tables {
     pub(super) letters: [u8; 62],

@@ -6,13 +6,14 @@ use std::marker::Model;
 use std::mem;
 use std::snapshot::Snapshot;
 
-/// A counter of the steps that calls take: a step is one reading of a byte's digit, of a digit's letter, or of
-/// the letters of two digits at once.
+/// A counter of the steps that calls take. A step reads the digit of a byte, the letter of a digit,
+/// or the letters of two digits at once.
 ///
-/// It is for a caller that must bound its work, such as a server that decodes what it is sent: counted calls such as
-/// [`decode_counted`](crate::decode_counted) say how far they move it on. Contracts see it as the number of steps,
-/// which has no bound, and there alone it is read: when the program runs it takes no bytes, and nothing can be read
-/// from it. So what a program has from counted calls is a bound on its steps that is proved, and no number of them.
+/// It is for a caller that must bound its work, such as a server that decodes what it is sent.
+/// Counted calls, such as [`decode_counted`](crate::decode_counted), say how far they move it. Only
+/// contracts read it: they see it as the number of steps, which has no bound. In the running
+/// program it takes no bytes, and nothing can be read from it. A program gets a proved bound on its
+/// steps, not their number.
 ///
 /// ```rust
 /// let mut work = base62::Work::new();

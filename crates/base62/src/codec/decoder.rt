@@ -55,7 +55,8 @@ fn count_zeros(tables: &Tables, input: &[u8]) -> usize
     input.len()
 }
 
-// The 11 to 22 bytes that follow the leading zeros of a text. The first ten are weighed before a later one is read.
+// The 11 to 22 bytes that follow the leading zeros of a text. The first ten are tested for an
+// overflow before a later one is read.
 #[inline(always)]
 fn read_long(
     tables: &Tables,
@@ -131,7 +132,7 @@ fn read_up_to_10(
     read_on(tables, number, tail, start + done, work)
 }
 
-// At most five bytes more, behind a number that has been read.
+// At most five bytes more, after a number that has been read.
 #[inline(always)]
 fn read_on(
     tables: &Tables,

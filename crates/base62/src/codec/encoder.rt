@@ -1,7 +1,7 @@
 //! The encoder, over the tables of any alphabet.
 //!
-//! Each piece writes the text of a fixed number of letters into the first places of a buffer. Quotients and remainders
-//! by powers of 62 cut a number into its parts.
+//! Each piece writes a text of a given width to the start of a buffer. Quotients and remainders by
+//! powers of 62 cut a number into parts.
 
 ghost use Rattle.std.specs.Prelude.{◌≡◌, ◌+◌, ◌-◌, ◌*◌, ◌/◌, ◌%◌, ◌<◌, ◌≤◌, ◌^◌, length};
 ghost use Rattle.base62.specs.declared.count.TheConstants.{MAX_DIGITS};
@@ -34,7 +34,7 @@ pub(crate) fn encode_over(
     Ok(count)
 }
 
-// The text of a number, of which the number of letters is given.
+// The text of a number, whose count of letters is given.
 #[inline(always)]
 pub(crate) fn write_text(tables: &Tables, n: u128, count: usize, buf: &mut [u8], work: &mut Work)
     requires tables { AreTables tables.now }
@@ -63,7 +63,7 @@ fn write_narrow(tables: &Tables, n: u64, count: usize, buf: &mut [u8], work: &mu
         write_up_to_9(tables, n, count, buf, work);
     } else {
         let quotient = n / POWER_10;
-        // For ten letters the first is written over.
+        // Of ten letters, the first is written over this one.
         buf[0] = tables.letter(quotient as u32, work);
         let remainder = n - quotient * POWER_10;
         write_10(tables, remainder, &mut buf[count - 10..], work);
@@ -94,7 +94,7 @@ fn write_wide(tables: &Tables, n: u128, count: usize, buf: &mut [u8], work: &mut
     }
 }
 
-// The quotient and the remainder by 62^20. The upper bits times 2^136 / 62^20 tell the quotient, or one less.
+// Divides by 62^20. The upper bits times 2^136 / 62^20 give the quotient, or one less.
 #[inline(always)]
 fn cut_by_20(n: u128) -> (u32, u128)
     ensures quotient { result.0 ≡ n / 62 ^ 20 }
@@ -121,7 +121,7 @@ fn one_more_20(estimate: u32, remainder: u128) -> (u32, u128)
     (estimate + 1, remainder - POWER_20)
 }
 
-// The quotient and the remainder by 62^10. The upper bits times 2^123 / 62^10 tell the quotient, or one less.
+// Divides by 62^10. The upper bits times 2^123 / 62^10 give the quotient, or one less.
 #[inline(always)]
 fn cut_by_10(n: u128) -> (u64, u64)
     requires { n < 62 ^ 20 }
@@ -149,7 +149,7 @@ fn one_more_10(estimate: u64, remainder: u64) -> (u64, u64)
     (estimate + 1, remainder - POWER_10)
 }
 
-// One to nine letters, from the last to the first, two turns of two letters at once where there are more than four.
+// One to nine letters. Where there are more than four, the last four are written first.
 fn write_up_to_9(tables: &Tables, n: u64, places: usize, buf: &mut [u8], work: &mut Work)
     requires fits { n < 62 ^ places }
     requires least { 1 ≤ places }
@@ -168,7 +168,7 @@ fn write_up_to_9(tables: &Tables, n: u64, places: usize, buf: &mut [u8], work: &
     }
 }
 
-// One to five letters, in the same way.
+// One to five letters, from the last to the first.
 #[inline(always)]
 fn write_up_to_5(tables: &Tables, n: u32, places: usize, buf: &mut [u8], work: &mut Work)
     requires fits { n < 62 ^ places }
@@ -191,7 +191,8 @@ fn write_up_to_5(tables: &Tables, n: u32, places: usize, buf: &mut [u8], work: &
     }
 }
 
-// One or two letters, as a pair whose second letter stands at the last place: of one, it is written over the first.
+// One or two letters, as a pair whose second letter goes to the last place. A single letter is the
+// second one, written over the first.
 #[inline(always)]
 fn write_1_or_2(tables: &Tables, x: u32, places: usize, buf: &mut [u8], work: &mut Work)
     requires fits { x < 62 ^ places }
@@ -256,7 +257,7 @@ fn write_10(tables: &Tables, n: u64, buf: &mut [u8], work: &mut Work)
     write_5(tables, (n - high * POWER_5) as u32, &mut buf[5..], work);
 }
 
-// Twenty letters, of a number that is given by its quotient and its remainder by 62^10.
+// Twenty letters of a number, which is given by its quotient and its remainder by 62^10.
 fn write_20(tables: &Tables, high: u64, low: u64, buf: &mut [u8], work: &mut Work)
     requires high { high < 62 ^ 10 }
     requires low { low < 62 ^ 10 }

@@ -7,22 +7,25 @@ ghost use Rattle.base62.specs.Alphabet.{IsAlphabet, IsRepeated, RepeatsFirst, is
 ghost use Rattle.base62.specs.Decoding.{decoding};
 ghost use Rattle.base62.specs.declared.fault.DecodeError.TheVariants.{InvalidBase62Byte};
 
-/// Other alphabets than the built-in ones: one whose zero letter is `a`, with `0` for digit 61; the bytes from
-/// 194 to 255, of which none is ASCII; and those from 33 to 94.
+/// Other alphabets than the built-in ones: one whose zero letter is `a`, with `0` for digit 61; the
+/// bytes from 194 to 255, of which none is ASCII; and those from 33 to 94.
 pub fn alphabets_by_example()
     ensures small_letters_first { IsAlphabet
         (codes "abcdefghijklmnopqrstuvwxyzABCDEFGHIJKLMNOPQRSTUVWXYZ1234567890") }
     ensures leading_zeros { decoding
-        (codes "abcdefghijklmnopqrstuvwxyzABCDEFGHIJKLMNOPQRSTUVWXYZ1234567890") (codes "aa0") ≡ Ok 61 }
+        (codes "abcdefghijklmnopqrstuvwxyzABCDEFGHIJKLMNOPQRSTUVWXYZ1234567890") (codes "aa0")
+        ≡ Ok 61 }
     ensures above_ascii { IsAlphabet (range_with_len 194 62) }
-    ensures above_ascii_decoded { decoding (range_with_len 194 62) (194 ∷ 215 ∷ 229 ∷ []) ≡ Ok 1337 }
-    ensures above_ascii_refused { decoding (range_with_len 194 62) (codes "0") ≡ Err (InvalidBase62Byte 48 0) }
+    ensures above_ascii_decoded { decoding (range_with_len 194 62) (194 ∷ 215 ∷ 229 ∷ [])
+        ≡ Ok 1337 }
+    ensures above_ascii_refused { decoding (range_with_len 194 62) (codes "0")
+        ≡ Err (InvalidBase62Byte 48 0) }
     ensures from_33 { IsAlphabet (range_with_len 33 62) }
     ensures from_33_decoded { decoding (range_with_len 33 62) (codes "!!6D") ≡ Ok 1337 }
 {}
 
-/// Lists that are no alphabet: 61 and 63 bytes of which none is repeated; 62 of which two are equal, by where these
-/// stand; and 62 numbers of which the last is 256, and so no byte.
+/// Lists that are no alphabet: 61 and 63 distinct bytes; 62 bytes of which two are equal, at
+/// several places; and 62 numbers, of which the last is 256 and no byte.
 pub fn no_alphabets_by_example()
     ensures one_fewer { IsAlphabet (range_with_len 33 61) → ⊥ }
     ensures one_more { IsAlphabet (range_with_len 33 63) → ⊥ }
@@ -52,7 +55,8 @@ pub fn digits_by_example()
     ensures no_letter { is_letter standard 33 ≡ false }
 {}
 
-/// Bytes that stand at an earlier place too, and the first of them: 97 to 99 are `a` to `c`, and 49 is `1`.
+/// Bytes that stand at an earlier place too, and the first of them: 97 to 99 are `a` to `c`, and 49
+/// is `1`.
 pub fn repeats_by_example()
     ensures second_place { IsRepeated (codes "aba") 2 }
     ensures first_place { IsRepeated (codes "aba") 0 → ⊥ }

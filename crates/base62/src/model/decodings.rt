@@ -14,17 +14,27 @@ pub fn decodings_by_example()
     ensures zeros_alone { decoding standard (codes "000") ≡ Ok 0 }
     ensures index_counts_zeros { decoding standard (codes "0!") ≡ Err (InvalidBase62Byte 33 1) }
     ensures long_before_bad { decoding standard (33 ∷ replicate 22 48) ≡ Err ArithmeticOverflow }
-    ensures bad_where_short { decoding standard (33 ∷ replicate 21 48) ≡ Err (InvalidBase62Byte 33 0) }
-    ensures bad_in_first_ten { decoding standard (codes "zzzzzzzzz!000000000000") ≡ Err (InvalidBase62Byte 33 9) }
-    ensures overflow_before_later_bad { decoding standard (codes "zzzzzzzzzz!00000000000") ≡ Err ArithmeticOverflow }
-    ensures greatest_first_ten { decoding standard (codes "7n42DGM5Tf!00000000000") ≡ Err (InvalidBase62Byte 33 10) }
-    ensures first_ten_one_more { decoding standard (codes "7n42DGM5Tg!00000000000") ≡ Err ArithmeticOverflow }
-    ensures overflow_shown_by_eleven { decoding standard (codes "7n42DGM5Tfm!0000000000") ≡ Err (InvalidBase62Byte 33 11) }
-    ensures zero_bad_in_first_ten { decoding standard (codes "0zzzzzzzzz!000000000000") ≡ Err (InvalidBase62Byte 33 10) }
-    ensures zero_overflow_first { decoding standard (codes "0zzzzzzzzzz!00000000000") ≡ Err ArithmeticOverflow }
-    ensures last_bad { decoding standard (codes "7n42DGM5Tflk9n8mt7Fhc!") ≡ Err (InvalidBase62Byte 33 21) }
+    ensures bad_where_short { decoding standard (33 ∷ replicate 21 48)
+        ≡ Err (InvalidBase62Byte 33 0) }
+    ensures bad_in_first_ten { decoding standard (codes "zzzzzzzzz!000000000000")
+        ≡ Err (InvalidBase62Byte 33 9) }
+    ensures overflow_before_later_bad { decoding standard (codes "zzzzzzzzzz!00000000000")
+        ≡ Err ArithmeticOverflow }
+    ensures greatest_first_ten { decoding standard (codes "7n42DGM5Tf!00000000000")
+        ≡ Err (InvalidBase62Byte 33 10) }
+    ensures first_ten_one_more { decoding standard (codes "7n42DGM5Tg!00000000000")
+        ≡ Err ArithmeticOverflow }
+    ensures overflow_shown_by_eleven { decoding standard (codes "7n42DGM5Tfm!0000000000")
+        ≡ Err (InvalidBase62Byte 33 11) }
+    ensures zero_bad_in_first_ten { decoding standard (codes "0zzzzzzzzz!000000000000")
+        ≡ Err (InvalidBase62Byte 33 10) }
+    ensures zero_overflow_first { decoding standard (codes "0zzzzzzzzzz!00000000000")
+        ≡ Err ArithmeticOverflow }
+    ensures last_bad { decoding standard (codes "7n42DGM5Tflk9n8mt7Fhc!")
+        ≡ Err (InvalidBase62Byte 33 21) }
     ensures greatest { decoding standard (codes "7n42DGM5Tflk9n8mt7Fhc7") ≡ Ok (2 ^ 128 - 1) }
-    ensures greatest_one_more { decoding standard (codes "7n42DGM5Tflk9n8mt7Fhc8") ≡ Err ArithmeticOverflow }
+    ensures greatest_one_more { decoding standard (codes "7n42DGM5Tflk9n8mt7Fhc8")
+        ≡ Err ArithmeticOverflow }
     ensures other_alphabet { decoding alternative (codes "lz") ≡ Ok 1337 }
 {}
 
@@ -42,8 +52,8 @@ pub fn first_bad_bytes_by_example()
     ensures empty { IsFirstInvalid standard [] 0 0 → ⊥ }
 {}
 
-/// How many steps decoding takes for some texts, by the cases of its answer; 49 is `1`, and 33 is `!`, which
-/// is no letter.
+/// How many steps decoding takes for some texts, by the cases of its answer; 49 is `1`, and 33 is
+/// `!`, which is no letter.
 pub fn steps_by_example()
     ensures empty { decoding_steps standard [] ≡ 0 }
     ensures zeros_alone { decoding_steps standard (codes "000") ≡ 0 }
@@ -78,7 +88,8 @@ pub fn canonical_by_example()
     ensures one_zero { DecodesCanonical standard (codes "0") (Ok (Some 0)) }
     ensures zero_in_front { DecodesCanonical standard (codes "0LZ") (Ok None) }
     ensures zeros_alone { DecodesCanonical standard (codes "00") (Ok None) }
-    ensures bad_behind_zero { DecodesCanonical standard (codes "0!") (Err (InvalidBase62Byte 33 1)) }
+    ensures bad_behind_zero { DecodesCanonical standard (codes "0!")
+        (Err (InvalidBase62Byte 33 1)) }
     ensures empty { DecodesCanonical standard [] (Err EmptyInput) }
     ensures accepted_zeros { DecodesCanonical standard (codes "0LZ") (Ok (Some 1337)) → ⊥ }
     ensures refused_number { DecodesCanonical standard (codes "LZ") (Ok None) → ⊥ }
@@ -87,10 +98,12 @@ pub fn canonical_by_example()
     ensures none_of_bad { DecodesCanonical standard (codes "0!") (Ok None) → ⊥ }
 {}
 
-/// Letters that denote 2^128 have one answer, and lesser ones any.
+/// Letters that denote 2^128 may have one answer alone. Of a lesser number nothing is said.
 pub fn large_by_example()
-    ensures large { RefusesLarge standard (codes "7n42DGM5Tflk9n8mt7Fhc8") (Err ArithmeticOverflow) }
+    ensures large { RefusesLarge standard (codes "7n42DGM5Tflk9n8mt7Fhc8")
+        (Err ArithmeticOverflow) }
     ensures greatest { RefusesLarge standard (codes "7n42DGM5Tflk9n8mt7Fhc7") (Ok (2 ^ 128 - 1)) }
     ensures wrapped { RefusesLarge standard (codes "7n42DGM5Tflk9n8mt7Fhc8") (Ok 0) → ⊥ }
-    ensures zeros_counted { RefusesLarge standard (codes "07n42DGM5Tflk9n8mt7Fhc8") (Err EmptyInput) → ⊥ }
+    ensures zeros_counted { RefusesLarge standard (codes "07n42DGM5Tflk9n8mt7Fhc8")
+        (Err EmptyInput) → ⊥ }
 {}

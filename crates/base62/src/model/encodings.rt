@@ -11,13 +11,14 @@ ghost use Rattle.base62.specs.Encoding.{EncodesInto, AnswersCanonical, AppendsTo
 ghost use Rattle.base62.specs.Steps.{encoding_steps, EncodesCounted};
 ghost use Rattle.base62.specs.declared.fault.EncodeError.TheVariants.{BufferTooSmall};
 
-/// What becomes of buffers into which 1337 is encoded, whose text is `LZ`, and what can't become of them; 46 is a full
-/// stop. A number of 2^128 or more has a text too, which does not decode to it.
+/// What becomes of buffers into which 1337 is encoded, and what can't; its text is `LZ`, and 46 is
+/// a full stop. A number of 2^128 or more has a text too, which does not decode to it.
 pub fn buffers_by_example()
     ensures longer { EncodesInto standard 1337 (codes "...") (codes "LZ.") (Ok 2) }
     ensures just_fits { EncodesInto standard 1337 (codes "..") (codes "LZ") (Ok 2) }
     ensures refused { EncodesInto standard 1337 (codes ".") (codes ".") (Err BufferTooSmall) }
-    ensures refused_with_room { EncodesInto standard 1337 (codes "..") (codes "..") (Err BufferTooSmall) → ⊥ }
+    ensures refused_with_room { EncodesInto standard 1337 (codes "..") (codes "..")
+        (Err BufferTooSmall) → ⊥ }
     ensures answered_without_room { EncodesInto standard 1337 (codes ".") (codes "LZ") (Ok 2) → ⊥ }
     ensures needless_zero { EncodesInto standard 1337 (codes "...") (codes "0LZ") (Ok 3) → ⊥ }
     ensures length_too_great { EncodesInto standard 1337 (codes "...") (codes "LZ.") (Ok 3) → ⊥ }
@@ -27,16 +28,18 @@ pub fn buffers_by_example()
     ensures other_text { EncodesInto standard 1337 (codes "...") (codes "lz.") (Ok 2) → ⊥ }
     ensures other_changed { EncodesInto standard 1337 (codes "...") (codes "LZ!") (Ok 2) → ⊥ }
     ensures other_lost { EncodesInto standard 1337 (codes "...") (codes "LZ") (Ok 2) → ⊥ }
-    ensures refused_changed { EncodesInto standard 1337 (codes ".") (codes "L") (Err BufferTooSmall) → ⊥ }
-    ensures not_read_back { EncodesInto standard (2 ^ 128) (replicate 22 46) (codes "7n42DGM5Tflk9n8mt7Fhc8") (Ok 22)
-        → ⊥ }
-    ensures refused_22_bytes { EncodesInto standard (62 ^ 22) (replicate 22 46) (replicate 22 46) (Err BufferTooSmall)
-        → ⊥ }
+    ensures refused_changed { EncodesInto standard 1337 (codes ".") (codes "L")
+        (Err BufferTooSmall) → ⊥ }
+    ensures not_read_back { EncodesInto standard (2 ^ 128) (replicate 22 46)
+        (codes "7n42DGM5Tflk9n8mt7Fhc8") (Ok 22) → ⊥ }
+    ensures refused_22_bytes { EncodesInto standard (62 ^ 22) (replicate 22 46) (replicate 22 46)
+        (Err BufferTooSmall) → ⊥ }
 {}
 
 /// Strings that are the answer for 1337, and ones that are not.
 pub fn strings_by_example()
-    ensures text { (text : String Global) → string_bytes text ≡ codes "LZ" → AnswersCanonical standard 1337 (Ok text) }
+    ensures text { (text : String Global) → string_bytes text ≡ codes "LZ"
+        → AnswersCanonical standard 1337 (Ok text) }
     ensures no_memory { (e : AllocError) → AnswersCanonical standard 1337 (Err e) }
     ensures needless_zero { (text : String Global) → string_bytes text ≡ codes "0LZ"
         → AnswersCanonical standard 1337 (Ok text) → ⊥ }
@@ -44,33 +47,38 @@ pub fn strings_by_example()
         → AnswersCanonical standard 0 (Ok text) → ⊥ }
     ensures other_text { (text : String Global) → string_bytes text ≡ codes "lz"
         → AnswersCanonical standard 1337 (Ok text) → ⊥ }
-    ensures not_read_back { (text : String Global) → string_bytes text ≡ codes "7n42DGM5Tflk9n8mt7Fhc8"
+    ensures not_read_back { (text : String Global)
+        → string_bytes text ≡ codes "7n42DGM5Tflk9n8mt7Fhc8"
         → AnswersCanonical standard (2 ^ 128) (Ok text) → ⊥ }
 {}
 
-/// What becomes of a string that is `> ` where 1337 is appended, and what can't become of it.
+/// What becomes of the string `> ` to which 1337 is appended, and what can't become of it.
 pub fn appended_by_example()
-    ensures text { (old new : String Global) → string_bytes old ≡ codes "> " → string_bytes new ≡ codes "> LZ"
+    ensures text { (old new : String Global) → string_bytes old ≡ codes "> "
+        → string_bytes new ≡ codes "> LZ"
         → string_capacity old ≤ string_capacity new → AppendsTo standard 1337 old new (Ok tt) }
     ensures refused { (old : String Global) (e : AllocError) → string_bytes old ≡ codes "> "
         → string_capacity old ≡ 3 → AppendsTo standard 1337 old old (Err e) }
-    ensures earlier_lost { (old new : String Global) → string_bytes old ≡ codes "> " → string_bytes new ≡ codes "LZ"
-        → AppendsTo standard 1337 old new (Ok tt) → ⊥ }
+    ensures earlier_lost { (old new : String Global) → string_bytes old ≡ codes "> "
+        → string_bytes new ≡ codes "LZ" → AppendsTo standard 1337 old new (Ok tt) → ⊥ }
     ensures needless_zero { (old new : String Global) → string_bytes old ≡ codes "> "
         → string_bytes new ≡ codes "> 0LZ" → AppendsTo standard 1337 old new (Ok tt) → ⊥ }
     ensures nothing_appended { (old : String Global) → AppendsTo standard 1337 old old (Ok tt) → ⊥ }
-    ensures refused_changed { (old new : String Global) (e : AllocError) → string_bytes old ≡ codes "> "
+    ensures refused_changed { (old new : String Global) (e : AllocError)
+        → string_bytes old ≡ codes "> "
         → string_bytes new ≡ codes "> L" → AppendsTo standard 1337 old new (Err e) → ⊥ }
-    ensures refused_grown { (old new : String Global) (e : AllocError) → string_capacity old < string_capacity new
-        → AppendsTo standard 1337 old new (Err e) → ⊥ }
-    ensures refused_with_room { (old new : String Global) (e : AllocError) → string_len old + 2 ≤ string_capacity old
-        → AppendsTo standard 1337 old new (Err e) → ⊥ }
-    ensures refused_22_bytes { (old new : String Global) (e : AllocError) → string_len old + 22 ≤ string_capacity old
+    ensures refused_grown { (old new : String Global) (e : AllocError)
+        → string_capacity old < string_capacity new → AppendsTo standard 1337 old new (Err e) → ⊥ }
+    ensures refused_with_room { (old new : String Global) (e : AllocError)
+        → string_len old + 2 ≤ string_capacity old → AppendsTo standard 1337 old new (Err e) → ⊥ }
+    ensures refused_22_bytes { (old new : String Global) (e : AllocError)
+        → string_len old + 22 ≤ string_capacity old
         → AppendsTo standard (62 ^ 22) old new (Err e) → ⊥ }
     ensures shrunk { (old new : String Global) → string_capacity new < string_capacity old
         → AppendsTo standard 1337 old new (Ok tt) → ⊥ }
     ensures not_read_back { (old new : String Global) → string_bytes old ≡ codes "> "
-        → string_bytes new ≡ codes "> 7n42DGM5Tflk9n8mt7Fhc8" → AppendsTo standard (2 ^ 128) old new (Ok tt) → ⊥ }
+        → string_bytes new ≡ codes "> 7n42DGM5Tflk9n8mt7Fhc8"
+        → AppendsTo standard (2 ^ 128) old new (Ok tt) → ⊥ }
     ensures no_letter { (old new : String Global) → string_len new ≡ string_len old
         → AppendsTo standard 0 old new (Ok tt) → ⊥ }
     ensures a_letter_more { (old new : String Global) → string_len new ≡ string_len old + 23
@@ -81,10 +89,14 @@ pub fn appended_by_example()
 pub fn written_by_example()
     ensures text { WritesCanonical standard 1337 (Some (codes "> ")) (Some (codes "> LZ")) }
     ensures untold { WritesCanonical standard 1337 None None }
-    ensures earlier_lost { WritesCanonical standard 1337 (Some (codes "> ")) (Some (codes "LZ")) → ⊥ }
-    ensures needless_zero { WritesCanonical standard 1337 (Some (codes "> ")) (Some (codes "> 0LZ")) → ⊥ }
-    ensures other_text { WritesCanonical standard 1337 (Some (codes "> ")) (Some (codes "> lz")) → ⊥ }
-    ensures nothing_written { WritesCanonical standard 1337 (Some (codes "> ")) (Some (codes "> ")) → ⊥ }
+    ensures earlier_lost { WritesCanonical standard 1337 (Some (codes "> ")) (Some (codes "LZ"))
+        → ⊥ }
+    ensures needless_zero { WritesCanonical standard 1337 (Some (codes "> "))
+        (Some (codes "> 0LZ")) → ⊥ }
+    ensures other_text { WritesCanonical standard 1337 (Some (codes "> ")) (Some (codes "> lz"))
+        → ⊥ }
+    ensures nothing_written { WritesCanonical standard 1337 (Some (codes "> ")) (Some (codes "> "))
+        → ⊥ }
     ensures no_longer_told { WritesCanonical standard 1337 (Some (codes "> ")) None → ⊥ }
     ensures not_read_back { WritesCanonical standard (2 ^ 128) (Some (codes "> "))
         (Some (codes "> 7n42DGM5Tflk9n8mt7Fhc8")) → ⊥ }
@@ -116,12 +128,14 @@ pub fn encoding_steps_by_example()
     ensures of_22 { encoding_steps 22 ≡ 13 }
 {}
 
-/// What a counted call does that encodes 1337, whose text takes one step, with a counter that stands at 5.
+/// What a counted call does that encodes 1337: its text takes one step, and the counter is at 5.
 pub fn counted_by_example()
     ensures moved { EncodesCounted standard 1337 (codes "...") (codes "LZ.") 5 6 (Ok 2) }
-    ensures refused { EncodesCounted standard 1337 (codes ".") (codes ".") 5 5 (Err BufferTooSmall) }
+    ensures refused { EncodesCounted standard 1337 (codes ".") (codes ".") 5 5
+        (Err BufferTooSmall) }
     ensures left { EncodesCounted standard 1337 (codes "...") (codes "LZ.") 5 5 (Ok 2) → ⊥ }
     ensures moved_more { EncodesCounted standard 1337 (codes "...") (codes "LZ.") 5 7 (Ok 2) → ⊥ }
-    ensures refused_moved { EncodesCounted standard 1337 (codes ".") (codes ".") 5 6 (Err BufferTooSmall) → ⊥ }
+    ensures refused_moved { EncodesCounted standard 1337 (codes ".") (codes ".") 5 6
+        (Err BufferTooSmall) → ⊥ }
     ensures other_text { EncodesCounted standard 1337 (codes "...") (codes "lz.") 5 6 (Ok 2) → ⊥ }
 {}

@@ -18,7 +18,7 @@ pub fn escapes_by_example()
     ensures backslash { escaped 92 ≡ codes "\\\\" }
 {}
 
-/// Bytes that are shown as themselves: those at both ends, and those beside one that has an escape.
+/// Bytes that are shown as themselves: the first, the last, and those beside an escaped one.
 pub fn plain_bytes_by_example()
     ensures space { escaped 32 ≡ codes " " }
     ensures exclamation_mark { escaped 33 ≡ codes "!" }
@@ -48,7 +48,8 @@ pub fn hexadecimal_by_example()
 
 /// The texts of the faults; 33 is `!`.
 pub fn texts_by_example()
-    ensures overflow { decode_error_text ArithmeticOverflow ≡ codes "Decoded number cannot fit into a `u128`" }
+    ensures overflow { decode_error_text ArithmeticOverflow
+        ≡ codes "Decoded number cannot fit into a `u128`" }
     ensures empty { decode_error_text EmptyInput ≡ codes "Encoded input is an empty string" }
     ensures bad_byte { decode_error_text (InvalidBase62Byte 33 7)
         ≡ codes "Encoded input contains the invalid byte b'!' at index 7" }
@@ -56,9 +57,12 @@ pub fn texts_by_example()
         ≡ codes "Encoded input contains the invalid byte b'\\n' at index 0" }
     ensures longest { decode_error_text (InvalidBase62Byte 255 (2 ^ 64 - 1))
         ≡ codes "Encoded input contains the invalid byte b'\\xff' at index 18446744073709551615" }
-    ensures small_buffer { encode_error_text BufferTooSmall ≡ codes "Buffer too small to encode the number" }
-    ensures repeated { alphabet_error_text (Repeated 33 7) ≡ codes "Alphabet repeats the byte b'!' at index 7" }
-    ensures repeated_last { alphabet_error_text (Repeated 39 61) ≡ codes "Alphabet repeats the byte b'\\'' at index 61" }
+    ensures small_buffer { encode_error_text BufferTooSmall
+        ≡ codes "Buffer too small to encode the number" }
+    ensures repeated { alphabet_error_text (Repeated 33 7)
+        ≡ codes "Alphabet repeats the byte b'!' at index 7" }
+    ensures repeated_last { alphabet_error_text (Repeated 39 61)
+        ≡ codes "Alphabet repeats the byte b'\\'' at index 61" }
 {}
 
 /// How faults of decoding compare.
@@ -69,13 +73,19 @@ pub fn decode_orders_by_example()
     ensures overflow_first { decode_error_order ArithmeticOverflow EmptyInput ≡ Less }
     ensures empty_after { decode_error_order EmptyInput ArithmeticOverflow ≡ Greater }
     ensures empty_before_bad { decode_error_order EmptyInput (InvalidBase62Byte 0 0) ≡ Less }
-    ensures overflow_before_bad { decode_error_order ArithmeticOverflow (InvalidBase62Byte 0 0) ≡ Less }
+    ensures overflow_before_bad { decode_error_order ArithmeticOverflow (InvalidBase62Byte 0 0)
+        ≡ Less }
     ensures bad_after_empty { decode_error_order (InvalidBase62Byte 0 0) EmptyInput ≡ Greater }
-    ensures bad_after_overflow { decode_error_order (InvalidBase62Byte 0 0) ArithmeticOverflow ≡ Greater }
-    ensures lesser_byte { decode_error_order (InvalidBase62Byte 33 7) (InvalidBase62Byte 63 1) ≡ Less }
-    ensures greater_byte { decode_error_order (InvalidBase62Byte 63 1) (InvalidBase62Byte 33 7) ≡ Greater }
-    ensures lesser_index { decode_error_order (InvalidBase62Byte 33 1) (InvalidBase62Byte 33 7) ≡ Less }
-    ensures greater_index { decode_error_order (InvalidBase62Byte 33 7) (InvalidBase62Byte 33 1) ≡ Greater }
+    ensures bad_after_overflow { decode_error_order (InvalidBase62Byte 0 0) ArithmeticOverflow
+        ≡ Greater }
+    ensures lesser_byte { decode_error_order (InvalidBase62Byte 33 7) (InvalidBase62Byte 63 1)
+        ≡ Less }
+    ensures greater_byte { decode_error_order (InvalidBase62Byte 63 1) (InvalidBase62Byte 33 7)
+        ≡ Greater }
+    ensures lesser_index { decode_error_order (InvalidBase62Byte 33 1) (InvalidBase62Byte 33 7)
+        ≡ Less }
+    ensures greater_index { decode_error_order (InvalidBase62Byte 33 7) (InvalidBase62Byte 33 1)
+        ≡ Greater }
 {}
 
 /// How faults of alphabets compare.

@@ -1,4 +1,4 @@
-//! What the laws of texts speak of.
+//! The definitions that the laws on texts cite.
 #![tactic(auto, unfolding(crate::proofs::OnLiterals::base62_on_literals))]
 
 ghost use Rattle.std.specs.Prelude.{◌≡◌, ◌^◌, ◌-◌, [], ◌∷◌, codes, Ok, Err};
@@ -51,14 +51,15 @@ pub fn answers_by_example()
     ensures zero { number_or_overflow 0 ≡ Ok 0 }
     ensures greatest { number_or_overflow (2 ^ 128 - 1) ≡ Ok (2 ^ 128 - 1) }
     ensures greatest_one_more { number_or_overflow (2 ^ 128) ≡ Err ArithmeticOverflow }
-    ensures index_moved { one_place_on (Err (InvalidBase62Byte 33 7)) ≡ Err (InvalidBase62Byte 33 8) }
+    ensures index_moved { one_place_on (Err (InvalidBase62Byte 33 7))
+        ≡ Err (InvalidBase62Byte 33 8) }
     ensures number_kept { one_place_on (Ok 1337) ≡ Ok 1337 }
     ensures overflow_kept { one_place_on (Err ArithmeticOverflow) ≡ Err ArithmeticOverflow }
     ensures empty_kept { one_place_on (Err EmptyInput) ≡ Err EmptyInput }
 {}
 
-/// What a law tells of an answer, for one text, and for two over lists that are no alphabet: no letters at all, where a
-/// byte 0 is accepted, and all bytes, where another text of the number is shorter.
+/// What a law tells of the answer for a text. It fails for two texts over lists that are no
+/// alphabet: over no letters a byte 0 is accepted; over all bytes a shorter text has the number.
 pub fn told_by_example()
     ensures zeros_and_letters { AnswerTells standard (codes "0LZ") }
     ensures no_letters { AnswerTells [] (0 ∷ []) → ⊥ }

@@ -32,8 +32,8 @@ pub fn shortlex_order_by_example()
     ensures same { shortlex_order (codes "LZ") (codes "LZ") ≡ Equal }
 {}
 
-/// Letters that ascend, and letters that do not: equal ones, by where they stand, and descents; 33 and 94 are the first
-/// and the last of the letters that ascend.
+/// Letters that ascend, and letters that do not: two are equal, or the later is less, at several
+/// places. 33 and 94 are the first and the last of the letters that ascend.
 pub fn ascents_by_example()
     ensures from_33 { Ascends (range_with_len 33 62) }
     ensures one_byte { Ascends (replicate 62 48) → ⊥ }

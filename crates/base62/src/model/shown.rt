@@ -1,4 +1,4 @@
-//! What displays write: by width, fill and alignment, and those of faults.
+//! What displays write, by width, fill and alignment, and what displays of faults write.
 #![tactic(auto, unfolding(crate::proofs::OnLiterals::base62_on_literals))]
 
 ghost use Rattle.std.specs.Prelude.{◌≡◌, ◌++◌, [], ◌∷◌, replicate, codes, Some, None};
@@ -11,7 +11,8 @@ ghost use Rattle.base62.specs.declared.fault.EncodeError.TheVariants.{BufferTooS
 use crate::{fault, show};
 use std::fmt;
 
-/// Texts padded to a width; 32 is a space, 48 is `0`, 42 is `*`, and 233 is `é`, whose bytes are 195 and 169.
+/// Texts padded to a width; 32 is a space, 48 is `0`, 42 is `*`, and 233 is `é`, whose bytes are
+/// 195 and 169.
 pub fn paddings_by_example()
     ensures no_width { padded_to None 32 Right (codes "LZ") ≡ codes "LZ" }
     ensures narrow { padded_to (Some 1) 32 Right (codes "LZ") ≡ codes "LZ" }
@@ -26,8 +27,10 @@ pub fn paddings_by_example()
     ensures wide { padded_to (Some 1000) 32 Right (codes "LZ") ≡ replicate 998 32 ++ codes "LZ" }
     ensures two_bytes { padded_to (Some 4) 233 Right (codes "LZ")
         ≡ 195 ∷ 169 ∷ 195 ∷ 169 ∷ codes "LZ" }
-    ensures two_bytes_left { padded_to (Some 3) 233 Left (codes "LZ") ≡ codes "LZ" ++ 195 ∷ 169 ∷ [] }
-    ensures two_bytes_centred { padded_to (Some 4) 233 Center (codes "LZ") ≡ 195 ∷ 169 ∷ codes "LZ" ++ 195 ∷ 169 ∷ [] }
+    ensures two_bytes_left { padded_to (Some 3) 233 Left (codes "LZ")
+        ≡ codes "LZ" ++ 195 ∷ 169 ∷ [] }
+    ensures two_bytes_centred { padded_to (Some 4) 233 Center (codes "LZ")
+        ≡ 195 ∷ 169 ∷ codes "LZ" ++ 195 ∷ 169 ∷ [] }
     ensures wide_text { padded_to (Some 3) 32 Left (195 ∷ 169 ∷ []) ≡ 195 ∷ 169 ∷ codes "  " }
     ensures no_text { padded_to (Some 2) 32 Left [] ≡ codes "  " }
 {}
@@ -35,7 +38,8 @@ pub fn paddings_by_example()
 /// What displays of `LZ` write under no options, whichever the alphabet.
 pub fn plain_displays_by_example()
     ensures standard { ⟦<show::Fmt as fmt::Display>⟧.output (codes "LZ") ≡ Some (codes "LZ") }
-    ensures alternative { ⟦<show::FmtAlternative as fmt::Display>⟧.output (codes "LZ") ≡ Some (codes "LZ") }
+    ensures alternative { ⟦<show::FmtAlternative as fmt::Display>⟧.output (codes "LZ")
+        ≡ Some (codes "LZ") }
     ensures own { ⟦<show::FmtWith as fmt::Display>⟧.output (codes "LZ") ≡ Some (codes "LZ") }
 {}
 
@@ -44,7 +48,8 @@ pub fn faults_by_example()
     ensures overflow { (options : _)
         → ⟦<fault::DecodeError as fmt::Display>⟧.styled_output ArithmeticOverflow options
         ≡ Some (codes "Decoded number cannot fit into a `u128`") }
-    ensures empty { (options : _) → ⟦<fault::DecodeError as fmt::Display>⟧.styled_output EmptyInput options
+    ensures empty { (options : _)
+        → ⟦<fault::DecodeError as fmt::Display>⟧.styled_output EmptyInput options
         ≡ Some (codes "Encoded input is an empty string") }
     ensures bad_byte { (options : _)
         → ⟦<fault::DecodeError as fmt::Display>⟧.styled_output (InvalidBase62Byte 33 7) options
@@ -57,7 +62,7 @@ pub fn faults_by_example()
         ≡ Some (codes "Alphabet repeats the byte b'!' at index 7") }
 {}
 
-/// What displays write of `LZ`, by the number that a formatter's alignment is; 32 is a space.
+/// What a display of `LZ` writes, by the formatter's number for the alignment; 32 is a space.
 pub fn displays_by_example()
     ensures plain { displayed None None 32 0 (codes "LZ") ≡ Some (codes "LZ") }
     ensures no_alignment { displayed None (Some 5) 32 0 (codes "LZ") ≡ Some (codes "LZ   ") }
@@ -65,7 +70,8 @@ pub fn displays_by_example()
     ensures stands_centred { displayed None (Some 5) 32 2 (codes "LZ") ≡ Some (codes " LZ  ") }
     ensures stands_right { displayed None (Some 5) 32 3 (codes "LZ") ≡ Some (codes "   LZ") }
     ensures other_fill { displayed None (Some 4) 42 3 (codes "LZ") ≡ Some (codes "**LZ") }
-    ensures wide { displayed None (Some 1000) 32 3 (codes "LZ") ≡ Some (replicate 998 32 ++ codes "LZ") }
+    ensures wide { displayed None (Some 1000) 32 3 (codes "LZ")
+        ≡ Some (replicate 998 32 ++ codes "LZ") }
     ensures two_bytes { displayed None (Some 4) 233 2 (codes "LZ")
         ≡ Some (195 ∷ 169 ∷ codes "LZ" ++ 195 ∷ 169 ∷ []) }
     ensures beyond { displayed None (Some 5) 32 4 (codes "LZ") ≡ None }

@@ -52,8 +52,8 @@ pub fn canonical_texts_by_example()
     ensures greatest { IsCanonical standard (codes "7n42DGM5Tflk9n8mt7Fhc7") (2 ^ 128 - 1) }
 {}
 
-/// Texts that are not canonical: one without a letter, two with a needless zero, one with a bad byte, one over the
-/// other alphabet, and one of another number.
+/// Texts that are not canonical: one without a letter, two with a needless zero, one with a bad
+/// byte, one over the other alphabet, and one of another number.
 pub fn no_canonical_texts_by_example()
     ensures empty { IsCanonical standard [] 0 → ⊥ }
     ensures needless_zero { IsCanonical standard (codes "0LZ") 1337 → ⊥ }

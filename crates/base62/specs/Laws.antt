@@ -33,7 +33,8 @@ pub record AnswerTells (B text : List ℕ) : Type 0 where
   pub value_is : (n : ℕ) → decoding B text ≡ Ok n → n ≡ value B text
   pub canonical : (n : ℕ) → decoding B text ≡ Ok n → IsCanonical B (without_zeros B text) n
   pub empty : decoding B text ≡ Err EmptyInput → length text ≡ 0
-  pub named : (byte index : ℕ) → decoding B text ≡ Err (InvalidBase62Byte byte index) → IsFirstInvalid B text byte index
+  pub named : (byte index : ℕ) → decoding B text ≡ Err (InvalidBase62Byte byte index)
+      → IsFirstInvalid B text byte index
   pub overflow : decoding B text ≡ Err ArithmeticOverflow
       → is_letter B (slice_index (after_zeros B text) 0) ≡ true
       → (other : List ℕ) → AgreesAtLetters B text other → 2 ^ 128 ≤ value B other

@@ -20,7 +20,8 @@ abbrev pub IsLetter : List ℕ → ℕ → Type 0
 IsLetter B b = is_letter B b ≡ true
 
 -- a byte that has digit d is the letter at place d
-pub letter-digit_of : (B : List ℕ) (b d : ℕ) → digit_of B b ≡ Some d → (d < length B) × (get_or B d 0 ≡ b)
+pub letter-digit_of : (B : List ℕ) (b d : ℕ) → digit_of B b ≡ Some d
+    → (d < length B) × (get_or B d 0 ≡ b)
 unfolding digit_of
 letter-digit_of B b d e =
     let at = position-Some (λ l. eqb l b) B d 0 e in (at.0, eqb-true _ _ at.1)
@@ -61,7 +62,8 @@ module _ (B : List ℕ) (ok : IsAlphabet B) where
   digit_or_zero-lt b = bounded (digit_of B b) (λ d e. let at = letter-digit_of B b d e in omega (arith, at.0, ok.size))
 
 -- two letters of one digit are one
-pub same_letter : (B : List ℕ) (a b : ℕ) → IsLetter B a → IsLetter B b → digit_or_zero B a ≡ digit_or_zero B b → a ≡ b
+pub same_letter : (B : List ℕ) (a b : ℕ) → IsLetter B a → IsLetter B b
+    → digit_or_zero B a ≡ digit_or_zero B b → a ≡ b
 same_letter B a b p q e =
     let at = letter-digit_of B a _ (digit_of-is B a p) in
     let bt = letter-digit_of B b _ (digit_of-is B b q) in

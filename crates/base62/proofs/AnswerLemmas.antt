@@ -21,7 +21,8 @@ use Rattle.base62.proofs.LengthLemmas.{canonical_of_value}
 use Rattle.base62.proofs.OverflowLemmas.{over_long, over_first, over_letters}
 
 -- a list whose front does not all pass does not all pass
-not_all-take : (p : ℕ → Bool) (xs : List ℕ) (n : ℕ) → list_all p (take n xs) ≡ false → list_all p xs ≡ false
+not_all-take : (p : ℕ → Bool) (xs : List ℕ) (n : ℕ) → list_all p (take n xs) ≡ false
+    → list_all p xs ≡ false
 not_all-take p xs n bad =
     ap (list_all p) (sym (take-append-drop n xs)) ∙ list_all-append p (take n xs) (drop n xs) ∙ and_left (list_all p (take n xs)) (list_all p (drop n xs)) bad
 
@@ -47,7 +48,8 @@ decoding_cases B text P empty long bad first_over over fine =
     fine (omega (arith, eqb-false (length text) 0 f1)) (letters r (not-false _ f5)) (leb-false _ _ f6)))))))
 
 -- a text with a bad byte has a first one
-pub first_invalid_is : (B text : List ℕ) (k : ℕ) → list_all (is_letter B) (drop k text) ≡ false → IsFirstInvalid B text (get_or text (invalid_index B text) 0) (invalid_index B text)
+pub first_invalid_is : (B text : List ℕ) (k : ℕ) → list_all (is_letter B) (drop k text) ≡ false
+    → IsFirstInvalid B text (get_or text (invalid_index B text) 0) (invalid_index B text)
 first_invalid_is B text k bad =
     let index = invalid_index B text in
     let before : (i : ℕ) → i < index → IsLetter B (get_or text i 0) = λ i h. prefix_len_passes (is_letter B) text i 0 h in
@@ -64,7 +66,9 @@ first_invalid_is B text k bad =
     }
 
 -- a fault that equals the one of the first bad byte names that byte and its index
-pub first_invalid_named : (B text : List ℕ) (byte index b i : ℕ) → InvalidBase62Byte byte index ≡ InvalidBase62Byte b i → IsFirstInvalid B text byte index → IsFirstInvalid B text b i
+pub first_invalid_named : (B text : List ℕ) (byte index b i : ℕ)
+    → InvalidBase62Byte byte index ≡ InvalidBase62Byte b i → IsFirstInvalid B text byte index
+    → IsFirstInvalid B text b i
 first_invalid_named B text byte index b i is first =
     let byte_same : byte ≡ b = cc in
     let index_same : index ≡ i = cc in
@@ -92,7 +96,8 @@ module _ (B : List ℕ) (ok : IsAlphabet B) where
       (λ some letters small. fine (record { nonempty = some; letters = letters_from_after_zeros B ok text letters; value_is = refl }) (omega (arith, value-after_zeros B ok text)))
 
   -- what is accepted is a nonempty text of letters that denotes the answer, a number below 2^128
-  pub decoding_accepts : (text : List ℕ) (n : ℕ) → decoding B text ≡ Ok n → Denotes B text n × (n < 2 ^ 128)
+  pub decoding_accepts : (text : List ℕ) (n : ℕ) → decoding B text ≡ Ok n
+      → Denotes B text n × (n < 2 ^ 128)
   decoding_accepts text = answer_cases text (λ r. (n : ℕ) → r ≡ Ok n → Denotes B text n × (n < 2 ^ 128))
       (λ e n is. cc)
       (λ some over n is. cc)
@@ -100,7 +105,8 @@ module _ (B : List ℕ) (ok : IsAlphabet B) where
       (λ denotes small n is. let same : value B text ≡ n = cc in (subst (Denotes B text) same denotes, rw (← same) small))
 
   -- a nonempty text of letters is accepted where its value is below 2^128, and else overflows
-  decoding-letters : (text : List ℕ) → 0 < length text → AreLetters B text → decoding B text ≡ number_or_overflow (value B text)
+  decoding-letters : (text : List ℕ) → 0 < length text → AreLetters B text
+      → decoding B text ≡ number_or_overflow (value B text)
   decoding-letters text some letters =
       let others : AreLetters B (after_zeros B text) = All-drop (IsLetter B) (leading_zeros B text) text letters in
       let itself : AgreesAtLetters B text text = record { size = refl; letters = letters; agrees = λ i h p. refl } in
@@ -111,12 +117,14 @@ module _ (B : List ℕ) (ok : IsAlphabet B) where
       (λ denotes small. rw (lt-ltb (value B text) (2 ^ 128) small))
 
   -- a text that denotes a number below 2^128 decodes to it
-  pub decoding-denotes : (n : ℕ) → n < 2 ^ 128 → (text : List ℕ) → Denotes B text n → decoding B text ≡ Ok n
+  pub decoding-denotes : (n : ℕ) → n < 2 ^ 128 → (text : List ℕ) → Denotes B text n
+      → decoding B text ≡ Ok n
   decoding-denotes n small text d =
       decoding-letters text d.nonempty d.letters ∙ rw (d.value_is, lt-ltb n (2 ^ 128) small)
 
   -- and overflows where that is 2^128 or more
-  pub refuses_large : (text : List ℕ) (result : Result ℕ DecodeError) → result ≡ decoding B text → RefusesLarge B text result
+  pub refuses_large : (text : List ℕ) (result : Result ℕ DecodeError) → result ≡ decoding B text
+      → RefusesLarge B text result
   refuses_large text result is letters large =
       let some : 0 < length text = elim (cases_eq (length text) 0) [
         | inl none ↦ let nothing : value B text ≡ 0 = ap (value B) (nil_from_length text none) ∙ value-nil B in absurd (omega (arith, nothing, large))
@@ -125,7 +133,8 @@ module _ (B : List ℕ) (ok : IsAlphabet B) where
       is ∙ decoding-letters text some letters ∙ rw (le-ltb (value B text) (2 ^ 128) large)
 
   -- one accepted text after another
-  pub decoding-append : (a b : List ℕ) (m n : ℕ) → decoding B a ≡ Ok m → decoding B b ≡ Ok n → decoding B (a ++ b) ≡ number_or_overflow (m * 62 ^ length b + n)
+  pub decoding-append : (a b : List ℕ) (m n : ℕ) → decoding B a ≡ Ok m → decoding B b ≡ Ok n
+      → decoding B (a ++ b) ≡ number_or_overflow (m * 62 ^ length b + n)
   decoding-append a b m n p q =
       let front = (decoding_accepts a m p).0 in
       let back = (decoding_accepts b n q).0 in
@@ -134,7 +143,8 @@ module _ (B : List ℕ) (ok : IsAlphabet B) where
       decoding-letters (a ++ b) (omega (arith, length-append a b, front.nonempty)) letters ∙ ap number_or_overflow sum
 
   -- the one zero letter that stands for a text of zeros alone is canonical
-  zero_canonical : (text : List ℕ) (n : ℕ) → Denotes B text n → length (after_zeros B text) ≡ 0 → IsCanonical B (zero_letter B ∷ []) n
+  zero_canonical : (text : List ℕ) (n : ℕ) → Denotes B text n → length (after_zeros B text) ≡ 0
+      → IsCanonical B (zero_letter B ∷ []) n
   zero_canonical text n denotes none =
       let zero_value : value B text ≡ 0 = value-after_zeros B ok text ∙ ap (value B) (nil_from_length (after_zeros B text) none) ∙ value-nil B in
       let same : value B (zero_letter B ∷ []) ≡ n = value-one B (zero_letter B) ∙ zero_digit B ok ∙ sym zero_value ∙ denotes.value_is in
@@ -142,7 +152,8 @@ module _ (B : List ℕ) (ok : IsAlphabet B) where
       rw same at (canonical_of_value B ok (zero_letter B ∷ []) letters (omega arith, inl refl))
 
   -- what follows the leading zeros, if anything does, is canonical
-  after_zeros_canonical : (text : List ℕ) (n : ℕ) → Denotes B text n → 0 < length (after_zeros B text) → IsCanonical B (after_zeros B text) n
+  after_zeros_canonical : (text : List ℕ) (n : ℕ) → Denotes B text n
+      → 0 < length (after_zeros B text) → IsCanonical B (after_zeros B text) n
   after_zeros_canonical text n denotes some =
       let r : List ℕ = after_zeros B text in
       let letters : AreLetters B r = All-drop (IsLetter B) (leading_zeros B text) text denotes.letters in
@@ -150,13 +161,15 @@ module _ (B : List ℕ) (ok : IsAlphabet B) where
       rw same at (canonical_of_value B ok r letters (some, inr (after_zeros_first B text some)))
 
   -- a text without its needless zeros is canonical
-  pub without_zeros_canonical : (text : List ℕ) (n : ℕ) → Denotes B text n → IsCanonical B (without_zeros B text) n
+  pub without_zeros_canonical : (text : List ℕ) (n : ℕ) → Denotes B text n
+      → IsCanonical B (without_zeros B text) n
   without_zeros_canonical text n denotes = cond_both _ _ _ (λ xs. IsCanonical B xs n)
       (λ t. zero_canonical text n denotes (eqb-true _ _ t))
       (λ f. after_zeros_canonical text n denotes (omega (arith, eqb-false (length (after_zeros B text)) 0 f)))
 
   -- which texts are accepted
-  decoding_accepts_iff : (text : List ℕ) → (IsOk (decoding B text) ↔ ((0 < length text) × AreLetters B text × (value B text < 2 ^ 128)))
+  decoding_accepts_iff : (text : List ℕ)
+      → (IsOk (decoding B text) ↔ ((0 < length text) × AreLetters B text × (value B text < 2 ^ 128)))
   decoding_accepts_iff text = (
     answer_cases text (λ r. IsOk r → (0 < length text) × AreLetters B text × (value B text < 2 ^ 128))
         (λ e is. cc)

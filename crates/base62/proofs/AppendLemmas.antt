@@ -15,13 +15,15 @@ pub length_le_20 : (n : ℕ) → n < 2 ^ 64 → length (decimal n) ≤ 20
 length_le_20 n fits = length-decimal-le 20 n (omega arith) (omega arith) fits
 
 -- a number from 10 on has a digit more than its tenth, which has some
-pub digit_more : (n : ℕ) → 10 ≤ n → n < 2 ^ 64 → (0 < length (decimal (n / 10))) × (length (decimal n) ≡ length (decimal (n / 10)) + 1)
+pub digit_more : (n : ℕ) → 10 ≤ n → n < 2 ^ 64
+    → (0 < length (decimal (n / 10))) × (length (decimal n) ≡ length (decimal (n / 10)) + 1)
 digit_more n more fits =
     (decimal_nonempty (n / 10) (omega arith), ap length (decimal_step n more fits) ∙ length-append (decimal (n / 10)) ((48 + n % 10) ∷ []))
 
 -- the last digit of a number, in front of what follows it
 pub last_digit : (n start : ℕ) (digits : List ℕ) → 10 ≤ n → n < 2 ^ 64 → start < length digits
-    → decimal (n / 10) ++ drop start (set digits start (48 + n % 10)) ≡ decimal n ++ drop (start + 1) digits
+    → decimal (n / 10) ++ drop start (set digits start (48 + n % 10))
+    ≡ decimal n ++ drop (start + 1) digits
 last_digit n start digits more fits within = rw (decimal_step n more fits, append_assoc, drop-set digits start (48 + n % 10) within) refl
 
 -- and the first one

@@ -39,7 +39,8 @@ exchange_case_twice [] = refl
 exchange_case_twice (b ∷ text) = rw (other_case_twice b, exchange_case_twice text)
 
 -- over an alphabet of ASCII bytes another byte has no digit
-none_above : (B : List ℕ) → IsAscii B → (b : ℕ) → 128 ≤ b → (o : Option ℕ) → digit_of B b ≡ o → o ≡ None
+none_above : (B : List ℕ) → IsAscii B → (b : ℕ) → 128 ≤ b → (o : Option ℕ) → digit_of B b ≡ o
+    → o ≡ None
 none_above B ascii b h None e = refl
 none_above B ascii b h (Some d) e =
     let at = letter-digit_of B b d e in
@@ -63,7 +64,8 @@ digit_in_alternative : Exchanges standard alternative
 digit_in_alternative b = sym (digit_in_standard (other_case b) ∙ ap (digit_of standard) (other_case_twice b))
 
 -- how many elements pass a test from the first on, before and after they are changed
-prefix_len-changed : (p q : ℕ → Bool) (f : ℕ → ℕ) → ((x : ℕ) → p x ≡ q (f x)) → (xs : List ℕ) → prefix_len p xs ≡ prefix_len q (map f xs)
+prefix_len-changed : (p q : ℕ → Bool) (f : ℕ → ℕ) → ((x : ℕ) → p x ≡ q (f x)) → (xs : List ℕ)
+    → prefix_len p xs ≡ prefix_len q (map f xs)
 prefix_len-changed p q f same [] = refl
 prefix_len-changed p q f same (x ∷ xs) = rw (same x, prefix_len-changed p q f same xs)
 
@@ -71,7 +73,8 @@ module _ (A B : List ℕ) (same : Exchanges A B) where
   letter_exchanged : (b : ℕ) → is_letter A b ≡ is_letter B (other_case b)
   letter_exchanged b = ap is_some (same b)
 
-  all_exchanged : (text : List ℕ) → list_all (is_letter A) text ≡ list_all (is_letter B) (exchange_case text)
+  all_exchanged : (text : List ℕ)
+      → list_all (is_letter A) text ≡ list_all (is_letter B) (exchange_case text)
   all_exchanged text = ap (λ p. list_all p text) (fun_ext letter_exchanged) ∙ sym (list_all-map (is_letter B) other_case text)
 
   -- a text has the value of the exchanged one
@@ -94,16 +97,19 @@ module _ (A B : List ℕ) (same : Exchanges A B) where
   }
 
 -- so canonical texts are those of the other alphabet, exchanged
-canonical_exchanged : (A B : List ℕ) → Exchanges A B → Exchanges B A → (text : List ℕ) (n : ℕ) → IsCanonical A text n → IsCanonical B (exchange_case text) n
+canonical_exchanged : (A B : List ℕ) → Exchanges A B → Exchanges B A → (text : List ℕ) (n : ℕ)
+    → IsCanonical A text n → IsCanonical B (exchange_case text) n
 canonical_exchanged A B same back text n canonical = record {
   denotes = denotes_exchanged A B same text n canonical.denotes;
   shortest = λ other d. rw length-map (rw length-map at (canonical.shortest (exchange_case other) (denotes_exchanged B A back other n d)));
 }
 
-pub canonical_in_alternative : (text : List ℕ) (n : ℕ) → IsCanonical standard text n → IsCanonical alternative (exchange_case text) n
+pub canonical_in_alternative : (text : List ℕ) (n : ℕ) → IsCanonical standard text n
+    → IsCanonical alternative (exchange_case text) n
 canonical_in_alternative text n canonical = canonical_exchanged standard alternative digit_in_alternative digit_in_standard text n canonical
 
-pub canonical_in_standard : (text : List ℕ) (n : ℕ) → IsCanonical alternative (exchange_case text) n → IsCanonical standard text n
+pub canonical_in_standard : (text : List ℕ) (n : ℕ)
+    → IsCanonical alternative (exchange_case text) n → IsCanonical standard text n
 canonical_in_standard text n canonical =
     rw exchange_case_twice at (canonical_exchanged alternative standard digit_in_standard digit_in_alternative (exchange_case text) n canonical)
 
@@ -115,10 +121,12 @@ zero_exchanged b = elim (cases_lt b 128) [
   | inr more ↦ ap (λ k. k == zero_letter standard) (sym (other_case-past b more))
 ]
 
-zeros_exchanged : (text : List ℕ) → leading_zeros alternative text ≡ leading_zeros standard (exchange_case text)
+zeros_exchanged : (text : List ℕ)
+    → leading_zeros alternative text ≡ leading_zeros standard (exchange_case text)
 zeros_exchanged text = prefix_len-changed (λ b. b == zero_letter alternative) (λ b. b == zero_letter standard) other_case zero_exchanged text
 
-after_zeros_exchanged : (text : List ℕ) → exchange_case (after_zeros alternative text) ≡ after_zeros standard (exchange_case text)
+after_zeros_exchanged : (text : List ℕ)
+    → exchange_case (after_zeros alternative text) ≡ after_zeros standard (exchange_case text)
 after_zeros_exchanged text = sym (drop-map other_case (leading_zeros alternative text) text) ∙ ap (λ z. drop z (exchange_case text)) (zeros_exchanged text)
 
 -- a byte that is no letter has no other case
@@ -130,7 +138,8 @@ stays b bad = elim (cases_lt b 128) [
 ]
 
 -- a byte at an index, after the exchange; past the end stands 0, which stays
-at_exchanged : (text : List ℕ) (i : ℕ) → get_or (exchange_case text) i 0 ≡ other_case (get_or text i 0)
+at_exchanged : (text : List ℕ) (i : ℕ)
+    → get_or (exchange_case text) i 0 ≡ other_case (get_or text i 0)
 unfolding other_case
 at_exchanged text i = get_or-map other_case text i 0
 
@@ -139,7 +148,8 @@ unfolding alternative digit_of
 no_letter_past = refl
 
 -- what stands where the letters end is no letter
-bad_or_past : (text : List ℕ) → is_letter alternative (get_or text (invalid_index alternative text) 0) ≡ false
+bad_or_past : (text : List ℕ)
+    → is_letter alternative (get_or text (invalid_index alternative text) 0) ≡ false
 bad_or_past text =
     let i = invalid_index alternative text in
     elim (cases_lt i (length text)) [
@@ -148,7 +158,8 @@ bad_or_past text =
     ]
 
 -- so the first bad byte is the same
-first_invalid_exchanged : (text : List ℕ) → first_invalid alternative text ≡ first_invalid standard (exchange_case text)
+first_invalid_exchanged : (text : List ℕ)
+    → first_invalid alternative text ≡ first_invalid standard (exchange_case text)
 first_invalid_exchanged text =
     let i = invalid_index alternative text in
     let place : i ≡ invalid_index standard (exchange_case text) =
@@ -157,7 +168,8 @@ first_invalid_exchanged text =
     rw (← place, byte)
 
 -- decoding answers alike, since each of its tests does
-pub decoding_exchanged : (text : List ℕ) → decoding alternative text ≡ decoding standard (exchange_case text)
+pub decoding_exchanged : (text : List ℕ)
+    → decoding alternative text ≡ decoding standard (exchange_case text)
 unfolding decoding
 decoding_exchanged text =
     let r : List ℕ = after_zeros alternative text in

@@ -5,12 +5,16 @@ use Rattle.std.proofs.lemmas.Bool.{leb-true}
 use Rattle.std.proofs.lemmas.List.FromFn.{get_or-map-range_with_len}
 
 -- two functions that give one list over n numbers from a on agree there
-pub same_on_range : {Y : Type 0} (f g : ℕ → Y) (a n : ℕ) → map f (range_with_len a n) ≡ map g (range_with_len a n) → (k : ℕ) → a ≤ k → k < a + n → f k ≡ g k
+pub same_on_range : {Y : Type 0} (f g : ℕ → Y) (a n : ℕ)
+    → map f (range_with_len a n) ≡ map g (range_with_len a n) → (k : ℕ) → a ≤ k → k < a + n
+    → f k ≡ g k
 same_on_range f g a n all k from below =
     let i = k - a in
     sym (get_or-map-range_with_len f a n i k (f k) (omega arith) (omega arith)) ∙ ap (λ xs. get_or xs i (f k)) all
     ∙ get_or-map-range_with_len g a n i k (f k) (omega arith) (omega arith)
 
 -- and one stays at or below the other where the test says so there
-pub at_most_on_range : (f g : ℕ → ℕ) (a n : ℕ) → map (λ k. leb (f k) (g k)) (range_with_len a n) ≡ map (λ _. true) (range_with_len a n) → (k : ℕ) → a ≤ k → k < a + n → f k ≤ g k
+pub at_most_on_range : (f g : ℕ → ℕ) (a n : ℕ)
+    → map (λ k. leb (f k) (g k)) (range_with_len a n) ≡ map (λ _. true) (range_with_len a n)
+    → (k : ℕ) → a ≤ k → k < a + n → f k ≤ g k
 at_most_on_range f g a n all k from below = leb-true (f k) (g k) (same_on_range (λ k. leb (f k) (g k)) (λ _. true) a n all k from below)

@@ -22,7 +22,8 @@ use Rattle.base62.proofs.ZeroLemmas.{zeros_within, value-after_zeros, zeros_lett
 use Rattle.base62.proofs.PartLemmas.{prefix_len-letters, read_below, refuses_cut, reads_cut}
 
 -- the first bad byte of the text stands among the bytes after the leading zeros
-invalid_index-after_zeros : (B text : List ℕ) → IsAlphabet B → invalid_index B text ≡ leading_zeros B text + invalid_index B (after_zeros B text)
+invalid_index-after_zeros : (B text : List ℕ) → IsAlphabet B
+    → invalid_index B text ≡ leading_zeros B text + invalid_index B (after_zeros B text)
 invalid_index-after_zeros B text ok =
     let z = leading_zeros B text in
     let front = prefix_len-letters B (take z text) (zeros_letters B ok text) in
@@ -31,7 +32,9 @@ invalid_index-after_zeros B text ok =
     (eq-eqb (prefix_len (is_letter B) (take z text)) (length (take z text)) front, size) refl
 
 first_invalid-after_zeros : (B text : List ℕ) → IsAlphabet B
-    → first_invalid B text ≡ InvalidBase62Byte (get_or (after_zeros B text) (invalid_index B (after_zeros B text)) 0) (leading_zeros B text + invalid_index B (after_zeros B text))
+    → first_invalid B text
+    ≡ InvalidBase62Byte (get_or (after_zeros B text) (invalid_index B (after_zeros B text)) 0)
+    (leading_zeros B text + invalid_index B (after_zeros B text))
 first_invalid-after_zeros B text ok =
     let z = leading_zeros B text in
     let i = invalid_index B (after_zeros B text) in
@@ -40,7 +43,8 @@ first_invalid-after_zeros B text ok =
     rw (place, byte) refl
 
 -- a text that is read up to a bad byte is not letters alone
-not_all : (B part : List ℕ) (start old new : ℕ) (fault : DecodeError) (b : Bool) → HasRefused B part start old new fault → list_all (is_letter B) part ≡ b → b ≡ false
+not_all : (B part : List ℕ) (start old new : ℕ) (fault : DecodeError) (b : Bool)
+    → HasRefused B part start old new fault → list_all (is_letter B) part ≡ b → b ≡ false
 not_all B part start old new fault false refused e = refl
 not_all B part start old new fault true refused e =
     let all = prefix_len-letters B part (AllPass-from_list_all (is_letter B) part e) in absurd (omega (arith, refused.within, all))
@@ -48,11 +52,13 @@ not_all B part start old new fault true refused e =
 not_empty : (text : List ℕ) → 0 < length text → eqb (length text) 0 ≡ false
 not_empty text h = ne_eqb (length text) 0 (λ e. omega arith)
 
-pub decodes_empty : (B text : List ℕ) (old : ℕ) → length text ≡ 0 → DecodesCounted B text old old (Err EmptyInput)
+pub decodes_empty : (B text : List ℕ) (old : ℕ) → length text ≡ 0
+    → DecodesCounted B text old old (Err EmptyInput)
 unfolding decoding decoding_steps
 decodes_empty B text old h = record { answer = rw h refl; steps = rw h (omega arith); most = omega arith }
 
-pub decodes_long : (B text : List ℕ) (old : ℕ) → 0 < length text → 22 < length (after_zeros B text) → DecodesCounted B text old old (Err ArithmeticOverflow)
+pub decodes_long : (B text : List ℕ) (old : ℕ) → 0 < length text → 22 < length (after_zeros B text)
+    → DecodesCounted B text old old (Err ArithmeticOverflow)
 unfolding decoding decoding_steps
 decodes_long B text old some long =
     let above = lt-ltb 22 (length (after_zeros B text)) long in
@@ -68,8 +74,10 @@ module _ (B text : List ℕ) (ok : IsAlphabet B) (some : 0 < length text) (short
   not_above = le-ltb 22 (length (after_zeros B text)) short
 
   -- a bad byte, where letters alone among the first ten show no overflow
-  refused_answer : (fault : DecodeError) (first : Bool) → HasRefused B (after_zeros B text) (leading_zeros B text) old new fault
-      → list_all (is_letter B) (first_ten B text) ≡ first → (first ≡ true → shows_overflow B text ≡ false) → DecodesCounted B text old new (Err fault)
+  refused_answer : (fault : DecodeError) (first : Bool)
+      → HasRefused B (after_zeros B text) (leading_zeros B text) old new fault
+      → list_all (is_letter B) (first_ten B text) ≡ first
+      → (first ≡ true → shows_overflow B text ≡ false) → DecodesCounted B text old new (Err fault)
   unfolding decoding decoding_steps
   refused_answer fault true refused test fits =
       let all = not_all B (after_zeros B text) (leading_zeros B text) old new fault _ refused refl in
@@ -88,15 +96,19 @@ module _ (B text : List ℕ) (ok : IsAlphabet B) (some : 0 < length text) (short
       }
 
   -- a bad byte among the first ten
-  first_refused_answer : (fault : DecodeError) → HasRefused B (first_ten B text) (leading_zeros B text) old new fault → DecodesCounted B text old new (Err fault)
+  first_refused_answer : (fault : DecodeError)
+      → HasRefused B (first_ten B text) (leading_zeros B text) old new fault
+      → DecodesCounted B text old new (Err fault)
   first_refused_answer fault refused =
       let z = leading_zeros B text in
       refused_answer fault _ (refuses_cut B (after_zeros B text) (first_ten B text) 10 z old refl new fault refused) refl
       (λ e. absurd (false≢true (sym (not_all B (first_ten B text) z old new fault _ refused refl) ∙ e)))
 
   -- letters alone, of which the first ten show no overflow
-  read_answer : (number : ℕ) → shows_overflow B text ≡ false → HasRead B (after_zeros B text) old new number → (over : Bool)
-      → leb (2 ^ 128) (value B (after_zeros B text)) ≡ over → DecodesCounted B text old new (if over then Err ArithmeticOverflow else Ok number)
+  read_answer : (number : ℕ) → shows_overflow B text ≡ false
+      → HasRead B (after_zeros B text) old new number → (over : Bool)
+      → leb (2 ^ 128) (value B (after_zeros B text)) ≡ over
+      → DecodesCounted B text old new (if over then Err ArithmeticOverflow else Ok number)
   unfolding decoding decoding_steps
   read_answer number fits read over test =
       let all = list_all-from_AllPass (is_letter B) (after_zeros B text) read.letters in
@@ -108,7 +120,9 @@ module _ (B text : List ℕ) (ok : IsAlphabet B) (some : 0 < length text) (short
       }
 
   -- what was read of the bytes after the leading zeros, of which the first ten show no overflow
-  after_zeros_answer : (r : Result ℕ DecodeError) → shows_overflow B text ≡ false → ReadsPart B (after_zeros B text) (leading_zeros B text) old new r → DecodesCounted B text old new (or_overflow r)
+  after_zeros_answer : (r : Result ℕ DecodeError) → shows_overflow B text ≡ false
+      → ReadsPart B (after_zeros B text) (leading_zeros B text) old new r
+      → DecodesCounted B text old new (or_overflow r)
   after_zeros_answer (Err fault) fits refused = refused_answer fault _ refused refl (λ _. fits)
   after_zeros_answer (Ok number) fits read = elim (cases_lt number (2 ^ 128)) [
     | inl less ↦ rw (lt-ltb number (2 ^ 128) less) (read_answer number fits read false (lt-leb _ _ (rw read.value_is at less)))
@@ -120,7 +134,9 @@ module _ (B text : List ℕ) (ok : IsAlphabet B) (some : 0 < length text) (short
   none_shown less = rw (ne_eqb (length (after_zeros B text)) 22 (λ e. omega arith)) refl
 
   -- at most 21 bytes after the leading zeros never overflow
-  pub decodes_few : (r : Result ℕ DecodeError) → length (after_zeros B text) ≤ 21 → ReadsPart B (after_zeros B text) (leading_zeros B text) old new r → DecodesCounted B text old new r
+  pub decodes_few : (r : Result ℕ DecodeError) → length (after_zeros B text) ≤ 21
+      → ReadsPart B (after_zeros B text) (leading_zeros B text) old new r
+      → DecodesCounted B text old new r
   decodes_few (Err fault) less refused = after_zeros_answer (Err fault) (none_shown (omega arith)) refused
   decodes_few (Ok number) less read =
       let below = read_below B (after_zeros B text) old new number 21 ok read less in
@@ -136,7 +152,8 @@ pub record IsCut (B text first later : List ℕ) (zeros : ℕ) : Type 0 where
   pub short : length (after_zeros B text) ≤ 22
   pub some : 0 < length text
 
-pub cut_at : {B text after first later : List ℕ} {zeros : ℕ} → zeros ≡ leading_zeros B text → after ≡ drop zeros text → first ≡ take 10 after → later ≡ drop 10 after
+pub cut_at : {B text after first later : List ℕ} {zeros : ℕ} → zeros ≡ leading_zeros B text
+    → after ≡ drop zeros text → first ≡ take 10 after → later ≡ drop 10 after
     → 10 < length after → length after ≤ 22 → IsCut B text first later zeros
 cut_at {B = B} {text = text} {after = after} {zeros = zeros} zeros_are behind front back long short =
     let after_is : after ≡ after_zeros B text = rw zeros_are at behind in
@@ -152,7 +169,8 @@ cut_at {B = B} {text = text} {after = after} {zeros = zeros} zeros_are behind fr
 
 module _ {B text first later : List ℕ} {zeros old : ℕ} (ok : IsAlphabet B) (cut : IsCut B text first later zeros) where
   -- a bad byte is among the first ten
-  pub decodes_first_refused : {mid : ℕ} {fault : DecodeError} → HasRefused B first zeros old mid fault → DecodesCounted B text old mid (Err fault)
+  pub decodes_first_refused : {mid : ℕ} {fault : DecodeError}
+      → HasRefused B first zeros old mid fault → DecodesCounted B text old mid (Err fault)
   decodes_first_refused {mid = mid} {fault = fault} refused = first_refused_answer B text ok cut.some cut.short old mid fault (rw (cut.first_is, cut.zeros_are) at refused)
 
   -- they are read
@@ -191,7 +209,8 @@ module _ {B text first later : List ℕ} {zeros old : ℕ} (ok : IsAlphabet B) (
       | inr other ↦ rw (ne_eqb (length (after_zeros B text)) 22 other) refl
     ]
 
-    pub decodes_shown : 2 ^ 128 ≤ number * 62 ^ length later → DecodesCounted B text old mid (Err ArithmeticOverflow)
+    pub decodes_shown : 2 ^ 128 ≤ number * 62 ^ length later
+        → DecodesCounted B text old mid (Err ArithmeticOverflow)
     unfolding decoding decoding_steps
     decodes_shown big =
         let letters = list_all-from_AllPass (is_letter B) (first_ten B text) (rw cut.first_is at read.letters) in
@@ -203,15 +222,18 @@ module _ {B text first later : List ℕ} {zeros old : ℕ} (ok : IsAlphabet B) (
 
     -- and so are the others
     module _ (new : ℕ) (r : Result ℕ DecodeError) (others : ReadsPart B later (zeros + 10) mid new r) where
-      whole : ReadsPart B (after_zeros B text) (leading_zeros B text) old new (after_number number (length later) r)
+      whole : ReadsPart B (after_zeros B text) (leading_zeros B text) old new
+          (after_number number (length later) r)
       whole =
           rw cut.zeros_are at
           (reads_cut B (after_zeros B text) first 10 zeros old cut.first_is later mid new number (length later) r cut.later_is cut.size read others)
 
-      pub decodes_short : length later ≤ 11 → DecodesCounted B text old new (after_number number (length later) r)
+      pub decodes_short : length later ≤ 11
+          → DecodesCounted B text old new (after_number number (length later) r)
       decodes_short few = decodes_few B text ok cut.some cut.short old new (after_number number (length later) r) (omega (arith, cut.size)) whole
 
-      pub decodes_later : number * 62 ^ length later < 2 ^ 128 → DecodesCounted B text old new (or_overflow (after_number number (length later) r))
+      pub decodes_later : number * 62 ^ length later < 2 ^ 128
+          → DecodesCounted B text old new (or_overflow (after_number number (length later) r))
       decodes_later small = after_zeros_answer B text ok cut.some cut.short old new (after_number number (length later) r) (weighed_fits small) whole
 
 -- ---- checked arithmetic
@@ -225,6 +247,7 @@ pub too_large : (n : ℕ) → (n < 2 ^ 128 → ⊥) → 2 ^ 128 ≤ n
 too_large n h = elim (cases_lt n (2 ^ 128)) [ inl less ↦ absurd (h less) | inr more ↦ more ]
 
 -- the sum where it fits, and else the overflow
-pub sum_or_overflow : (o : Option ℕ) (sum : ℕ) → SomeIff o (sum < 2 ^ 128) sum → ok_or o ArithmeticOverflow ≡ number_or_overflow sum
+pub sum_or_overflow : (o : Option ℕ) (sum : ℕ) → SomeIff o (sum < 2 ^ 128) sum
+    → ok_or o ArithmeticOverflow ≡ number_or_overflow sum
 sum_or_overflow None sum h = rw (le-ltb sum (2 ^ 128) (too_large sum h)) refl
 sum_or_overflow (Some n) sum h = rw (lt-ltb sum (2 ^ 128) h.0) (ap Ok h.1)

@@ -14,7 +14,9 @@ use Rattle.base62.proofs.StepsLemmas.{most_steps}
 -- a number of so many letters
 module _ (B : List ℕ) (ok : IsAlphabet B) (n count : ℕ) (small : n < 2 ^ 128) (has : DigitCount n count) (few : count ≤ 22) where
   -- where they fit, they are written
-  pub encodes : (old new : List ℕ) (before after : ℕ) → count ≤ length old → WritesFixed B count n old new → after ≡ before + encoding_steps count → EncodesCounted B n old new before after (Ok count)
+  pub encodes : (old new : List ℕ) (before after : ℕ) → count ≤ length old
+      → WritesFixed B count n old new → after ≡ before + encoding_steps count
+      → EncodesCounted B n old new before after (Ok count)
   encodes old new before after room writes steps =
       let text : take count new ≡ fixed B count n = written_front B count n old new writes in
       let canonical : IsCanonical B (fixed B count n) n = digit_count_canonical B ok n count has in
@@ -33,7 +35,8 @@ module _ (B : List ℕ) (ok : IsAlphabet B) (n count : ℕ) (small : n < 2 ^ 128
       }
 
   -- where they do not, nothing is
-  pub encodes_none : (old : List ℕ) (before : ℕ) → length old < count → EncodesCounted B n old old before before (Err BufferTooSmall)
+  pub encodes_none : (old : List ℕ) (before : ℕ) → length old < count
+      → EncodesCounted B n old old before before (Err BufferTooSmall)
   encodes_none old before short = record {
     answer = record {
       fits = (λ e. absurd (false≢true e), λ fits. absurd (omega (arith, digit_count_exact B ok n count has fits.0 fits.1, fits.2)));

@@ -38,7 +38,8 @@ fixed-cut B v (suc w) n =
     rw (add-suc, ← weight, ← append_assoc) (ap (λ text. text ++ last) (fixed-cut B v w (n / 62)))
 
 -- a text of v + w letters is one of v and one of w
-pub fixed-join : (B : List ℕ) (v w n : ℕ) → fixed B (v + w) n ≡ fixed B v (n / 62 ^ w) ++ fixed B w (n % 62 ^ w)
+pub fixed-join : (B : List ℕ) (v w n : ℕ)
+    → fixed B (v + w) n ≡ fixed B v (n / 62 ^ w) ++ fixed B w (n % 62 ^ w)
 fixed-join B v w n = fixed-cut B v w n ∙ ap (λ text. fixed B v (n / 62 ^ w) ++ text) (sym (fixed-remainder B w n))
 
 module _ (B : List ℕ) (ok : IsAlphabet B) where
@@ -63,7 +64,8 @@ module _ (B : List ℕ) (ok : IsAlphabet B) where
       record { nonempty = omega (arith, length-fixed B w n); letters = letters-fixed w n; value_is = value-fixed w n fits }
 
   -- n in the least number of letters from 1 on that holds it
-  canonical-fixed : (w n : ℕ) → 0 < w → n < 62 ^ w → NeedsLetters w n → IsCanonical B (fixed B w n) n
+  canonical-fixed : (w n : ℕ) → 0 < w → n < 62 ^ w → NeedsLetters w n
+      → IsCanonical B (fixed B w n) n
   canonical-fixed w n some fits least =
       let size = length-fixed B w n in canonical_is B ok (fixed B w n) n (denotes-fixed w n some fits) (rw size least)
 

@@ -14,7 +14,8 @@ use Rattle.base62.proofs.CanonicalLemmas.{NeedsLetters, canonical_is}
 
 module _ (B : List ℕ) (ok : IsAlphabet B) where
   -- a canonical text of two or more letters does not begin with the zero letter, since the others would do
-  first_differs : (b : ℕ) (text : List ℕ) (n : ℕ) → IsCanonical B (b ∷ text) n → 0 < length text → b ≢ zero_letter B
+  first_differs : (b : ℕ) (text : List ℕ) (n : ℕ) → IsCanonical B (b ∷ text) n → 0 < length text
+      → b ≢ zero_letter B
   first_differs b text n canonical more e =
       let same : value B (b ∷ text) ≡ value B text = rw e (value_front B ok text) in
       let least = canonical.shortest text (record { nonempty = more; letters = All-tail (IsLetter B) b text canonical.denotes.letters; value_is = sym same ∙ canonical.denotes.value_is }) in
@@ -34,7 +35,8 @@ module _ (B : List ℕ) (ok : IsAlphabet B) where
   ]
 
   -- such a letter in front alone weighs more than all that can come after it
-  pub first_weighs : (text : List ℕ) → 0 < length text → IsLetter B (get_or text 0 0) → get_or text 0 0 ≢ zero_letter B → 62 ^ (length text - 1) ≤ value B text
+  pub first_weighs : (text : List ℕ) → 0 < length text → IsLetter B (get_or text 0 0)
+      → get_or text 0 0 ≢ zero_letter B → 62 ^ (length text - 1) ≤ value B text
   first_weighs [] some letter other = absurd (omega arith)
   first_weighs (b ∷ text) some letter other =
       let back : suc (length text) - 1 ≡ length text = omega arith in
@@ -42,13 +44,15 @@ module _ (B : List ℕ) (ok : IsAlphabet B) where
       rw (back, value-cons B b text) (omega arith)
 
   -- one letter less could not hold the value of a text that has no needless zero letter
-  pub needs_each : (text : List ℕ) → AreLetters B text → HasNoNeedlessZero B text → NeedsLetters (length text) (value B text)
+  pub needs_each : (text : List ℕ) → AreLetters B text → HasNoNeedlessZero B text
+      → NeedsLetters (length text) (value B text)
   needs_each text letters has = elim has.1 [
     | inl one ↦ inl one
     | inr differs ↦ inr (first_weighs text has.0 (letters 0 0 has.0) differs)
   ]
 
   -- a text of letters with no needless zero is canonical for its value
-  pub canonical_of_value : (text : List ℕ) → AreLetters B text → HasNoNeedlessZero B text → IsCanonical B text (value B text)
+  pub canonical_of_value : (text : List ℕ) → AreLetters B text → HasNoNeedlessZero B text
+      → IsCanonical B text (value B text)
   canonical_of_value text letters has =
       canonical_is B ok text (value B text) (record { nonempty = has.0; letters = letters; value_is = refl }) (needs_each text letters has)

@@ -13,11 +13,13 @@ use Rattle.base62.proofs.CanonicalLemmas.{canonical_is, canonical_fits}
 use Rattle.base62.proofs.OnLiterals.{base62_on_literals}
 
 -- a text of letters denotes its value
-pub denotes_by : (B text : List ℕ) (n : ℕ) → 0 < length text → list_all (is_letter B) text ≡ true → value B text ≡ n → Denotes B text n
+pub denotes_by : (B text : List ℕ) (n : ℕ) → 0 < length text → list_all (is_letter B) text ≡ true
+    → value B text ≡ n → Denotes B text n
 denotes_by B text n some letters is = record { nonempty = some; letters = AllPass-from_list_all (is_letter B) text letters; value_is = is }
 
 -- and is canonical where one letter fewer would not do
-pub canonical_by : (B : List ℕ) → IsAlphabet B → (text : List ℕ) (n : ℕ) → Denotes B text n → 62 ^ (length text - 1) ≤ n → IsCanonical B text n
+pub canonical_by : (B : List ℕ) → IsAlphabet B → (text : List ℕ) (n : ℕ) → Denotes B text n
+    → 62 ^ (length text - 1) ≤ n → IsCanonical B text n
 canonical_by B ok text n denotes least = canonical_is B ok text n denotes (inr least)
 
 -- ---- over the standard alphabet
@@ -39,7 +41,8 @@ canonical_above = canonical_by standard standard_is_alphabet (codes "7n42DGM5Tfl
 
 -- ---- texts of so many letters
 
-pub fixed_by : (B : List ℕ) (w : ℕ) (text : List ℕ) (n : ℕ) → length text ≡ w → 0 < w → list_all (is_letter B) text ≡ true → value B text ≡ n → IsFixed B w text n
+pub fixed_by : (B : List ℕ) (w : ℕ) (text : List ℕ) (n : ℕ) → length text ≡ w → 0 < w
+    → list_all (is_letter B) text ≡ true → value B text ≡ n → IsFixed B w text n
 fixed_by B w text n size some letters is = record { size = size; denotes = denotes_by B text n (rw size some) letters is }
 
 -- ---- what is encoded of 1337

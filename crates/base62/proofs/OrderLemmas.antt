@@ -34,11 +34,13 @@ unfolding standard
 standard_ascends = ascends_by standard refl
 
 -- what a comparison of two numbers answers
-compared : (m n : ℕ) (answer : Ordering) → MatchOrdering answer (m < n) (m ≡ n) (n < m) → nat_cmp m n ≡ answer
+compared : (m n : ℕ) (answer : Ordering) → MatchOrdering answer (m < n) (m ≡ n) (n < m)
+    → nat_cmp m n ≡ answer
 compared m n answer h = sym (nat_cmp_is m n answer h)
 
 -- two numbers compare as two others that stand as they do
-compared_alike : (x y m n : ℕ) → (x < y → m < n) → (x ≡ y → m ≡ n) → (y < x → n < m) → nat_cmp m n ≡ nat_cmp x y
+compared_alike : (x y m n : ℕ) → (x < y → m < n) → (x ≡ y → m ≡ n) → (y < x → n < m)
+    → nat_cmp m n ≡ nat_cmp x y
 compared_alike x y m n less equal greater = elim (cases_order x y) [
   | inl e ↦ compared m n Equal (equal e) ∙ sym (compared x y Equal e)
   | inr (inl h) ↦ compared m n Less (less h) ∙ sym (compared x y Less h)
@@ -50,7 +52,8 @@ place-lt : (x u y v w : ℕ) → x < y → u < w → x * w + u < y * w + v
 place-lt x u y v w more below = let weighs : (x + 1) * w ≤ y * w = mul-le-mul_right w (omega arith) in omega arith
 
 -- first places decide, and where they are one, what comes after them
-pub place_compares : (x u y v w : ℕ) → u < w → v < w → nat_cmp (x * w + u) (y * w + v) ≡ ordering_then (nat_cmp x y) (nat_cmp u v)
+pub place_compares : (x u y v w : ℕ) → u < w → v < w
+    → nat_cmp (x * w + u) (y * w + v) ≡ ordering_then (nat_cmp x y) (nat_cmp u v)
 place_compares x u y v w p q = elim (cases_order x y) [
   | inl e ↦ rw (compared x y Equal e, e) (compared_alike u v (y * w + u) (y * w + v) (λ h. omega arith) (λ h. omega arith) (λ h. omega arith))
   | inr (inl h) ↦ rw (compared x y Less h) (compared _ _ Less (place-lt x u y v w h p))
@@ -71,7 +74,9 @@ at_most_iff m n = (
 module _ (B : List ℕ) (ok : IsAlphabet B) where
   -- the letters of an alphabet are distinct, so they ascend where they do not fall
   ascends_where_sorted : (r : Bool)
-      → MatchBool r (IsNonDecreasing B) ((k : ℕ) × (k + 1 < length B) × ((d : ℕ) → get_or B (k + 1) d < get_or B k d)) → (r ≡ true) ↔ Ascends B
+      → MatchBool r (IsNonDecreasing B)
+      ((k : ℕ) × (k + 1 < length B) × ((d : ℕ) → get_or B (k + 1) d < get_or B k d))
+      → (r ≡ true) ↔ Ascends B
   ascends_where_sorted true steps =
       let above : Ascends B = λ d h. elim (cases_order (get_or B d 0) (get_or B (d + 1) 0)) [
         | inl e ↦ let same : d ≡ d + 1 = ok.distinct d (d + 1) (omega arith) (omega arith) e in omega (arith, same)
@@ -83,11 +88,14 @@ module _ (B : List ℕ) (ok : IsAlphabet B) where
       (λ e. cc, λ ascends. absurd (let above = ascends falls.0 (omega (arith, falls.1, ok.size)) in omega (arith, above, falls.2 0)))
 
   -- that is what a test whether they are sorted answers
-  pub is_sorted_ascends : (r : Bool) → IsAllAdjacentAnswer (λ x y b. is_some_and is_le (Some (nat_cmp x y)) ≡ b) B r → (r ≡ true) ↔ Ascends B
+  pub is_sorted_ascends : (r : Bool)
+      → IsAllAdjacentAnswer (λ x y b. is_some_and is_le (Some (nat_cmp x y)) ≡ b) B r
+      → (r ≡ true) ↔ Ascends B
   is_sorted_ascends r cases = ascends_where_sorted r (non_decreasing_from_is_sorted B r cases)
 
   -- the shorter of two canonical texts has the smaller number
-  shorter-lt : (a b : List ℕ) (m n : ℕ) → IsCanonical B a m → IsCanonical B b n → length a < length b → m < n
+  shorter-lt : (a b : List ℕ) (m n : ℕ) → IsCanonical B a m → IsCanonical B b n
+      → length a < length b → m < n
   shorter-lt a b m n p q less = elim (needs_each B ok b q.denotes.letters (no_needless_zero B ok b n q)) [
     | inl one ↦ absurd (omega (arith, p.denotes.nonempty))
     | inr weighs ↦ let below = value-lt_most B ok a (length b - 1) (omega arith) in omega (arith, p.denotes.value_is, q.denotes.value_is)
@@ -100,7 +108,8 @@ module _ (B : List ℕ) (ok : IsAlphabet B) where
         below_from_sorted B i j 0 (sorted_from_strictly_increasing B (λ d h. up d (omega (arith, ok.size)))) more (omega (arith, ok.size))
 
     -- a letter of a greater digit is a greater byte
-    greater_letter : (x y : ℕ) → is_letter B x ≡ true → is_letter B y ≡ true → digit_or_zero B x < digit_or_zero B y → x < y
+    greater_letter : (x y : ℕ) → is_letter B x ≡ true → is_letter B y ≡ true
+        → digit_or_zero B x < digit_or_zero B y → x < y
     greater_letter x y p q more =
         let at = letter-digit_of B x _ (digit_of-is B x p) in
         let bt = letter-digit_of B y _ (digit_of-is B y q) in
@@ -108,12 +117,14 @@ module _ (B : List ℕ) (ok : IsAlphabet B) where
         omega (arith, at.1, bt.1)
 
     -- letters compare as their digits
-    letters_compare : (x y : ℕ) → is_letter B x ≡ true → is_letter B y ≡ true → nat_cmp x y ≡ nat_cmp (digit_or_zero B x) (digit_or_zero B y)
+    letters_compare : (x y : ℕ) → is_letter B x ≡ true → is_letter B y ≡ true
+        → nat_cmp x y ≡ nat_cmp (digit_or_zero B x) (digit_or_zero B y)
     letters_compare x y p q =
         compared_alike (digit_or_zero B x) (digit_or_zero B y) x y (greater_letter x y p q) (same_letter B x y p q) (greater_letter y x q p)
 
     -- texts of one length compare in lexicographic order as their values
-    pub texts_compare : (a b : List ℕ) → AreLetters B a → AreLetters B b → length a ≡ length b → lexicographic_order a b ≡ nat_cmp (value B a) (value B b)
+    pub texts_compare : (a b : List ℕ) → AreLetters B a → AreLetters B b → length a ≡ length b
+        → lexicographic_order a b ≡ nat_cmp (value B a) (value B b)
     texts_compare [] [] p q len = sym (compared (value B []) (value B []) Equal refl)
     texts_compare [] (y ∷ ys) p q len = absurd (omega arith)
     texts_compare (x ∷ xs) [] p q len = absurd (omega arith)
@@ -125,12 +136,14 @@ module _ (B : List ℕ) (ok : IsAlphabet B) where
         rw (value-cons B x xs, value-cons B y ys, ← tails, places, first, later)
 
     -- texts of w letters compare in lexicographic order as their numbers
-    pub fixed_compare : (w : ℕ) (a b : List ℕ) (m n : ℕ) → IsFixed B w a m → IsFixed B w b n → lexicographic_order a b ≡ nat_cmp m n
+    pub fixed_compare : (w : ℕ) (a b : List ℕ) (m n : ℕ) → IsFixed B w a m → IsFixed B w b n
+        → lexicographic_order a b ≡ nat_cmp m n
     fixed_compare w a b m n p q =
         rw (p.denotes.value_is, q.denotes.value_is) at (texts_compare a b p.denotes.letters q.denotes.letters (p.size ∙ sym q.size))
 
     -- canonical texts compare in shortlex order as their numbers
-    pub canonical_compare : (a b : List ℕ) (m n : ℕ) → IsCanonical B a m → IsCanonical B b n → shortlex_order a b ≡ nat_cmp m n
+    pub canonical_compare : (a b : List ℕ) (m n : ℕ) → IsCanonical B a m → IsCanonical B b n
+        → shortlex_order a b ≡ nat_cmp m n
     canonical_compare a b m n p q = elim (cases_order (length a) (length b)) [
       | inl e ↦ rw (compared (length a) (length b) Equal e) (rw (p.denotes.value_is, q.denotes.value_is) at (texts_compare a b p.denotes.letters q.denotes.letters e))
       | inr (inl h) ↦ rw (compared (length a) (length b) Less h) (sym (compared m n Less (shorter-lt a b m n p q h)))
@@ -138,7 +151,8 @@ module _ (B : List ℕ) (ok : IsAlphabet B) where
     ]
 
     -- one is before another, or is the same, exactly where its number is at most the other's
-    pub not_after_iff : (w : ℕ) (a b : List ℕ) (m n : ℕ) → IsFixed B w a m → IsFixed B w b n → (IsNotAfter a b ↔ (m ≤ n))
+    pub not_after_iff : (w : ℕ) (a b : List ℕ) (m n : ℕ) → IsFixed B w a m → IsFixed B w b n
+        → (IsNotAfter a b ↔ (m ≤ n))
     not_after_iff w a b m n p q = rw (fixed_compare w a b m n p q) (at_most_iff m n)
 
 pub ruleset texts_in_order = (standard_ascends, texts_compare, fixed_compare, canonical_compare)

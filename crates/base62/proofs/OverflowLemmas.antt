@@ -48,7 +48,8 @@ module _ (B : List ℕ) (ok : IsAlphabet B) (text other : List ℕ) (a : AgreesA
   other_after_zeros = agrees-drop B text other a (leading_zeros B text)
 
   -- more than 22 bytes after the leading zeros, of which the first is a letter
-  pub over_long : 22 < length (after_zeros B text) → IsLetter B (get_or (after_zeros B text) 0 0) → 2 ^ 128 ≤ value B other
+  pub over_long : 22 < length (after_zeros B text) → IsLetter B (get_or (after_zeros B text) 0 0)
+      → 2 ^ 128 ≤ value B other
   over_long long letter =
       let o : List ℕ = drop (leading_zeros B text) other in
       let size : length o ≡ length (after_zeros B text) = other_after_zeros.size in
@@ -58,7 +59,8 @@ module _ (B : List ℕ) (ok : IsAlphabet B) (text other : List ℕ) (a : AgreesA
       omega (arith, value-drop-le B other (leading_zeros B text))
 
   -- 22 bytes after the leading zeros, of which the first ten are letters and show it
-  pub over_first : length (after_zeros B text) ≡ 22 → AreLetters B (first_ten B text) → 2 ^ 128 ≤ value B (first_ten B text) * 62 ^ 12 → 2 ^ 128 ≤ value B other
+  pub over_first : length (after_zeros B text) ≡ 22 → AreLetters B (first_ten B text)
+      → 2 ^ 128 ≤ value B (first_ten B text) * 62 ^ 12 → 2 ^ 128 ≤ value B other
   over_first full letters big =
       let o : List ℕ = drop (leading_zeros B text) other in
       let same = agrees_same B (first_ten B text) (take 10 o) (agrees-take B (after_zeros B text) o other_after_zeros 10) letters in
@@ -67,7 +69,8 @@ module _ (B : List ℕ) (ok : IsAlphabet B) (text other : List ℕ) (a : AgreesA
       omega (arith, value-cut B o 10, value-drop-le B other (leading_zeros B text))
 
   -- letters alone after the leading zeros
-  pub over_letters : AreLetters B (after_zeros B text) → 2 ^ 128 ≤ value B (after_zeros B text) → 2 ^ 128 ≤ value B other
+  pub over_letters : AreLetters B (after_zeros B text) → 2 ^ 128 ≤ value B (after_zeros B text)
+      → 2 ^ 128 ≤ value B other
   over_letters letters big =
       let o : List ℕ = drop (leading_zeros B text) other in
       let same = ap (value B) (agrees_same B (after_zeros B text) o other_after_zeros letters) in

@@ -37,7 +37,8 @@ module _ (fill : ℕ) (text : List ℕ) where
   aligned-none Center = append-nil text
 
   -- a width asks for as many fills as the text is short of characters
-  padded_to-some : (width : ℕ) (a : Alignment) → padded_to (Some width) fill a text ≡ aligned a fill (width - char_count text) text
+  padded_to-some : (width : ℕ) (a : Alignment)
+      → padded_to (Some width) fill a text ≡ aligned a fill (width - char_count text) text
   padded_to-some width a = elim (cases_lt (char_count text) width) [
     | inl less ↦ rw (lt-leb width (char_count text) less) refl
     | inr more ↦
@@ -46,7 +47,9 @@ module _ (fill : ℕ) (text : List ℕ) where
   ]
 
   -- a width of 0 is none
-  padded_to-aligned : (width : ℕ) (a : Alignment) → padded_to (cond (eqb width 0) None (Some width)) fill a text ≡ aligned a fill (width - char_count text) text
+  padded_to-aligned : (width : ℕ) (a : Alignment)
+      → padded_to (cond (eqb width 0) None (Some width)) fill a text
+      ≡ aligned a fill (width - char_count text) text
   padded_to-aligned width a = elim (cases_eq width 0) [
     | inl none ↦
         let short : width - char_count text ≡ 0 = omega arith in rw (short, none) (sym (aligned-none a))
@@ -58,7 +61,9 @@ module _ (fill : ℕ) (text : List ℕ) where
   around front padding = fills fill front ++ (text ++ fills fill (padding - front))
 
   -- with what an alignment asks for in front, that is the aligned text
-  aligned-around : (number padding : ℕ) → IfSome (alignment_of number) (λ a. around (in_front number padding) padding ≡ aligned a fill padding text)
+  aligned-around : (number padding : ℕ)
+      → IfSome (alignment_of number)
+      (λ a. around (in_front number padding) padding ≡ aligned a fill padding text)
   unfolding around
   aligned-around zero p = let all : p - 0 ≡ p = omega arith in rw all refl
   aligned-around (suc zero) p = let all : p - 0 ≡ p = omega arith in rw all refl
@@ -70,7 +75,9 @@ module _ (fill : ℕ) (text : List ℕ) where
       rw (ne_eqb n 0 (λ e. omega arith), ne_eqb n 1 (λ e. omega arith), ne_eqb n 2 (λ e. omega arith), ne_eqb n 3 (λ e. omega arith)) tt
 
 -- a text that equals g of the stated alignment equals f of it, where f and g are one
-mapped : (o : Option Alignment) (f g : Alignment → List ℕ) (text : List ℕ) → ((a : Alignment) → f a ≡ g a) → IfSome o (λ a. text ≡ g a) → IfSome (option_map f o) (λ bs. text ≡ bs)
+mapped : (o : Option Alignment) (f g : Alignment → List ℕ) (text : List ℕ)
+    → ((a : Alignment) → f a ≡ g a) → IfSome o (λ a. text ≡ g a)
+    → IfSome (option_map f o) (λ bs. text ≡ bs)
 mapped None f g text same h = tt
 mapped (Some a) f g text same h = h ∙ sym (same a)
 
@@ -100,13 +107,16 @@ displayed_by f text =
     let spec = formatter_spec f in displayed (spec_precision spec) (spec_width spec) (spec_fill spec) spec.align text
 
 -- the text that `pad` writes under a formatter's options, as a display is said to write it
-displayed-padded : {W : Type 0} (f : Formatter W) (text : List ℕ) → length text ≤ 22 → IfSome (displayed_by f text) (λ bs. padded (formatter_spec f) text ≡ bs)
+displayed-padded : {W : Type 0} (f : Formatter W) (text : List ℕ) → length text ≤ 22
+    → IfSome (displayed_by f text) (λ bs. padded (formatter_spec f) text ≡ bs)
 unfolding padded around
 displayed-padded f text short = by_numbers _ _ _ _ text short
 
 -- where `pad` has written a text, a display has written it
-pub pad_displays : {W : Type 0} (took : W → List ℕ → W → Type 0) (f g : Formatter W) (r : Result (Unit {0}) Error) (text : List ℕ) → length text ≤ 22
-    → WritesStyledOnOk took f r (padded (formatter_spec f) text) g → DisplaysStyledOnOk took f r (displayed_by f text) g
+pub pad_displays : {W : Type 0} (took : W → List ℕ → W → Type 0) (f g : Formatter W)
+    (r : Result (Unit {0}) Error) (text : List ℕ) → length text ≤ 22
+    → WritesStyledOnOk took f r (padded (formatter_spec f) text) g
+    → DisplaysStyledOnOk took f r (displayed_by f text) g
 pad_displays took f g r text short wrote =
     IfSome_then (displayed_by f text) (displayed-padded f text short) (λ bs same. subst (λ shown. WritesStyledOnOk took f r shown g) same wrote)
 
@@ -130,6 +140,7 @@ fills-ascii : (fill : ℕ) → fill < 128 → (count : ℕ) → fills fill count
 fills-ascii fill ascii count = rw (encode_ascii fill ascii) (repeat-one fill count)
 
 -- a text that stands right has as many fills in front as it is short of bytes
-pub padded_right : (width fill : ℕ) (text : List ℕ) → IsAscii text → fill < 128 → padded_to (Some width) fill Right text ≡ replicate (width - length text) fill ++ text
+pub padded_right : (width fill : ℕ) (text : List ℕ) → IsAscii text → fill < 128
+    → padded_to (Some width) fill Right text ≡ replicate (width - length text) fill ++ text
 padded_right width fill text ascii small =
     padded_to-some fill text width Right ∙ rw (characters-ascii text ascii, fills-ascii fill small (width - length text)) refl

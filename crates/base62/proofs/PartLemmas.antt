@@ -17,23 +17,27 @@ use Rattle.base62.proofs.ValueLemmas.{value-nil, value-one, value-append, value-
 use Rattle.base62.proofs.TableLemmas.{digit-letter, digit-value, digit-no_letter}
 
 -- in letters alone no byte stops
-pub prefix_len-letters : (B text : List ℕ) → AreLetters B text → prefix_len (is_letter B) text ≡ length text
+pub prefix_len-letters : (B text : List ℕ) → AreLetters B text
+    → prefix_len (is_letter B) text ≡ length text
 prefix_len-letters B text letters =
     prefix_len_is (is_letter B) text (length text) 0 (omega arith) (λ k h. letters k 0 h) (λ h. absurd (omega arith))
 
 -- what was read of at most k bytes is below 62^k
-pub read_below : (B part : List ℕ) (old new number k : ℕ) → IsAlphabet B → HasRead B part old new number → length part ≤ k → number < 62 ^ k
+pub read_below : (B part : List ℕ) (old new number k : ℕ) → IsAlphabet B
+    → HasRead B part old new number → length part ≤ k → number < 62 ^ k
 read_below B part old new number k ok read short = rw read.value_is (value-lt_most B ok part k short)
 
 -- a byte by its digit in the tables
-pub read_one : (B : List ℕ) (b old new : ℕ) → digit_or_255 B b ≤ 61 → new ≡ old + 1 → HasRead B (b ∷ []) old new (digit_or_255 B b)
+pub read_one : (B : List ℕ) (b old new : ℕ) → digit_or_255 B b ≤ 61 → new ≡ old + 1
+    → HasRead B (b ∷ []) old new (digit_or_255 B b)
 read_one B b old new low step = record {
   letters = let P : ℕ → Type 0 = λ x. is_letter B x ≡ true in All-cons P b [] (digit-letter B b low) (All-nil P);
   value_is = digit-value B b low ∙ sym (value-one B b);
   steps = step;
 }
 
-pub refused_one : (B : List ℕ) → IsAlphabet B → (b start old new : ℕ) → 61 < digit_or_255 B b → new ≡ old + 1 → HasRefused B (b ∷ []) start old new (InvalidBase62Byte b start)
+pub refused_one : (B : List ℕ) → IsAlphabet B → (b start old new : ℕ) → 61 < digit_or_255 B b
+    → new ≡ old + 1 → HasRefused B (b ∷ []) start old new (InvalidBase62Byte b start)
 refused_one B ok b start old new high step =
     let first : prefix_len (is_letter B) (b ∷ []) ≡ 0 = prefix_len_is (is_letter B) (b ∷ []) 0 0 (omega arith) (λ k h. absurd (omega arith)) (λ _. digit-no_letter B ok b high) in
     record {
@@ -43,8 +47,10 @@ refused_one B ok b start old new high step =
     }
 
 -- a part is read by reading its front and then the bytes after that
-reads_on : (B a b : List ℕ) (start old mid new number : ℕ) (r : Result ℕ DecodeError) → HasRead B a old mid number
-    → ReadsPart B b (start + length a) mid new r → ReadsPart B (a ++ b) start old new (after_number number (length b) r)
+reads_on : (B a b : List ℕ) (start old mid new number : ℕ) (r : Result ℕ DecodeError)
+    → HasRead B a old mid number
+    → ReadsPart B b (start + length a) mid new r
+    → ReadsPart B (a ++ b) start old new (after_number number (length b) r)
 reads_on B a b start old mid new number (Ok m) front back = record {
   letters = All-append (λ x. is_letter B x ≡ true) a b front.letters back.letters;
   value_is = rw (value-append B a b, front.value_is, back.value_is) refl;
@@ -63,7 +69,8 @@ reads_on B a b start old mid new number (Err fault) front back =
     }
 
 -- bytes after the first that is no letter are not read
-refuses_before : (B a b : List ℕ) (start old new : ℕ) (fault : DecodeError) → HasRefused B a start old new fault → HasRefused B (a ++ b) start old new fault
+refuses_before : (B a b : List ℕ) (start old new : ℕ) (fault : DecodeError)
+    → HasRefused B a start old new fault → HasRefused B (a ++ b) start old new fault
 refuses_before B a b start old new fault front =
     let i = prefix_len (is_letter B) a in
     let place : prefix_len (is_letter B) (a ++ b) ≡ i =
@@ -80,8 +87,10 @@ pub read_none : (B part : List ℕ) (old : ℕ) → HasRead B (take 0 part) old 
 read_none B part old = record { letters = All-nil (λ x. is_letter B x ≡ true); value_is = sym (value-nil B); steps = omega arith }
 
 -- one byte more of a part
-pub reads_more : (B part : List ℕ) (k start old mid new number : ℕ) (r : Result ℕ DecodeError) → k < length part → HasRead B (take k part) old mid number
-    → ReadsPart B (get_or part k 0 ∷ []) (start + k) mid new r → ReadsPart B (take (k + 1) part) start old new (after_number number 1 r)
+pub reads_more : (B part : List ℕ) (k start old mid new number : ℕ) (r : Result ℕ DecodeError)
+    → k < length part → HasRead B (take k part) old mid number
+    → ReadsPart B (get_or part k 0 ∷ []) (start + k) mid new r
+    → ReadsPart B (take (k + 1) part) start old new (after_number number 1 r)
 reads_more B part k start old mid new number r inside front back =
     let size : length (take k part) ≡ k = length-take-le k part (omega arith) in
     let one = reads_on B (take k part) (get_or part k 0 ∷ []) start old mid new number r front (rw size back) in
@@ -89,13 +98,16 @@ reads_more B part k start old mid new number r inside front back =
 
 -- a part that is cut after k bytes
 module _ (B part a : List ℕ) (k start old : ℕ) (front : a ≡ take k part) where
-  pub refuses_cut : (new : ℕ) (fault : DecodeError) → HasRefused B a start old new fault → HasRefused B part start old new fault
+  pub refuses_cut : (new : ℕ) (fault : DecodeError) → HasRefused B a start old new fault
+      → HasRefused B part start old new fault
   refuses_cut new fault refused =
       subst (λ xs. HasRefused B xs start old new fault) (ap (λ xs. xs ++ drop k part) front ∙ take-append-drop k part) (refuses_before B a (drop k part) start old new fault refused)
 
   -- n bytes are behind the cut
-  pub reads_cut : (b : List ℕ) (mid new number n : ℕ) (r : Result ℕ DecodeError) → b ≡ drop k part → k + n ≡ length part → HasRead B a old mid number
-      → ReadsPart B b (start + k) mid new r → ReadsPart B part start old new (after_number number n r)
+  pub reads_cut : (b : List ℕ) (mid new number n : ℕ) (r : Result ℕ DecodeError) → b ≡ drop k part
+      → k + n ≡ length part → HasRead B a old mid number
+      → ReadsPart B b (start + k) mid new r
+      → ReadsPart B part start old new (after_number number n r)
   reads_cut b mid new number n r back size read later =
       let first : length a ≡ k = ap length front ∙ length-take-le k part (omega arith) in
       let second : length b ≡ n = ap length back ∙ length-drop k part ∙ omega arith in
@@ -104,7 +116,8 @@ module _ (B part a : List ℕ) (k start old : ℕ) (front : a ≡ take k part) w
       subst (λ xs. ReadsPart B xs start old new (after_number number n r)) whole (rw second at both)
 
   -- what is behind the cut is read behind the number
-  pub reads_on_cut : (b : List ℕ) (mid new number : ℕ) (r : Result ℕ DecodeError) → b ≡ drop k part → k + length b ≡ length part → HasRead B a old mid number
+  pub reads_on_cut : (b : List ℕ) (mid new number : ℕ) (r : Result ℕ DecodeError) → b ≡ drop k part
+      → k + length b ≡ length part → HasRead B a old mid number
       → ReadsOn B number b (start + k) mid new r → ReadsPart B part start old new r
   reads_on_cut b mid new number r back size read later = rw later.2 (reads_cut b mid new number (length b) later.0 back size read later.1)
 
@@ -113,18 +126,21 @@ alone_is : (n : ℕ) (alone : Result ℕ DecodeError) → after_number 0 n alone
 alone_is n (Ok m) = ap Ok (omega arith)
 alone_is n (Err fault) = refl
 
-pub reads_alone : (B part : List ℕ) (start old new : ℕ) (r : Result ℕ DecodeError) → ReadsOn B 0 part start old new r → ReadsPart B part start old new r
+pub reads_alone : (B part : List ℕ) (start old new : ℕ) (r : Result ℕ DecodeError)
+    → ReadsOn B 0 part start old new r → ReadsPart B part start old new r
 reads_alone B part start old new r on = rw (on.2, alone_is (length part) on.0) on.1
 
 -- a number below 62^5 and at most five letters behind it
-pub on_below : (number m i k : ℕ) → number < 62 ^ 5 → m < 62 ^ i → i ≤ k → number * 62 ^ i + m < 62 ^ 5 * 62 ^ k
+pub on_below : (number m i k : ℕ) → number < 62 ^ 5 → m < 62 ^ i → i ≤ k
+    → number * 62 ^ i + m < 62 ^ 5 * 62 ^ k
 on_below number m i k small less few =
     let power : 62 ^ i ≤ 62 ^ k = pow-le-pow_right {n = 62} (omega arith) few in
     let front : (number + 1) * 62 ^ i ≤ 62 ^ 5 * 62 ^ k = mul-le-mul {n₁ = number + 1} {m₁ = 62 ^ i} {n₂ = 62 ^ 5} {m₂ = 62 ^ k} (omega arith) power in
     omega (arith, front, less)
 
 -- one letter more
-pub on_more : (number total m i d : ℕ) → total ≡ number * 62 ^ i + m → total * 62 + d ≡ number * 62 ^ (i + 1) + (m * 62 ^ 1 + d)
+pub on_more : (number total m i d : ℕ) → total ≡ number * 62 ^ i + m
+    → total * 62 + d ≡ number * 62 ^ (i + 1) + (m * 62 ^ 1 + d)
 on_more number total m i d is = omega (arith, is, pow-add 62 i 1, ap (λ x. number * x) (pow-add 62 i 1))
 
 -- a part of five bytes, read byte by byte
@@ -140,7 +156,8 @@ module _ (B part : List ℕ) (start old : ℕ) (five : length part ≡ 5) where
         let third = reads_more B part 2 start old s2 s3 _ (Ok c) (omega arith) second three in
         record { letters = third.letters; value_is = omega (arith, third.value_is); steps = third.steps }
 
-    pub fourth_refused : (s4 : ℕ) (fault : DecodeError) → read_at 3 s3 s4 (Err fault) → HasRefused B part start old s4 fault
+    pub fourth_refused : (s4 : ℕ) (fault : DecodeError) → read_at 3 s3 s4 (Err fault)
+        → HasRefused B part start old s4 fault
     fourth_refused s4 fault bad =
         refuses_cut B part (take 4 part) 4 start old refl s4 fault (reads_more B part 3 start old s3 s4 _ (Err fault) (omega arith) three_read bad)
 
@@ -148,11 +165,13 @@ module _ (B part : List ℕ) (start old : ℕ) (five : length part ≡ 5) where
       four_read : HasRead B (take 4 part) old s4 ((a * 62 ^ 2 + b * 62 + c) * 62 ^ 1 + d)
       four_read = reads_more B part 3 start old s3 s4 _ (Ok d) (omega arith) three_read four
 
-      pub fifth_refused : (s5 : ℕ) (fault : DecodeError) → read_at 4 s4 s5 (Err fault) → HasRefused B part start old s5 fault
+      pub fifth_refused : (s5 : ℕ) (fault : DecodeError) → read_at 4 s4 s5 (Err fault)
+          → HasRefused B part start old s5 fault
       fifth_refused s5 fault bad =
           refuses_cut B part (take 5 part) 5 start old refl s5 fault (reads_more B part 4 start old s4 s5 _ (Err fault) (omega arith) four_read bad)
 
-      pub five_read : (s5 e : ℕ) → read_at 4 s4 s5 (Ok e) → HasRead B part old s5 (a * 62 ^ 4 + b * 62 ^ 3 + c * 62 ^ 2 + d * 62 + e)
+      pub five_read : (s5 e : ℕ) → read_at 4 s4 s5 (Ok e)
+          → HasRead B part old s5 (a * 62 ^ 4 + b * 62 ^ 3 + c * 62 ^ 2 + d * 62 + e)
       five_read s5 e last =
           let whole : take 5 part ≡ part = take_all 5 part (omega (arith, five)) in
           let read = rw whole at (reads_more B part 4 start old s4 s5 _ (Ok e) (omega arith) four_read last) in

@@ -12,15 +12,18 @@ use Rattle.base62.proofs.TableLemmas.{get_or-digits_of_bytes}
 pub record AreDigitsOfFirst (B T : List ℕ) (i : ℕ) : Type 0 where
   pub size : length T ≡ 256
   pub digits : (k : ℕ) → k < i → get_or T (get_or B k 0) 0 ≡ k
-  pub bytes : (x : ℕ) → x < 256 → (get_or T x 0 ≡ 255) ⊎ ((get_or T x 0 < i) × (get_or B (get_or T x 0) 0 ≡ x))
+  pub bytes : (x : ℕ) → x < 256
+      → (get_or T x 0 ≡ 255) ⊎ ((get_or T x 0 < i) × (get_or B (get_or T x 0) 0 ≡ x))
 
 -- the letters whose digits are there are distinct
-distinct_first : (B T : List ℕ) (i : ℕ) → AreDigitsOfFirst B T i → (j k : ℕ) → j < i → k < i → get_or B j 0 ≡ get_or B k 0 → j ≡ k
+distinct_first : (B T : List ℕ) (i : ℕ) → AreDigitsOfFirst B T i → (j k : ℕ) → j < i → k < i
+    → get_or B j 0 ≡ get_or B k 0 → j ≡ k
 distinct_first B T i held j k p q same = sym (held.digits j p) ∙ ap (λ x. get_or T x 0) same ∙ held.digits k q
 
 module _ (B : List ℕ) (ok : IsAlphabet B) (T : List ℕ) (held : AreDigitsOfFirst B T 62) where
   -- where there is 255, the byte has no digit
-  no_digit : (x : ℕ) → get_or T x 0 ≡ 255 → (o : Option ℕ) → digit_of B x ≡ o → unwrap_or o 255 ≡ 255
+  no_digit : (x : ℕ) → get_or T x 0 ≡ 255 → (o : Option ℕ) → digit_of B x ≡ o
+      → unwrap_or o 255 ≡ 255
   no_digit x none None e = refl
   no_digit x none (Some d) e =
       let at = letter-digit_of B x d e in
@@ -43,8 +46,8 @@ module _ (B : List ℕ) (ok : IsAlphabet B) (T : List ℕ) (held : AreDigitsOfFi
       ])
 
 -- then the letters are an alphabet
-pub alphabet_of_all : (B T : List ℕ) (i : ℕ) → length B ≡ 62 → ((k : ℕ) → get_or B k 0 < 256) → 62 ≤ i → i ≤ 62 → AreDigitsOfFirst B T i
-    → IsAlphabet B × (T ≡ digits_of_bytes B)
+pub alphabet_of_all : (B T : List ℕ) (i : ℕ) → length B ≡ 62 → ((k : ℕ) → get_or B k 0 < 256)
+    → 62 ≤ i → i ≤ 62 → AreDigitsOfFirst B T i → IsAlphabet B × (T ≡ digits_of_bytes B)
 alphabet_of_all B T i size fits low high held =
     let all : i ≡ 62 = omega (arith, low, high) in
     let full : AreDigitsOfFirst B T 62 = rw all at held in

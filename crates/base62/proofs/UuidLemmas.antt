@@ -14,7 +14,8 @@ use Rattle.base62.proofs.PlacesLemmas.{places-nil, places-cons, places-lt, same_
 use Rattle.base62.proofs.AnswerLemmas.{decoding-denotes}
 
 -- std's number of sixteen bytes is their sum over places
-pub number_from_bytes : (uuid : List ℕ) → length uuid ≡ 16 → from_be_bytes w128 uuid ≡ uuid_number uuid
+pub number_from_bytes : (uuid : List ℕ) → length uuid ≡ 16
+    → from_be_bytes w128 uuid ≡ uuid_number uuid
 unfolding sum_over_places
 number_from_bytes uuid size = rw size (omega arith)
 
@@ -56,11 +57,13 @@ uuid_number-lt : (uuid : List ℕ) → IsUuid uuid → uuid_number uuid < 2 ^ 12
 uuid_number-lt uuid is = rw is.size at (places-lt 256 uuid (All-from_get_or (λ b. b < 256) uuid 0 (λ i h. is.bytes i)))
 
 module _ (B : List ℕ) (ok : IsAlphabet B) (text : List ℕ) where
-  decoded : (uuid : List ℕ) → IsUuid uuid → Denotes B text (uuid_number uuid) → decoding B text ≡ Ok (uuid_number uuid)
+  decoded : (uuid : List ℕ) → IsUuid uuid → Denotes B text (uuid_number uuid)
+      → decoding B text ≡ Ok (uuid_number uuid)
   decoded uuid is denotes = decoding-denotes B ok (uuid_number uuid) (uuid_number-lt uuid is) text denotes
 
   -- what a number that was decoded is as a UUID, and a fault
-  pub number_decoded : (n : ℕ) → n < 2 ^ 128 → decoding B text ≡ Ok n → DecodesUuid B text (Ok (to_be_bytes w128 n))
+  pub number_decoded : (n : ℕ) → n < 2 ^ 128 → decoding B text ≡ Ok n
+      → DecodesUuid B text (Ok (to_be_bytes w128 n))
   number_decoded n small is =
       let same = λ (uuid : List ℕ) (ok : IsUuid uuid) (e : n ≡ uuid_number uuid). same_uuid _ uuid (bytes_are_uuid n) ok (number_of_bytes n small ∙ e) in
       record {

@@ -15,7 +15,8 @@ unfolding value
 value-nil B = places-nil 62
 
 -- a letter in front adds its digit at its place
-pub value-cons : (B : List ℕ) (b : ℕ) (text : List ℕ) → value B (b ∷ text) ≡ digit_or_zero B b * 62 ^ length text + value B text
+pub value-cons : (B : List ℕ) (b : ℕ) (text : List ℕ)
+    → value B (b ∷ text) ≡ digit_or_zero B b * 62 ^ length text + value B text
 unfolding value
 value-cons B b text =
     places-cons 62 (digit_or_zero B b) (map (digit_or_zero B) text)
@@ -29,11 +30,13 @@ value-append B a b =
     rw (map-append f a b, places-append 62 (map f a) (map f b), length-map b f)
 
 -- so is a text that is cut at any place
-pub value-cut : (B text : List ℕ) (k : ℕ) → value B text ≡ value B (take k text) * 62 ^ length (drop k text) + value B (drop k text)
+pub value-cut : (B text : List ℕ) (k : ℕ)
+    → value B text ≡ value B (take k text) * 62 ^ length (drop k text) + value B (drop k text)
 value-cut B text k = ap (value B) (sym (take-append-drop k text)) ∙ value-append B (take k text) (drop k text)
 
 -- one letter behind moves each other one place on
-pub value_push : (B text : List ℕ) (b : ℕ) → value B (text ++ b ∷ []) ≡ value B text * 62 + digit_or_zero B b
+pub value_push : (B text : List ℕ) (b : ℕ)
+    → value B (text ++ b ∷ []) ≡ value B text * 62 + digit_or_zero B b
 unfolding value
 value_push B text b =
     let f : ℕ → ℕ = digit_or_zero B in rw (map-append f text (b ∷ []), places_push 62 (map f text) (f b))
@@ -42,7 +45,8 @@ pub value-one : (B : List ℕ) (b : ℕ) → value B (b ∷ []) ≡ digit_or_zer
 value-one B b = value_push B [] b ∙ ap (λ v. v * 62 + digit_or_zero B b) (value-nil B) ∙ omega arith
 
 -- one letter more of a text
-pub value_more : (B text : List ℕ) (i : ℕ) → i < length text → value B (take (i + 1) text) ≡ value B (take i text) * 62 + digit_or_zero B (get_or text i 0)
+pub value_more : (B text : List ℕ) (i : ℕ) → i < length text
+    → value B (take (i + 1) text) ≡ value B (take i text) * 62 + digit_or_zero B (get_or text i 0)
 value_more B text i h = ap (value B) (take_more text i 0 h) ∙ value_push B (take i text) (get_or text i 0)
 
 module _ (B : List ℕ) (ok : IsAlphabet B) where
@@ -63,7 +67,8 @@ module _ (B : List ℕ) (ok : IsAlphabet B) where
   value-lt_most text k h = fits_more (value B text) (length text) k (value-lt text) h
 
   -- two texts of one length and one value are one
-  pub same_text : (a b : List ℕ) → length a ≡ length b → AreLetters B a → AreLetters B b → value B a ≡ value B b → a ≡ b
+  pub same_text : (a b : List ℕ) → length a ≡ length b → AreLetters B a → AreLetters B b
+      → value B a ≡ value B b → a ≡ b
   same_text [] [] len p q e = refl
   same_text [] (y ∷ ys) len p q e = cc
   same_text (x ∷ xs) [] len p q e = cc

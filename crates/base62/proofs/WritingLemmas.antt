@@ -45,14 +45,16 @@ module _ (B : List ℕ) (v n : ℕ) (old new : List ℕ) (writes : WritesFixed B
 
 -- a text of t letters is written in two parts, of v and of w letters, from the quotient q and the remainder m
 module _ (B : List ℕ) (v w t n q m : ℕ) (both : v + w ≡ t) (quotient : q ≡ n / 62 ^ w) (remainder : m ≡ n % 62 ^ w) where
-  joined : (old : List ℕ) → fixed B v q ++ (fixed B w m ++ drop (v + w) old) ≡ fixed B t n ++ drop t old
+  joined : (old : List ℕ)
+      → fixed B v q ++ (fixed B w m ++ drop (v + w) old) ≡ fixed B t n ++ drop t old
   joined old =
       rw (quotient, remainder, ← both, fixed-join B v w n)
       (sym (append_assoc (fixed B v (n / 62 ^ w)) (fixed B w (n % 62 ^ w)) (drop (v + w) old)))
 
   module _ (old mid part : List ℕ) (room : t ≤ length old) (back : WritesFixed B w m (places_from v mid) part) where
     -- the front first, of which the back may write over what it has beyond v letters
-    pub front_first : length mid ≡ length old → take v mid ≡ fixed B v q → drop t mid ≡ drop t old → WritesFixed B t n old (put_from v mid part)
+    pub front_first : length mid ≡ length old → take v mid ≡ fixed B v q → drop t mid ≡ drop t old
+        → WritesFixed B t n old (put_from v mid part)
     front_first same front others =
         let behind : drop (v + w) mid ≡ drop (v + w) old = rw both others in
         part_written B v w m mid part (omega (arith, room, both, same)) back ∙ rw (front, behind) (joined old)
@@ -65,7 +67,8 @@ module _ (B : List ℕ) (v w t n q m : ℕ) (both : v + w ≡ t) (quotient : q �
         front_first same (written_front B v q old mid front) others
 
 -- the back first, where the code cuts n by 62^w
-pub back_first : (B : List ℕ) (v w t n : ℕ) → v + w ≡ t → (old part new : List ℕ) → t ≤ length old → WritesFixed B w (n - n / 62 ^ w * 62 ^ w) (places_from v old) part
+pub back_first : (B : List ℕ) (v w t n : ℕ) → v + w ≡ t → (old part new : List ℕ) → t ≤ length old
+    → WritesFixed B w (n - n / 62 ^ w * 62 ^ w) (places_from v old) part
     → WritesFixed B v (n / 62 ^ w) (put_from v old part) new → WritesFixed B t n old new
 back_first B v w t n both old part new room back front =
     let size : length (take v old) ≡ v = length-take-le v old (omega (arith, room, both)) in
@@ -74,15 +77,15 @@ back_first B v w t n both old part new room back front =
     front ∙ rw behind (joined B v w t n (n / 62 ^ w) _ both refl (remainder_is n (62 ^ w)) old)
 
 -- a letter
-pub letter_written : (B old : List ℕ) (x letter : ℕ) → 1 ≤ length old → x < 62 → letter ≡ get_or B x 0
-    → WritesFixed B 1 x old (set old 0 letter)
+pub letter_written : (B old : List ℕ) (x letter : ℕ) → 1 ≤ length old → x < 62
+    → letter ≡ get_or B x 0 → WritesFixed B 1 x old (set old 0 letter)
 unfolding fixed
 letter_written B [] x letter room small is = absurd (omega arith)
 letter_written B (_ ∷ old) x letter room small is = let same : x % 62 ≡ x = omega arith in rw (is, same) refl
 
 -- a letter that is written over, where no place is left for it
-pub letter_front : (B old : List ℕ) (v x letter : ℕ) → 1 ≤ length old → v ≤ 1 → x < 62 → letter ≡ get_or B x 0
-    → take v (set old 0 letter) ≡ fixed B v x
+pub letter_front : (B old : List ℕ) (v x letter : ℕ) → 1 ≤ length old → v ≤ 1 → x < 62
+    → letter ≡ get_or B x 0 → take v (set old 0 letter) ≡ fixed B v x
 unfolding fixed
 letter_front B old zero x letter room few small is = refl
 letter_front B old (suc zero) x letter room few small is =
@@ -91,15 +94,18 @@ letter_front B old (suc (suc v)) x letter room few small is = absurd (omega arit
 
 -- two letters
 pair_written : (B old : List ℕ) (x first second : ℕ) → 2 ≤ length old → x < 62 ^ 2
-    → first ≡ get_or B (x / 62) 0 → second ≡ get_or B (x % 62) 0 → WritesFixed B 2 x old (set (set old 0 first) 1 second)
+    → first ≡ get_or B (x / 62) 0 → second ≡ get_or B (x % 62) 0
+    → WritesFixed B 2 x old (set (set old 0 first) 1 second)
 unfolding fixed
 pair_written B [] x first second room small one two = absurd (omega arith)
 pair_written B (_ ∷ []) x first second room small one two = absurd (omega arith)
 pair_written B (_ ∷ _ ∷ old) x first second room small one two = let same : x / 62 % 62 ≡ x / 62 = omega arith in rw (one, two, same) refl
 
 -- two letters, of which the second is written over the first where there is one place alone
-pub ends_written : (B old : List ℕ) (places x first second : ℕ) → 1 ≤ places → places ≤ 2 → places ≤ length old → x < 62 ^ places
-    → first ≡ get_or B (x / 62) 0 → second ≡ get_or B (x % 62) 0 → WritesFixed B places x old (set (set old 0 first) (places - 1) second)
+pub ends_written : (B old : List ℕ) (places x first second : ℕ) → 1 ≤ places → places ≤ 2
+    → places ≤ length old → x < 62 ^ places
+    → first ≡ get_or B (x / 62) 0 → second ≡ get_or B (x % 62) 0
+    → WritesFixed B places x old (set (set old 0 first) (places - 1) second)
 unfolding fixed
 ends_written B old zero x first second some few room small one two = absurd (omega arith)
 ends_written B [] (suc zero) x first second some few room small one two = absurd (omega arith)

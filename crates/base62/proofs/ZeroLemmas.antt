@@ -22,14 +22,16 @@ pub zeros_within : (B text : List ℕ) → leading_zeros B text ≤ length text
 zeros_within B text = prefix_len-le-length (λ b. b == zero_letter B) text
 
 -- a text that denotes a number above 0 has more than leading zeros
-pub after_zeros_some : (B text : List ℕ) → 0 < value B (after_zeros B text) → 0 < length (after_zeros B text)
+pub after_zeros_some : (B text : List ℕ) → 0 < value B (after_zeros B text)
+    → 0 < length (after_zeros B text)
 after_zeros_some B text h = elim (cases_eq (length (after_zeros B text)) 0) [
   | inl none ↦ let zero_value = ap (value B) (nil_from_length (after_zeros B text) none) ∙ value-nil B in absurd (omega arith)
   | inr some ↦ omega arith
 ]
 
 -- the first byte after the leading zeros is not the zero letter
-pub after_zeros_first : (B text : List ℕ) → 0 < length (after_zeros B text) → get_or (after_zeros B text) 0 0 ≢ zero_letter B
+pub after_zeros_first : (B text : List ℕ) → 0 < length (after_zeros B text)
+    → get_or (after_zeros B text) 0 0 ≢ zero_letter B
 after_zeros_first B text some same =
     let z = leading_zeros B text in
     let place : get_or (after_zeros B text) 0 0 ≡ get_or text z 0 = get_or-drop z text 0 0 ∙ ap (λ k. get_or text k 0) (omega arith) in
@@ -43,7 +45,8 @@ after_zeros_front B text =
     ap (λ k. drop k (zero_letter B ∷ text)) zeros
 
 -- in each case of a test a bad byte moves on
-one_place_on-if : (b : Bool) (x y : Result ℕ DecodeError) → one_place_on (if b then x else y) ≡ (if b then one_place_on x else one_place_on y)
+one_place_on-if : (b : Bool) (x y : Result ℕ DecodeError)
+    → one_place_on (if b then x else y) ≡ (if b then one_place_on x else one_place_on y)
 one_place_on-if true x y = refl
 one_place_on-if false x y = refl
 
@@ -63,7 +66,8 @@ module _ (B : List ℕ) (ok : IsAlphabet B) where
       ap (is_letter B) (get_or-take z text k 0 below ∙ zero_before B text k below) ∙ zero_is_letter)
 
   -- so a text is letters alone if what follows them is
-  pub letters_from_after_zeros : (text : List ℕ) → AreLetters B (after_zeros B text) → AreLetters B text
+  pub letters_from_after_zeros : (text : List ℕ) → AreLetters B (after_zeros B text)
+      → AreLetters B text
   letters_from_after_zeros text letters =
       let z = leading_zeros B text in
       subst (AreLetters B) (take-append-drop z text) (All-append (IsLetter B) (take z text) (after_zeros B text) (zeros_letters text) letters)
@@ -89,7 +93,9 @@ module _ (B : List ℕ) (ok : IsAlphabet B) where
   value_front text = rw (value-cons B (zero_letter B) text, zero_digit) (omega arith)
 
   -- and a bad byte stands one place further on
-  first_invalid_front : (text : List ℕ) → first_invalid B (zero_letter B ∷ text) ≡ InvalidBase62Byte (get_or text (invalid_index B text) 0) (invalid_index B text + 1)
+  first_invalid_front : (text : List ℕ)
+      → first_invalid B (zero_letter B ∷ text)
+      ≡ InvalidBase62Byte (get_or text (invalid_index B text) 0) (invalid_index B text + 1)
   first_invalid_front text =
       let index = invalid_index B text in
       let place : invalid_index B (zero_letter B ∷ text) ≡ suc index = rw zero_is_letter (omega arith) in
@@ -97,7 +103,8 @@ module _ (B : List ℕ) (ok : IsAlphabet B) where
       ap (λ k. InvalidBase62Byte (get_or (zero_letter B ∷ text) k 0) k) place ∙ ap (InvalidBase62Byte (get_or text index 0)) more
 
   -- so it moves a bad byte one place on, and changes no other answer
-  pub decoding-zero_front : (text : List ℕ) → 0 < length text → decoding B (zero_letter B ∷ text) ≡ one_place_on (decoding B text)
+  pub decoding-zero_front : (text : List ℕ) → 0 < length text
+      → decoding B (zero_letter B ∷ text) ≡ one_place_on (decoding B text)
   unfolding decoding
   decoding-zero_front text some =
       let more = ne_eqb (suc (length text)) 0 (λ e. omega arith) in

@@ -24,9 +24,9 @@ pub record AgreesAtLetters (B text other : List ℕ) : Type 0 where
   pub agrees : (i : ℕ) → i < length text → is_letter B (slice_index text i) ≡ true
       → slice_index other i ≡ slice_index text i
 
--- What an answer of decoding tells of the text: which texts are accepted, of which value and canonical text;
--- which byte a fault names; and that an overflow that is answered where a letter follows the leading zeros would
--- be one whatever letters stood in place of the bad bytes.
+-- What the answer of decoding tells of the text: which texts are accepted, and their values and
+-- canonical texts; which byte a fault names; and what an overflow says where a letter follows the
+-- leading zeros: with any letters in place of the bad bytes the text denotes 2^128 or more.
 pub record AnswerTells (B text : List ℕ) : Type 0 where
   pub accepted : IsOk (decoding B text)
       ↔ ((0 < length text) × AreLetters B text × (value B text < 2 ^ 128))

@@ -4,7 +4,8 @@ use Rattle.std.specs.Ordering.{is_le, nat_cmp, ordering_then}
 use Rattle.std.specs.Cmp.Lexicographic.{slice_cmp}
 use Rattle.std.specs.declared.cmp.Ordering.{Ordering}
 
--- lexicographic order: at the first place where two texts differ the lesser byte decides, and a proper beginning is less
+-- lexicographic order: the lesser byte decides at the first place where two texts differ; a proper
+-- prefix is less
 abbrev pub lexicographic_order : List ℕ → List ℕ → Ordering
 lexicographic_order a b = slice_cmp nat_cmp a b
 

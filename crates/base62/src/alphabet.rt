@@ -50,7 +50,8 @@ impl Model for Alphabet {
 
     ghost invariant = { λ a. AreTables a.tables };
 
-    ghost inverse = { λ letters. record { tables = record { letters = letters; digits = digits_of_bytes letters } } };
+    ghost inverse = { λ letters.
+        record { tables = record { letters = letters; digits = digits_of_bytes letters } } };
 }
 
 impl Alphabet {

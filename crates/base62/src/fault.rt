@@ -16,7 +16,7 @@ use std::{error, fmt, str};
 #[derive(Clone, Copy, Debug, PartialEq, Eq, PartialOrd, Ord, Hash)]
 pub enum DecodeError {
     /// The text denotes 2^128 or more, or more than 22 bytes follow its leading zeros. Or 22 bytes
-    /// do, and the first ten of them with twelve zeros behind denote 2^128 or more.
+    /// do, and the first ten of them, followed by twelve zeros, denote 2^128 or more.
     ArithmeticOverflow,
     /// The text is empty.
     EmptyInput,

@@ -28,7 +28,8 @@ use crate::alphabet::Alphabet;
 use crate::fault;
 use std::hash::Hash;
 
-/// The standard and the alternative alphabet each are 62 bytes, of which no two are equal. The standard one ascends.
+/// The standard and the alternative alphabet are 62 bytes each, of which no two are equal. The
+/// letters of the standard one ascend.
 #[tactic(auto, using(crate::proofs::AlphabetLemmas::standard_is_alphabet, crate::proofs::AlphabetLemmas::alternative_is_alphabet, crate::proofs::OrderLemmas::standard_ascends))]
 pub fn built_in_alphabets()
     ensures standard { IsAlphabet standard }
@@ -36,16 +37,18 @@ pub fn built_in_alphabets()
     ensures ascends { Ascends standard }
 {}
 
-/// The letters of an alphabet are 62 bytes, of which no two are equal. Laws over any alphabet ask for this.
+/// The letters of an alphabet are 62 bytes, of which no two are equal. Laws over any alphabet ask
+/// for this.
 pub fn letters_are_distinct(alphabet: &Alphabet)
     ensures { IsAlphabet alphabet.now }
 {
     let _ = alphabet.letters();
 }
 
-/// Over any alphabet each number below 2^128 has a canonical text, and only one, of 1 to 22 letters; that of a number
-/// below 62^k has at most k, for k from 1 on. A text of letters is the canonical text of its value exactly where it
-/// has one letter, or more of which the first is not the zero letter.
+/// Over any alphabet each number below 2^128 has exactly one canonical text, of 1 to 22 letters.
+/// For k from 1 on, the canonical text of a number below 62^k has at most k letters. A text of
+/// letters is the canonical text of its value exactly where it has one letter, or more and no zero
+/// letter in front.
 pub fn one_text()
     ensures exists { (B : List ℕ) → IsAlphabet B → (n : ℕ) → n < 2 ^ 128
         → (text : List ℕ) × IsCanonical B text n }
@@ -160,9 +163,9 @@ pub fn fixed_widths()
         → IsFixed B w (replicate (w - length text) (zero_letter B) ++ text) n }
 {}
 
-/// Over an alphabet whose letters ascend by byte, as the standard ones do, texts of letters of one length
-/// compare in lexicographic order as their values, and so texts of w letters as their numbers. Canonical texts
-/// compare in shortlex order as their numbers.
+/// Take an alphabet whose letters ascend as bytes, as the standard ones do. The lexicographic order
+/// of texts of letters of one length is the order of their values. Texts of w letters compare as
+/// their numbers. The shortlex order of canonical texts is the order of their numbers.
 #[tactic(auto, using(crate::proofs::OrderLemmas::texts_in_order))]
 pub fn order_of_texts()
     ensures standard { Ascends standard }
@@ -175,8 +178,8 @@ pub fn order_of_texts()
         → IsCanonical B a m → IsCanonical B b n → shortlex_order a b ≡ nat_cmp m n }
 {}
 
-/// Over an alphabet that ascends, two texts of so many letters compare in lexicographic order as their numbers, and two
-/// canonical texts in shortlex order.
+/// Over an alphabet that ascends, two texts of `width` letters compare in lexicographic order as
+/// their numbers, and two canonical texts compare in shortlex order as theirs.
 #[tactic(auto, using(crate::proofs::OrderLemmas::texts_in_order))]
 pub fn order_of_two(alphabet: &Alphabet, width: usize, a: &[u8], b: &[u8], m: u128, n: u128)
     ensures order { Ascends alphabet.now → IsFixed alphabet.now width a.now m
@@ -236,9 +239,9 @@ pub fn fronts()
         → BeginsTextsOf B w front least greatest → BeginsTextsBetween B w front least greatest }
 {}
 
-/// Over an alphabet that ascends, a text of so many letters, of a value below 2^128, begins with a front exactly where
-/// it stands in lexicographic order from the text of the least to the text of the greatest number of the front's
-/// range.
+/// Take an alphabet that ascends, and a text of `width` letters whose value is below 2^128. It
+/// begins with a front exactly where it stands, in lexicographic order, from the text of the least
+/// number of the front's range to that of the greatest.
 pub fn scan_of_front(
     alphabet: &Alphabet,
     width: usize,

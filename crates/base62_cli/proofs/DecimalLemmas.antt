@@ -12,14 +12,16 @@ abbrev pub with_zeros : ℕ → ℕ → List ℕ
 with_zeros width n = replicate (width - length (decimal n)) 48 ++ decimal n
 
 -- what `{:019}` writes
-pub zeros_written : (n : ℕ) → padded_integral (format_spec 32 0 4 19 (2 ^ 64 - 1)) false [] (decimal n) ≡ with_zeros 19 n
+pub zeros_written : (n : ℕ)
+    → padded_integral (format_spec 32 0 4 19 (2 ^ 64 - 1)) false [] (decimal n) ≡ with_zeros 19 n
 unfolding padded_integral char_count
 zeros_written n =
     let width : 19 - length (decimal n) - 0 - 0 ≡ 19 - length (decimal n) = omega arith in
     rw (width, append-nil (decimal n)) refl
 
 -- its last digit, where there are more
-with_zeros_step : (k n : ℕ) → n < 10 ^ 64 → with_zeros (suc (suc k)) n ≡ with_zeros (suc k) (n / 10) ++ (48 + n % 10) ∷ []
+with_zeros_step : (k n : ℕ) → n < 10 ^ 64
+    → with_zeros (suc (suc k)) n ≡ with_zeros (suc k) (n / 10) ++ (48 + n % 10) ∷ []
 with_zeros_step k n small = elim (cases_lt n 10) [
   | inl one ↦
       let front : n / 10 ≡ 0 = omega arith in
@@ -36,7 +38,8 @@ with_zeros_step k n small = elim (cases_lt n 10) [
 ]
 
 -- the digits of a number are those of its upper part, and then those of its lower part with zeros in front
-pub decimal_parts : (k high low : ℕ) → 0 < high → low < 10 ^ suc k → high * 10 ^ suc k + low < 10 ^ 64
+pub decimal_parts : (k high low : ℕ) → 0 < high → low < 10 ^ suc k
+    → high * 10 ^ suc k + low < 10 ^ 64
     → decimal (high * 10 ^ suc k + low) ≡ decimal high ++ with_zeros (suc k) low
 decimal_parts zero high low some short small =
     let n = high * 10 + low in

@@ -13,7 +13,8 @@ use Rattle.base62_cli.specs.Reply.{IsReply}
 use Rattle.base62_cli.specs.Output.{AreReplies, IsOutput, Leaves}
 
 -- a byte 10 ends the line before it
-pub lines-ended : (line bytes : List ℕ) → All (λ b. b ≢ 10) line → lines_of (line ++ 10 ∷ bytes) ≡ line ∷ lines_of bytes
+pub lines-ended : (line bytes : List ℕ) → All (λ b. b ≢ 10) line
+    → lines_of (line ++ 10 ∷ bytes) ≡ line ∷ lines_of bytes
 unfolding lines_of
 lines-ended [] bytes unended = refl
 lines-ended (b ∷ line) bytes unended =
@@ -26,7 +27,8 @@ unfolding lines_of
 lines-nil = refl
 
 -- what no byte 10 ends is one line
-pub lines-open : (b : ℕ) (line : List ℕ) → All (λ c. c ≢ 10) (b ∷ line) → lines_of (b ∷ line) ≡ (b ∷ line) ∷ []
+pub lines-open : (b : ℕ) (line : List ℕ) → All (λ c. c ≢ 10) (b ∷ line)
+    → lines_of (b ∷ line) ≡ (b ∷ line) ∷ []
 unfolding lines_of
 lines-open b [] unended = rw (ne_eqb b 10 (All-head (λ c. c ≢ 10) b [] unended)) refl
 lines-open b (c ∷ line) unended =
@@ -34,7 +36,8 @@ lines-open b (c ∷ line) unended =
     rw (ne_eqb b 10 (All-head (λ d. d ≢ 10) b (c ∷ line) unended)) (ap (onto_first_line b) rest)
 
 -- in a mask of the first 64 bytes that are 10, the lowest set bit is the first line end
-pub first_line_end : (bytes : List ℕ) (ends : ℕ) → 64 ≤ length bytes → ends < 2 ^ 64 → ends ≡ mask_l (map (λ b. eqb b 10) (take 64 bytes)) → 0 < ends
+pub first_line_end : (bytes : List ℕ) (ends : ℕ) → 64 ≤ length bytes → ends < 2 ^ 64
+    → ends ≡ mask_l (map (λ b. eqb b 10) (take 64 bytes)) → 0 < ends
     → let end = count_trailing_zeros 64 ends in (end < length bytes) × HoldsAt (λ b. b ≡ 10) bytes end × AllWithin (λ b. b ≢ 10) bytes 0 end
 first_line_end bytes ends room fits mask some =
     let is_end : ℕ → Bool = λ b. eqb b 10 in
@@ -50,7 +53,8 @@ first_line_end bytes ends room fits mask some =
     )
 
 -- a byte 10 at the first line end, and what stands before and after it
-pub cut_at_end : (bytes : List ℕ) (end : ℕ) → end < length bytes → HoldsAt (λ b. b ≡ 10) bytes end → AllWithin (λ b. b ≢ 10) bytes 0 end
+pub cut_at_end : (bytes : List ℕ) (end : ℕ) → end < length bytes → HoldsAt (λ b. b ≡ 10) bytes end
+    → AllWithin (λ b. b ≢ 10) bytes 0 end
     → All (λ b. b ≢ 10) (take end bytes) × (bytes ≡ take end bytes ++ 10 ∷ drop (end + 1) bytes)
 cut_at_end bytes end within at before = (
   λ k d below. let front : k < end = omega (arith, length-take-le end bytes) in rw (get_or-take end bytes k d front) (before k d (omega arith) front),
@@ -71,7 +75,8 @@ leaves_more all replies line bytes reply rest unended is split leaves later h =
     rw group (leaves (reply ++ 10 ∷ later) one)
 
 -- replies, and then others for what they left
-pub leaves_then : (all replies left others rest : List ℕ) → Leaves all replies left → Leaves left others rest → Leaves all (replies ++ others) rest
+pub leaves_then : (all replies left others rest : List ℕ) → Leaves all replies left
+    → Leaves left others rest → Leaves all (replies ++ others) rest
 leaves_then all replies left others rest p q later h = rw append_assoc (p (others ++ later) (q later h))
 
 -- an empty input has an empty output
@@ -80,7 +85,8 @@ unfolding AreReplies lines_of
 output-nil = refl
 
 -- the output for a last line
-pub output-last : (line reply : List ℕ) → 0 < length line → All (λ b. b ≢ 10) line → IsReply line reply → IsOutput line (reply ++ 10 ∷ [])
+pub output-last : (line reply : List ℕ) → 0 < length line → All (λ b. b ≢ 10) line
+    → IsReply line reply → IsOutput line (reply ++ 10 ∷ [])
 unfolding AreReplies
 output-last [] reply some unended is = absurd (omega arith)
 output-last (b ∷ line) reply some unended is = rw (lines-open b line unended) (reply, [], is, refl, refl)

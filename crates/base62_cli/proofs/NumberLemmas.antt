@@ -25,7 +25,8 @@ module _ (none : (base : ℕ) → sum_over_places base [] ≡ 0)
   numerals = numerals_by_weight _ tells_all_ascii_digits decimal_value weighs
 
 -- what a number is made of
-pub number_parts : (text : List ℕ) → is_number text ≡ true → (0 < length text) × (all_ascii_digits text ≡ true) × (decimal_value text < 2 ^ 128)
+pub number_parts : (text : List ℕ) → is_number text ≡ true
+    → (0 < length text) × (all_ascii_digits text ≡ true) × (decimal_value text < 2 ^ 128)
 unfolding is_number
 number_parts text e =
     let parts = and_parts _ _ e in
@@ -47,17 +48,20 @@ no_plus [] none e = absurd (omega arith)
 no_plus (c ∷ cs) none e = true≢false (rw e at none)
 
 -- what `number_of` answers where the text is a number, and where it is none
-pub the_number : (text : List ℕ) (n : ℕ) → all_ascii_digits text ≡ true → 0 < length text → decimal_value text < 2 ^ 128 → n ≡ decimal_value text
+pub the_number : (text : List ℕ) (n : ℕ) → all_ascii_digits text ≡ true → 0 < length text
+    → decimal_value text < 2 ^ 128 → n ≡ decimal_value text
     → Some n ≡ (if is_number text then Some (decimal_value text) else None)
 unfolding is_number
 the_number text n digits some small is = rw (digits, lt-ltb 0 (length text) some, lt-ltb (decimal_value text) (2 ^ 128) small) (ap Some is)
 
-pub no_number : (text : List ℕ) → is_number text ≢ true → None ≡ (if is_number text then Some (decimal_value text) else None)
+pub no_number : (text : List ℕ) → is_number text ≢ true
+    → None ≡ (if is_number text then Some (decimal_value text) else None)
 no_number text none = rw (false_from_ne_true (is_number text) none) refl
 
 -- what std parses of a text with no plus sign in front
 pub parsed_number : {E : Type 0} (text : List ℕ) (r : Result ℕ E)
-    → OkIff r ((all_ascii_digits text ≡ true) × (0 < length text) × (decimal_value text < 2 ^ 128)) (decimal_value text)
+    → OkIff r ((all_ascii_digits text ≡ true) × (0 < length text) × (decimal_value text < 2 ^ 128))
+    (decimal_value text)
     → result_ok r ≡ (if is_number text then Some (decimal_value text) else None)
 parsed_number text (Ok n) h = the_number text n h.0.0 h.0.1 h.0.2 h.1
 parsed_number text (Err e) h = no_number text (λ is. let parts = number_parts text is in h (parts.1, parts.0, parts.2))

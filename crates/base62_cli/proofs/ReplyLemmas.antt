@@ -18,7 +18,8 @@ pub record ExactlyOne (P : List ℕ → Type 0) : Type 0 where
   pub only : (a b : List ℕ) → P a → P b → a ≡ b
 
 -- where each side of a choice has one text, the choice has one
-one_of_two : (test : Bool) (F G : List ℕ → Type 0) → (test ≡ true → ExactlyOne F) → ExactlyOne G → ExactlyOne (λ x. MatchBool test (F x) (G x))
+one_of_two : (test : Bool) (F G : List ℕ → Type 0) → (test ≡ true → ExactlyOne F) → ExactlyOne G
+    → ExactlyOne (λ x. MatchBool test (F x) (G x))
 one_of_two true F G f g = f refl
 one_of_two false F G f g = g
 
@@ -34,7 +35,9 @@ begins line command = starts_with nat_eq line command
 module _ (standard_text : (n : ℕ) → n < 2 ^ 128 → ExactlyOne (λ text. IsCanonical standard text n))
     (alternative_text : (n : ℕ) → n < 2 ^ 128 → ExactlyOne (λ text. IsCanonical alternative text n)) where
   -- a text to be encoded has one reply
-  one_encode_reply : (B text : List ℕ) → ((n : ℕ) → n < 2 ^ 128 → ExactlyOne (λ t. IsCanonical B t n)) → ExactlyOne (IsEncodeReply B text)
+  one_encode_reply : (B text : List ℕ)
+      → ((n : ℕ) → n < 2 ^ 128 → ExactlyOne (λ t. IsCanonical B t n))
+      → ExactlyOne (IsEncodeReply B text)
   one_encode_reply B text one =
       let n = decimal_value text in
       one_of_two (is_number text) (λ r. IsCanonical B r n) (λ r. r ≡ codes "fault: not a number") (λ e. one n (number_parts text e).2) (stated (codes "fault: not a number"))
@@ -79,22 +82,28 @@ module _ (text reply : List ℕ) where
   reply_to_adc h = h
 
 -- a line that is no text behind a command does not begin with it
-begins_not : (line command : List ℕ) → ((text : List ℕ) → line ≢ command ++ text) → begins line command ≡ false
+begins_not : (line command : List ℕ) → ((text : List ℕ) → line ≢ command ++ text)
+    → begins line command ≡ false
 begins_not line command none = false_from_ne_true (begins line command) (λ e. none _ ((starts_is Decides-eqb line command (begins line command) refl).0 e))
 
 -- the reply to any other line
-pub reply_to_other : (line : List ℕ) → ((text : List ℕ) → line ≢ codes "enc " ++ text) → ((text : List ℕ) → line ≢ codes "alt " ++ text)
-    → ((text : List ℕ) → line ≢ codes "dec " ++ text) → ((text : List ℕ) → line ≢ codes "adc " ++ text) → IsReply line (codes "fault: unknown command")
+pub reply_to_other : (line : List ℕ) → ((text : List ℕ) → line ≢ codes "enc " ++ text)
+    → ((text : List ℕ) → line ≢ codes "alt " ++ text)
+    → ((text : List ℕ) → line ≢ codes "dec " ++ text)
+    → ((text : List ℕ) → line ≢ codes "adc " ++ text)
+    → IsReply line (codes "fault: unknown command")
 unfolding IsReply
 reply_to_other line enc alt dec adc =
     rw (begins_not line (codes "enc ") enc, begins_not line (codes "alt ") alt, begins_not line (codes "dec ") dec, begins_not line (codes "adc ") adc) refl
 
 -- what a call that appends says of its `Ok`
-pub appended_on_ok : {T E : Type 0} (r : Result T E) (old new bytes : List ℕ) → new ≡ (if is_ok r then old ++ bytes else old) → OnOk r (new ≡ old ++ bytes)
+pub appended_on_ok : {T E : Type 0} (r : Result T E) (old new bytes : List ℕ)
+    → new ≡ (if is_ok r then old ++ bytes else old) → OnOk r (new ≡ old ++ bytes)
 appended_on_ok (Ok x) old new bytes h = h
 appended_on_ok (Err e) old new bytes h = tt
 
 -- where `number_of` gave nothing, the text is no number
-pub not_a_number : (test : Bool) (n : ℕ) (P Q : Type 0) → (if test then Some n else None) ≡ None → Q → MatchBool test P Q
+pub not_a_number : (test : Bool) (n : ℕ) (P Q : Type 0) → (if test then Some n else None) ≡ None
+    → Q → MatchBool test P Q
 not_a_number true n P Q e q = absurd (none-some n (sym e))
 not_a_number false n P Q e q = q

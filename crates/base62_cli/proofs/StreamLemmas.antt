@@ -6,14 +6,16 @@ use Rattle.base62_cli.proofs.LineLemmas.{leaves_then}
 use Rattle.std.proofs.lemmas.Option.{none-some, same_Some}
 
 -- two writes, one after the other
-pub appends_both : (a b c : Option (List ℕ)) (xs ys : List ℕ) → Appends a b xs → Appends b c ys → Appends a c (xs ++ ys)
+pub appends_both : (a b c : Option (List ℕ)) (xs ys : List ℕ) → Appends a b xs → Appends b c ys
+    → Appends a c (xs ++ ys)
 appends_both None b c xs ys p q = tt
 appends_both (Some x) None c xs ys p q = absurd p
 appends_both (Some x) (Some y) None xs ys p q = absurd q
 appends_both (Some x) (Some y) (Some z) xs ys p q = q ∙ ap (λ w. w ++ ys) p ∙ append_assoc x xs ys
 
 -- what a read leaves of known bytes
-pub read_more : (old new : Option (List ℕ)) (left bytes : List ℕ) → old ≡ Some left → Consumes old new bytes → (after : List ℕ) × (new ≡ Some after) × (left ≡ bytes ++ after)
+pub read_more : (old new : Option (List ℕ)) (left bytes : List ℕ) → old ≡ Some left
+    → Consumes old new bytes → (after : List ℕ) × (new ≡ Some after) × (left ≡ bytes ++ after)
 read_more None new left bytes e h = absurd (none-some left e)
 read_more (Some known) None left bytes e h = absurd h
 read_more (Some known) (Some after) left bytes e h = (after, refl, sym (same_Some known left e) ∙ h)
@@ -24,10 +26,11 @@ Progress input reader before after line =
     IfSome input (λ bytes. (left : List ℕ) × (reader ≡ Some left) × (written : List ℕ) × Appends before after written × Leaves bytes written (line ++ left))
 
 -- one read answered
-pub progress_more : (input reader next before middle after : Option (List ℕ)) (line rest chunk replies : List ℕ)
+pub progress_more : (input reader next before middle after : Option (List ℕ))
+    (line rest chunk replies : List ℕ)
     → Progress input reader before middle line → Consumes reader next chunk
-    → ((more : List ℕ) → Leaves (line ++ (chunk ++ more)) replies (rest ++ more)) → Appends middle after replies
-    → Progress input next before after rest
+    → ((more : List ℕ) → Leaves (line ++ (chunk ++ more)) replies (rest ++ more))
+    → Appends middle after replies → Progress input next before after rest
 progress_more None reader next before middle after line rest chunk replies p read answered wrote = tt
 progress_more (Some bytes) reader next before middle after line rest chunk replies p read answered wrote =
     let more = read_more reader next p.0 chunk p.1 read in
@@ -43,7 +46,8 @@ progress_more (Some bytes) reader next before middle after line rest chunk repli
 pub progress_end : (input reader next before middle after : Option (List ℕ)) (line output : List ℕ)
     → Progress input reader before middle line → Consumes reader next [] → IsAtEnd next
     → IsOutput line output → Appends middle after output
-    → IfSome input (λ bytes. (next ≡ Some []) × (all : List ℕ) × IsOutput bytes all × Appends before after all)
+    → IfSome input
+    (λ bytes. (next ≡ Some []) × (all : List ℕ) × IsOutput bytes all × Appends before after all)
 progress_end None reader next before middle after line output p read end last wrote = tt
 progress_end (Some bytes) reader next before middle after line output p read end last wrote =
     let more = read_more reader next p.0 [] p.1 read in

@@ -1,4 +1,4 @@
--- The built-in alphabet that a command speaks of.
+-- The built-in alphabet of a command.
 use Rattle.std.specs.Prelude.{ℕ, List}
 use Rattle.base62.specs.Alphabet.{standard, alternative}
 use Rattle.base62_cli.specs.declared.reply.BuiltIn.{BuiltIn}

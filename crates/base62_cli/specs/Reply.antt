@@ -10,13 +10,14 @@ use Rattle.base62.specs.Canonical.{IsCanonical}
 use Rattle.base62.specs.Decoding.{decoding}
 use Rattle.base62.specs.Fault.{decode_error_text}
 
--- the number that decimal digits denote, of which there may be any count: 48 is `0`
+-- the number that any count of decimal digits denotes; 48 is `0`
 unfoldable pub decimal_value : List ℕ → ℕ
 decimal_value text = sum_over_places 10 (map (λ c. c - 48) text)
 
 -- one or more decimal digits of a value below 2^128
 unfoldable pub is_number : List ℕ → Bool
-is_number text = nat_lt 0 (length text) && all_ascii_digits text && nat_lt (decimal_value text) (2 ^ 128)
+is_number text =
+    nat_lt 0 (length text) && all_ascii_digits text && nat_lt (decimal_value text) (2 ^ 128)
 
 -- the reply to a text that is to be encoded over an alphabet: the canonical text of its number
 abbrev pub IsEncodeReply : List ℕ → List ℕ → List ℕ → Type 0
@@ -33,12 +34,16 @@ decoded_text (Err e) = codes "fault: " ++ decode_error_text e
 abbrev pub decode_reply : List ℕ → List ℕ → List ℕ
 decode_reply B text = decoded_text (decoding B text)
 
--- A line is a command, which is three letters and one space, and then a text, which is the whole rest
--- of the line and may be empty.
+-- A line is a command, which is three letters and one space, and then a text. The text goes up to
+-- the line's end and may be empty.
 unfoldable pub IsReply : List ℕ → List ℕ → Type 0
 IsReply line reply =
-    MatchBool (starts_with nat_eq line (codes "enc ")) (IsEncodeReply standard (drop 4 line) reply)
-    (MatchBool (starts_with nat_eq line (codes "alt ")) (IsEncodeReply alternative (drop 4 line) reply)
-    (MatchBool (starts_with nat_eq line (codes "dec ")) (reply ≡ decode_reply standard (drop 4 line))
-    (MatchBool (starts_with nat_eq line (codes "adc ")) (reply ≡ decode_reply alternative (drop 4 line))
+    MatchBool (starts_with nat_eq line (codes "enc "))
+    (IsEncodeReply standard (drop 4 line) reply)
+    (MatchBool (starts_with nat_eq line (codes "alt "))
+    (IsEncodeReply alternative (drop 4 line) reply)
+    (MatchBool (starts_with nat_eq line (codes "dec "))
+    (reply ≡ decode_reply standard (drop 4 line))
+    (MatchBool (starts_with nat_eq line (codes "adc "))
+    (reply ≡ decode_reply alternative (drop 4 line))
     (reply ≡ codes "fault: unknown command"))))

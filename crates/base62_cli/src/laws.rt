@@ -14,8 +14,8 @@ pub fn one_output()
     base62::laws::one_text();
 }
 
-/// Where lines end: an empty input has none, a byte 10 ends what stands before it, and a nonempty rest that
-/// has no byte 10 is one line. These three say what the lines of every input are.
+/// Where lines end. An empty input has no line. A byte 10 ends the line before it. Nonempty bytes
+/// without a byte 10 are one line. These three say what the lines of every input are.
 pub fn lines_of_an_input()
     ensures empty { lines_of [] ≡ [] }
     ensures ended { (line bytes : List ℕ) → All (λ b. b ≢ 10) line

@@ -1,5 +1,5 @@
-//! A line program over `base62`: it reads lines such as `enc 1337` and `dec LZ` and writes for each
-//! the text, the number or what is wrong.
+//! A line program over `base62`. It reads lines such as `enc 1337` and `dec LZ`, and for each
+//! writes the text, the number or what is wrong.
 #![tactic(auto)]
 
 mod fault;
@@ -20,7 +20,7 @@ fn main(rt: HostRuntime) -> ExitCode {
     }
 }
 
-// A standard error that takes nothing can't be told of, so the status alone says it then.
+// Where standard error takes nothing, the exit status alone tells the fault.
 fn fail(rt: &impl Eprint, fault: ToolFault) -> ExitCode {
     let _ = eprintln!(rt; "{fault}");
     ExitCode::FAILURE

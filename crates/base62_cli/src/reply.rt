@@ -16,14 +16,15 @@ const TEN_TO_19: u128 = 10_000_000_000_000_000_000;
 // 2^127 / 10^19, rounded down.
 const INVERSE: u128 = 17_014_118_346_046_923_173;
 
-// The built-in alphabet that a command speaks of.
+// The built-in alphabet of a command.
 #[derive(Clone, Copy)]
 pub(crate) enum BuiltIn {
     Standard,
     Alternative,
 }
 
-/// Appends the reply to `line`, and `\n`. On `Err`, for want of memory, a part may have been appended.
+/// Appends the reply to `line`, and `\n`. `Err` says that there was no memory; a part of
+/// them may have been appended.
 pub fn push_reply(line: &[u8], out: &mut Vec<u8>) -> Result<(), AllocError>
     ensures { OnOk result ((reply : List ℕ) × IsReply line.now reply
         × (out.new.items ≡ out.old.items ++ (reply ++ 10 ∷ []))) }
@@ -76,8 +77,8 @@ fn push_decoded(alphabet: BuiltIn, text: &[u8], out: &mut Vec<u8>) -> Result<(),
     written.map_err(|_| AllocError)
 }
 
-// Appends the number in decimal, and `\n`. One above 64 bits goes in two parts: each digit of a part above 64 bits
-// takes a division of 128 bits, and of another part one of 64.
+// Appends the number in decimal, and `\n`. A number above 64 bits goes in two parts, since each of
+// its digits would take a division of 128 bits. A digit of a part within 64 bits takes one of 64.
 fn push_number(number: u128, out: &mut Vec<u8>) -> io::Result<()>
     ensures { OnOk result (out.new.items ≡ out.old.items ++ (decimal number ++ 10 ∷ [])) }
 {
@@ -88,8 +89,8 @@ fn push_number(number: u128, out: &mut Vec<u8>) -> io::Result<()>
     writeln!(out, "{high}{low:019}")
 }
 
-// What stands before the last 19 digits, and the number of those. The quotient is estimated from the upper half, and
-// what it lacks is a quotient of 64 bits: the language's `/` of 128 bits calls the C runtime.
+// The quotient and the remainder by 10^19. The quotient is estimated from the upper half, and a
+// quotient of 64 bits adds what is missing: the language's `/` of 128 bits calls the C runtime.
 fn cut_by_19(number: u128) -> (u128, u128)
     ensures whole { result.0 * 10 ^ 19 + result.1 ≡ number }
     ensures low { result.1 < 10 ^ 19 }

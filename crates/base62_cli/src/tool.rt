@@ -16,21 +16,23 @@ pub(crate) const CHUNK_LEN: usize = 32768;
 
 /// Answers each line of the reader, in order, and writes nothing else.
 ///
-/// A line ends with `\n`, and a last nonempty line needs none. A `\r` belongs to its line. A line is a
-/// command, one space, and then a text, which is all the rest and may be empty:
+/// A line ends with `\n`, but a last nonempty line needs none. A `\r` belongs to its line. A line
+/// is a command, one space and a text. The text goes up to the line's end and may be empty.
 ///
-/// - `enc` and a decimal number below 2^128, with any count of leading zeros, is answered by the number's
-///   standard text, and `alt` by its alternative text. Any other text gives `fault: not a number`.
-/// - `dec` and a text is answered by the number that [`base62::decode`] gives for it, in decimal, and `adc`
-///   by that of [`base62::decode_alternative`]. Where they refuse it, `fault: ` and what they say comes.
-/// - Any other line is answered by `fault: unknown command`.
+/// - `enc` with a decimal number below 2^128, with any count of leading zeros, gives the number's
+///   standard text, and `alt` its alternative text. Any other text gives `fault: not a number`.
+/// - `dec` with a text gives its number by [`base62::decode`], in decimal, and `adc` its number by
+///   [`base62::decode_alternative`]. A text that is refused gives `fault: ` and what the fault
+///   says.
+/// - Any other line gives `fault: unknown command`.
 ///
-/// Each answer is followed by `\n`. The replies to what a read gave go out before the next read, and the
+/// Each reply is followed by `\n`. The replies to what a read gave go out before the next read. The
 /// writer is flushed once, at the end.
 ///
-/// `Err(Read)` comes where a read fails, or where 2^64 - 1 reads meet no end; `Err(Write)` where the writer
-/// or its flush fails, or the writer takes nothing; `Err(Memory)` where there is none for a line or for the
-/// replies to a read, which is all the memory that a run takes. On `Err` some replies may have been written.
+/// `Err(Read)` comes where a read fails, or 2^64 - 1 reads meet no end. `Err(Write)` comes where
+/// the writer or its flush fails, or the writer takes nothing. `Err(Memory)` comes where there is
+/// no memory for a line, or for the replies to a read. A run takes no other memory. On `Err` some
+/// replies may have been written.
 ///
 /// ```rust
 /// let mut input = b"enc 1337\ndec LZ".as_slice();
@@ -70,13 +72,14 @@ pub fn run<R: Read, W: Write>(
     Err(ToolFault::Read)
 }
 
-// Answers the lines that end in the chunk, of which the first began with `line`, and leaves in `line`
-// what has come of the next.
+// Answers the lines that end in the chunk. The first of them began with `line`. What has come of
+// the next is left in `line`.
 fn answer(chunk: &[u8], line: &mut Vec<u8>, out: &mut Vec<u8>) -> Result<(), AllocError>
     requires { All (λ b. b ≢ 10) line.old.items }
     ensures unended { OnOk result (All (λ b. b ≢ 10) line.new.items) }
     ensures answered { OnOk result ((replies : List ℕ) × (out.new.items ≡ out.old.items ++ replies)
-        × ((more : List ℕ) → Leaves (line.old.items ++ (chunk.now ++ more)) replies (line.new.items ++ more))) }
+        × ((more : List ℕ)
+        → Leaves (line.old.items ++ (chunk.now ++ more)) replies (line.new.items ++ more))) }
 {
     let Some((end, after)) = split_line(chunk) else {
         return line.extend_from_slice(chunk);

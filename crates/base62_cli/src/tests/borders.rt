@@ -1,4 +1,4 @@
-//! Lines across the borders of what a read takes.
+//! Lines across the borders of reads.
 
 use super::replies::{REPLIES, answers, push_line};
 use super::streams::{ByteReader, Calls};
@@ -6,7 +6,8 @@ use crate::tool::{CHUNK_LEN, run};
 use std::process::Abort;
 use std::test::Fail;
 
-// What the input is answered where a read takes all that there is room for, and where it takes one byte.
+// The input has the output where a read takes all that there is room for, and where it takes one
+// byte.
 fn assert_answers(
     rt: &(impl Abort + AllocGlobal),
     input: &[u8],
@@ -25,7 +26,8 @@ fn assert_answers(
     Ok(())
 }
 
-// A line of so many bytes, of which the reply tells each: alone, with its end, and before another line.
+// A line of so many bytes: alone, with its end, and before another line. Its reply depends on each
+// of them.
 fn assert_line(rt: &(impl Abort + AllocGlobal), length: usize) -> Result<(), Fail> {
     let index = length.saturating_sub(5);
     let zeros = "0".repeat(rt.alloc(), index)?;
@@ -42,8 +44,8 @@ fn assert_line(rt: &(impl Abort + AllocGlobal), length: usize) -> Result<(), Fai
     Ok(())
 }
 
-// From seven bytes below what a read takes to eight above it, so that the line, its end and the next line's first
-// bytes come in one read or in two.
+// From seven bytes below what a read takes to eight above it, so that the line, its end and the
+// next line's first bytes come in one read or in two.
 #[test]
 fn line_of_each_length(rt: HostRuntime) -> Result<(), Fail> {
     for length in CHUNK_LEN - 7..=CHUNK_LEN + 8 {

@@ -8,9 +8,10 @@ use crate::fault::ToolFault;
 use std::alloc::{AllocError, Global};
 use std::test::Fail;
 
-// A fault in a table's cells of 40 characters and of 3, which it fills as it is.
+// A fault in two cells of a table, of 40 and of 3 characters. It is neither padded nor cut.
 fn cells(alloc: Global, fault: ToolFault) -> Result<String, AllocError>
-    ensures { IfOk result (λ cells. string_bytes cells ≡ fault_text fault ++ (codes "|" ++ (fault_text fault ++ codes "|"))) }
+    ensures { IfOk result (λ cells. string_bytes cells
+        ≡ fault_text fault ++ (codes "|" ++ (fault_text fault ++ codes "|"))) }
 {
     format!(in alloc; "{fault:>40}|{fault:.3}|")
 }

@@ -28,8 +28,8 @@ impl Write for RoomWriter<'_> {
     }
 }
 
-// The input and the output stand in fixed arrays, so that each request for memory is the run's. A refused run writes no
-// part of a reply, and does not flush.
+// The input and the output stand in fixed arrays, so that the run makes each request for memory. A
+// refused run writes no part of a reply, and does not flush.
 fn is_refused<R: Read>(
     rt: &(impl Abort + AllocGlobal),
     name: &str,
@@ -63,9 +63,9 @@ fn is_refused<R: Read>(
     outcome.is_err()
 }
 
-// Says which run was refused memory, for `.ci/refused-memory`, which has each request refused in turn and
-// wants as many of each run as are told here. The last step is there for it to see that the runs made no
-// further request.
+// Says which run was refused memory. `.ci/refused-memory` reads this, has each request refused in
+// turn, and wants as many requests of each run as are told here. The last step shows it that the
+// runs made no further request.
 #[test]
 fn refused_memory(rt: HostRuntime) -> Result<(), Fail> {
     let mut long_line = [b'0'; CHUNK_LEN + 8];
@@ -81,8 +81,8 @@ fn refused_memory(rt: HostRuntime) -> Result<(), Fail> {
         ("open_line", b"dec rustlang", "189876682536016\n"),
         // One for what each of two reads gives of the line, and one for the replies.
         ("long_line", &long_line, "0\n"),
-        // One for the first line, and five for the replies, which grow to 120 bytes: room is for 8 bytes first,
-        // and at least doubles then.
+        // One for the first line, and five for the replies, which grow to 120 bytes: room is for 8
+        // bytes first, and at least doubles then.
         ("stored_run", STORED_INPUT.as_bytes(), STORED_OUTPUT),
     ];
     for (name, input, output) in cases {

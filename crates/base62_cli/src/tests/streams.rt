@@ -158,7 +158,8 @@ fn failed_reads(rt: HostRuntime) {
     }
 }
 
-// How many reads of a byte come before the reply to a line: an end that is not a line's takes one more.
+// How many reads of a byte come before the reply to a line. Where the input ends without a line
+// end, it is one more.
 fn reads_for(input: &[u8], line: usize) -> usize {
     let mut ends: usize = 0;
     let mut reads: usize = 0;

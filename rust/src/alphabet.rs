@@ -23,8 +23,7 @@ impl Alphabet {
     ///
     /// # Errors
     ///
-    /// [`Repeated`](AlphabetError::Repeated) comes exactly where a byte stands there twice, and names the first that
-    /// does.
+    /// [`Repeated`](AlphabetError::Repeated) comes exactly if a byte is repeated, and names the first repeat.
     ///
     /// ```
     /// use base62::{Alphabet, AlphabetError};

@@ -77,16 +77,14 @@ pub fn digit_count(n: u128) -> usize {
 ///
 /// # Errors
 ///
-/// The first of these that fits decides:
+/// The first of these that fits decides. The rest is all that follows the leading zeros.
 ///
 /// 1. An empty text gives [`EmptyInput`](DecodeError::EmptyInput).
-/// 2. More than 22 bytes after the leading zeros give [`ArithmeticOverflow`](DecodeError::ArithmeticOverflow),
-///    whatever they are.
-/// 3. A byte among the first ten of them that is no letter gives
-///    [`InvalidBase62Byte`](DecodeError::InvalidBase62Byte) for the first such.
-/// 4. `ArithmeticOverflow` comes where there are 22 of them, and the first ten with twelve zeros behind denote 2^128
-///    or more.
-/// 5. A later byte that is no letter gives `InvalidBase62Byte` for the first such.
+/// 2. A rest of more than 22 bytes gives [`ArithmeticOverflow`](DecodeError::ArithmeticOverflow), whatever they are.
+/// 3. Among the first ten bytes of the rest, the first that is no letter gives
+///    [`InvalidBase62Byte`](DecodeError::InvalidBase62Byte).
+/// 4. A rest of 22 bytes, whose first ten with twelve zeros behind denote 2^128 or more, gives `ArithmeticOverflow`.
+/// 5. The first later byte that is no letter gives `InvalidBase62Byte`.
 /// 6. A value of 2^128 or more gives `ArithmeticOverflow`.
 ///
 /// ```
@@ -120,7 +118,7 @@ pub fn decode_with<T: AsRef<[u8]>>(alphabet: &Alphabet, input: T) -> Result<u128
 /// The number that `input` denotes, where `input` is the text that [`encode_bytes`] writes for it. `Ok(None)` says that
 /// `input` denotes a number too, but begins with zeros that it does not need.
 ///
-/// So no two texts are answered by one number. An address of a page then has one form alone.
+/// So two texts never give one number, and a page has one address alone.
 ///
 /// # Errors
 ///

@@ -3,7 +3,7 @@ use core::{error, fmt};
 
 /// Why a text is no number below 2^128.
 ///
-/// It displays as a sentence of at most 77 characters of ASCII, whatever the format asks. A byte is told there by its
+/// It displays as a sentence of at most 77 ASCII characters, and ignores format options. A byte is told there by its
 /// [default escape](core::ascii::escape_default).
 ///
 /// ```
@@ -14,8 +14,8 @@ use core::{error, fmt};
 /// ```
 #[derive(Clone, Copy, Debug, PartialEq, Eq, PartialOrd, Ord, Hash)]
 pub enum DecodeError {
-    /// The text denotes 2^128 or more, or has more than 22 bytes after its leading zeros, or the first ten of 22 such
-    /// bytes show already that it would denote so much.
+    /// The text denotes 2^128 or more, or has more than 22 bytes after its leading zeros, or just 22, whose first ten
+    /// with twelve zeros behind denote 2^128 or more.
     ArithmeticOverflow,
     /// The text is empty.
     EmptyInput,
@@ -26,8 +26,7 @@ pub enum DecodeError {
 /// Why a number is not written into a buffer.
 #[derive(Clone, Copy, Debug, PartialEq, Eq, PartialOrd, Ord, Hash)]
 pub enum EncodeError {
-    /// The buffer is shorter than the text of the number. In place of a fixed width: it is 0, or the number takes more
-    /// letters.
+    /// The buffer, or the fixed width, is shorter than the text of the number.
     BufferTooSmall,
 }
 

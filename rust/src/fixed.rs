@@ -2,7 +2,7 @@ use crate::native::{self, Letters, MAX_DIGITS};
 use crate::{Alphabet, DecodeError, EncodeError};
 use core::ops::RangeInclusive;
 
-/// Writes `num` into all of `places`: its standard text of exactly so many letters, with zeros in front.
+/// Fills `places` with the standard text of `num`, with zeros in front.
 ///
 /// Texts of one length sort by their bytes as their numbers do, and [`decode`](crate::decode) reads them.
 ///
@@ -74,8 +74,7 @@ pub fn encode_key<T: Into<u128>>(num: T) -> [u8; MAX_DIGITS] {
 /// The numbers below 2^128 whose keys begin with `front`, or `Ok(None)` where there is none, as for a front of more
 /// than 22 letters.
 ///
-/// All keys begin with an empty front. The keys from that of the least number to that of the greatest are those that a
-/// database looks between.
+/// All keys begin with an empty front. In a database, scan from the key of the least number to that of the greatest.
 ///
 /// # Errors
 ///
@@ -93,7 +92,7 @@ pub fn key_range<T: AsRef<[u8]>>(front: T) -> Result<Option<RangeInclusive<u128>
 /// The numbers below 2^128 whose standard texts of `width` letters begin with `front`, or `Ok(None)` where there is
 /// none, as for a front of more letters, or for a width of 0.
 ///
-/// The width may be any. From 22 letters on all numbers below 2^128 have such a text.
+/// Any width will do. From 22 on, each number below 2^128 has a text of that width.
 ///
 /// # Errors
 ///

@@ -38,8 +38,8 @@
 //! and includes `alloc`. With neither, the crate needs `core` alone.
 //!
 //! Only the calls of `alloc` allocate. If memory is refused, they end the program, as a `String` does. Only
-//! `encode_with`, `encode_buf_with` and [`encode_fmt_with`] panic, on letters that are not ASCII. The time of a call
-//! depends on its number or text.
+//! `encode_with`, `encode_buf_with` and [`encode_fmt_with`] panic, on letters that are not ASCII. No call takes
+//! constant time: it depends on the number or text.
 
 #![no_std]
 #![deny(unsafe_op_in_unsafe_fn)]

@@ -58,7 +58,7 @@ pub fn encode_fmt_alt<T: Into<u128>>(num: T) -> impl fmt::Display {
 ///
 /// # Panics
 ///
-/// The letters have to be ASCII, as [`is_ascii`](Alphabet::is_ascii) tells.
+/// It panics if a letter is not ASCII, as [`is_ascii`](Alphabet::is_ascii) tells.
 ///
 /// ```
 /// let alphabet = base62::Alphabet::alternative();

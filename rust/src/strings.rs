@@ -26,7 +26,7 @@ pub fn encode_alternative<T: Into<u128>>(num: T) -> String {
 ///
 /// # Panics
 ///
-/// The letters have to be ASCII, as [`is_ascii`](Alphabet::is_ascii) tells.
+/// It panics if a letter is not ASCII, as [`is_ascii`](Alphabet::is_ascii) tells.
 ///
 /// ```
 /// let alphabet = base62::Alphabet::alternative();
@@ -66,7 +66,7 @@ pub fn encode_alternative_buf<T: Into<u128>>(num: T, buf: &mut String) {
 ///
 /// # Panics
 ///
-/// The letters have to be ASCII, as [`is_ascii`](Alphabet::is_ascii) tells.
+/// It panics if a letter is not ASCII, as [`is_ascii`](Alphabet::is_ascii) tells.
 ///
 /// ```
 /// let alphabet = base62::Alphabet::alternative();

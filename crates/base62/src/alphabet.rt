@@ -85,8 +85,8 @@ impl Alphabet {
 
     /// The alphabet of letters that are written out in the program.
     ///
-    /// It requires 62 distinct bytes, which the prover finds by computing. So it refuses nothing
-    /// and takes no memory. Letters that come as input go to [`new`](Alphabet::new).
+    /// It requires 62 distinct bytes, which the prover checks by computing. It refuses nothing and
+    /// takes no memory. Letters that come as input go to [`new`](Alphabet::new).
     ///
     /// ```rust
     /// let letters = *b"ABCDEFGHIJKLMNOPQRSTUVWXYZabcdefghijklmnopqrstuvwxyz0123456789";

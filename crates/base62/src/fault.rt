@@ -120,8 +120,8 @@ impl fmt::Display for EncodeError {
 impl error::Error for EncodeError {}
 
 impl AlphabetError {
-    /// What the fault says, in at most 63 characters of ASCII, with the byte shown as by
-    /// [`DecodeError::text`]. The call takes no memory and refuses nothing.
+    /// What the fault says, in at most 63 ASCII characters for any index, with the byte
+    /// shown as by [`DecodeError::text`]. The call takes no memory and refuses nothing.
     #[tactic(auto, unfolding(crate::specs::Fault::alphabet_error_text))]
     pub fn text(&self) -> InlineText<MAX_FAULT_TEXT>
         ensures { inline_text result ≡ alphabet_error_text self.now }

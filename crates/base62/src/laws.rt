@@ -65,7 +65,7 @@ pub fn one_text()
 {}
 
 /// A text without needless zeros is the only canonical text of the number that decoding gives for
-/// it. Where text and number are written out, computing shows both conditions.
+/// it. With literals, computing shows both conditions: no needless zeros, and the number.
 pub fn text_of_number(alphabet: &Alphabet, text: &[u8], number: u128)
     ensures { decoding alphabet.now text.now ≡ Ok number
         → without_zeros alphabet.now text.now ≡ text.now
@@ -113,7 +113,7 @@ pub fn uuids_of_two(a: [u8; 16], b: [u8; 16])
 /// Over any alphabet decoding accepts exactly the nonempty texts of letters whose value is below
 /// 2^128. The canonical text of that value is the text without its needless zeros. A fault that
 /// names a byte names the first that is no letter. If a text overflows, and a letter follows its
-/// leading zeros, it denotes 2^128 or more with any letters in place of its bad bytes.
+/// leading zeros, it denotes 2^128 or more whatever letters replace its bad bytes.
 pub fn accepted_and_refused()
     ensures { (B : List ℕ) → IsAlphabet B → (text : List ℕ) → AnswerTells B text }
 {}
@@ -277,8 +277,8 @@ pub fn letters_of_a_kind()
 {}
 
 /// The built-in alphabets are ASCII. Over an alphabet of ASCII letters each text of letters is
-/// ASCII. Right-aligned to a width, an ASCII text has in front as many ASCII fills as it is bytes
-/// short of the width.
+/// ASCII. Right-aligned to a width, an ASCII text has one ASCII fill in front for each byte that it
+/// is short of the width.
 #[tactic(auto, using(crate::proofs::AlphabetLemmas::standard_is_ascii, crate::proofs::AlphabetLemmas::alternative_is_ascii, crate::proofs::PaddingLemmas::padded_right))]
 pub fn texts_of_ascii()
     ensures standard { IsAscii standard }

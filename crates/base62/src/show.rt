@@ -32,8 +32,8 @@ impl Model for Fmt {
 ///
 /// A width counts characters. One that is not greater than the text leaves it as it is. The fill is
 /// a space where none is stated. A text with no stated alignment is left-aligned. A centred one has
-/// half of the padding in front, rounded down. A stated precision cuts the text, and nothing is
-/// promised of what is left. `Err` is the error of the underlying writer. The call takes no memory
+/// half of the padding in front, rounded down. What a stated
+/// precision leaves of the text is not specified. `Err` is the error of the underlying writer. The call takes no memory
 /// of its own.
 impl fmt::Display for Fmt {
     ghost output = { λ text. Some text };

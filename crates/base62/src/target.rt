@@ -155,7 +155,7 @@ fn append_over<T: Number>(tables: &Tables, num: T, buf: &mut String) -> Result<(
 /// Writes the standard text of `num`, which has 1 to 22 letters, to `w`.
 ///
 /// The text is handed to the writer whole, and the writer is not flushed. `Err` is the writer's own
-/// error, or says that the writer took nothing or was interrupted without end. How many bytes it
+/// error, or says that the writer took nothing or kept being interrupted. How many bytes it
 /// had taken by then is not specified. The call takes no memory of its own.
 ///
 /// ```rust

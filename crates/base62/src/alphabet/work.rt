@@ -11,7 +11,7 @@ use std::snapshot::Snapshot;
 ///
 /// It is for a caller that must bound its work, such as a server that decodes what it is sent.
 /// Counted calls, such as [`decode_counted`](crate::decode_counted), say how far they move it. Only
-/// contracts read it: they see it as the number of steps, which has no bound. In the running
+/// contracts read it: they see it as the number of steps, which cannot overflow. In the running
 /// program it takes no bytes, and nothing can be read from it. A program gets a proved bound on its
 /// steps, not their number.
 ///

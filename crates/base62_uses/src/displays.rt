@@ -27,7 +27,8 @@ pub fn token_heading(alloc: Global, number: u128) -> Result<String, AllocError>
     format!(in alloc; "Token {}", base62::encode_fmt_alt(number))
 }
 
-/// The heading of a number over an alphabet of the caller's own. `Err` says that there was no memory for it.
+/// The heading of a number over an alphabet of the caller's own. `Err` says that there was no
+/// memory for it.
 pub fn own_heading(alloc: Global, alphabet: &Alphabet, number: u128) -> Result<String, AllocError>
     requires { IsAscii alphabet.now }
     ensures { IfOk result (λ heading. (text : List ℕ) × IsCanonical alphabet.now text number
@@ -36,8 +37,8 @@ pub fn own_heading(alloc: Global, alphabet: &Alphabet, number: u128) -> Result<S
     format!(in alloc; "Code {}", base62::encode_fmt_with(alphabet, number))
 }
 
-/// The text of a number in a column of 22 letters, with zeros in front. `Err` says that there was no memory
-/// for it.
+/// The text of a number in a column of 22 letters, with zeros in front. `Err` says that there was
+/// no memory for it.
 #[tactic(auto, unfolding(base62::specs::Padding::displayed))]
 pub fn column_text(alloc: Global, number: u128) -> Result<String, AllocError>
     ensures { IfOk result (λ column. (text : List ℕ) × IsCanonical standard text number
@@ -47,7 +48,8 @@ pub fn column_text(alloc: Global, number: u128) -> Result<String, AllocError>
     format!(in alloc; "{:0>22}", base62::encode_fmt(number))
 }
 
-/// The text of a token in a column of 24 characters, with full stops behind. `Err` says that there was no memory for it.
+/// The text of a token in a column of 24 characters, with full stops behind. `Err` says that there
+/// was no memory for it.
 #[tactic(auto, unfolding(base62::specs::Padding::displayed))]
 pub fn token_column(alloc: Global, number: u128) -> Result<String, AllocError>
     ensures { IfOk result (λ column. (text : List ℕ) × IsCanonical alternative text number
@@ -56,8 +58,8 @@ pub fn token_column(alloc: Global, number: u128) -> Result<String, AllocError>
     format!(in alloc; "{:.<24}", base62::encode_fmt_alt(number))
 }
 
-/// The text of a number over an alphabet of the caller's own, in the middle of 24 characters. `Err` says that there was
-/// no memory for it.
+/// The text of a number over an alphabet of the caller's own, in the middle of 24 characters. `Err`
+/// says that there was no memory for it.
 #[tactic(auto, unfolding(base62::specs::Padding::displayed))]
 pub fn centred_text(alloc: Global, alphabet: &Alphabet, number: u128) -> Result<String, AllocError>
     requires { IsAscii alphabet.now }
@@ -67,8 +69,8 @@ pub fn centred_text(alloc: Global, alphabet: &Alphabet, number: u128) -> Result<
     format!(in alloc; "{:*^24}", base62::encode_fmt_with(alphabet, number))
 }
 
-/// A line of 1000 characters that leads up to the text of a number by `é`, which has two bytes. `Err` says that there was
-/// no memory for it.
+/// A line of 1000 characters that ends with the text of a number. Before it stands `é`, which has
+/// two bytes, over and over. `Err` says that there was no memory for it.
 #[tactic(auto, unfolding(base62::specs::Padding::displayed))]
 pub fn leader_line(alloc: Global, number: u128) -> Result<String, AllocError>
     ensures { IfOk result (λ line. (text : List ℕ) × IsCanonical standard text number

@@ -26,7 +26,8 @@ pub fn count_fault(
     ensures counted { OnOk result (unwrap_or (get ⟦<DecodeError as Ord>⟧.cmp counts.new fault) 0
         ≡ min (unwrap_or (get ⟦<DecodeError as Ord>⟧.cmp counts.old fault) 0 + 1) (2 ^ 64 - 1)) }
     ensures others { (other : DecodeError) → other ≢ fault
-        → get ⟦<DecodeError as Ord>⟧.cmp counts.new other ≡ get ⟦<DecodeError as Ord>⟧.cmp counts.old other }
+        → get ⟦<DecodeError as Ord>⟧.cmp counts.new other
+        ≡ get ⟦<DecodeError as Ord>⟧.cmp counts.old other }
     ensures err { OnErr result (IsUnchanged counts.old counts.new) }
 {
     base62::laws::order_of_decode_errors();
@@ -38,16 +39,18 @@ pub fn count_fault(
     Ok(())
 }
 
-/// Notes a fault of the letters that a client sent, and answers whether it was noted before. `Err` says that there was
-/// no memory for it.
+/// Notes a fault of the letters that a client sent, and answers whether it was noted before. `Err`
+/// says that there was no memory for it.
 pub fn was_noted(
     noted: &mut BTreeSet<AlphabetError>,
     fault: AlphabetError,
 ) -> Result<bool, AllocError>
-    ensures before { IfOk result (λ was. was ≡ contains ⟦<AlphabetError as Ord>⟧.cmp noted.old fault) }
+    ensures before { IfOk result
+        (λ was. was ≡ contains ⟦<AlphabetError as Ord>⟧.cmp noted.old fault) }
     ensures now { OnOk result (contains ⟦<AlphabetError as Ord>⟧.cmp noted.new fault ≡ true) }
     ensures others { (other : AlphabetError) → other ≢ fault
-        → contains ⟦<AlphabetError as Ord>⟧.cmp noted.new other ≡ contains ⟦<AlphabetError as Ord>⟧.cmp noted.old other }
+        → contains ⟦<AlphabetError as Ord>⟧.cmp noted.new other
+        ≡ contains ⟦<AlphabetError as Ord>⟧.cmp noted.old other }
     ensures err { OnErr result (IsUnchangedSet noted.old noted.new) }
 {
     base62::laws::order_of_alphabet_errors();
@@ -55,8 +58,9 @@ pub fn was_noted(
     Ok(!is_new)
 }
 
-/// Whether one fault is worse than another, for a batch that is answered by its worst: an overflow is less than an empty
-/// text, that less than a bad byte, and bad bytes go by byte and then by index.
+/// Whether one fault is worse than another, for a batch that is answered by its worst. An overflow
+/// is less than an empty text, which is less than a bad byte. Bad bytes go by byte and then by
+/// index.
 pub fn is_worse(a: DecodeError, b: DecodeError) -> bool
     ensures { IsTrue result ↔ (decode_error_order b a ≡ Less) }
 {
@@ -64,7 +68,8 @@ pub fn is_worse(a: DecodeError, b: DecodeError) -> bool
     a > b
 }
 
-/// Whether a fault of letters comes after another in a report, which goes by byte and then by index.
+/// Whether a fault of letters comes after another in a report, which goes by byte and then by
+/// index.
 pub fn is_later_repeat(a: AlphabetError, b: AlphabetError) -> bool
     ensures { IsTrue result ↔ (alphabet_error_order b a ≡ Less) }
 {
@@ -93,8 +98,8 @@ pub fn answer_all(answers: &mut [DecodeError], fault: DecodeError)
     answers.fill(fault);
 }
 
-/// What a server tells a client whose text names no number below 2^128, and nothing where it names one. It takes
-/// no memory, so it serves where none is left.
+/// What a server tells a client whose text names no number below 2^128. Where it names one, that is
+/// nothing. The call takes no memory, so it serves where none is left.
 pub fn complaint(text: &[u8]) -> InlineText<MAX_FAULT_TEXT>
     ensures number { IsOk (decoding standard text.now) → inline_text result ≡ [] }
     ensures fault { (fault : DecodeError) → decoding standard text.now ≡ Err fault

@@ -21,8 +21,8 @@ pub enum Verdict {
 
 /// What is said of a field with a text.
 pub fn verdict_on(text: &[u8]) -> Verdict
-    ensures fine { 0 < length text.now → AreLetters standard text.now → value standard text.now < 2 ^ 128
-        → result ≡ Verdict.Fine (value standard text.now) }
+    ensures fine { 0 < length text.now → AreLetters standard text.now
+        → value standard text.now < 2 ^ 128 → result ≡ Verdict.Fine (value standard text.now) }
     ensures letters { (n : ℕ) → result ≡ Verdict.Fine n → AreLetters standard text.now }
     ensures number { (n : ℕ) → result ≡ Verdict.Fine n → n ≡ value standard text.now }
     ensures empty { result ≡ Verdict.Empty → length text.now ≡ 0 }
@@ -30,7 +30,8 @@ pub fn verdict_on(text: &[u8]) -> Verdict
         → IsFirstInvalid standard text.now byte index }
     ensures too_large { result ≡ Verdict.TooLarge
         → is_letter standard (slice_index (after_zeros standard text.now) 0) ≡ true
-        → (other : List ℕ) → AgreesAtLetters standard text.now other → 2 ^ 128 ≤ value standard other }
+        → (other : List ℕ) → AgreesAtLetters standard text.now other
+        → 2 ^ 128 ≤ value standard other }
 {
     base62::laws::built_in_alphabets();
     base62::laws::accepted_and_refused();
@@ -54,7 +55,8 @@ pub(crate) fn first_bad_byte(text: &[u8], byte: u8, index: usize)
     base62::laws::accepted_and_refused();
 }
 
-/// The number of a text to which a form put a zero in front. A bad byte is named by its place in what was typed.
+/// The number of a text in front of which a form put a zero. The index of a bad byte is its place
+/// in what was typed.
 pub fn number_behind_zero(alphabet: &Alphabet, text: &[u8]) -> Result<u128, DecodeError>
     ensures { (typed : List ℕ) → 0 < length typed → text.now ≡ zero_letter alphabet.now ∷ typed
         → result ≡ decoding alphabet.now typed }

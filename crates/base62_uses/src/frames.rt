@@ -6,8 +6,8 @@ ghost use Rattle.base62.specs.Canonical.{IsCanonical};
 
 use base62::Work;
 
-/// Puts the text of an id at the front of a frame, and answers its length byte, which is never 0: that ends a stream. It
-/// takes at most 13 steps, whatever the id.
+/// Puts the text of an id at the start of a frame, and answers its length byte. That is never 0,
+/// which would end a stream. Any id takes at most 13 steps.
 pub fn put_frame(id: u64, frame: &mut [u8; 64], work: &mut Work) -> u8
     ensures ends_no_stream { 1 ≤ result }
     ensures short { result ≤ 22 }

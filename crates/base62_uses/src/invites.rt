@@ -28,8 +28,8 @@ pub enum InviteFault {
 pub fn invite_number(code: &[u8], zeros: LeadingZeros) -> Result<u128, InviteFault>
     ensures accepted { (n : ℕ) → zeros ≡ LeadingZeros.Accepted
         → (result ≡ Ok n ↔ (decoding standard code.now ≡ Ok n)) }
-    ensures own { (n : ℕ) → zeros ≡ LeadingZeros.Refused → n < 2 ^ 128 → IsCanonical standard code.now n
-        → result ≡ Ok n }
+    ensures own { (n : ℕ) → zeros ≡ LeadingZeros.Refused → n < 2 ^ 128
+        → IsCanonical standard code.now n → result ≡ Ok n }
     ensures canonical { (n : ℕ) → zeros ≡ LeadingZeros.Refused → result ≡ Ok n
         → (decoding standard code.now ≡ Ok n) × IsCanonical standard code.now n }
     ensures fault { (fault : DecodeError) → result ≡ Err (InviteFault.Text fault)

@@ -73,12 +73,13 @@ pub fn status_of(text: &[u8]) -> u16
     }
 }
 
-/// The address of a row's short link, in at most 42 letters. What follows its first 20 is read as the id. `Err` says that
-/// there was no memory for it.
+/// The address of a row's short link, in at most 42 letters. What follows the first 20 is read as
+/// the id. `Err` says that there was no memory for it.
 pub fn link_address(alloc: Global, id: u64) -> Result<String, AllocError>
     ensures text { IfOk result (λ address. (text : List ℕ) × IsCanonical standard text id
         × (string_bytes address ≡ codes "https://example.org/" ++ text)) }
-    ensures back { IfOk result (λ address. decoding standard (drop 20 (string_bytes address)) ≡ Ok id) }
+    ensures back { IfOk result
+        (λ address. decoding standard (drop 20 (string_bytes address)) ≡ Ok id) }
     ensures short { IfOk result (λ address. string_len address ≤ 42) }
 {
     let mut address = String::from_str(alloc, "https://example.org/")?;

@@ -15,13 +15,14 @@ fn mark_alphabet() -> Alphabet
     ensures { result ≡ mark_letters }
 {
     Alphabet::of(
-        *b"\xc2\xc3\xc4\xc5\xc6\xc7\xc8\xc9\xca\xcb\xcc\xcd\xce\xcf\xd0\xd1\xd2\xd3\xd4\xd5\xd6\xd7\xd8\xd9\xda\xdb\xdc\xdd\xde\xdf\xe0\
-        \xe1\xe2\xe3\xe4\xe5\xe6\xe7\xe8\xe9\xea\xeb\xec\xed\xee\xef\xf0\xf1\xf2\xf3\xf4\xf5\xf6\xf7\xf8\xf9\xfa\xfb\xfc\xfd\xfe\xff",
+        *b"\xc2\xc3\xc4\xc5\xc6\xc7\xc8\xc9\xca\xcb\xcc\xcd\xce\xcf\xd0\xd1\xd2\xd3\xd4\xd5\xd6\xd7\
+        \xd8\xd9\xda\xdb\xdc\xdd\xde\xdf\xe0\xe1\xe2\xe3\xe4\xe5\xe6\xe7\xe8\xe9\xea\xeb\xec\xed\
+        \xee\xef\xf0\xf1\xf2\xf3\xf4\xf5\xf6\xf7\xf8\xf9\xfa\xfb\xfc\xfd\xfe\xff",
     )
 }
 
-/// Appends the mark of a number to a line of ASCII, from which it stands apart by its bytes. `Err` says that there was no
-/// memory for it.
+/// Appends the mark of a number to a line. In a line of ASCII the bytes of the mark stand out.
+/// `Err` says that there was no memory for it.
 pub fn append_mark(line: &mut Vec<u8>, number: u128) -> Result<(), AllocError>
     ensures { OnOk result ((mark : List ℕ) × IsCanonical mark_letters mark number
         × (line.new.items ≡ line.old.items ++ mark)) }
@@ -31,7 +32,8 @@ pub fn append_mark(line: &mut Vec<u8>, number: u128) -> Result<(), AllocError>
     line.extend_from_slice(&buf[..len])
 }
 
-/// Two halves of 11 letters reach 2^128 - 1 and no further, and a 23rd letter behind the 22 of that number is too much.
+/// Two marks in a row reach 2^128 - 1 and no further, where the second has 11 letters. A letter
+/// behind the mark of that number overflows.
 pub fn borders_of_joined_marks()
     ensures greatest { (front back : List ℕ) → length back ≡ 11
         → decoding mark_letters front ≡ Ok 6539293958884420617
@@ -49,7 +51,8 @@ pub fn borders_of_joined_marks()
     base62::laws::concatenation();
 }
 
-/// A zero in front of 22 letters leaves the number and the overflow, and a bad byte at the last place goes to index 22.
+/// A zero in front of 22 letters changes no number and no overflow. A bad byte at the last place
+/// goes to index 22.
 #[tactic(auto, unfolding(crate::specs::Marks::mark_letters))]
 pub fn borders_of_zeros_in_front()
     ensures greatest { (mark : List ℕ) → length mark ≡ 22

@@ -10,8 +10,8 @@ ghost use Rattle.base62.specs.Key.{IsKey};
 use base62::{Alphabet, Number};
 use std::cmp::Ordering;
 
-/// How two links compare in a listing: in shortlex order, by length and then by bytes. So the links of ids sort as
-/// the ids.
+/// How two links compare in a listing: in shortlex order, by length and then by bytes. Links then
+/// sort as their ids.
 pub fn compare_links(a: &[u8], b: &[u8]) -> Ordering
     ensures { (m n : ℕ) → IsCanonical standard a.now m → IsCanonical standard b.now n
         → result ≡ nat_cmp m n }
@@ -21,7 +21,8 @@ pub fn compare_links(a: &[u8], b: &[u8]) -> Ordering
     a.len().cmp(&b.len()).then(a.cmp(b))
 }
 
-/// An id that sorts by the time at which it was made, and then by its place among those of one time.
+/// An id that sorts by the time at which it was made, and then by its place among those of one
+/// time.
 #[derive(Clone, Copy, Debug, PartialEq, Eq)]
 pub struct TimedId {
     pub milliseconds: u64,
@@ -44,8 +45,8 @@ pub fn timed_key(id: TimedId) -> [u8; 22]
     base62::encode_key(id)
 }
 
-/// How two ids compare, by the bytes of their keys alone: the later one is greater, and those of one time go by
-/// their places.
+/// How two ids compare, by the bytes of their keys alone. The later one is greater, and ids of one
+/// time go by their places.
 pub fn compare_timed(a: TimedId, b: TimedId) -> Ordering
     ensures { result ≡ ordering_then (nat_cmp a.milliseconds b.milliseconds)
         (nat_cmp a.sequence b.sequence) }
@@ -70,7 +71,8 @@ pub fn compare_timed(a: TimedId, b: TimedId) -> Ordering
     first.cmp(&second)
 }
 
-/// The number of a ticket, whose text always has eight letters. `None` says that a byte is no letter.
+/// The number of a ticket, whose text always has eight letters. `None` says that a byte is no
+/// letter.
 pub fn ticket_number(text: &[u8; 8]) -> Option<u64>
     ensures named { (n : ℕ) → n < 2 ^ 64 → IsFixed standard 8 text.now n → result ≡ Some n }
     ensures names { (n : ℕ) → result ≡ Some n → IsFixed standard 8 text.now n }

@@ -14,8 +14,8 @@ pub fn link_report(alloc: Global, fault: DecodeError) -> Result<String, AllocErr
     format!(in alloc; "link: {fault}")
 }
 
-/// A fault in a table's cells of 100 characters and of 3, which it fills as it is. `Err` says that there was no memory
-/// for it.
+/// A fault in two cells of a table, of 100 and of 3 characters. It is neither padded nor cut. `Err`
+/// says that there was no memory for it.
 pub fn link_cells(alloc: Global, fault: DecodeError) -> Result<String, AllocError>
     ensures { IfOk result (λ cells. string_bytes cells
         ≡ decode_error_text fault ++ (codes "|" ++ (decode_error_text fault ++ codes "|"))) }
@@ -23,7 +23,8 @@ pub fn link_cells(alloc: Global, fault: DecodeError) -> Result<String, AllocErro
     format!(in alloc; "{fault:>100}|{fault:.3}|")
 }
 
-/// What a log says of an id that its row has no room for. `Err` says that there was no memory for it.
+/// What a log says of an id that its row has no room for. `Err` says that there was no memory for
+/// it.
 pub fn row_report(alloc: Global, fault: EncodeError) -> Result<String, AllocError>
     ensures { IfOk result (λ line. string_bytes line ≡ codes "row: " ++ encode_error_text fault) }
 {
@@ -40,7 +41,8 @@ pub fn row_cells(alloc: Global, fault: EncodeError) -> Result<String, AllocError
 
 /// What a log says of letters that are no alphabet. `Err` says that there was no memory for it.
 pub fn letters_report(alloc: Global, fault: AlphabetError) -> Result<String, AllocError>
-    ensures { IfOk result (λ line. string_bytes line ≡ codes "letters: " ++ alphabet_error_text fault) }
+    ensures { IfOk result
+        (λ line. string_bytes line ≡ codes "letters: " ++ alphabet_error_text fault) }
 {
     format!(in alloc; "letters: {fault}")
 }

@@ -17,7 +17,7 @@ pub struct Row {
     pub visits: u64,
 }
 
-/// Sets a row's id. One whose text does not fit its field changes nothing.
+/// Sets a row's id. An id whose text does not fit its field changes nothing.
 pub fn put_id(row: &mut Row, id: u128) -> bool
     ensures fits { IsTrue result ↔ CanonicalFits standard id 16 }
     ensures text { OnTrue result ((row.new.id_len ≤ 16)
@@ -47,7 +47,7 @@ pub struct ShardedId {
     pub row: u64,
 }
 
-/// Says what number an id means, and answers it: all that a type of one's own owes.
+/// What number an id means. A type of one's own needs no more to be encoded.
 impl Number for ShardedId {
     ghost meaning = { λ id. id.shard * 2 ^ 64 + id.row };
 
@@ -64,13 +64,14 @@ pub fn sharded_text(id: ShardedId, buf: &mut [u8; 22]) -> &[u8]
     &buf[..len]
 }
 
-/// The shard and the row that a code names: its last 11 letters are the row's. `None` says that it has no more than
-/// those, or that one of the two parts names no number below 2^128.
+/// The shard and the row that a code names. Its last 11 letters are the row's. `None` says that it
+/// has no more than those, or that one of the two parts names no number below 2^128.
 pub fn parts_of_code(alphabet: &Alphabet, code: &[u8]) -> Option<(u128, u128)>
     ensures number { IfSome result (λ parts. decoding alphabet.now code.now
         ≡ number_or_overflow (parts.0 * 62 ^ 11 + parts.1)) }
     ensures parts { (shard row : List ℕ) (m n : ℕ) → code.now ≡ shard ++ row → length row ≡ 11
-        → decoding alphabet.now shard ≡ Ok m → decoding alphabet.now row ≡ Ok n → result ≡ Some (m, n) }
+        → decoding alphabet.now shard ≡ Ok m → decoding alphabet.now row ≡ Ok n
+        → result ≡ Some (m, n) }
 {
     let Some(cut) = code.len().checked_sub(11) else {
         return None;

@@ -8,8 +8,9 @@ ghost use Rattle.base62.specs.Key.{IsKey, BeginsWith};
 
 use base62::{Alphabet, Work};
 
-/// Whether a scan of a table for the rows whose keys begin with a front takes the row of a key. The scan goes
-/// from the key of the least number to the key of the greatest, and takes no row where there is no number.
+/// Whether a scan of a table takes the row of a key. It is for the rows whose keys begin with a
+/// front, and goes from the key of the least number to that of the greatest. Where there is no
+/// number, it takes no row.
 pub fn is_scanned(front: &[u8], key: &[u8; 22]) -> bool
     ensures { (n : ℕ) → n < 2 ^ 128 → IsKey standard key.now n
         → (IsTrue result ↔ BeginsWith front.now key.now) }
@@ -24,8 +25,8 @@ pub fn is_scanned(front: &[u8], key: &[u8; 22]) -> bool
     low.cmp(key).is_le() && key.cmp(&high).is_le()
 }
 
-/// How many of the texts of a request name an id, for a server that must bound its work: each text takes at
-/// most 22 steps, whatever a client sent.
+/// How many texts of a request name an id, for a server that must bound its work. Each text takes
+/// at most 22 steps, whatever a client sent.
 pub fn count_ids(texts: &[&[u8]], work: &mut Work) -> usize
     ensures ids { result ≡ count_by (λ text. is_ok (decoding standard text.now)) texts.now }
     ensures bounded { work.new ≤ work.old + 22 * length texts.now }

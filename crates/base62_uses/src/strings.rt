@@ -22,10 +22,11 @@ pub fn append_number<T: Number>(line: &mut Vec<u8>, number: T) -> Result<(), All
     line.extend_from_slice(&buf[..len])
 }
 
-/// Appends the texts of two numbers with a `-` between them, both or neither. `Err` says that there was no memory
-/// for them.
+/// Appends the texts of two numbers with a `-` between them, both or neither. `Err` says that there
+/// was no memory for them.
 pub fn append_pair(text: &mut String, first: u128, second: u128) -> Result<(), AllocError>
-    ensures ok { OnOk result ((a b : List ℕ) × IsCanonical standard a first × IsCanonical standard b second
+    ensures ok { OnOk result
+        ((a b : List ℕ) × IsCanonical standard a first × IsCanonical standard b second
         × (string_bytes text.new ≡ string_bytes text.old ++ (a ++ 45 ∷ b))) }
     ensures err { OnErr result (string_bytes text.new ≡ string_bytes text.old) }
 {
@@ -48,8 +49,8 @@ fn append_within(string: &mut String, number: u128)
     base62::encode_buf(number, string).unwrap();
 }
 
-/// Appends the text of a number to a string, for which it asks no more memory than the text takes. `Err` says that there
-/// was none, and the string is as before.
+/// Appends the text of a number to a string, and requests no more memory than the text takes. `Err`
+/// says that there was none, and leaves the string as it was.
 pub fn append_exactly(string: &mut String, number: u128) -> Result<(), AllocError>
     ensures ok { OnOk result ((text : List ℕ) × IsCanonical standard text number
         × (string_bytes string.new ≡ string_bytes string.old ++ text)) }
@@ -63,8 +64,8 @@ pub fn append_exactly(string: &mut String, number: u128) -> Result<(), AllocErro
     Ok(())
 }
 
-/// Appends the text of a number, or where there is no memory for it a `?`, for which the string has room. It answers
-/// whether it is the text.
+/// Appends the text of a number to a string that has room for a byte. Where there is no memory for
+/// the text, it appends a `?`. It answers whether it appended the text.
 pub fn append_or_mark(string: &mut String, number: u128) -> bool
     requires { string_len string.old < string_capacity string.old }
     ensures text { OnTrue result ((text : List ℕ) × IsCanonical standard text number

@@ -44,8 +44,8 @@ fn with_case_exchanged(alloc: Global, text: &[u8]) -> Result<Vec<u8>, AllocError
         .collect(alloc)
 }
 
-/// The text over the standard alphabet that a token becomes. It names the token's number, or no number for the same
-/// reason. `Err` says that there was no memory for it.
+/// A token as a text over the standard alphabet. It names the token's number, or has the token's
+/// fault. `Err` says that there was no memory for it.
 pub fn text_of_token(alloc: Global, token: &[u8]) -> Result<Vec<u8>, AllocError>
     ensures { IfOk result (λ text. decoding standard text.items ≡ decoding alternative token.now) }
 {
@@ -53,10 +53,11 @@ pub fn text_of_token(alloc: Global, token: &[u8]) -> Result<Vec<u8>, AllocError>
     with_case_exchanged(alloc, token)
 }
 
-/// The token that a text over the standard alphabet becomes, for those who read tokens alone. `Err` says that there was
-/// no memory for it.
+/// A text over the standard alphabet as a token, for those who read tokens alone. `Err` says that
+/// there was no memory for it.
 pub fn token_of_text(alloc: Global, text: &[u8]) -> Result<Vec<u8>, AllocError>
-    ensures { IfOk result (λ token. (n : ℕ) → IsCanonical standard text.now n → IsCanonical alternative token.items n) }
+    ensures { IfOk result (λ token. (n : ℕ)
+        → IsCanonical standard text.now n → IsCanonical alternative token.items n) }
 {
     base62::laws::exchange_of_case();
     with_case_exchanged(alloc, text)

@@ -15,7 +15,8 @@ pub fn short_uuid(uuid: [u8; 16], buf: &mut [u8; 22]) -> &[u8]
     &buf[..len]
 }
 
-/// The UUID whose short form a text is. `None` says that it is that of no UUID: no second text gives one.
+/// The UUID of a short form. `None` says that the text is the short form of no UUID. No two texts
+/// give the same UUID.
 pub fn uuid_of_short(text: &[u8]) -> Option<[u8; 16]>
     ensures canonical { (uuid : List ℕ) → result ≡ Some uuid
         → IsCanonical standard text.now (uuid_number uuid) }

@@ -17,8 +17,8 @@ fn marks_behind_ascii(rt: HostRuntime) -> Result<(), Fail> {
     Ok(())
 }
 
-// The largest number is told in halves and behind a zero; with the last letter one greater it is too large, and a letter
-// of ASCII is none here.
+// The largest number is read in halves and behind a zero. With a last letter one greater it is too
+// large, and a letter of ASCII is no letter here.
 #[test]
 fn marks_at_borders(rt: HostRuntime) {
     let marks = mark_alphabet();

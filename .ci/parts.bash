@@ -6,8 +6,10 @@ trap 'stop_parts; rm -rf "$room"' EXIT
 trap 'exit 130' INT
 trap 'exit 143' HUP TERM
 
-# One for each processor that has 4 GB of memory: a proof from nothing takes 1 to 3.
-lanes=$(awk -v most="$(nproc)" '/^MemAvailable/ { n = int($2 / 4e6); print n < 1 ? 1 : n > most ? most : n }' /proc/meminfo)
+# One for each processor that has 4 GB of memory: a proof from nothing takes 1 to 4.
+lanes=$(nproc)
+fits=$(awk '/^MemAvailable/ { print int($2 / 4e6) }' /proc/meminfo)
+lanes=$((fits < 1 ? 1 : fits < lanes ? fits : lanes))
 idle=$lanes
 passed=0
 failed=0

@@ -74,6 +74,23 @@ finds() {
     diff "$work/wanted" "$work/found" >&2
 }
 
+warnings=(-Werror -Wall -Wextra -Wpedantic -Wconversion -Wshadow -Wcast-qual -Wundef -Wwrite-strings)
+of_c=(-std=c99 "${warnings[@]}" -Wstrict-prototypes -Wmissing-prototypes)
+
+# FOLDER. The header there, twice in one file, as each C and C++.
+check_header() {
+    local standard twice=$'#include <base62.h>\n#include <base62.h>'
+    for standard in c99 c11 c17 gnu2x; do
+        gcc "${of_c[@]}" -std=$standard -I"$1" -fsyntax-only -x c - <<<"$twice"
+        clang "${of_c[@]}" -std=$standard -I"$1" -fsyntax-only -x c - <<<"$twice"
+    done
+    for standard in c++98 c++11 c++17 c++20; do
+        g++ "${warnings[@]}" -std=$standard -I"$1" -fsyntax-only -x c++ - <<<"$twice"
+        clang++ "${warnings[@]}" -std=$standard -I"$1" -fsyntax-only -x c++ - <<<"$twice"
+    done
+    CPATH=$1 python3 c/tests/test_header.py -q
+}
+
 # An rt that tells that it was called, and proves nothing.
 mkdir "$work/bin" "$work/tools"
 printf '#!/bin/sh\ntouch %q\nexit "${RT_STATUS-0}"\n' "$work/called" >"$work/bin/rt"

@@ -3,15 +3,16 @@
  *
  * Texts. A text is a pointer and a length. No null byte ends it. The standard alphabet is the digits, then the capital
  * letters, then the small ones. The alternative one has the small letters before the capital ones. A call whose name
- * ends in _with takes an alphabet of the caller's own: 62 distinct bytes, of which the first is the zero. It checks all
- * 62 each time. Leading zeros do not change the number of a text.
+ * ends in _with takes an alphabet of the caller's own, which base62_make_alphabet makes once of 62 letters. The first
+ * is the zero. Leading zeros do not change the number of a text.
  *
  * Memory. A call writes what its comment says, and nothing else. It stays within the lengths that it is given. It
  * allocates no memory and keeps no state, so threads may call at the same time.
  *
  * Pointers. Each has to point to valid memory. None may be null, even if a length is 0. What a call writes must not
  * overlap with anything else that it is given. Test with bad input too: the pointer to a base62_bad_byte is used only
- * for a bad byte or a repeated letter, so a null one goes unnoticed until then.
+ * for a bad byte or a repeated letter, so a null one goes unnoticed until then. An alphabet has to be one that
+ * base62_make_alphabet made and nothing changed since. Threads may share it.
  *
  * Time. It depends on the number or the text. Compare secrets by other means.
  *
@@ -37,13 +38,13 @@ extern "C" {
 #endif
 
 /* The version of this header. base62_version_number returns that of the library. */
-#define BASE62_VERSION "2.0.0"
-#define BASE62_VERSION_MAJOR 2
+#define BASE62_VERSION "3.0.0"
+#define BASE62_VERSION_MAJOR 3
 #define BASE62_VERSION_MINOR 0
 #define BASE62_VERSION_PATCH 0
 
 /* The major version times 10000, the minor one times 100, and the patch. */
-#define BASE62_VERSION_NUMBER 20000
+#define BASE62_VERSION_NUMBER 30000
 
 /* The length of the longest text that base62_encode writes. A buffer of this size is always large enough. */
 #define BASE62_MAX_DIGITS 22
@@ -77,6 +78,14 @@ typedef struct base62_bad_byte {
     size_t index;
     unsigned char byte;
 } base62_bad_byte;
+
+/*
+ * An alphabet of the caller's own. Only base62_make_alphabet makes one. A copy of it is as good. Its bytes are not for
+ * the caller to read or write, and may mean something else in another version.
+ */
+typedef struct base62_alphabet {
+    unsigned char bytes[318];
+} base62_alphabet;
 
 /* No call returns BASE62_BUFFER_TOO_SMALL. Give it to base62_fault_text for the text of a buffer that was too small. */
 typedef enum base62_status {
@@ -156,12 +165,9 @@ size_t base62_encode(base62_number number, char *buffer, size_t size);
 BASE62_LOOK_AT BASE62_WRITES(2, 3)
 size_t base62_encode_alternative(base62_number number, char *buffer, size_t size);
 
-/*
- * As base62_encode, over an alphabet of the caller's own. If a letter is repeated, it also returns 0 and writes
- * nothing.
- */
+/* As base62_encode, over an alphabet of the caller's own. */
 BASE62_LOOK_AT BASE62_WRITES(3, 4)
-size_t base62_encode_with(const char letters[BASE62_ALPHABET_LENGTH], base62_number number, char *buffer, size_t size);
+size_t base62_encode_with(const base62_alphabet *alphabet, base62_number number, char *buffer, size_t size);
 
 /*
  * Fills places with the text of a number in exactly width letters, with zeros in front. Texts of one width sort by
@@ -178,12 +184,11 @@ BASE62_LOOK_AT BASE62_WRITES(2, 3)
 size_t base62_encode_alternative_fixed(base62_number number, char *places, size_t width);
 
 /*
- * As base62_encode_fixed, over an alphabet of the caller's own. If a letter is repeated, it also returns 0 and writes
- * nothing. The texts sort as their numbers if each letter is a greater byte than the one before it.
+ * As base62_encode_fixed, over an alphabet of the caller's own. The texts sort as their numbers if each letter is a
+ * greater byte than the one before it.
  */
 BASE62_LOOK_AT BASE62_WRITES(3, 4)
-size_t base62_encode_fixed_with(const char letters[BASE62_ALPHABET_LENGTH], base62_number number, char *places,
-                                size_t width);
+size_t base62_encode_fixed_with(const base62_alphabet *alphabet, base62_number number, char *places, size_t width);
 
 /* Writes the key of a number: its text by base62_encode_fixed with BASE62_KEY_LENGTH letters. Each number has one. */
 BASE62_NO_NULL
@@ -212,13 +217,9 @@ base62_status base62_decode(const char *text, size_t length, base62_number *numb
 BASE62_LOOK_AT BASE62_READS(1, 2)
 base62_status base62_decode_alternative(const char *text, size_t length, base62_number *number, base62_bad_byte *bad);
 
-/*
- * As base62_decode, over an alphabet of the caller's own. One status comes before the others:
- *
- * BASE62_REPEATED_LETTER: a letter of the alphabet is repeated. It is written to *bad as by base62_check_alphabet.
- */
+/* As base62_decode, over an alphabet of the caller's own. */
 BASE62_LOOK_AT BASE62_READS(2, 3)
-base62_status base62_decode_with(const char letters[BASE62_ALPHABET_LENGTH], const char *text, size_t length,
+base62_status base62_decode_with(const base62_alphabet *alphabet, const char *text, size_t length,
                                  base62_number *number, base62_bad_byte *bad);
 
 /*
@@ -234,12 +235,9 @@ BASE62_LOOK_AT BASE62_READS(1, 2)
 base62_status base62_decode_alternative_canonical(const char *text, size_t length, base62_number *number,
                                                   base62_bad_byte *bad);
 
-/*
- * As base62_decode_canonical, over an alphabet of the caller's own. It returns BASE62_REPEATED_LETTER as
- * base62_decode_with does.
- */
+/* As base62_decode_canonical, over an alphabet of the caller's own. */
 BASE62_LOOK_AT BASE62_READS(2, 3)
-base62_status base62_decode_canonical_with(const char letters[BASE62_ALPHABET_LENGTH], const char *text, size_t length,
+base62_status base62_decode_canonical_with(const base62_alphabet *alphabet, const char *text, size_t length,
                                            base62_number *number, base62_bad_byte *bad);
 
 /*
@@ -258,22 +256,20 @@ BASE62_LOOK_AT BASE62_READS(2, 3)
 base62_status base62_fixed_range(size_t width, const char *front, size_t length, base62_range *range,
                                  base62_bad_byte *bad);
 
-/*
- * As base62_fixed_range, over an alphabet of the caller's own. It returns BASE62_REPEATED_LETTER as base62_decode_with
- * does.
- */
+/* As base62_fixed_range, over an alphabet of the caller's own. */
 BASE62_LOOK_AT BASE62_READS(3, 4)
-base62_status base62_fixed_range_with(const char letters[BASE62_ALPHABET_LENGTH], size_t width, const char *front,
-                                      size_t length, base62_range *range, base62_bad_byte *bad);
+base62_status base62_fixed_range_with(const base62_alphabet *alphabet, size_t width, const char *front, size_t length,
+                                      base62_range *range, base62_bad_byte *bad);
 
 /*
- * Checks that the letters of an alphabet are distinct.
+ * Makes the alphabet of 62 letters, which may be any bytes.
  *
- * BASE62_OK: they are.
- * BASE62_REPEATED_LETTER: they are not. The first letter that equals an earlier one is written to *bad, with its index.
+ * BASE62_OK: no letter is repeated. The alphabet is written to *alphabet.
+ * BASE62_REPEATED_LETTER: one is. The first letter that equals an earlier one is written to *bad, with its index.
  */
 BASE62_LOOK_AT
-base62_status base62_check_alphabet(const char letters[BASE62_ALPHABET_LENGTH], base62_bad_byte *bad);
+base62_status base62_make_alphabet(const char letters[BASE62_ALPHABET_LENGTH], base62_alphabet *alphabet,
+                                   base62_bad_byte *bad);
 
 /* Returns the number whose 16 bytes are the UUID, the highest first. Each number has one UUID. */
 BASE62_NO_NULL

@@ -11,8 +11,11 @@
  *
  * Pointers. Each has to point to valid memory. None may be null, even if a length is 0. What a call writes must not
  * overlap with anything else that it is given. Test with bad input too: the pointer to a base62_bad_byte is used only
- * for a bad byte or a repeated letter, so a null one goes unnoticed until then. An alphabet has to be one that
- * base62_make_alphabet made and nothing changed since. Threads may share it.
+ * for a bad byte or a repeated letter, so a null one goes unnoticed until then.
+ *
+ * Alphabets. A base62_alphabet has to be one that base62_make_alphabet made and nothing changed since. Threads may share
+ * it, and a copy is as good. Over any other bytes, such as zeros, what a call answers and writes means nothing, but it
+ * reads and writes no other memory than its comment says.
  *
  * Time. It depends on the number or the text. Compare secrets by other means.
  *
@@ -79,10 +82,7 @@ typedef struct base62_bad_byte {
     unsigned char byte;
 } base62_bad_byte;
 
-/*
- * An alphabet of the caller's own. Only base62_make_alphabet makes one. A copy of it is as good. Its bytes are not for
- * the caller to read or write, and may mean something else in another version.
- */
+/* An alphabet of the caller's own, which base62_make_alphabet makes. What its bytes mean may change in any version. */
 typedef struct base62_alphabet {
     unsigned char bytes[318];
 } base62_alphabet;
@@ -99,7 +99,7 @@ typedef enum base62_status {
     BASE62_NOT_CANONICAL = 7
 } base62_status;
 
-/* Compilers with attributes warn of a null pointer, an unused result, and a length that is greater than the array. */
+/* GCC and clang warn of a null pointer and an unused result, and GCC of a length that is greater than the array. */
 #ifdef __GNUC__
 #define BASE62_NO_NULL __attribute__((__nonnull__))
 #define BASE62_LOOK_AT __attribute__((__nonnull__, __warn_unused_result__))
@@ -262,7 +262,7 @@ base62_status base62_fixed_range_with(const base62_alphabet *alphabet, size_t wi
                                       base62_range *range, base62_bad_byte *bad);
 
 /*
- * Makes the alphabet of 62 letters, which may be any bytes.
+ * Makes the alphabet of 62 letters, which may be any bytes. What stood at *alphabet before does not matter.
  *
  * BASE62_OK: no letter is repeated. The alphabet is written to *alphabet.
  * BASE62_REPEATED_LETTER: one is. The first letter that equals an earlier one is written to *bad, with its index.

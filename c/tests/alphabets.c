@@ -91,10 +91,11 @@ static void encode_over(const base62_alphabet *alphabet, int at_end, uint64_t *s
     }
 }
 
-/* The calls that read: each writes a number or a range, and a bad byte. */
+/* The calls that read: each writes a number or a range, and a bad byte. A range has one of these widths. */
 static void read_over(const base62_alphabet *alphabet, int at_end, const char *text, size_t length) {
-    for (int call = 0; call < 3; call++) {
-        const size_t size = call == 2 ? sizeof(base62_range) : sizeof(base62_number);
+    const size_t widths[] = {0, 3, BASE62_KEY_LENGTH, length, SIZE_MAX};
+    for (size_t call = 0; call < 2 + sizeof widths / sizeof *widths; call++) {
+        const size_t size = call < 2 ? sizeof(base62_number) : sizeof(base62_range);
         struct places result = set_places(result_page, at_end, size);
         struct places bad_byte = set_places(bad_page, at_end, sizeof(base62_bad_byte));
         base62_number *number = (void *)result.start;
@@ -105,7 +106,7 @@ static void read_over(const base62_alphabet *alphabet, int at_end, const char *t
         else if (call == 1)
             status = base62_decode_canonical_with(alphabet, text, length, number, bad);
         else
-            status = base62_fixed_range_with(alphabet, length + 2, text, length, (void *)result.start, bad);
+            status = base62_fixed_range_with(alphabet, widths[call - 2], text, length, (void *)result.start, bad);
         expect(status <= BASE62_NOT_CANONICAL, "the status");
         expect_around(result);
         expect_around(bad_byte);

@@ -1,9 +1,9 @@
 -- UUIDs: sixteen bytes, and the number that they denote.
-use Rattle.std.specs.Prelude.{◌≡◌, ℕ, ◌<◌, List, length, slice_index, Result, Ok, Err}
+use Rattle.std.specs.Prelude.{◌≡◌, ℕ, ◌<◌, List, length, slice_index, Result, Ok, Err, IfErr}
 use Rattle.base62.specs.declared.fault.DecodeError.{DecodeError}
 use Rattle.base62.specs.Places.{sum_over_places}
 use Rattle.base62.specs.Canonical.{Denotes}
-use Rattle.base62.specs.Decoding.{decoding}
+use Rattle.base62.specs.Decoding.{decoding, NamesFirst}
 
 -- sixteen bytes
 pub record IsUuid (uuid : List ℕ) : Type 0 where
@@ -22,3 +22,4 @@ pub record DecodesUuid (B text : List ℕ) (result : Result (List ℕ) DecodeErr
   pub denoted : (uuid : List ℕ) → IsUuid uuid → Denotes B text (uuid_number uuid) → result ≡ Ok uuid
   pub refused : (fault : DecodeError) → result ≡ Err fault → decoding B text ≡ Err fault
   pub fault : (fault : DecodeError) → decoding B text ≡ Err fault → result ≡ Err fault
+  pub named : IfErr result (NamesFirst B text)

@@ -52,7 +52,8 @@ bool int64_of_number(base62_number number, int64_t *whole) {
 }
 
 bool check_width(int64_t width, refusal *why) {
-    return (1 <= width && width <= MAX_WIDTH) || refuse_with(WRONG_PARAMETER, "a width is an integer from 1 to 1000", why);
+    bool fits = 1 <= width && width <= MAX_WIDTH;
+    return fits || refuse_with(WRONG_PARAMETER, "a width is an integer from 1 to 1000", why);
 }
 
 /* Calls */

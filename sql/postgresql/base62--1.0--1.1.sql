@@ -56,4 +56,5 @@ COMMENT ON FUNCTION base62_key_first(base62_key) IS 'the first text of 22 letter
 COMMENT ON FUNCTION base62_key_first(base62_key, integer)
     IS 'the first text of so many letters that begins with a prefix';
 COMMENT ON FUNCTION base62_key_last(base62_key) IS 'the last text of 22 letters that begins with a prefix';
-COMMENT ON FUNCTION base62_key_last(base62_key, integer) IS 'the last text of so many letters that begins with a prefix';
+COMMENT ON FUNCTION base62_key_last(base62_key, integer)
+    IS 'the last text of so many letters that begins with a prefix';

@@ -48,12 +48,13 @@ typedef struct {
  * expression. Each call compares the letters: those in a variable of PL/pgSQL, which changes, pass for a constant. */
 static const base62_alphabet *alphabet_at(FunctionCallInfo fcinfo, int place) {
     FmgrInfo *function = fcinfo->flinfo;
-    kept_alphabet *kept = function->fn_extra;
+    kept_alphabet *kept;
     const text *given;
     const char *letters;
     size_t length;
     if (place >= PG_NARGS())
         return NULL;
+    kept = function->fn_extra;
     given = PG_GETARG_TEXT_PP(place);
     letters = VARDATA_ANY(given);
     length = VARSIZE_ANY_EXHDR(given);

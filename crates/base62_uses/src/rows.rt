@@ -48,8 +48,10 @@ pub fn coupon_width(coupon: u128) -> usize
     base62::digit_count(coupon)
 }
 
-/// How many letters the id of a row takes, in a script whose numbers are below 2^53, and elsewhere.
+/// How many letters the id of a row takes: one of 32 bits, one in a script, whose numbers are below
+/// 2^53, and any.
 pub fn id_width(id: u64) -> usize
+    ensures short { id < 2 ^ 32 → result ≤ 6 }
     ensures script { id < 2 ^ 53 → result ≤ 9 }
     ensures all { result ≤ 11 }
 {

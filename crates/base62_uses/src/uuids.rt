@@ -24,19 +24,10 @@ pub fn uuid_of_short(text: &[u8]) -> Option<[u8; 16]>
     ensures own { (uuid : List ℕ) → IsUuid uuid → IsCanonical standard text.now (uuid_number uuid)
         → result ≡ Some uuid }
 {
-    base62::laws::built_in_alphabets();
-    base62::laws::one_text();
-    let Ok(uuid) = base62::decode_uuid(text) else {
-        return None;
-    };
-    let mut buf = [0u8; 22];
-    if short_uuid(uuid, &mut buf) != text {
-        return None;
-    }
-    Some(uuid)
+    base62::decode_uuid_canonical(text).ok()?
 }
 
-/// The same, by strict decoding.
+/// The same, where the number is asked for first.
 pub fn uuid_of_link(text: &[u8]) -> Option<[u8; 16]>
     ensures canonical { (uuid : List ℕ) → result ≡ Some uuid
         → IsCanonical standard text.now (uuid_number uuid) }

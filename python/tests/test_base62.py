@@ -394,8 +394,9 @@ class Widths(Refusing):
             self.assertIsNone(base62.fixed_range(0, "", alphabet))
             self.assertIsNone(base62.fixed_range(22, letters[8], alphabet))
             self.assertEqual(base62.fixed_range(2**63 - 1, letters[0] * 5000, alphabet), (0, LARGEST))
-        for front in ("", "0", "00000000000000000000L", "8", b"7n"):
+        for front in ("", "0", "00000000000000000000L", "8", "7n"):
             self.assertEqual(base62.fixed_range(22, front), base62.key_range(front))
+            self.assertEqual(base62.fixed_range(22, front.encode()), base62.key_range(front))
 
     def test_widths(self) -> None:
         class Indexed:

@@ -83,14 +83,14 @@ class Refusing(unittest.TestCase):
 
 class Refused(Refusing):
     def is_refused(self, call: Call, *given: Any, **named: Any) -> None:
-        """No refusal keeps memory: twenty sweeps would keep twenty blocks. The first ones fill CPython's stores."""
+        """No refusal keeps memory: ten sweeps would keep ten blocks. The first ones fill CPython's stores."""
         blocks = []
-        for sweeps in (10, 20):
+        for sweeps in (5, 10):
             for _ in range(sweeps):
                 self.sweep(call, *given, **named)
             gc.collect()
             blocks.append(sys.getallocatedblocks())
-        self.assertLess(blocks[1] - blocks[0], 20)
+        self.assertLess(blocks[1] - blocks[0], 10)
 
     def tearDown(self) -> None:
         self.assertGreater(self.told, 50)

@@ -76,7 +76,7 @@ def wrong(number: int, name: UUID, text: str, own: Alphabet) -> None:
     base62.key_range(number)  # type: ignore[arg-type]
     base62.key_range(text, own)  # type: ignore[call-arg]
     base62.key_range(text)[0]  # type: ignore[index]
-    base62.fixed_range(text)  # type: ignore[call-arg]
+    base62.fixed_range(number)  # type: ignore[call-arg]
     base62.fixed_range(text, text)  # type: ignore[arg-type]
     base62.fixed_range(number, number)  # type: ignore[arg-type]
     base62.fixed_range(number, text, None)  # type: ignore[arg-type]

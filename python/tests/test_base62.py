@@ -263,6 +263,17 @@ class Alphabets(Refusing):
         again = pickle.loads(front + OWN.encode() + b"\x94\x85\x94\x81\x94.")
         self.assertEqual((type(again), again), (Alphabet, OWN.encode()))
 
+    def test_own_bytes(self) -> None:
+        """What a subclass of bytes says of its bytes is not asked."""
+
+        class Own(bytes):
+            def __bytes__(self) -> bytes:
+                return STANDARD.encode()
+
+        own = Alphabet(Own(OWN.encode()))
+        self.assertEqual(own, OWN.encode())
+        self.assertEqual(base62.decode("1", own), OWN.index("1"))
+
     def test_no_more_names(self) -> None:
         own: Any = Alphabet(OWN)
         with self.assertRaises(AttributeError):

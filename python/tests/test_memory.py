@@ -53,7 +53,8 @@ class Refusing(unittest.TestCase):
         self.told = 0
 
     def is_told(self, wanted: object, first: int, last: int, call: Call, *given: Any, **named: Any) -> bool:
-        """Whether a call tells that requests from the first to before the last failed. Else it answers as ever."""
+        """Whether a call tells that requests from the first to before the last failed. Else it answers as ever. They
+        are counted from 0."""
         try:
             memory.set_nomemory(first, last)
             try:
@@ -75,7 +76,7 @@ class Refusing(unittest.TestCase):
         for follow in (False, True):
             told = [
                 self.is_told(wanted, first, 0 if follow else first + 1, call, *given, **named)
-                for first in range(1, BEYOND)
+                for first in range(BEYOND)
             ]
             self.assertFalse(any(told[-20:]), f"{call} makes more requests")
             self.told += sum(told)
@@ -146,20 +147,17 @@ class Refused(Refusing):
 
 class Asked(Refusing):
     def test_alphabet(self) -> None:
-        """A call over an Alphabet asks for memory as often as over the standard one, and so makes no object of it."""
-        own = base62.Alphabet(OWN)
+        """A call over an Alphabet asks for the memory of its answer, and makes no object of letters."""
         calls: list[tuple[Call, tuple[Any, ...]]] = [
-            (base62.encode, (WIDE,)),
-            (base62.encode_fixed, (WIDE, 22)),
-            (base62.decode, ("LZ" * 10,)),
-            (base62.decode_canonical, ("LZ" * 10,)),
-            (base62.fixed_range, (22, "")),
+            (base62.encode, (1337,)),
+            (base62.encode_fixed, (1337, 22)),
+            (base62.decode, ("LZ",)),
+            (base62.decode_canonical, ("LZ",)),
         ]
-        for call, given in calls:
-            asked = []
-            for alphabet in (base62.Alphabet.STANDARD, base62.Alphabet.ALTERNATIVE, own):
+        for alphabet in (base62.Alphabet.STANDARD, base62.Alphabet.ALTERNATIVE, base62.Alphabet(OWN)):
+            for call, given in calls:
+                # The first sweep fills CPython's stores.
+                self.sweep(call, *given, alphabet)
                 self.told = 0
                 self.sweep(call, *given, alphabet)
-                asked.append(self.told)
-            self.assertGreater(asked[0], 0)
-            self.assertEqual(asked, asked[:1] * 3)
+                self.assertEqual(self.told, 2, call)

@@ -257,8 +257,8 @@ static int letters_of(PyObject *module, PyObject *given, struct text *letters) {
     return -1;
 }
 
-/* What an Alphabet adds to its letters. bytes has its items at the end of an object, so this is behind them, as what a
-   subclass in Python adds would be. */
+/* What an Alphabet adds to its letters. The items of bytes end an object, so this is behind them, as what a subclass in
+   Python adds would be. Where a caller has changed __new__ of the class, it is UNMADE. */
 static struct made *made_in(PyObject *alphabet) {
     return (struct made *)(PyBytes_AsString(alphabet) + PyBytes_Size(alphabet) + 1);
 }
@@ -662,7 +662,7 @@ static int take_types(PyObject **own) {
     return ok;
 }
 
-/* The C function behind str.isascii, which is asked of each str. By Python's own call it would cost more than the rest. */
+/* The C function of str.isascii, which is asked of each str. */
 static int take_is_ascii(struct state *state) {
     PyObject *empty = PyUnicode_FromString("");
     PyObject *method = empty == NULL ? NULL : PyObject_GetAttrString(empty, "isascii");

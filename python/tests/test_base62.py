@@ -37,7 +37,7 @@ ALPHABETS: list[tuple[str | bytes, str]] = [
     (CONTROLS.encode(), CONTROLS),
 ]
 
-# In the order of the standard letters, so that a bad byte of one is one of the other.
+# It has the standard letters, so that both have the same bad bytes.
 OWN_ALPHABET = Alphabet(STANDARD.swapcase())
 
 Call = Callable[..., Any]
@@ -414,8 +414,11 @@ class Widths(Refusing):
             def __index__(self) -> int:
                 return 4
 
-        calls: list[Call] = [lambda width: base62.encode_fixed(1337, width), lambda width: base62.fixed_range(width, "00L")]
-        for call, answer in zip(calls, ("00LZ", (1302, 1363))):
+        calls: list[tuple[Call, object]] = [
+            (lambda width: base62.encode_fixed(1337, width), "00LZ"),
+            (lambda width: base62.fixed_range(width, "00L"), (1302, 1363)),
+        ]
+        for call, answer in calls:
             self.assertEqual(call(Indexed()), answer)
             for width in (-1, -22, -(2**63)):
                 self.assertEqual(str(self.refused(ValueError, call, width)), "the width is negative")

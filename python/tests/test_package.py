@@ -69,9 +69,10 @@ class Package(unittest.TestCase):
     def test_stub(self) -> None:
         """Editors show what help shows."""
         stub = ast.parse(pathlib.Path(_base62.__file__).with_name("_base62.pyi").read_text())
-        told = {node.name: ast.get_docstring(node) for node in stub.body if isinstance(node, (ast.FunctionDef, ast.ClassDef))}
-        calls = {name: call for name, call in vars(_base62).items() if inspect.isbuiltin(call) or inspect.isclass(call)}
-        self.assertEqual(told, {name: inspect.getdoc(call) for name, call in calls.items()})
+        documented = [node for node in stub.body if isinstance(node, (ast.FunctionDef, ast.ClassDef))]
+        told = {node.name: ast.get_docstring(node) for node in documented}
+        shown = {name: inspect.getdoc(one) for name, one in vars(_base62).items() if callable(one)}
+        self.assertEqual(told, shown)
 
     def test_keywords(self) -> None:
         letters = base62.Alphabet.ALTERNATIVE
@@ -146,6 +147,16 @@ class Modules(unittest.TestCase):
         for module in (again, base62):
             self.assertEqual(module.encode(1337, module.Alphabet.ALTERNATIVE), "lz")
             self.assertRaises(module.InvalidByteError, module.decode, "-")
+
+    def test_unmade(self) -> None:
+        """What a changed class lets through as an Alphabet is no more than its letters."""
+        again = made_again()
+        again.Alphabet.__new__ = lambda kind, letters: bytes.__new__(kind, letters)
+        own = again.Alphabet(OWN.encode())
+        self.assertIs(type(own), again.Alphabet)
+        self.assertEqual((again.encode(61, own), again.decode("0", own)), ("0", 61))
+        for letters in (b"", b"0", b"0" * 62, b"0" * 5000):
+            self.assertRaises(ValueError, again.encode, 1, again.Alphabet(letters))
 
     def test_seen(self) -> None:
         """The collector sees what the module holds, and what an alphabet does."""

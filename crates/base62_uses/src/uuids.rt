@@ -35,6 +35,18 @@ pub fn uuid_of_short(text: &[u8]) -> Option<[u8; 16]>
     Some(uuid)
 }
 
+/// The same, by strict decoding.
+pub fn uuid_of_link(text: &[u8]) -> Option<[u8; 16]>
+    ensures canonical { (uuid : List ℕ) → result ≡ Some uuid
+        → IsCanonical standard text.now (uuid_number uuid) }
+    ensures own { (uuid : List ℕ) → IsUuid uuid → IsCanonical standard text.now (uuid_number uuid)
+        → result ≡ Some uuid }
+{
+    base62::laws::numbers_of_uuids();
+    base62::decode_canonical(text).ok()??;
+    base62::decode_uuid(text).ok()
+}
+
 /// The UUID that is read back from a UUID's own short form: it is the UUID.
 pub fn uuid_of_own_short(uuid: &[u8; 16]) -> Option<[u8; 16]>
     ensures { result ≡ Some uuid.now }

@@ -49,8 +49,8 @@ static struct state *state_of(PyObject *module) {
     return PyModule_GetState(module);
 }
 
-static PyObject *held(PyObject *module, int which) {
-    PyObject *object = state_of(module)->held[which];
+static PyObject *held(struct state *state, int which) {
+    PyObject *object = state->held[which];
     if (object == NULL)
         PyErr_SetString(PyExc_SystemError, "the module is cleared");
     return object;
@@ -64,8 +64,8 @@ static PyObject *shared(PyObject *object) {
 }
 
 /* Converts an argument of a rarer type, by a function of base62._types. */
-static PyObject *converted(PyObject *module, int by, PyObject *given) {
-    PyObject *call = held(module, by);
+static PyObject *converted(struct state *state, int by, PyObject *given) {
+    PyObject *call = held(state, by);
     return call == NULL ? NULL : PyObject_CallFunctionObjArgs(call, given, NULL);
 }
 
@@ -88,14 +88,9 @@ struct parameters {
     Py_ssize_t least, most;
 };
 
-/* Borrows the arguments from the caller. Python's own parser does the rare cases, and raises all exceptions. */
-static int unpack(const struct parameters *of, PyObject *const *given, Py_ssize_t count, PyObject *keywords,
-                  PyObject *found[3]) {
-    int in_order = keywords == NULL && count >= of->least && count <= of->most;
-    for (Py_ssize_t i = 0; i < 3; i++)
-        found[i] = in_order && i < count ? given[i] : NULL;
-    if (in_order)
-        return 0;
+/* Python's own parser does the rare cases, and raises all exceptions. */
+static int parse(const struct parameters *of, PyObject *const *given, Py_ssize_t count, PyObject *keywords,
+                 PyObject *found[3]) {
     Py_ssize_t named = keywords == NULL ? 0 : PyTuple_Size(keywords);
     PyObject *in_row = named < 0 ? NULL : PyTuple_New(count), *by_name = in_row == NULL ? NULL : PyDict_New();
     int ok = by_name != NULL;
@@ -105,11 +100,22 @@ static int unpack(const struct parameters *of, PyObject *const *given, Py_ssize_
         PyObject *name = PyTuple_GetItem(keywords, i);
         ok = name != NULL && PyDict_SetItem(by_name, name, given[count + i]) == 0;
     }
+    found[0] = found[1] = found[2] = NULL;
     ok = ok && PyArg_ParseTupleAndKeywords(in_row, by_name, of->format, (char **)of->names, &found[0], &found[1],
                                            &found[2]);
     Py_DecRef(in_row);
     Py_DecRef(by_name);
     return ok ? 0 : -1;
+}
+
+/* Borrows the arguments from the caller. */
+static inline int unpack(const struct parameters *of, PyObject *const *given, Py_ssize_t count, PyObject *keywords,
+                         PyObject *found[3]) {
+    if (keywords != NULL || count < of->least || count > of->most)
+        return parse(of, given, count, keywords, found);
+    for (Py_ssize_t i = 0; i < of->most; i++)
+        found[i] = i < count ? given[i] : NULL;
+    return 0;
 }
 
 static int out_of_range(void) {
@@ -118,8 +124,8 @@ static int out_of_range(void) {
 }
 
 /* A number of 2^63 or more. */
-static int wide_number_of(PyObject *module, PyObject *whole, base62_number *number) {
-    PyObject *width = held(module, HALF_WIDTH), *high = width == NULL ? NULL : PyNumber_Rshift(whole, width);
+static int wide_number_of(struct state *state, PyObject *whole, base62_number *number) {
+    PyObject *width = held(state, HALF_WIDTH), *high = width == NULL ? NULL : PyNumber_Rshift(whole, width);
     if (high == NULL)
         return -1;
     number->high = PyLong_AsUnsignedLongLong(high);
@@ -130,22 +136,22 @@ static int wide_number_of(PyObject *module, PyObject *whole, base62_number *numb
     return number->low == UINT64_MAX && PyErr_Occurred() != NULL ? -1 : 0;
 }
 
-static int number_of_int(PyObject *module, PyObject *whole, base62_number *number) {
+static int number_of_int(struct state *state, PyObject *whole, base62_number *number) {
     int beyond;
     long long narrow = PyLong_AsLongLongAndOverflow(whole, &beyond);
     if (beyond > 0)
-        return wide_number_of(module, whole, number);
+        return wide_number_of(state, whole, number);
     if (narrow < 0)
         return PyErr_Occurred() == NULL ? out_of_range() : -1;
     *number = base62_from_u64((uint64_t)narrow);
     return 0;
 }
 
-static int number_of(PyObject *module, PyObject *given, base62_number *number) {
+static int number_of(struct state *state, PyObject *given, base62_number *number) {
     if (PyLong_CheckExact(given))
-        return number_of_int(module, given, number);
-    PyObject *whole = converted(module, WHOLE_OF, given);
-    int fault = whole == NULL ? -1 : number_of_int(module, whole, number);
+        return number_of_int(state, given, number);
+    PyObject *whole = converted(state, WHOLE_OF, given);
+    int fault = whole == NULL ? -1 : number_of_int(state, whole, number);
     Py_DecRef(whole);
     return fault;
 }
@@ -170,15 +176,15 @@ static int hold(PyObject *bytes, struct text *text) {
 }
 
 /* Only a str in ASCII has its UTF-8 at hand. Another would keep for good what it is asked for. */
-static int text_of(PyObject *module, PyObject *given, struct text *text) {
+static int text_of(struct state *state, PyObject *given, struct text *text) {
     if (!PyUnicode_Check(given))
-        return hold(PyBytes_Check(given) ? shared(given) : converted(module, BYTES_OF, given), text);
-    PyObject *is_ascii = state_of(module)->is_ascii(given, NULL);
+        return hold(PyBytes_Check(given) ? shared(given) : converted(state, BYTES_OF, given), text);
+    PyObject *is_ascii = state->is_ascii(given, NULL);
     if (is_ascii == NULL)
         return -1;
     Py_DecRef(is_ascii);
     if (is_ascii != Py_True)
-        return hold(converted(module, BYTES_OF, given), text);
+        return hold(converted(state, BYTES_OF, given), text);
     text->held = NULL;
     text->bytes = PyUnicode_AsUTF8AndSize(given, &text->length);
     return text->bytes == NULL ? -1 : 0;
@@ -186,11 +192,11 @@ static int text_of(PyObject *module, PyObject *given, struct text *text) {
 
 /* Answers */
 
-static PyObject *whole_of(PyObject *module, base62_number number) {
+static PyObject *whole_of(struct state *state, base62_number number) {
     if (number.high == 0)
         return PyLong_FromUnsignedLongLong(number.low);
     PyObject *high = PyLong_FromUnsignedLongLong(number.high), *low = PyLong_FromUnsignedLongLong(number.low);
-    PyObject *width = held(module, HALF_WIDTH), *front = NULL, *whole = NULL;
+    PyObject *width = held(state, HALF_WIDTH), *front = NULL, *whole = NULL;
     if (high != NULL && low != NULL && width != NULL)
         front = PyNumber_Lshift(high, width);
     if (front != NULL)
@@ -201,7 +207,7 @@ static PyObject *whole_of(PyObject *module, base62_number number) {
     return whole;
 }
 
-static PyObject *refuse(PyObject *module, base62_status status, base62_bad_byte bad) {
+static PyObject *refuse(struct state *state, base62_status status, base62_bad_byte bad) {
     static const int kinds[] = {
         [BASE62_EMPTY_INPUT] = EMPTY_INPUT,
         [BASE62_INVALID_BYTE] = INVALID_BYTE,
@@ -215,28 +221,28 @@ static PyObject *refuse(PyObject *module, base62_status status, base62_bad_byte 
     PyObject *text = PyUnicode_DecodeASCII(said, (Py_ssize_t)length, NULL);
     const char *fields = is_of_byte ? "(NBn)" : "(N)";
     PyObject *told = text == NULL ? NULL : Py_BuildValue(fields, text, bad.byte, (Py_ssize_t)bad.index);
-    PyObject *type = told == NULL ? NULL : held(module, kind);
+    PyObject *type = told == NULL ? NULL : held(state, kind);
     if (type != NULL)
         PyErr_SetObject(type, told);
     Py_DecRef(told);
     return NULL;
 }
 
-static PyObject *range_of(PyObject *module, base62_status status, base62_range range, base62_bad_byte bad) {
+static PyObject *range_of(struct state *state, base62_status status, base62_range range, base62_bad_byte bad) {
     if (status == BASE62_NO_KEY)
         return shared(Py_None);
     if (status != BASE62_OK)
-        return refuse(module, status, bad);
-    return Py_BuildValue("NN", whole_of(module, range.least), whole_of(module, range.greatest));
+        return refuse(state, status, bad);
+    return Py_BuildValue("NN", whole_of(state, range.least), whole_of(state, range.greatest));
 }
 
 /* Alphabets */
 
-static int make(PyObject *module, const char *letters, struct made *made) {
+static int make(struct state *state, const char *letters, struct made *made) {
     base62_bad_byte bad = {0, 0};
     base62_status status = base62_make_alphabet(letters, &made->alphabet, &bad);
     if (status != BASE62_OK) {
-        refuse(module, status, bad);
+        refuse(state, status, bad);
         return -1;
     }
     made->kind = ASCII;
@@ -247,8 +253,8 @@ static int make(PyObject *module, const char *letters, struct made *made) {
 }
 
 /* Letters that are no Alphabet. */
-static int letters_of(PyObject *module, PyObject *given, struct text *letters) {
-    if (hold(PyBytes_Check(given) ? shared(given) : converted(module, LETTERS_OF, given), letters) != 0)
+static int letters_of(struct state *state, PyObject *given, struct text *letters) {
+    if (hold(PyBytes_Check(given) ? shared(given) : converted(state, LETTERS_OF, given), letters) != 0)
         return -1;
     if (letters->length == BASE62_ALPHABET_LENGTH)
         return 0;
@@ -259,27 +265,30 @@ static int letters_of(PyObject *module, PyObject *given, struct text *letters) {
 
 /* What an Alphabet adds to its letters. The items of bytes end an object, so this is behind them, as what a subclass in
    Python adds would be. Where a caller has changed __new__ of the class, it is UNMADE. */
-static struct made *made_in(PyObject *alphabet) {
-    return (struct made *)(PyBytes_AsString(alphabet) + PyBytes_Size(alphabet) + 1);
+static struct made *made_in(const struct state *state, PyObject *alphabet) {
+    return (struct made *)((char *)alphabet + state->size_of_bytes + Py_SIZE(alphabet));
 }
 
 /* Lends what an Alphabet holds. Of letters it makes the same in a place of the caller. */
-static const struct made *lend(PyObject *module, PyObject *given, struct made *place) {
-    PyObject *type = held(module, ALPHABET), *alphabet = given == NULL ? held(module, STANDARD) : given;
-    if (type == NULL || alphabet == NULL)
+static const struct made *lend(struct state *state, PyObject *given, struct made *place) {
+    PyObject *alphabet = given == NULL ? held(state, STANDARD) : given;
+    if (alphabet == NULL)
         return NULL;
-    if ((PyObject *)Py_TYPE(alphabet) == type && made_in(alphabet)->kind != UNMADE)
-        return made_in(alphabet);
+    if ((PyObject *)Py_TYPE(alphabet) == state->held[ALPHABET]) {
+        const struct made *made = made_in(state, alphabet);
+        if (made->kind != UNMADE)
+            return made;
+    }
     struct text letters;
-    if (letters_of(module, alphabet, &letters) != 0)
+    if (letters_of(state, alphabet, &letters) != 0)
         return NULL;
-    int fault = make(module, letters.bytes, place);
+    int fault = make(state, letters.bytes, place);
     Py_DecRef(letters.held);
     return fault ? NULL : place;
 }
 
-static const struct made *lend_to_encode(PyObject *module, PyObject *given, struct made *place) {
-    const struct made *made = lend(module, given, place);
+static const struct made *lend_to_encode(struct state *state, PyObject *given, struct made *place) {
+    const struct made *made = lend(state, given, place);
     if (made == NULL || made->kind == ASCII)
         return made;
     PyErr_SetString(PyExc_ValueError, "an alphabet to encode has ASCII letters");
@@ -301,35 +310,35 @@ static PyObject *plain(PyObject *bytes) {
     return PyBytes_FromStringAndSize(PyBytes_AsString(bytes), PyBytes_Size(bytes));
 }
 
-static PyObject *alphabet_of(PyTypeObject *type, PyObject *letters, const struct made *made) {
-    PyObject *module = PyType_GetModule(type);
+static PyObject *alphabet_of(struct state *state, PyTypeObject *type, PyObject *letters, const struct made *made) {
     newfunc new_bytes = (newfunc)PyType_GetSlot(&PyBytes_Type, Py_tp_new);
     /* A subclass of bytes could say that it has others. */
-    PyObject *in_row = module == NULL || new_bytes == NULL ? NULL : Py_BuildValue("(N)", plain(letters));
+    PyObject *in_row = new_bytes == NULL ? NULL : Py_BuildValue("(N)", plain(letters));
     PyObject *alphabet = in_row == NULL ? NULL : new_bytes(type, in_row, NULL);
     Py_DecRef(in_row);
     if (alphabet == NULL)
         return NULL;
-    char *items_end = (char *)alphabet + state_of(module)->size_of_bytes + BASE62_ALPHABET_LENGTH;
-    if ((char *)made_in(alphabet) != items_end) {
+    if ((char *)made_in(state, alphabet) != PyBytes_AsString(alphabet) + BASE62_ALPHABET_LENGTH + 1) {
         PyErr_SetString(PyExc_SystemError, "bytes has another layout");
         Py_DecRef(alphabet);
         return NULL;
     }
-    *made_in(alphabet) = *made;
+    *made_in(state, alphabet) = *made;
     return alphabet;
 }
 
 static PyObject *new_alphabet(PyTypeObject *type, PyObject *in_row, PyObject *by_name) {
     static const char *const names[] = {"letters", NULL};
-    PyObject *given, *module = PyType_GetModule(type);
-    if (module == NULL || !PyArg_ParseTupleAndKeywords(in_row, by_name, "O:Alphabet", (char **)names, &given))
+    struct state *state = PyType_GetModuleState(type);
+    PyObject *given;
+    if (state == NULL || !PyArg_ParseTupleAndKeywords(in_row, by_name, "O:Alphabet", (char **)names, &given))
         return NULL;
     struct text letters;
-    if (letters_of(module, given, &letters) != 0)
+    if (letters_of(state, given, &letters) != 0)
         return NULL;
     struct made made;
-    PyObject *alphabet = make(module, letters.bytes, &made) == 0 ? alphabet_of(type, letters.held, &made) : NULL;
+    int fault = make(state, letters.bytes, &made);
+    PyObject *alphabet = fault ? NULL : alphabet_of(state, type, letters.held, &made);
     Py_DecRef(letters.held);
     return alphabet;
 }
@@ -357,12 +366,12 @@ PyDoc_STRVAR(reduce_doc, "__reduce__($self, /)\n--\n\nReturn the name of a built
 
 static PyObject *reduce(PyObject *self, PyObject *none) {
     (void)none;
-    PyObject *module = PyType_GetModule(Py_TYPE(self));
-    if (module == NULL)
+    struct state *state = PyType_GetModuleState(Py_TYPE(self));
+    if (state == NULL)
         return NULL;
-    if (self == state_of(module)->held[STANDARD])
+    if (self == state->held[STANDARD])
         return PyUnicode_FromString("Alphabet.STANDARD");
-    if (self == state_of(module)->held[ALTERNATIVE])
+    if (self == state->held[ALTERNATIVE])
         return PyUnicode_FromString("Alphabet.ALTERNATIVE");
     return Py_BuildValue("O(N)", Py_TYPE(self), plain(self));
 }
@@ -429,12 +438,13 @@ PyDoc_STRVAR(encode_doc, "encode($module, /, number, alphabet=Alphabet.STANDARD)
 
 static PyObject *encode(PyObject *module, PyObject *const *given, Py_ssize_t count, PyObject *keywords) {
     static const struct parameters of = {"O|O:encode", {"number", "alphabet", NULL}, 1, 2};
+    struct state *state = state_of(module);
     PyObject *found[3];
     base62_number number;
     struct made place;
-    if (unpack(&of, given, count, keywords, found) != 0 || number_of(module, found[0], &number) != 0)
+    if (unpack(&of, given, count, keywords, found) != 0 || number_of(state, found[0], &number) != 0)
         return NULL;
-    const struct made *made = lend_to_encode(module, found[1], &place);
+    const struct made *made = lend_to_encode(state, found[1], &place);
     if (made == NULL)
         return NULL;
     char text[BASE62_MAX_DIGITS];
@@ -470,14 +480,15 @@ PyDoc_STRVAR(encode_fixed_doc,
 
 static PyObject *encode_fixed(PyObject *module, PyObject *const *given, Py_ssize_t count, PyObject *keywords) {
     static const struct parameters of = {"OO|O:encode_fixed", {"number", "width", "alphabet", NULL}, 2, 3};
+    struct state *state = state_of(module);
     PyObject *found[3];
     base62_number number;
     size_t width;
     struct made place;
-    if (unpack(&of, given, count, keywords, found) != 0 || number_of(module, found[0], &number) != 0 ||
+    if (unpack(&of, given, count, keywords, found) != 0 || number_of(state, found[0], &number) != 0 ||
         width_of(found[1], &width) != 0)
         return NULL;
-    const struct made *made = lend_to_encode(module, found[2], &place);
+    const struct made *made = lend_to_encode(state, found[2], &place);
     return made == NULL ? NULL : fixed_text(&made->alphabet, number, width);
 }
 
@@ -490,9 +501,10 @@ PyDoc_STRVAR(encode_key_doc,
 
 static PyObject *encode_key(PyObject *module, PyObject *const *given, Py_ssize_t count, PyObject *keywords) {
     static const struct parameters of = {"O:encode_key", {"number", NULL}, 1, 1};
+    struct state *state = state_of(module);
     PyObject *found[3];
     base62_number number;
-    if (unpack(&of, given, count, keywords, found) != 0 || number_of(module, found[0], &number) != 0)
+    if (unpack(&of, given, count, keywords, found) != 0 || number_of(state, found[0], &number) != 0)
         return NULL;
     char key[BASE62_KEY_LENGTH];
     base62_encode_key(number, key);
@@ -507,34 +519,36 @@ PyDoc_STRVAR(digit_count_doc, "digit_count($module, /, number)\n--\n\n"
 
 static PyObject *digit_count(PyObject *module, PyObject *const *given, Py_ssize_t count, PyObject *keywords) {
     static const struct parameters of = {"O:digit_count", {"number", NULL}, 1, 1};
+    struct state *state = state_of(module);
     PyObject *found[3];
     base62_number number;
-    if (unpack(&of, given, count, keywords, found) != 0 || number_of(module, found[0], &number) != 0)
+    if (unpack(&of, given, count, keywords, found) != 0 || number_of(state, found[0], &number) != 0)
         return NULL;
     return PyLong_FromSize_t(base62_digit_count(number));
 }
 
 /* The text and the alphabet of a call, read by one of the library. */
-static PyObject *read_by(base62_status (*read)(const base62_alphabet *, const char *, size_t, base62_number *,
-                                               base62_bad_byte *),
-                         PyObject *module, PyObject *const found[3]) {
+static inline PyObject *read_by(base62_status (*read)(const base62_alphabet *, const char *, size_t, base62_number *,
+                                                      base62_bad_byte *),
+                                struct state *state, PyObject *const found[3]) {
     struct text text;
-    if (text_of(module, found[0], &text) != 0)
+    if (text_of(state, found[0], &text) != 0)
         return NULL;
     base62_number number;
     base62_bad_byte bad = {0, 0};
     base62_status status = BASE62_OK;
     struct made place;
-    const struct made *made = lend(module, found[1], &place);
+    const struct made *made = lend(state, found[1], &place);
     if (made != NULL) {
         PyThreadState *saved = let_others_run((size_t)text.length);
         status = read(&made->alphabet, text.bytes, (size_t)text.length, &number, &bad);
         run_on(saved);
     }
-    Py_DecRef(text.held);
+    if (text.held != NULL)
+        Py_DecRef(text.held);
     if (made == NULL)
         return NULL;
-    return status == BASE62_OK ? whole_of(module, number) : refuse(module, status, bad);
+    return status == BASE62_OK ? whole_of(state, number) : refuse(state, status, bad);
 }
 
 PyDoc_STRVAR(decode_doc, "decode($module, /, text, alphabet=Alphabet.STANDARD)\n--\n\n"
@@ -549,7 +563,9 @@ PyDoc_STRVAR(decode_doc, "decode($module, /, text, alphabet=Alphabet.STANDARD)\n
 static PyObject *decode(PyObject *module, PyObject *const *given, Py_ssize_t count, PyObject *keywords) {
     static const struct parameters of = {"O|O:decode", {"text", "alphabet", NULL}, 1, 2};
     PyObject *found[3];
-    return unpack(&of, given, count, keywords, found) != 0 ? NULL : read_by(base62_decode_with, module, found);
+    if (unpack(&of, given, count, keywords, found) != 0)
+        return NULL;
+    return read_by(base62_decode_with, state_of(module), found);
 }
 
 PyDoc_STRVAR(decode_canonical_doc,
@@ -566,8 +582,9 @@ PyDoc_STRVAR(decode_canonical_doc,
 static PyObject *decode_canonical(PyObject *module, PyObject *const *given, Py_ssize_t count, PyObject *keywords) {
     static const struct parameters of = {"O|O:decode_canonical", {"text", "alphabet", NULL}, 1, 2};
     PyObject *found[3];
-    return unpack(&of, given, count, keywords, found) != 0 ? NULL
-                                                           : read_by(base62_decode_canonical_with, module, found);
+    if (unpack(&of, given, count, keywords, found) != 0)
+        return NULL;
+    return read_by(base62_decode_canonical_with, state_of(module), found);
 }
 
 PyDoc_STRVAR(key_range_doc,
@@ -580,9 +597,10 @@ PyDoc_STRVAR(key_range_doc,
 
 static PyObject *key_range(PyObject *module, PyObject *const *given, Py_ssize_t count, PyObject *keywords) {
     static const struct parameters of = {"O:key_range", {"front", NULL}, 1, 1};
+    struct state *state = state_of(module);
     PyObject *found[3];
     struct text front;
-    if (unpack(&of, given, count, keywords, found) != 0 || text_of(module, found[0], &front) != 0)
+    if (unpack(&of, given, count, keywords, found) != 0 || text_of(state, found[0], &front) != 0)
         return NULL;
     base62_range range = {{0, 0}, {0, 0}};
     base62_bad_byte bad = {0, 0};
@@ -590,7 +608,7 @@ static PyObject *key_range(PyObject *module, PyObject *const *given, Py_ssize_t 
     base62_status status = base62_key_range(front.bytes, (size_t)front.length, &range, &bad);
     run_on(saved);
     Py_DecRef(front.held);
-    return range_of(module, status, range, bad);
+    return range_of(state, status, range, bad);
 }
 
 PyDoc_STRVAR(fixed_range_doc,
@@ -604,24 +622,25 @@ PyDoc_STRVAR(fixed_range_doc,
 
 static PyObject *fixed_range(PyObject *module, PyObject *const *given, Py_ssize_t count, PyObject *keywords) {
     static const struct parameters of = {"OO|O:fixed_range", {"width", "front", "alphabet", NULL}, 2, 3};
+    struct state *state = state_of(module);
     PyObject *found[3];
     size_t width;
     struct text front;
     if (unpack(&of, given, count, keywords, found) != 0 || width_of(found[0], &width) != 0 ||
-        text_of(module, found[1], &front) != 0)
+        text_of(state, found[1], &front) != 0)
         return NULL;
     base62_range range = {{0, 0}, {0, 0}};
     base62_bad_byte bad = {0, 0};
     base62_status status = BASE62_OK;
     struct made place;
-    const struct made *made = lend(module, found[2], &place);
+    const struct made *made = lend(state, found[2], &place);
     if (made != NULL) {
         PyThreadState *saved = let_others_run((size_t)front.length);
         status = base62_fixed_range_with(&made->alphabet, width, front.bytes, (size_t)front.length, &range, &bad);
         run_on(saved);
     }
     Py_DecRef(front.held);
-    return made == NULL ? NULL : range_of(module, status, range, bad);
+    return made == NULL ? NULL : range_of(state, status, range, bad);
 }
 
 /* The module */

@@ -130,6 +130,16 @@ test_usage() {
     refuses 2 "*    $1 *" "$1" "$work/none" "$work/none"
 }
 
+# BUILD. Where nothing is missing, --check says nothing and proves nothing.
+test_check() {
+    rm -f "$work/called"
+    PATH=$work/bin:$PATH "$1" --check >"$work/said" 2>&1
+    if [[ -s $work/said || -e $work/called ]]; then
+        cat "$work/said" >&2
+        return 1
+    fi
+}
+
 # COMMAND.. Where rt does not prove, the build fails and leaves nothing, also of an earlier proof.
 test_unproved() {
     rm -f "$work/called"

@@ -19,6 +19,7 @@ const copy = method(anyArray.set);
 const charCodeAt = method(''.charCodeAt);
 const codePointAt = method(''.codePointAt);
 const match = method(/./.exec);
+const exportsOf = getter(Instance.prototype, 'exports');
 const grow = method(Memory.prototype.grow);
 const bufferOf = getter(Memory.prototype, 'buffer');
 const recall = method(WeakMap.prototype.get);
@@ -35,7 +36,7 @@ const HEXADECIMAL = '0123456789abcdef';
 const code = new Module(Uint8Array.from(atob(wasm()), (byte) => byte.charCodeAt()));
 // What is lent to a call stands at these addresses, above what the library has for itself. A call takes an address or a
 // length as two words of 32 bits, the lower one first.
-const NUMBER = (Number(new Instance(code).exports.__heap_base.value) + 7) & ~7;
+const NUMBER = (Number(exportsOf(new Instance(code)).__heap_base.value) + 7) & ~7;
 const GREATEST = NUMBER + 16;
 const BAD_BYTE = NUMBER + 32;
 const ALPHABET = NUMBER + 48;
@@ -43,7 +44,7 @@ const TEXT = ALPHABET + BASE62_ALPHABET_SIZE;
 
 // An instance of the library, with room for a text of a size.
 function open(size) {
-  const calls = new Instance(code).exports;
+  const calls = exportsOf(new Instance(code));
   const { memory } = calls;
   grow(memory, max(0, ceil((TEXT + size - MEMORY) / PAGE)));
   const buffer = bufferOf(memory);

@@ -76,7 +76,7 @@ decodeNumber('5', alphabet) === 5n;
 // @ts-expect-error
 fixedRange('5', 7);
 // @ts-expect-error
-const [least] = keyRange('5');
+const ends: [bigint, bigint] = keyRange('5');
 // @ts-expect-error
 keyRange('5', alphabet);
 // @ts-expect-error
@@ -92,4 +92,4 @@ new Base62Error('5');
 // @ts-expect-error
 import { version } from 'base62-proved';
 
-export { letters, number, numbers, range, small, texts, told };
+export { ends, letters, number, numbers, range, small, texts, told };

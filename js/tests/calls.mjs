@@ -118,7 +118,7 @@ export function testsOf(base62, values) {
         sameRange(base62.fixedRange(width, other, alphabet), range);
         if (width === 22) sameRange(base62.keyRange(front), range);
       }
-      sameRange(base62.fixedRange(Number.MAX_SAFE_INTEGER, ''), [0, 2n ** 128n - 1n]);
+      for (const width of [2 ** 32, Number.MAX_SAFE_INTEGER]) sameRange(base62.fixedRange(width, '0'), [0, 2n ** 128n - 1n]);
       refused(() => base62.keyRange('0-'), 'INVALID_BYTE', undefined, 45, 1);
     },
 
@@ -197,7 +197,7 @@ export function testsOf(base62, values) {
 
     'UUIDs that are none are refused'() {
       const uuid = '550e8400-e29b-41d4-a716-446655440000';
-      const wrong = ['', uuid.slice(1), `${uuid}0`, `${uuid}\n`, `{${uuid}}`, uuid.replaceAll('-', ''), uuid.replace('-', '_')];
+      const wrong = ['', uuid.slice(1), `${uuid}0`, `0${uuid}`, `${uuid}\n`, `{${uuid}}`, uuid.replaceAll('-', ''), uuid.replace('-', '_')];
       for (const other of [...wrong, uuid.replace('5', 'g'), uuid.replace('5', '\u0665'), new Uint8Array(15), new Uint8Array(17)]) {
         refused(() => base62.encodeUuid(other), 'INVALID_UUID');
       }
@@ -208,7 +208,7 @@ export function testsOf(base62, values) {
       same(Alphabet.standard.letters, standard);
       same(Alphabet.alternative.letters, alternative);
       same(alphabet.letters, own);
-      for (const wrong of ['', standard.slice(1), `${standard}-`, standard.replace('z', '\u00e9'), standard.replace('yz', '\u{1f600}')]) {
+      for (const wrong of ['', standard.slice(1), `${standard}-`, standard.replace('z', '\u00e9'), standard.replace('yz', '\u00e9'), standard.replace('yz', '\u{1f600}')]) {
         refused(() => new Alphabet(wrong), 'INVALID_ALPHABET');
       }
       refused(() => new Alphabet('0'.repeat(62)), 'REPEATED_LETTER', "Alphabet repeats the byte b'0' at index 1", 48, 1);

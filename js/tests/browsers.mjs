@@ -8,26 +8,28 @@ import { tmpdir } from 'node:os';
 import { join } from 'node:path';
 import { setTimeout as pause } from 'node:timers/promises';
 
-const PATIENCE = 60_000;
+// A browser that does not answer fails the test.
+const PATIENCE = 100_000;
 
 // Requests by number, until their answers come.
 function requests() {
   const waiting = new Map();
   let last = 0;
-  return {
-    ask(send) {
-      const number = ++last;
-      const answer = new Promise((resolve, reject) => waiting.set(number, { resolve, reject }));
-      send(number);
-      return answer;
-    },
-    settle(number, fault, answer) {
-      const { resolve, reject } = waiting.get(number);
-      waiting.delete(number);
-      if (fault) reject(new Error(JSON.stringify(fault)));
-      else resolve(answer);
-    },
+  const settle = (number, fault, answer) => {
+    const { resolve, reject, timer } = waiting.get(number) ?? {};
+    if (!waiting.delete(number)) return;
+    clearTimeout(timer);
+    if (fault) reject(new Error(JSON.stringify(fault)));
+    else resolve(answer);
   };
+  const ask = (send) =>
+    new Promise((resolve, reject) => {
+      const number = ++last;
+      const timer = setTimeout(() => settle(number, 'no answer'), PATIENCE);
+      waiting.set(number, { resolve, reject, timer });
+      send(number);
+    });
+  return { ask, settle };
 }
 
 // What holds gives in the end.

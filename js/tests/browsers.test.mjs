@@ -121,6 +121,7 @@ for (const start of [chromium, firefox]) {
     await browser.open(page);
     const refused = await browser.compute(`new Promise((resolve) => {
       const seen = [];
+      setTimeout(() => resolve(seen.join()), 9000);
       document.addEventListener('securitypolicyviolation', ({ effectiveDirective }) => {
         if (seen.push(effectiveDirective) === 3) resolve(seen.sort().join());
       });

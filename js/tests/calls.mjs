@@ -215,6 +215,8 @@ export function testsOf(base62, values) {
       refused(() => new Alphabet(standard.replace('z', 'A')), 'REPEATED_LETTER', undefined, 65, 61);
       same(base62.encode(1337, alphabet), 'Pd');
       same(base62.encode(1337), 'LZ');
+      same(new Alphabet(own).letters, own);
+      same(base62.encode(1337), 'LZ');
       class More extends Alphabet {}
       same(base62.encode(1337, new More(own)), 'Pd');
     },

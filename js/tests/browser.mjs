@@ -4,7 +4,7 @@ import { testsOf } from './calls.mjs';
 
 // The tests that fail of those that there are.
 globalThis.run = (values) => {
-  const tests = Object.entries(testsOf(base62, values));
+  const tests = testsOf(base62, values);
   const failed = [];
   for (const [name, test] of tests) {
     try {

@@ -2,32 +2,34 @@
 // open a page, compute what an expression gives there, and type as a user does.
 import { spawn } from 'node:child_process';
 import { once } from 'node:events';
-import { mkdtempSync, readFileSync, rmSync, writeFileSync } from 'node:fs';
+import { existsSync, mkdtempSync, readFileSync, rmSync, writeFileSync } from 'node:fs';
 import { connect } from 'node:net';
 import { tmpdir } from 'node:os';
 import { join } from 'node:path';
 import { setTimeout as pause } from 'node:timers/promises';
 
-const PATIENCE = 60_000;
+// A browser that does not answer fails the test.
+const PATIENCE = 100_000;
 
 // Requests by number, until their answers come.
 function requests() {
   const waiting = new Map();
   let last = 0;
-  return {
-    ask(send) {
-      const number = ++last;
-      const answer = new Promise((resolve, reject) => waiting.set(number, { resolve, reject }));
-      send(number);
-      return answer;
-    },
-    settle(number, fault, answer) {
-      const { resolve, reject } = waiting.get(number);
-      waiting.delete(number);
-      if (fault) reject(new Error(JSON.stringify(fault)));
-      else resolve(answer);
-    },
+  const settle = (number, fault, answer) => {
+    const { resolve, reject, timer } = waiting.get(number) ?? {};
+    if (!waiting.delete(number)) return;
+    clearTimeout(timer);
+    if (fault) reject(new Error(JSON.stringify(fault)));
+    else resolve(answer);
   };
+  const ask = (send) =>
+    new Promise((resolve, reject) => {
+      const number = ++last;
+      const timer = setTimeout(() => settle(number, 'no answer'), PATIENCE);
+      waiting.set(number, { resolve, reject, timer });
+      send(number);
+    });
+  return { ask, settle };
 }
 
 // What holds gives in the end.
@@ -45,6 +47,7 @@ function start(command, optionsOf, stdio) {
   const folder = mkdtempSync(join(tmpdir(), 'browser-'));
   const child = spawn(command, optionsOf(folder), { stdio, env: { ...process.env, HOME: folder } });
   const ended = once(child, 'exit');
+  process.once('exit', () => child.kill('SIGKILL'));
   const stop = async () => {
     child.kill('SIGKILL');
     await ended;
@@ -53,14 +56,14 @@ function start(command, optionsOf, stdio) {
   return { child, folder, stop };
 }
 
-export async function chromium() {
+// A message is JSON, and a zero byte ends it.
+function devTools() {
   const options = ['--headless', '--no-sandbox', '--disable-gpu', '--disable-dev-shm-usage', '--no-first-run'];
   const optionsOf = (folder) => [...options, '--remote-debugging-pipe', `--user-data-dir=${folder}`];
   const { child, stop } = start('chromium', optionsOf, ['ignore', 'ignore', 'ignore', 'pipe', 'pipe']);
   const [, , , input, output] = child.stdio;
   const { ask, settle } = requests();
   const events = [];
-  let sessionId;
   let rest = '';
   output.setEncoding('utf8').on('data', (data) => {
     const messages = (rest + data).split('\0');
@@ -70,19 +73,24 @@ export async function chromium() {
       else events.push({ method, params });
     }
   });
-  const call = (method, params) =>
-    ask((id) => input.write(`${JSON.stringify({ id, method, params, sessionId })}\0`));
-  const { targetId } = await call('Target.createTarget', { url: 'about:blank' });
-  ({ sessionId } = await call('Target.attachToTarget', { targetId, flatten: true }));
+  const send = (message) => ask((id) => input.write(`${JSON.stringify({ id, ...message })}\0`));
+  return { send, events, stop };
+}
+
+export async function chromium() {
+  const { send, events, stop } = devTools();
+  const { targetId } = await send({ method: 'Target.createTarget', params: { url: 'about:blank' } });
+  const { sessionId } = await send({ method: 'Target.attachToTarget', params: { targetId, flatten: true } });
+  const call = (method, params) => send({ method, params, sessionId });
   for (const domain of ['Page', 'Network', 'Runtime']) await call(`${domain}.enable`);
+  const seen = (wanted) => events.filter(({ method }) => method === wanted).map(({ params }) => params);
   return {
-    name: 'Chromium',
     call,
     stop,
     async open(url) {
       events.length = 0;
       await call('Page.navigate', { url });
-      await until(() => events.some(({ method }) => method === 'Page.loadEventFired'));
+      await until(() => seen('Page.loadEventFired').length);
     },
     async compute(expression) {
       const how = { expression, awaitPromise: true, returnByValue: true };
@@ -92,14 +100,15 @@ export async function chromium() {
     },
     type: (text) => call('Input.insertText', { text }),
     async tab() {
-      for (const type of ['keyDown', 'keyUp']) await call('Input.dispatchKeyEvent', { type, key: 'Tab', windowsVirtualKeyCode: 9 });
+      const key = { key: 'Tab', windowsVirtualKeyCode: 9 };
+      for (const type of ['keyDown', 'keyUp']) await call('Input.dispatchKeyEvent', { type, ...key });
     },
     // All that the page has asked for since it was opened.
-    requested: () => events.filter(({ method }) => method === 'Network.requestWillBeSent').map(({ params }) => params.request.url),
+    requested: () => seen('Network.requestWillBeSent').map(({ request }) => request.url),
   };
 }
 
-// A message of Marionette: its length, a colon, and JSON.
+// A message is its length, a colon, and JSON. The first one greets.
 function* messagesOf(box) {
   for (;;) {
     const colon = box.rest.indexOf(':');
@@ -110,21 +119,16 @@ function* messagesOf(box) {
   }
 }
 
-export async function firefox() {
+async function marionette() {
   const optionsOf = (folder) => {
     writeFileSync(join(folder, 'user.js'), 'user_pref("marionette.port", 0);\n');
     return ['--headless', '--marionette', '--no-remote', '--profile', folder];
   };
   const { folder, stop } = start('firefox-esr', optionsOf, 'ignore');
-  const port = await until(() => {
-    try {
-      return Number(readFileSync(join(folder, 'MarionetteActivePort')));
-    } catch {
-      return 0;
-    }
-  });
+  const port = join(folder, 'MarionetteActivePort');
+  await until(() => existsSync(port) && readFileSync(port, 'utf8'));
+  const socket = connect(Number(readFileSync(port)), '127.0.0.1');
   const { ask, settle } = requests();
-  const socket = connect(port, '127.0.0.1');
   const box = { rest: Buffer.alloc(0) };
   let isGreeted = false;
   socket.on('data', (data) => {
@@ -140,6 +144,15 @@ export async function firefox() {
       const message = JSON.stringify([0, number, name, parameters]);
       socket.write(`${Buffer.byteLength(message)}:${message}`);
     });
+  const end = () => {
+    socket.destroy();
+    return stop();
+  };
+  return { call, stop: end };
+}
+
+export async function firefox() {
+  const { call, stop } = await marionette();
   await call('WebDriver:NewSession');
   await call('WebDriver:SetTimeouts', { script: PATIENCE });
   const type = async (text) => {
@@ -147,14 +160,10 @@ export async function firefox() {
     await call('WebDriver:ElementSendKeys', { id: Object.values(value)[0], text });
   };
   return {
-    name: 'Firefox',
     call,
-    async stop() {
-      socket.destroy();
-      await stop();
-    },
+    stop,
     open: (url) => call('WebDriver:Navigate', { url }),
-    compute: async (expression) => {
+    async compute(expression) {
       const script = `const done = arguments[0]; Promise.resolve(${expression}).then(done);`;
       return (await call('WebDriver:ExecuteAsyncScript', { script, args: [] })).value;
     },

@@ -88,7 +88,7 @@ for (const start of [chromium, firefox]) {
     assert.equal(await browser.compute("document.querySelectorAll('[aria-invalid]').length"), 1);
     await typeInto('standard', 'LZ\u{1f600}');
     assert.equal(await markedAt('standard'), '\u{1f600}');
-    await typeInto('alternative', '7n42DGM5Tflk9n8mt7Fhc8'.replace(/[a-z]/gi, (it) => (it < 'a' ? it.toLowerCase() : it.toUpperCase())));
+    await typeInto('alternative', '7N42dgm5tFLK9N8MT7fHC8');
     assert.match(await toldAt('alternative'), /cannot fit/);
     assert.equal(await toldAt('standard'), '');
     await typeInto('number', '340282366920938463463374607431768211456');
@@ -114,13 +114,15 @@ for (const start of [chromium, firefox]) {
       await browser.tab();
     }
     assert.deepEqual(visited, ids);
-    assert.equal(await browser.compute("[...document.querySelectorAll('input')].every((it) => it.labels.length)"), true);
+    const labels = "[...document.querySelectorAll('input')].every((it) => it.labels.length)";
+    assert.equal(await browser.compute(labels), true);
   });
 
   test(`${start.name}: the page's policy forbids all other sources`, async () => {
     await browser.open(page);
     const refused = await browser.compute(`new Promise((resolve) => {
       const seen = [];
+      setTimeout(() => resolve(seen.join()), 9000);
       document.addEventListener('securitypolicyviolation', ({ effectiveDirective }) => {
         if (seen.push(effectiveDirective) === 3) resolve(seen.sort().join());
       });
@@ -143,23 +145,29 @@ const contrasts = `[...document.querySelectorAll('h1, p, label, input, .fault, .
   };
   let behind = it;
   while (/, 0\\)$|transparent/.test(getComputedStyle(behind).backgroundColor)) behind = behind.parentElement;
-  const [low, high] = [getComputedStyle(it).color, getComputedStyle(behind).backgroundColor].map(luminance).sort((a, b) => a - b);
+  const colours = [getComputedStyle(it).color, getComputedStyle(behind).backgroundColor];
+  const [low, high] = colours.map(luminance).sort((a, b) => a - b);
   return (high + 0.05) / (low + 0.05);
 })`;
+
+// Of the window and of the page, and by how much the content of each field is wider than the field.
+const widths = `[
+  innerWidth,
+  document.documentElement.scrollWidth,
+  ...[...document.querySelectorAll('input')].map((it) => it.scrollWidth - it.clientWidth),
+]`;
 
 test('chromium: the page is read on a phone and in the dark, and asks for nothing', async () => {
   const browser = await chromium();
   try {
     await browser.open(page);
     for (const [width, value] of [[360, 'light'], [320, 'dark']]) {
-      await browser.call('Emulation.setDeviceMetricsOverride', { width, height: 640, deviceScaleFactor: 2, mobile: true });
+      const phone = { width, height: 640, deviceScaleFactor: 2, mobile: true };
+      await browser.call('Emulation.setDeviceMetricsOverride', phone);
       await browser.call('Emulation.setEmulatedMedia', { features: [{ name: 'prefers-color-scheme', value }] });
       await browser.compute("document.getElementById('number').select()");
       await browser.type('340282366920938463463374607431768211455');
-      const [wanted, ...widths] = await browser.compute(
-        "[innerWidth, document.documentElement.scrollWidth, ...[...document.querySelectorAll('input')].map((it) => it.scrollWidth - it.clientWidth)]",
-      );
-      assert.deepEqual([wanted, widths], [width, [width, ...ids.map(() => 0)]]);
+      assert.deepEqual(await browser.compute(widths), [width, width, ...ids.map(() => 0)]);
       await browser.compute("document.getElementById('standard').select()");
       await browser.type('LZ-');
       for (const ratio of await browser.compute(contrasts)) assert.ok(ratio >= 4.5, `${value}: ${ratio}`);

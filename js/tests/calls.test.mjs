@@ -7,5 +7,5 @@ import { testsOf } from './calls.mjs';
 
 const values = JSON.parse(readFileSync(process.env.VALUES));
 for (const [form, base62] of Object.entries({ module, CommonJS: createRequire(import.meta.url)('base62-proved') })) {
-  for (const [name, run] of Object.entries(testsOf(base62, values))) test(`${form}: ${name}`, run);
+  for (const [name, run] of testsOf(base62, values)) test(`${form}: ${name}`, run);
 }

@@ -70,8 +70,9 @@ function reachable() {
       for (const value of [descriptor.value, descriptor.get, descriptor.set]) visit(value);
     }
   };
-  const names = 'Array ArrayBuffer BigInt BigUint64Array DataView Error Function Map Math Number Object RangeError Reflect RegExp String Symbol TextDecoder TypeError Uint8Array Uint32Array WeakMap WebAssembly atob';
-  names.split(' ').forEach((name) => visit(globalThis[name]));
+  const arrays = [Array, ArrayBuffer, BigUint64Array, DataView, Uint8Array, Uint32Array];
+  const values = [BigInt, Error, Function, Number, Object, RangeError, RegExp, String, Symbol, TypeError];
+  [...arrays, ...values, Map, Math, Reflect, TextDecoder, WeakMap, WebAssembly, atob].forEach(visit);
   return [...found];
 }
 
@@ -95,7 +96,8 @@ function poison() {
   for (const name of ['code', 'byte', 'index', 'letters', 'get', 'set', 'value', 'enumerable']) {
     inherited.push([Object.prototype, name, { get: thrower, set: thrower, configurable: true }]);
   }
-  for (const name of ['Uint8Array', 'TypeError', 'RangeError', 'WebAssembly', 'BigInt', 'String', 'Math', 'Object', 'TextDecoder', 'atob']) {
+  const names = ['Uint8Array', 'TypeError', 'RangeError', 'WebAssembly', 'BigInt', 'String', 'Math', 'Object', 'atob'];
+  for (const name of names) {
     inherited.push([globalThis, name, { value: thrower }]);
   }
   // Last, since it needs them itself. No method of an array is called any more.

@@ -24,7 +24,8 @@ test('a text of 100 MB is read, and no memory is kept', () => {
     zeros.set([76, 90], zeros.length - 2);
     assert.equal(decode(zeros), 1337n);
     assert.equal(decode('Pd'.padStart(100 * MEGABYTE, '2'), new Alphabet(own)), 1337n);
-    assert.throws(() => decode(`${'0'.repeat(100 * MEGABYTE)}\u20ac`), { code: 'INVALID_BYTE', byte: 0xe2, index: 100 * MEGABYTE });
+    const fault = { code: 'INVALID_BYTE', byte: 0xe2, index: 100 * MEGABYTE };
+    assert.throws(() => decode(`${'0'.repeat(100 * MEGABYTE)}\u20ac`), fault);
     assert.equal(base62.encodeFixed(1337, 100 * MEGABYTE).length, 100 * MEGABYTE);
   })();
   assert.ok(resident() - before < 50 * MEGABYTE);
@@ -107,9 +108,9 @@ test('threads do not meet', async () => {
     for (let i = 0n; i < 100_000n; i++) isRight &&= decode(encode(i * i * i, alphabet), alphabet) === i * i * i;
     parentPort.postMessage(isRight);`;
   const workerData = fileURLToPath(new URL('node_modules/base62-proved/index.cjs', import.meta.url));
-  const answers = Array.from({ length: 4 }, () =>
-    new Promise((resolve, reject) => new Worker(work, { eval: true, workerData }).on('message', resolve).on('error', reject)),
-  );
+  const answerOf = (worker) =>
+    new Promise((resolve, reject) => worker.on('message', resolve).on('error', reject));
+  const answers = Array.from({ length: 4 }, () => answerOf(new Worker(work, { eval: true, workerData })));
   for (let i = 0n; i < 100_000n; i++) assert.equal(decode(encode(i * i)), i * i);
   assert.deepEqual(await Promise.all(answers), [true, true, true, true]);
 });
@@ -124,7 +125,8 @@ test('bytes of another realm and shared ones are read', () => {
 
 test('changed prototypes change no answer', () => {
   for (const how of ['poison', 'freeze']) {
-    const ran = spawnSync(process.execPath, [fileURLToPath(new URL('changed.mjs', import.meta.url)), how], { encoding: 'utf8' });
+    const program = fileURLToPath(new URL('changed.mjs', import.meta.url));
+    const ran = spawnSync(process.execPath, [program, how], { encoding: 'utf8' });
     assert.equal(ran.stderr, '');
     assert.equal(ran.stdout, `${how}: right\n`);
   }

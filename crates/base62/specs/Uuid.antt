@@ -1,8 +1,9 @@
 -- UUIDs: sixteen bytes, and the number that they denote.
-use Rattle.std.specs.Prelude.{◌≡◌, ℕ, ◌<◌, List, length, slice_index, Result, Ok, Err}
+use Rattle.std.specs.Prelude.{◌≡◌, ℕ, ◌<◌, List, length, slice_index, Option, Some, None, Result, Ok, Err, IsOk}
 use Rattle.base62.specs.declared.fault.DecodeError.{DecodeError}
 use Rattle.base62.specs.Places.{sum_over_places}
-use Rattle.base62.specs.Canonical.{Denotes}
+use Rattle.base62.specs.Alphabet.{zero_letter}
+use Rattle.base62.specs.Canonical.{Denotes, IsCanonical}
 use Rattle.base62.specs.Decoding.{decoding}
 
 -- sixteen bytes
@@ -22,3 +23,19 @@ pub record DecodesUuid (B text : List ℕ) (result : Result (List ℕ) DecodeErr
   pub denoted : (uuid : List ℕ) → IsUuid uuid → Denotes B text (uuid_number uuid) → result ≡ Ok uuid
   pub refused : (fault : DecodeError) → result ≡ Err fault → decoding B text ≡ Err fault
   pub fault : (fault : DecodeError) → decoding B text ≡ Err fault → result ≡ Err fault
+
+-- Strict decoding to a UUID. A UUID is answered exactly for the canonical text of its number. None is
+-- answered exactly for the other texts that decode to a number, and these begin with a needless
+-- zero. Every other text has its fault of decoding.
+pub record DecodesUuidCanonical
+    (B text : List ℕ) (result : Result (Option (List ℕ)) DecodeError) : Type 0 where
+  pub accepted : (uuid : List ℕ) → IsUuid uuid → IsCanonical B text (uuid_number uuid)
+      → result ≡ Ok (Some uuid)
+  pub canonical : (uuid : List ℕ) → result ≡ Ok (Some uuid) → IsCanonical B text (uuid_number uuid)
+  pub back : (uuid : List ℕ) → result ≡ Ok (Some uuid) → decoding B text ≡ Ok (uuid_number uuid)
+  pub needless : (n : ℕ) → decoding B text ≡ Ok n → 1 < length text
+      → slice_index text 0 ≡ zero_letter B → result ≡ Ok None
+  pub zeros : result ≡ Ok None
+      → IsOk (decoding B text) × (1 < length text) × (slice_index text 0 ≡ zero_letter B)
+  pub refused : (fault : DecodeError) → decoding B text ≡ Err fault → result ≡ Err fault
+  pub fault : (fault : DecodeError) → result ≡ Err fault → decoding B text ≡ Err fault

@@ -3,7 +3,10 @@
 use crate::support::alphabets::Letters;
 use crate::support::checks::assert_encodes;
 use base62::DecodeError::{ArithmeticOverflow, EmptyInput, InvalidBase62Byte};
-use base62::{Alphabet, decode_alternative_uuid, decode_uuid, decode_uuid_with};
+use base62::{
+    Alphabet, decode_alternative_uuid, decode_alternative_uuid_canonical, decode_uuid,
+    decode_uuid_canonical, decode_uuid_canonical_with, decode_uuid_with,
+};
 use std::process::Abort;
 
 // The nil and the max UUID, RFC 9562's examples of versions 4 and 7, and the first number above 64 bits.
@@ -83,4 +86,42 @@ fn texts_of_no_uuid(rt: HostRuntime) {
         decode_alternative_uuid(b"7N42dgm5tFLK9N8MT7fHC8"),
         Err(ArithmeticOverflow)
     );
+}
+
+#[test]
+fn canonical_texts_of_uuids(rt: HostRuntime) {
+    for (uuid, text, alternative) in UUIDS {
+        assert_eq!(rt;
+            decode_uuid_canonical(text.as_bytes()),
+            Ok(Some(uuid)),
+            "{text}"
+        );
+        assert_eq!(rt;
+            decode_alternative_uuid_canonical(alternative.as_bytes()),
+            Ok(Some(uuid)),
+            "{alternative}"
+        );
+    }
+    assert_eq!(rt; decode_uuid_canonical(b"0LygHa16AHYG"), Ok(None));
+    assert_eq!(rt; decode_alternative_uuid_canonical(b"00"), Ok(None));
+    assert_eq!(rt; decode_uuid_canonical(b""), Err(EmptyInput));
+    assert_eq!(rt;
+        decode_uuid_canonical(b"0-"),
+        Err(InvalidBase62Byte(b'-', 1))
+    );
+    assert_eq!(rt;
+        decode_alternative_uuid_canonical(b"7N42dgm5tFLK9N8MT7fHC8"),
+        Err(ArithmeticOverflow)
+    );
+}
+
+// The zero letter is `A`, and `BF` is 62 + 5.
+#[test]
+fn canonical_texts_of_uuids_over_own_letters(rt: HostRuntime) {
+    let letters = *b"ABCDEFGHIJKLMNOPQRSTUVWXYZabcdefghijklmnopqrstuvwxyz0123456789";
+    let own = Alphabet::new(letters).expect(&rt, "no byte is repeated");
+    let uuid = [0, 0, 0, 0, 0, 0, 0, 0, 0, 0, 0, 0, 0, 0, 0, 67];
+    assert_eq!(rt; decode_uuid_canonical_with(&own, b"BF"), Ok(Some(uuid)));
+    assert_eq!(rt; decode_uuid_canonical_with(&own, b"ABF"), Ok(None));
+    assert_eq!(rt; decode_uuid_canonical_with(&own, b"A"), Ok(Some([0; 16])));
 }

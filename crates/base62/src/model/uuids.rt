@@ -1,10 +1,10 @@
 //! UUIDs.
 #![tactic(auto, unfolding(crate::proofs::OnLiterals::base62_on_literals))]
 
-ghost use Rattle.std.specs.Prelude.{◌≡◌, ◌-◌, ◌^◌, ◌++◌, [], ◌∷◌, codes, replicate, Ok, Err};
+ghost use Rattle.std.specs.Prelude.{◌≡◌, ◌-◌, ◌^◌, ◌++◌, [], ◌∷◌, codes, replicate, Some, None, Ok, Err};
 ghost use Rattle.base62.specs.Alphabet.{standard};
-ghost use Rattle.base62.specs.Uuid.{IsUuid, uuid_number, DecodesUuid};
-ghost use Rattle.base62.specs.declared.fault.DecodeError.TheVariants.{EmptyInput};
+ghost use Rattle.base62.specs.Uuid.{IsUuid, uuid_number, DecodesUuid, DecodesUuidCanonical};
+ghost use Rattle.base62.specs.declared.fault.DecodeError.TheVariants.{ArithmeticOverflow, EmptyInput};
 
 /// Sixteen bytes and their numbers, and lists that are no UUID.
 pub fn uuids_by_example()
@@ -24,4 +24,18 @@ pub fn decoded_uuids_by_example()
     ensures exchanged { DecodesUuid standard (codes "LZ") (Ok (replicate 14 0 ++ 57 ∷ 5 ∷ [])) → ⊥ }
     ensures refused { DecodesUuid standard (codes "LZ") (Err EmptyInput) → ⊥ }
     ensures accepted { DecodesUuid standard [] (Ok (replicate 16 0)) → ⊥ }
+{}
+
+/// What strict decoding to a UUID answers for `LZ`, also behind a zero, and answers that are wrong.
+pub fn canonical_uuids_by_example()
+    ensures decoded { DecodesUuidCanonical standard (codes "LZ")
+        (Ok (Some (replicate 14 0 ++ 5 ∷ 57 ∷ []))) }
+    ensures zero_in_front { DecodesUuidCanonical standard (codes "0LZ") (Ok None) }
+    ensures empty { DecodesUuidCanonical standard [] (Err EmptyInput) }
+    ensures exchanged { DecodesUuidCanonical standard (codes "LZ")
+        (Ok (Some (replicate 14 0 ++ 57 ∷ 5 ∷ []))) → ⊥ }
+    ensures accepted_zeros { DecodesUuidCanonical standard (codes "0LZ")
+        (Ok (Some (replicate 14 0 ++ 5 ∷ 57 ∷ []))) → ⊥ }
+    ensures refused_uuid { DecodesUuidCanonical standard (codes "LZ") (Ok None) → ⊥ }
+    ensures another_fault { DecodesUuidCanonical standard [] (Err ArithmeticOverflow) → ⊥ }
 {}

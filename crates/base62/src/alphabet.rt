@@ -33,6 +33,8 @@ pub use work::Work;
 ///
 /// [`decode`]: crate::decode
 /// [`decode_with`]: crate::decode_with
+// Laid out as in C, which holds one and lends it to calls.
+#[repr(C)]
 #[derive(Clone, Copy)]
 pub struct Alphabet {
     tables: Tables,

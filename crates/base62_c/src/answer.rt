@@ -1,12 +1,11 @@
 //! How answers are told by a status and through pointers.
 
-ghost use Rattle.std.specs.Prelude.{◌≡◌, Some, None, OnSome, OnOk, OnErr};
-ghost use Rattle.base62.specs.Alphabet.{IsAlphabet, RepeatsFirst};
+ghost use Rattle.std.specs.Prelude.{◌≡◌, OnOk, OnErr};
 ghost use Rattle.base62.specs.declared.fault.AlphabetError.TheVariants.{Repeated};
 ghost use Rattle.base62_c.specs.Answer.{TellsFault, TellsNumber, TellsCanonical, TellsRange, WritesText};
 
 use crate::number::{Number, halves};
-use base62::{Alphabet, AlphabetError, DecodeError, EncodeError};
+use base62::{AlphabetError, DecodeError, EncodeError};
 
 pub(crate) const OK: u32 = 0;
 
@@ -117,28 +116,13 @@ fn tell_fault(fault: DecodeError, bad: &mut BadByte) -> u32
     }
 }
 
-// The alphabet of the letters. Where a letter is repeated, there is none, and `bad` names the
-// letter.
-pub(crate) fn alphabet_of(letters: &[u8; 62], bad: &mut BadByte) -> Option<Alphabet>
-    ensures accepted { IsAlphabet letters.now → (result ≡ Some letters.now) × (bad.new ≡ bad.old) }
-    ensures refused { (IsAlphabet letters.now → ⊥)
-        → (result ≡ None) × RepeatsFirst letters.now bad.new.byte bad.new.index }
-    ensures alphabet { OnSome result (IsAlphabet letters.now) }
-{
-    match Alphabet::new(*letters) {
-        Ok(alphabet) => Some(alphabet),
-        Err(fault) => {
-            put_repeat(fault, bad);
-            None
-        }
-    }
-}
-
-fn put_repeat(fault: AlphabetError, bad: &mut BadByte)
-    ensures { fault ≡ Repeated bad.new.byte bad.new.index }
+pub(crate) fn tell_repeat(fault: AlphabetError, bad: &mut BadByte) -> u32
+    ensures status { result ≡ 6 }
+    ensures byte { fault ≡ Repeated bad.new.byte bad.new.index }
 {
     let AlphabetError::Repeated(byte, index) = fault;
     *bad = BadByte { index, byte };
+    REPEATED_LETTER
 }
 
 pub(crate) fn tell_text(text: &[u8], buf: &mut [u8]) -> usize

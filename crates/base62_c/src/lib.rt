@@ -21,8 +21,8 @@ pub mod model;
 mod number;
 
 use answer::{
-    BadByte, OK, REPEATED_LETTER, Range, alphabet_of, count_filled, tell_canonical, tell_number,
-    tell_range, tell_text,
+    BadByte, OK, Range, count_filled, tell_canonical, tell_number, tell_range, tell_repeat,
+    tell_text,
 };
 use base62::Alphabet;
 use fault::text_of;
@@ -43,16 +43,10 @@ pub extern "C" fn base62_encode_alternative(number: Number, buf: &mut [u8]) -> u
 }
 
 #[unsafe(no_mangle)]
-pub extern "C" fn base62_encode_with(letters: &[u8; 62], number: Number, buf: &mut [u8]) -> usize
-    ensures accepted { IsAlphabet letters.now
-        → Encodes letters.now (number_of number) buf.old buf.new result }
-    ensures refused { (IsAlphabet letters.now → ⊥) → (result ≡ 0) × (buf.new ≡ buf.old) }
-    ensures alphabet { result ≢ 0 → IsAlphabet letters.now }
+pub extern "C" fn base62_encode_with(alphabet: &Alphabet, number: Number, buf: &mut [u8]) -> usize
+    ensures { Encodes alphabet.now (number_of number) buf.old buf.new result }
 {
-    match Alphabet::new(*letters) {
-        Ok(alphabet) => base62::encode_bytes_with(&alphabet, joined(number), buf).unwrap_or(0),
-        Err(_) => 0,
-    }
+    base62::encode_bytes_with(alphabet, joined(number), buf).unwrap_or(0)
 }
 
 #[unsafe(no_mangle)]
@@ -74,22 +68,16 @@ pub extern "C" fn base62_encode_alternative_fixed(number: Number, places: &mut [
 
 #[unsafe(no_mangle)]
 pub extern "C" fn base62_encode_fixed_with(
-    letters: &[u8; 62],
+    alphabet: &Alphabet,
     number: Number,
     places: &mut [u8],
 ) -> usize
-    ensures accepted { IsAlphabet letters.now
-        → Fills letters.now (number_of number) places.old places.new result }
-    ensures refused { (IsAlphabet letters.now → ⊥) → (result ≡ 0) × (places.new ≡ places.old) }
-    ensures alphabet { result ≢ 0 → IsAlphabet letters.now }
+    ensures { Fills alphabet.now (number_of number) places.old places.new result }
 {
-    match Alphabet::new(*letters) {
-        Ok(alphabet) => {
-            let answer = base62::encode_fixed_with(&alphabet, joined(number), places);
-            count_filled(answer, places.len())
-        }
-        Err(_) => 0,
-    }
+    count_filled(
+        base62::encode_fixed_with(alphabet, joined(number), places),
+        places.len(),
+    )
 }
 
 #[unsafe(no_mangle)]
@@ -130,22 +118,15 @@ pub extern "C" fn base62_decode_alternative(
 
 #[unsafe(no_mangle)]
 pub extern "C" fn base62_decode_with(
-    letters: &[u8; 62],
+    alphabet: &Alphabet,
     text: &[u8],
     number: &mut Number,
     bad: &mut BadByte,
 ) -> u32
-    ensures accepted { IsAlphabet letters.now
-        → TellsNumber (decoding letters.now text.now) result number.old number.new bad.old bad.new }
-    ensures refused { (IsAlphabet letters.now → ⊥)
-        → (result ≡ 6) × RepeatsFirst letters.now bad.new.byte bad.new.index
-        × (number.new ≡ number.old) }
-    ensures alphabet { result ≢ 6 → IsAlphabet letters.now }
+    ensures { TellsNumber (decoding alphabet.now text.now) result number.old number.new
+        bad.old bad.new }
 {
-    match alphabet_of(letters, bad) {
-        Some(alphabet) => tell_number(base62::decode_with(&alphabet, text), number, bad),
-        None => REPEATED_LETTER,
-    }
+    tell_number(base62::decode_with(alphabet, text), number, bad)
 }
 
 #[unsafe(no_mangle)]
@@ -174,27 +155,15 @@ pub extern "C" fn base62_decode_alternative_canonical(
 
 #[unsafe(no_mangle)]
 pub extern "C" fn base62_decode_canonical_with(
-    letters: &[u8; 62],
+    alphabet: &Alphabet,
     text: &[u8],
     number: &mut Number,
     bad: &mut BadByte,
 ) -> u32
-    ensures accepted { IsAlphabet letters.now
-        → TellsCanonical (canonical_decoding letters.now text.now) result number.old number.new
+    ensures { TellsCanonical (canonical_decoding alphabet.now text.now) result number.old number.new
         bad.old bad.new }
-    ensures refused { (IsAlphabet letters.now → ⊥)
-        → (result ≡ 6) × RepeatsFirst letters.now bad.new.byte bad.new.index
-        × (number.new ≡ number.old) }
-    ensures alphabet { result ≢ 6 → IsAlphabet letters.now }
 {
-    match alphabet_of(letters, bad) {
-        Some(alphabet) => tell_canonical(
-            base62::decode_canonical_with(&alphabet, text),
-            number,
-            bad,
-        ),
-        None => REPEATED_LETTER,
-    }
+    tell_canonical(base62::decode_canonical_with(alphabet, text), number, bad)
 }
 
 #[unsafe(no_mangle)]
@@ -220,40 +189,39 @@ pub extern "C" fn base62_fixed_range(
 
 #[unsafe(no_mangle)]
 pub extern "C" fn base62_fixed_range_with(
-    letters: &[u8; 62],
+    alphabet: &Alphabet,
     width: usize,
     front: &[u8],
     range: &mut Range,
     bad: &mut BadByte,
 ) -> u32
-    ensures accepted { IsAlphabet letters.now
-        → TellsRange (range_of letters.now width front.now) result range.old range.new
+    ensures { TellsRange (range_of alphabet.now width front.now) result range.old range.new
         bad.old bad.new }
-    ensures refused { (IsAlphabet letters.now → ⊥)
-        → (result ≡ 6) × RepeatsFirst letters.now bad.new.byte bad.new.index
-        × (range.new ≡ range.old) }
-    ensures alphabet { result ≢ 6 → IsAlphabet letters.now }
 {
-    match alphabet_of(letters, bad) {
-        Some(alphabet) => tell_range(
-            base62::fixed_range_with(&alphabet, width, front),
-            range,
-            bad,
-        ),
-        None => REPEATED_LETTER,
-    }
+    tell_range(base62::fixed_range_with(alphabet, width, front), range, bad)
 }
 
+// Nothing that stands at `alphabet` before is read, so C can hand over memory that it has not
+// written.
 #[unsafe(no_mangle)]
-pub extern "C" fn base62_check_alphabet(letters: &[u8; 62], bad: &mut BadByte) -> u32
-    ensures accepted { IsAlphabet letters.now → (result ≡ 0) × (bad.new ≡ bad.old) }
+pub extern "C" fn base62_make_alphabet(
+    letters: &[u8; 62],
+    alphabet: &mut Alphabet,
+    bad: &mut BadByte,
+) -> u32
+    ensures accepted { IsAlphabet letters.now
+        → (result ≡ 0) × (alphabet.new ≡ letters.now) × (bad.new ≡ bad.old) }
     ensures refused { (IsAlphabet letters.now → ⊥)
-        → (result ≡ 6) × RepeatsFirst letters.now bad.new.byte bad.new.index }
+        → (result ≡ 6) × RepeatsFirst letters.now bad.new.byte bad.new.index
+        × (alphabet.new ≡ alphabet.old) }
     ensures alphabet { result ≢ 6 → IsAlphabet letters.now }
 {
-    match alphabet_of(letters, bad) {
-        Some(_) => OK,
-        None => REPEATED_LETTER,
+    match Alphabet::new(*letters) {
+        Ok(made) => {
+            *alphabet = made;
+            OK
+        }
+        Err(fault) => tell_repeat(fault, bad),
     }
 }
 
@@ -281,7 +249,7 @@ pub extern "C" fn base62_fault_text(status: u32, bad: BadByte, buf: &mut [u8]) -
 
 #[unsafe(no_mangle)]
 pub extern "C" fn base62_version_number() -> u32
-    ensures { result ≡ 20000 }
+    ensures { result ≡ 30000 }
 {
-    20000
+    30000
 }

@@ -8,6 +8,11 @@ build=$(cd "$(dirname "$0")" && pwd)/${0##*/}
 build=${build#"$top/"}
 read -r version <"$top/VERSION"
 read -ra cc <<<"${CC:-cc}"
+of_compiler='gcc and libc6-dev'
+# The processor that is built for, which is this machine's if no other is named.
+machine=x86_64
+[[ $HOSTTYPE != aarch64 ]] || machine=aarch64
+target=$machine
 # The time of what is packed, by default the start of 1980: zip knows none before.
 export SOURCE_DATE_EPOCH=${SOURCE_DATE_EPOCH:-315532800}
 work=$(mktemp -d)
@@ -26,6 +31,27 @@ misused() {
 stop() {
     printf '%s: %s\n' "$build" "$1" >&2
     exit 1
+}
+
+# ARGUMENT.. Sets the target to what follows --target, with a compiler for it, and arguments to all others.
+take_target() {
+    arguments=()
+    while (($#)); do
+        if [[ $1 = --target ]]; then
+            target=${2-}
+            shift $(($# > 1 ? 2 : 1))
+        else
+            arguments+=("$1")
+            shift
+        fi
+    done
+    case $target in
+        "$machine") return ;;
+        x86_64) of_compiler='gcc-x86-64-linux-gnu and libc6-dev-amd64-cross' ;;
+        aarch64) of_compiler='gcc-aarch64-linux-gnu and libc6-dev-arm64-cross' ;;
+        *) misused ;;
+    esac
+    [[ ${CC:-} ]] || cc=("$target-linux-gnu-gcc")
 }
 
 # DEFAULT ARGUMENT.. Sets the folder to build in, which is empty for --check. Without a default one has to be named.
@@ -61,28 +87,48 @@ check_kit() {
 }
 
 check_compiler() {
-    "${cc[@]}" -fsyntax-only -xc /dev/null 2>/dev/null ||
-        stop "${cc[*]} compiles nothing: install gcc and libc6-dev, or set CC"
+    "${cc[@]}" -fsyntax-only -xc - 2>/dev/null <<<"#ifndef __${target}__"$'\n#error\n#endif' ||
+        stop "${cc[*]} compiles nothing for $target: install $of_compiler, or set CC"
 }
 
-# The library that take_library takes. What else c/build wants, it looks for itself.
+# FOLDER. Prints the static library for the target, which is in lib or in lib/x86_64-linux-gnu or its like.
+find_archive() {
+    local archive told=X86-64
+    [[ $target != aarch64 ]] || told=AArch64
+    for archive in "$1"/lib{,/"$target-linux-gnu"}/libbase62.a; do
+        if readelf -h "$archive" 2>/dev/null | grep -q "Machine: .*$told\$"; then
+            realpath "$archive"
+            return
+        fi
+    done
+    return 1
+}
+
+# The library that take_library takes.
 check_library() {
     if [[ -z ${BASE62_C:-} ]]; then
         check_kit
-    elif [[ ! -e $BASE62_C/lib/libbase62.a ]] ||
-        ! grep -qsx "#define BASE62_VERSION \"$version\"" "$BASE62_C/include/base62.h"; then
-        stop "BASE62_C=$BASE62_C has no library of version $version"
+        "$top/c/build" --target "$target" --check
+    elif ! grep -qsx "#define BASE62_VERSION \"$version\"" "$BASE62_C/include/base62.h" ||
+        ! find_archive "$BASE62_C" >/dev/null; then
+        stop "BASE62_C=$BASE62_C has no library of version $version for $target"
     fi
 }
 
-# Sets BASE62_C to the folder of the library: to what it was, or to one where c/build has left it now.
+# Sets BASE62_C to a folder whose lib/libbase62.a is the library for the target: the one of the folder that it was, or
+# one that c/build leaves now.
 take_library() {
+    local folder=$work/for-$target header archive
     if [[ -z ${BASE62_C:-} ]]; then
-        BASE62_C=$work/c
-        "$top/c/build" "$BASE62_C"
+        BASE62_C=$work/c-$target
+        "$top/c/build" --target "$target" "$BASE62_C"
     fi
-    BASE62_C=$(realpath "$BASE62_C")
-    export BASE62_C
+    header=$(realpath "$BASE62_C/include")
+    archive=$(find_archive "$BASE62_C")
+    mkdir -p "$folder/lib"
+    ln -s "$header" "$folder/include"
+    ln -s "$archive" "$folder/lib"
+    export BASE62_C=$folder
 }
 
 # FILE NAME. Packs what lies under the name in the folder of work. The same tree gives the same bytes.

@@ -7,12 +7,11 @@ top=$(cd "$(dirname "${BASH_SOURCE[0]}")" && pwd)
 build=$(cd "$(dirname "$0")" && pwd)/${0##*/}
 build=${build#"$top/"}
 read -r version <"$top/VERSION"
-read -ra cc <<<"${CC:-cc}"
-of_compiler='gcc and libc6-dev'
-# The processor that is built for, which is this machine's if no other is named.
+# The processor of this machine.
 machine=x86_64
 [[ $HOSTTYPE != aarch64 ]] || machine=aarch64
-target=$machine
+# Processors, by their names in packages of Debian.
+declare -A processors=([x86_64]=amd64 [aarch64]=arm64)
 # The time of what is packed, by default the start of 1980: zip knows none before.
 export SOURCE_DATE_EPOCH=${SOURCE_DATE_EPOCH:-315532800}
 work=$(mktemp -d)
@@ -33,25 +32,37 @@ stop() {
     exit 1
 }
 
-# ARGUMENT.. Sets the target to what follows --target, with a compiler for it, and arguments to all others.
+# NAME. Sets the processor that is built for, the compiler for it, and what stands before the names of binutils.
+set_target() {
+    local name=$1-linux-gnu
+    target=$1
+    if [[ $target = "$machine" ]]; then
+        tool= of_tool=binutils of_compiler='gcc and libc6-dev'
+        read -ra cc <<<"${CC:-cc}"
+    else
+        tool=$name- of_tool=binutils-${name/_/-}
+        of_compiler="gcc-${name/_/-} and libc6-dev-${processors[$target]}-cross"
+        read -ra cc <<<"${CC:-$name-gcc}"
+    fi
+}
+
+set_target "$machine"
+
+# ARGUMENT.. Sets the target to what follows --target, if it is there, and arguments to all others.
 take_target() {
+    local name=$machine
     arguments=()
     while (($#)); do
         if [[ $1 = --target ]]; then
-            target=${2-}
+            name=${2-}
             shift $(($# > 1 ? 2 : 1))
         else
             arguments+=("$1")
             shift
         fi
     done
-    case $target in
-        "$machine") return ;;
-        x86_64) of_compiler='gcc-x86-64-linux-gnu and libc6-dev-amd64-cross' ;;
-        aarch64) of_compiler='gcc-aarch64-linux-gnu and libc6-dev-arm64-cross' ;;
-        *) misused ;;
-    esac
-    [[ ${CC:-} ]] || cc=("$target-linux-gnu-gcc")
+    [[ $name = x86_64 || $name = aarch64 ]] || misused
+    set_target "$name"
 }
 
 # DEFAULT ARGUMENT.. Sets the folder to build in, which is empty for --check. Without a default one has to be named.

@@ -1,4 +1,11 @@
-# base62::base62 is the shared library, and base62::static the other one.
+# base62::base62 is the shared library, and base62::static the other one. There are no components.
+foreach(base62_component IN LISTS base62_FIND_COMPONENTS)
+    if(base62_FIND_REQUIRED_${base62_component})
+        set(base62_FOUND FALSE)
+        set(base62_NOT_FOUND_MESSAGE "it has no component ${base62_component}")
+        return()
+    endif()
+endforeach()
 if(NOT TARGET base62::base62)
     # The real path, since some systems reach /usr/lib by /lib too.
     get_filename_component(base62_libdir "${CMAKE_CURRENT_LIST_DIR}" REALPATH)

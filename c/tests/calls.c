@@ -55,9 +55,14 @@ static struct fenced set_fences(void) {
     return (struct fenced){area + page, area + page + MOST};
 }
 
+/* So many bytes that begin or end at a page that can't be touched. */
+static char *fenced(struct fenced between, int at_end, size_t length) {
+    return at_end ? between.end - length : between.start;
+}
+
 /* A copy of the text that begins or ends at a page that can't be read. */
 static const char *fence(struct fenced between, int at_end, const char *text, size_t length) {
-    return memcpy(at_end ? between.end - length : between.start, text, length);
+    return memcpy(fenced(between, at_end, length), text, length);
 }
 
 /* A buffer with guard bytes on both sides, all of one value. */
@@ -134,13 +139,26 @@ static size_t text_field(char *text) {
     return text_of(field(), text);
 }
 
-/* The alphabet of the row: a built-in one, or the letters of one of the caller's own. */
+/* The alphabet of the row: a built-in one, or one of the caller's own. */
 static enum { STANDARD, ALTERNATIVE, OWN } alphabet;
 
-static const char *letters;
+static const base62_alphabet *own;
+
+/* A copy of the alphabet of these letters, which begins or ends at a page that can't be read, and can't be written. */
+static const base62_alphabet *make_own(int at_end, const char *letters) {
+    base62_alphabet made;
+    base62_bad_byte bad;
+    const base62_status status = base62_make_alphabet(letters, &made, &bad);
+    expect(status == BASE62_OK, "the letters of the row");
+    expect(mprotect(alphabets.start, MOST, PROT_READ | PROT_WRITE) == 0, "mprotect");
+    memset(alphabets.start, filler, MOST);
+    memcpy(fenced(alphabets, at_end, sizeof made), &made, sizeof made);
+    expect(mprotect(alphabets.start, MOST, PROT_READ) == 0, "mprotect");
+    return (const base62_alphabet *)fenced(alphabets, at_end, sizeof made);
+}
 
 static void alphabet_field(int at_end) {
-    static char own[MOST];
+    static char letters[MOST];
     const char *word = field();
     if (strcmp(word, "standard") == 0) {
         alphabet = STANDARD;
@@ -148,8 +166,8 @@ static void alphabet_field(int at_end) {
         alphabet = ALTERNATIVE;
     } else {
         alphabet = OWN;
-        expect(text_of(word, own) == BASE62_ALPHABET_LENGTH, "the length of the alphabet");
-        letters = fence(alphabets, at_end, own, BASE62_ALPHABET_LENGTH);
+        expect(text_of(word, letters) == BASE62_ALPHABET_LENGTH, "the length of the alphabet");
+        own = make_own(at_end, letters);
     }
 }
 
@@ -158,7 +176,7 @@ static size_t encode(base62_number number, char *buffer, size_t size) {
         return base62_encode(number, buffer, size);
     if (alphabet == ALTERNATIVE)
         return base62_encode_alternative(number, buffer, size);
-    return base62_encode_with(letters, number, buffer, size);
+    return base62_encode_with(own, number, buffer, size);
 }
 
 static size_t encode_fixed(base62_number number, char *places, size_t width) {
@@ -166,7 +184,7 @@ static size_t encode_fixed(base62_number number, char *places, size_t width) {
         return base62_encode_fixed(number, places, width);
     if (alphabet == ALTERNATIVE)
         return base62_encode_alternative_fixed(number, places, width);
-    return base62_encode_fixed_with(letters, number, places, width);
+    return base62_encode_fixed_with(own, number, places, width);
 }
 
 /* What a call writes besides its status. */
@@ -184,7 +202,7 @@ static base62_status decode(const char *text, size_t length, struct told *told) 
         return base62_decode(text, length, &told->number, &told->bad);
     if (alphabet == ALTERNATIVE)
         return base62_decode_alternative(text, length, &told->number, &told->bad);
-    return base62_decode_with(letters, text, length, &told->number, &told->bad);
+    return base62_decode_with(own, text, length, &told->number, &told->bad);
 }
 
 static base62_status decode_canonical(const char *text, size_t length, struct told *told) {
@@ -192,13 +210,13 @@ static base62_status decode_canonical(const char *text, size_t length, struct to
         return base62_decode_canonical(text, length, &told->number, &told->bad);
     if (alphabet == ALTERNATIVE)
         return base62_decode_alternative_canonical(text, length, &told->number, &told->bad);
-    return base62_decode_canonical_with(letters, text, length, &told->number, &told->bad);
+    return base62_decode_canonical_with(own, text, length, &told->number, &told->bad);
 }
 
 /* The range of the row's alphabet. Keys are the standard texts of one width. */
 static base62_status range(size_t width, const char *front, size_t length, struct told *told) {
     if (alphabet == OWN)
-        return base62_fixed_range_with(letters, width, front, length, &told->range, &told->bad);
+        return base62_fixed_range_with(own, width, front, length, &told->range, &told->bad);
     expect(alphabet == STANDARD, "the alphabet of a range");
     if (width == BASE62_KEY_LENGTH) {
         struct told of_keys = untold;
@@ -295,29 +313,38 @@ static void check_decode(int at_end, base62_status (*read)(const char *, size_t,
     expect_bad(status, told.bad);
 }
 
-/* A call over letters that are refused writes the repeated letter alone. */
-static void expect_repeat(base62_status status, const struct told *told, base62_bad_byte repeated) {
-    expect(status == BASE62_REPEATED_LETTER, "the status of a call");
-    expect(told->bad.byte == repeated.byte && told->bad.index == repeated.index, "the repeated letter");
-    expect(memcmp(&told->number, &untold.number, sizeof untold.number) == 0, "a number is written on a refusal");
-    expect(memcmp(&told->range, &untold.range, sizeof untold.range) == 0, "a range is written on a refusal");
+/* Makes the alphabet where all bytes had one value. Returns the status, and leaves in made what then stands there. */
+static base62_status make_over(int at_end, const char *letters, int before, struct told *told, base62_alphabet *made) {
+    char *const place = fenced(alphabets, at_end, sizeof *made);
+    expect(mprotect(alphabets.start, MOST, PROT_READ | PROT_WRITE) == 0, "mprotect");
+    memset(alphabets.start, before, MOST);
+    const base62_status status = base62_make_alphabet(letters, (base62_alphabet *)place, &told->bad);
+    memcpy(made, place, sizeof *made);
+    memset(place, before, sizeof *made);
+    for (size_t i = 0; i < MOST; i++)
+        expect(alphabets.start[i] == (char)before, "a byte outside of the alphabet is written");
+    return status;
 }
 
-/* An alphabet by itself. Where it is refused, so is each call over it. */
+/* An alphabet is the same whatever stood in its place, which stays where the letters are refused. */
 static void check_alphabet(int at_end) {
-    struct told told = untold, of_decode = untold, of_canonical = untold, of_range = untold;
-    alphabet_field(at_end);
-    const base62_status status = base62_check_alphabet(letters, &told.bad);
+    static char own_letters[MOST];
+    base62_alphabet made, again;
+    struct told told = untold, told_again = untold;
+    expect(text_field(own_letters) == BASE62_ALPHABET_LENGTH, "the length of the alphabet");
+    const char *const letters = fence(texts, at_end, own_letters, BASE62_ALPHABET_LENGTH);
+    const base62_status status = make_over(at_end, letters, filler, &told, &made);
+    expect(make_over(at_end, letters, 0, &told_again, &again) == status, "the status over other bytes");
     expect(status == status_field(), "the status");
+    for (size_t i = 0; i < sizeof made; i++) {
+        if (status == BASE62_OK)
+            expect(made.bytes[i] == again.bytes[i], "what stood there is a part of the alphabet");
+        else
+            expect(made.bytes[i] == filler && again.bytes[i] == 0, "an alphabet is written on a refusal");
+    }
+    const base62_bad_byte *const twice = &told_again.bad;
+    expect(twice->byte == told.bad.byte && twice->index == told.bad.index, "the byte over other bytes");
     expect_bad(status, told.bad);
-    if (status == BASE62_OK)
-        return;
-    expect(encode(base62_from_u64(1337), filled(), BASE62_MAX_DIGITS) == 0, "the length");
-    expect(encode_fixed(base62_from_u64(1337), guarded.bytes, BASE62_MAX_DIGITS) == 0, "the width");
-    expect_front("", 0, "the text");
-    expect_repeat(decode("1", 1, &of_decode), &of_decode, told.bad);
-    expect_repeat(decode_canonical("1", 1, &of_canonical), &of_canonical, told.bad);
-    expect_repeat(range(3, "1", 1, &of_range), &of_range, told.bad);
 }
 
 static void check_range(int at_end) {

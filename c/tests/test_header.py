@@ -17,6 +17,7 @@ KINDS = {
     "Number": "base62_number",
     "Range": "base62_range",
     "BadByte": "base62_bad_byte",
+    "Alphabet": "base62_alphabet",
 }
 INLINE = {
     "base62_from_u64": ("base62_number", ["uint64_t value"]),
@@ -34,6 +35,7 @@ ARGUMENTS = {
     "size_t": "sizeof text",
     "char[62]": "letters",
     "char[22]": "letters",
+    "base62_alphabet *": "&alphabet",
     "unsigned char[16]": "uuid",
     "base62_number": "number",
     "base62_number *": "&number",
@@ -51,6 +53,7 @@ unsigned char uuid[BASE62_UUID_LENGTH];
 base62_number number;
 base62_range range;
 base62_bad_byte bad;
+base62_alphabet alphabet;
 base62_status status;
 base62_u128 wide;
 uint64_t half;
@@ -63,9 +66,13 @@ ANSWERS = {"base62_number": "number", "base62_status": "status", "base62_u128": 
 ANSWERS |= {"int": "is_short", "uint32_t": "version"}
 
 
-def gcc(source, *options, language="c"):
-    command = ["gcc", "-fdiagnostics-plain-output", *options, f"-x{language}", "-"]
+def compiler(name, source, *options, language="c"):
+    command = [name, *options, f"-x{language}", "-"]
     return subprocess.run(command, input=source, capture_output=True, text=True, check=True)
+
+
+def gcc(source, *options, language="c"):
+    return compiler("gcc", source, "-fdiagnostics-plain-output", *options, language=language)
 
 
 def own_text(*options):
@@ -115,14 +122,16 @@ def exported():
 
 def structs_of_c():
     found = re.findall(r"typedef struct (\w+) {([^}]*)} \1;", own_text())
-    return {name: re.findall(r"(\w[\w ]*) (\w+);", inner) for name, inner in found}
+    return {name: re.findall(r"(\w[\w ]*) (\w+(?:\[\d+\])?);", inner) for name, inner in found}
 
 
 def structs_of_rust():
-    """The structs that cross to C, by the names of the header."""
+    """The structs that cross to C, by the names of the header. Of an alphabet it tells the proved size alone."""
     sources = "".join(path.read_text() for path in (TOP / "crates/base62_c/src").glob("*.rt"))
     found = re.findall(r"#\[repr\(C\)\]\n(?:#.*\n)*pub struct (\w+) {([^}]*)}", sources)
-    return {
+    source = (TOP / "crates/base62/src/alphabet.rt").read_text()
+    (size,) = re.findall(r"prove!\(size_of::<Alphabet>\(\) == (\d+)\)", source)
+    return {"base62_alphabet": [("unsigned char", f"bytes[{size}]")]} | {
         KINDS[name]: [(KINDS[kind], field) for field, kind in re.findall(r"pub (\w+): (\w+)", inner)]
         for name, inner in found
     }
@@ -202,12 +211,14 @@ class Header(unittest.TestCase):
     def test_warnings(self):
         wanted = [call for name, (_, *function) in declared().items() for call in calls(name, *function)]
         lines = PROGRAM.splitlines() + [statement for statement, _ in wanted] + ["}", ""]
-        said = gcc("\n".join(lines), "-Wall", "-S", "-o/dev/null").stderr
-        warned = re.findall(r"<stdin>:(\d+):\d+: warning: .*\[-W([\w-]+)=?\]", said)
-        self.assertEqual(
-            {(lines[int(line) - 1], warning) for line, warning in warned},
-            {(statement, warning) for statement, warning in wanted if warning},
-        )
+        for name, known in (("gcc", ".*"), ("clang", "nonnull|unused-result")):
+            with self.subTest(name):
+                said = compiler(name, "\n".join(lines), "-Wall", "-S", "-o/dev/null").stderr
+                warned = re.findall(r"<stdin>:(\d+):\d+: warning: .*\[-W([\w-]+)=?\]", said)
+                self.assertEqual(
+                    {(lines[int(line) - 1], warning) for line, warning in warned},
+                    {(statement, warning) for statement, warning in wanted if warning and re.fullmatch(known, warning)},
+                )
 
     def test_macros(self):
         for language in ("c", "c++"):

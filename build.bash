@@ -1,5 +1,5 @@
-# What the builds of packages and release share. Each sources it after set -euo pipefail. The comment at its own top tells
-# how it is called.
+# What the builds of packages and release share. Each sources it after set -euo pipefail. The comment at its own top
+# tells how it is called.
 
 unset CDPATH
 top=$(cd "$(dirname "${BASH_SOURCE[0]}")" && pwd)

@@ -46,7 +46,19 @@ set_target() {
     fi
 }
 
+targets=(x86_64 aarch64)
 set_target "$machine"
+
+# COMMAND.. Calls it for each target. CC is for this machine alone.
+for_targets() {
+    for target in "${targets[@]}"; do
+        (
+            [[ $target = "$machine" ]] || unset CC
+            set_target "$target"
+            "$@"
+        )
+    done
+}
 
 # ARGUMENT.. Sets the target to what follows --target, if it is there, and arguments to all others.
 take_target() {

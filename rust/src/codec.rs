@@ -198,3 +198,43 @@ pub fn decode_uuid_with<T: AsRef<[u8]>>(
 ) -> Result<[u8; 16], DecodeError> {
     decode_with(alphabet, input).map(native::uuid_of)
 }
+
+/// The 16 bytes of [`decode_uuid`], where `input` is the text that [`encode_bytes`] writes for their number. `Ok(None)`
+/// says that `input` denotes a number too, but begins with zeros that it does not need.
+///
+/// # Errors
+///
+/// They come exactly where [`decode`] has them, and are the same.
+///
+/// ```
+/// let uuid = [0, 0, 0, 0, 0, 0, 0, 0, 0, 0, 0, 0, 0, 0, 5, 57];
+/// assert_eq!(base62::decode_uuid_canonical("LZ"), Ok(Some(uuid)));
+/// assert_eq!(base62::decode_uuid_canonical("0LZ"), Ok(None));
+/// ```
+pub fn decode_uuid_canonical<T: AsRef<[u8]>>(input: T) -> Result<Option<[u8; 16]>, DecodeError> {
+    decode_canonical(input).map(|num| num.map(native::uuid_of))
+}
+
+/// As [`decode_uuid_canonical`], over the alternative alphabet.
+///
+/// ```
+/// assert_eq!(base62::decode_alternative_uuid_canonical("0lz"), Ok(None));
+/// ```
+pub fn decode_alternative_uuid_canonical<T: AsRef<[u8]>>(
+    input: T,
+) -> Result<Option<[u8; 16]>, DecodeError> {
+    decode_alternative_canonical(input).map(|num| num.map(native::uuid_of))
+}
+
+/// As [`decode_uuid_canonical`], over an alphabet of yours.
+///
+/// ```
+/// let alphabet = base62::Alphabet::alternative();
+/// assert_eq!(base62::decode_uuid_canonical_with(&alphabet, "0lz"), Ok(None));
+/// ```
+pub fn decode_uuid_canonical_with<T: AsRef<[u8]>>(
+    alphabet: &Alphabet,
+    input: T,
+) -> Result<Option<[u8; 16]>, DecodeError> {
+    decode_canonical_with(alphabet, input).map(|num| num.map(native::uuid_of))
+}

@@ -29,7 +29,7 @@
 //! | a format string | [`encode_fmt`] |
 //! | a writer | `encode_io`, with the feature `std` |
 //! | a number | [`decode`], or [`decode_canonical`] to refuse all texts but one of each number |
-//! | a UUID | [`decode_uuid`] |
+//! | a UUID | [`decode_uuid`], or [`decode_uuid_canonical`] in the same way |
 //! | keys and columns, which sort as their numbers | [`encode_key`], [`encode_fixed`] |
 //! | a scan of those with one prefix | [`key_range`], [`fixed_range`] |
 //!
@@ -75,8 +75,9 @@ mod writers;
 pub use alphabet::Alphabet;
 pub use codec::{
     decode, decode_alternative, decode_alternative_canonical, decode_alternative_uuid,
-    decode_canonical, decode_canonical_with, decode_uuid, decode_uuid_with, decode_with,
-    digit_count, encode_alternative_bytes, encode_bytes, encode_bytes_with,
+    decode_alternative_uuid_canonical, decode_canonical, decode_canonical_with, decode_uuid,
+    decode_uuid_canonical, decode_uuid_canonical_with, decode_uuid_with, decode_with, digit_count,
+    encode_alternative_bytes, encode_bytes, encode_bytes_with,
 };
 pub use fault::{AlphabetError, DecodeError, EncodeError};
 pub use fixed::{

@@ -4,7 +4,8 @@
 //! are proved, say it exactly, and the comments on `unsafe` name their clauses.
 //!
 //! All that the library asks of a caller is that pointers are not null, are valid for the lengths that go with them,
-//! and overlap with nothing that the call writes. A reference is such a pointer. What a call writes need not be
+//! and overlap with nothing that the call writes, and that an alphabet is one that it made, unchanged. A reference is
+//! such a pointer, and a [`Made`] that an [`Alphabet`] has is such an alphabet. What a call writes need not be
 //! initialised, as in the header's example: it does not read there.
 
 use crate::{Alphabet, DecodeError};
@@ -35,20 +36,19 @@ struct Number {
     low: u64,
 }
 
-impl From<u128> for Number {
+// Not by `From`: rustc lists the types that `u128` has it of to callers whose type is none of them.
+impl Number {
     #[inline(always)]
-    fn from(num: u128) -> Self {
+    fn of(num: u128) -> Self {
         Number {
             high: (num >> 64) as u64,
             low: num as u64,
         }
     }
-}
 
-impl From<Number> for u128 {
     #[inline(always)]
-    fn from(number: Number) -> Self {
-        u128::from(number.high) << 64 | u128::from(number.low)
+    fn value(self) -> u128 {
+        u128::from(self.high) << 64 | u128::from(self.low)
     }
 }
 
@@ -67,96 +67,106 @@ pub(crate) struct BadByte {
     pub(crate) byte: u8,
 }
 
+/// An alphabet as the library keeps it. [`make_alphabet`] alone makes one that is lent to calls.
+#[repr(C)]
+#[derive(Clone, Copy)]
+pub(crate) struct Made([u8; 318]);
+
 /// A length, or 0 where nothing is written.
 type Length = Option<NonZeroUsize>;
 
 // The names tell this library from others in a program, such as the same one for C. Those that are `safe` take
-// references alone, or no pointer.
+// references alone, or no pointer. By the attribute rustc knows that a `dylib` has to export them.
+#[link(name = "base62_proved", kind = "static")]
 unsafe extern "C" {
-    fn base62_proved_2_encode(number: Number, buffer: *mut u8, size: usize) -> Length;
-    fn base62_proved_2_encode_alternative(number: Number, buffer: *mut u8, size: usize) -> Length;
-    fn base62_proved_2_encode_with(
-        letters: &[u8; 62],
+    fn base62_proved_3_encode(number: Number, buffer: *mut u8, size: usize) -> Length;
+    fn base62_proved_3_encode_alternative(number: Number, buffer: *mut u8, size: usize) -> Length;
+    fn base62_proved_3_encode_with(
+        alphabet: &Made,
         number: Number,
         buffer: *mut u8,
         size: usize,
     ) -> Length;
-    fn base62_proved_2_encode_fixed(number: Number, places: *mut u8, width: usize) -> Length;
-    fn base62_proved_2_encode_alternative_fixed(
+    fn base62_proved_3_encode_fixed(number: Number, places: *mut u8, width: usize) -> Length;
+    fn base62_proved_3_encode_alternative_fixed(
         number: Number,
         places: *mut u8,
         width: usize,
     ) -> Length;
-    fn base62_proved_2_encode_fixed_with(
-        letters: &[u8; 62],
+    fn base62_proved_3_encode_fixed_with(
+        alphabet: &Made,
         number: Number,
         places: *mut u8,
         width: usize,
     ) -> Length;
-    safe fn base62_proved_2_encode_key(number: Number, key: &mut [u8; MAX_DIGITS]);
-    safe fn base62_proved_2_digit_count(number: Number) -> usize;
-    fn base62_proved_2_decode(
+    safe fn base62_proved_3_encode_key(number: Number, key: &mut [u8; MAX_DIGITS]);
+    safe fn base62_proved_3_digit_count(number: Number) -> usize;
+    fn base62_proved_3_decode(
         text: *const u8,
         length: usize,
         number: &mut Number,
         bad: &mut BadByte,
     ) -> u32;
-    fn base62_proved_2_decode_alternative(
+    fn base62_proved_3_decode_alternative(
         text: *const u8,
         length: usize,
         number: &mut Number,
         bad: &mut BadByte,
     ) -> u32;
-    fn base62_proved_2_decode_with(
-        letters: &[u8; 62],
+    fn base62_proved_3_decode_with(
+        alphabet: &Made,
         text: *const u8,
         length: usize,
         number: &mut Number,
         bad: &mut BadByte,
     ) -> u32;
-    fn base62_proved_2_decode_canonical(
+    fn base62_proved_3_decode_canonical(
         text: *const u8,
         length: usize,
         number: &mut Number,
         bad: &mut BadByte,
     ) -> u32;
-    fn base62_proved_2_decode_alternative_canonical(
+    fn base62_proved_3_decode_alternative_canonical(
         text: *const u8,
         length: usize,
         number: &mut Number,
         bad: &mut BadByte,
     ) -> u32;
-    fn base62_proved_2_decode_canonical_with(
-        letters: &[u8; 62],
+    fn base62_proved_3_decode_canonical_with(
+        alphabet: &Made,
         text: *const u8,
         length: usize,
         number: &mut Number,
         bad: &mut BadByte,
     ) -> u32;
-    fn base62_proved_2_key_range(
+    fn base62_proved_3_key_range(
         front: *const u8,
         length: usize,
         range: &mut Range,
         bad: &mut BadByte,
     ) -> u32;
-    fn base62_proved_2_fixed_range(
+    fn base62_proved_3_fixed_range(
         width: usize,
         front: *const u8,
         length: usize,
         range: &mut Range,
         bad: &mut BadByte,
     ) -> u32;
-    fn base62_proved_2_fixed_range_with(
-        letters: &[u8; 62],
+    fn base62_proved_3_fixed_range_with(
+        alphabet: &Made,
         width: usize,
         front: *const u8,
         length: usize,
         range: &mut Range,
         bad: &mut BadByte,
     ) -> u32;
-    safe fn base62_proved_2_check_alphabet(letters: &[u8; 62], bad: &mut BadByte) -> u32;
-    safe fn base62_proved_2_uuid_of_number(number: Number, uuid: &mut [u8; 16]);
-    fn base62_proved_2_fault_text(
+    safe fn base62_proved_3_make_alphabet(
+        letters: &[u8; 62],
+        alphabet: &mut Made,
+        bad: &mut BadByte,
+    ) -> u32;
+    safe fn base62_proved_3_uuid_of_number(number: Number, uuid: &mut [u8; 16]);
+    fn base62_proved_3_fault_text(
         status: u32,
         bad: BadByte,
         buffer: *mut u8,
@@ -164,7 +174,7 @@ unsafe extern "C" {
     ) -> Length;
 }
 
-/// The alphabet of a call. The letters of an `Alphabet` are checked, so that no call refuses them.
+/// The alphabet of a call.
 #[derive(Clone, Copy)]
 pub(crate) enum Letters<'a> {
     Standard,
@@ -182,13 +192,13 @@ use Letters::{Alternative, Of, Standard};
 /// `buffer` is not null, and valid for writes of `size` bytes.
 #[inline(always)]
 unsafe fn write(letters: Letters<'_>, num: u128, buffer: *mut u8, size: usize) -> Length {
-    let number = num.into();
+    let number = Number::of(num);
     // SAFETY: the caller owes what the call does.
     unsafe {
         match letters {
-            Standard => base62_proved_2_encode(number, buffer, size),
-            Alternative => base62_proved_2_encode_alternative(number, buffer, size),
-            Of(alphabet) => base62_proved_2_encode_with(alphabet.letters(), number, buffer, size),
+            Standard => base62_proved_3_encode(number, buffer, size),
+            Alternative => base62_proved_3_encode_alternative(number, buffer, size),
+            Of(alphabet) => base62_proved_3_encode_with(alphabet.made(), number, buffer, size),
         }
     }
 }
@@ -203,14 +213,14 @@ pub(crate) fn encode(letters: Letters<'_>, num: u128, buffer: &mut [u8]) -> Leng
 /// nothing is written.
 #[inline(always)]
 pub(crate) fn encode_fixed(letters: Letters<'_>, num: u128, places: &mut [u8]) -> Length {
-    let (number, start, width) = (num.into(), places.as_mut_ptr(), places.len());
+    let (number, start, width) = (Number::of(num), places.as_mut_ptr(), places.len());
     // SAFETY: as in `encode`.
     unsafe {
         match letters {
-            Standard => base62_proved_2_encode_fixed(number, start, width),
-            Alternative => base62_proved_2_encode_alternative_fixed(number, start, width),
+            Standard => base62_proved_3_encode_fixed(number, start, width),
+            Alternative => base62_proved_3_encode_alternative_fixed(number, start, width),
             Of(alphabet) => {
-                base62_proved_2_encode_fixed_with(alphabet.letters(), number, start, width)
+                base62_proved_3_encode_fixed_with(alphabet.made(), number, start, width)
             }
         }
     }
@@ -219,13 +229,13 @@ pub(crate) fn encode_fixed(letters: Letters<'_>, num: u128, places: &mut [u8]) -
 #[inline]
 pub(crate) fn encode_key(num: u128) -> [u8; MAX_DIGITS] {
     let mut key = [0; MAX_DIGITS];
-    base62_proved_2_encode_key(num.into(), &mut key);
+    base62_proved_3_encode_key(Number::of(num), &mut key);
     key
 }
 
 #[inline]
 pub(crate) fn digit_count(num: u128) -> usize {
-    base62_proved_2_digit_count(num.into())
+    base62_proved_3_digit_count(Number::of(num))
 }
 
 #[inline(always)]
@@ -235,19 +245,15 @@ pub(crate) fn decode(letters: Letters<'_>, text: &[u8]) -> Result<u128, DecodeEr
     // SAFETY: a slice is not null, and valid for reads of its length, also an empty one.
     let status = unsafe {
         match letters {
-            Standard => base62_proved_2_decode(start, length, &mut number, &mut bad),
-            Alternative => base62_proved_2_decode_alternative(start, length, &mut number, &mut bad),
-            Of(alphabet) => base62_proved_2_decode_with(
-                alphabet.letters(),
-                start,
-                length,
-                &mut number,
-                &mut bad,
-            ),
+            Standard => base62_proved_3_decode(start, length, &mut number, &mut bad),
+            Alternative => base62_proved_3_decode_alternative(start, length, &mut number, &mut bad),
+            Of(alphabet) => {
+                base62_proved_3_decode_with(alphabet.made(), start, length, &mut number, &mut bad)
+            }
         }
     };
     match status {
-        OK => Ok(number.into()),
+        OK => Ok(number.value()),
         _ => Err(fault_of(status, bad)),
     }
 }
@@ -262,12 +268,12 @@ pub(crate) fn decode_canonical(
     // SAFETY: as in `decode`.
     let status = unsafe {
         match letters {
-            Standard => base62_proved_2_decode_canonical(start, length, &mut number, &mut bad),
+            Standard => base62_proved_3_decode_canonical(start, length, &mut number, &mut bad),
             Alternative => {
-                base62_proved_2_decode_alternative_canonical(start, length, &mut number, &mut bad)
+                base62_proved_3_decode_alternative_canonical(start, length, &mut number, &mut bad)
             }
-            Of(alphabet) => base62_proved_2_decode_canonical_with(
-                alphabet.letters(),
+            Of(alphabet) => base62_proved_3_decode_canonical_with(
+                alphabet.made(),
                 start,
                 length,
                 &mut number,
@@ -276,7 +282,7 @@ pub(crate) fn decode_canonical(
         }
     };
     match status {
-        OK => Ok(Some(number.into())),
+        OK => Ok(Some(number.value())),
         NOT_CANONICAL => Ok(None),
         _ => Err(fault_of(status, bad)),
     }
@@ -299,7 +305,7 @@ pub(crate) fn key_range(front: &[u8]) -> Found {
     let (mut range, mut bad) = (Range::default(), BadByte::default());
     // SAFETY: as in `decode`.
     let status =
-        unsafe { base62_proved_2_key_range(front.as_ptr(), front.len(), &mut range, &mut bad) };
+        unsafe { base62_proved_3_key_range(front.as_ptr(), front.len(), &mut range, &mut bad) };
     found(status, range, bad)
 }
 
@@ -310,9 +316,9 @@ pub(crate) fn fixed_range(alphabet: Option<&Alphabet>, width: usize, front: &[u8
     // SAFETY: as in `decode`.
     let status = unsafe {
         match alphabet {
-            None => base62_proved_2_fixed_range(width, start, length, &mut range, &mut bad),
-            Some(alphabet) => base62_proved_2_fixed_range_with(
-                alphabet.letters(),
+            None => base62_proved_3_fixed_range(width, start, length, &mut range, &mut bad),
+            Some(alphabet) => base62_proved_3_fixed_range_with(
+                alphabet.made(),
                 width,
                 start,
                 length,
@@ -326,7 +332,7 @@ pub(crate) fn fixed_range(alphabet: Option<&Alphabet>, width: usize, front: &[u8
 
 fn found(status: u32, range: Range, bad: BadByte) -> Found {
     match status {
-        OK => Ok(Some(range.least.into()..=range.greatest.into())),
+        OK => Ok(Some(range.least.value()..=range.greatest.value())),
         NO_KEY => Ok(None),
         _ => Err(fault_of(status, bad)),
     }
@@ -334,16 +340,16 @@ fn found(status: u32, range: Range, bad: BadByte) -> Found {
 
 pub(crate) fn uuid_of(num: u128) -> [u8; 16] {
     let mut uuid = [0; 16];
-    base62_proved_2_uuid_of_number(num.into(), &mut uuid);
+    base62_proved_3_uuid_of_number(Number::of(num), &mut uuid);
     uuid
 }
 
-/// The repeated letter, if there is one.
-pub(crate) fn repeated(letters: &[u8; 62]) -> Option<BadByte> {
-    let mut bad = BadByte::default();
-    match base62_proved_2_check_alphabet(letters, &mut bad) {
-        OK => None,
-        _ => Some(bad),
+/// The alphabet of the letters, or the one that is repeated.
+pub(crate) fn make_alphabet(letters: &[u8; 62]) -> Result<Made, BadByte> {
+    let (mut made, mut bad) = (Made([0; 318]), BadByte::default());
+    match base62_proved_3_make_alphabet(letters, &mut made, &mut bad) {
+        OK => Ok(made),
+        _ => Err(bad),
     }
 }
 
@@ -410,7 +416,7 @@ impl Text<MAX_FAULT_TEXT> {
         let mut bytes = [MaybeUninit::uninit(); MAX_FAULT_TEXT];
         // SAFETY: the array is here.
         let length = unsafe {
-            base62_proved_2_fault_text(status, bad, bytes.as_mut_ptr().cast(), MAX_FAULT_TEXT)
+            base62_proved_3_fault_text(status, bad, bytes.as_mut_ptr().cast(), MAX_FAULT_TEXT)
         };
         Text(Bytes::written(bytes, length))
     }
@@ -466,16 +472,22 @@ mod tests {
     #[test]
     fn the_archive_has_the_version_of_the_package() {
         unsafe extern "C" {
-            safe fn base62_proved_2_version_number() -> u32;
+            #[link_name = concat!(
+                "base62_proved_",
+                env!("CARGO_PKG_VERSION_MAJOR"),
+                "_",
+                env!("CARGO_PKG_VERSION_MINOR"),
+                "_",
+                env!("CARGO_PKG_VERSION_PATCH"),
+                "_version_number"
+            )]
+            safe fn version_number() -> u32;
         }
         let mut parts = [0; 3];
         for (part, number) in parts.iter_mut().zip(env!("CARGO_PKG_VERSION").split('.')) {
             *part = number.parse::<u32>().unwrap();
         }
         let [major, minor, patch] = parts;
-        assert_eq!(
-            base62_proved_2_version_number(),
-            major * 10000 + minor * 100 + patch
-        );
+        assert_eq!(version_number(), major * 10000 + minor * 100 + patch);
     }
 }

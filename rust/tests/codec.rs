@@ -3,6 +3,7 @@
 mod support;
 
 use base62::{Alphabet, AlphabetError, DecodeError, EncodeError, MAX_DIGITS};
+use std::hash::{DefaultHasher, Hash, Hasher};
 use support::{
     borders, digits, fixed, high_letters, reversed_letters, ALTERNATIVE, NUMBERS, STANDARD,
 };
@@ -143,6 +144,12 @@ fn numbers_are_read_back() {
             let uuid = number.to_be_bytes();
             assert_eq!(base62::decode_uuid(&standard), Ok(uuid));
             assert_eq!(base62::decode_alternative_uuid(&alternative), Ok(uuid));
+            let only = canonical.map(u128::to_be_bytes);
+            assert_eq!(base62::decode_uuid_canonical(&standard), Ok(only));
+            assert_eq!(
+                base62::decode_alternative_uuid_canonical(&alternative),
+                Ok(only)
+            );
             for alphabet in &own {
                 let text = text(alphabet.letters());
                 assert_eq!(base62::decode_with(alphabet, &text), Ok(number));
@@ -151,6 +158,10 @@ fn numbers_are_read_back() {
                     Ok(canonical)
                 );
                 assert_eq!(base62::decode_uuid_with(alphabet, &text), Ok(uuid));
+                assert_eq!(
+                    base62::decode_uuid_canonical_with(alphabet, &text),
+                    Ok(only)
+                );
             }
         }
     }
@@ -193,16 +204,22 @@ fn texts_that_are_refused() {
         assert_eq!(base62::decode(text), Err(fault));
         assert_eq!(base62::decode_canonical(text), Err(fault));
         assert_eq!(base62::decode_uuid(text), Err(fault));
+        assert_eq!(base62::decode_uuid_canonical(text), Err(fault));
         let text = swapped(text);
         assert_eq!(base62::decode_alternative(&text), Err(fault));
         assert_eq!(base62::decode_alternative_canonical(&text), Err(fault));
         assert_eq!(base62::decode_alternative_uuid(&text), Err(fault));
+        assert_eq!(base62::decode_alternative_uuid_canonical(&text), Err(fault));
         assert_eq!(base62::decode_with(&alternative, &text), Err(fault));
         assert_eq!(
             base62::decode_canonical_with(&alternative, &text),
             Err(fault)
         );
         assert_eq!(base62::decode_uuid_with(&alternative, &text), Err(fault));
+        assert_eq!(
+            base62::decode_uuid_canonical_with(&alternative, &text),
+            Err(fault)
+        );
     }
 }
 
@@ -315,6 +332,29 @@ fn alphabets() {
 }
 
 #[test]
+fn alphabets_are_told_apart_by_their_letters() {
+    let hash = |alphabet: &Alphabet| {
+        let mut hasher = DefaultHasher::new();
+        alphabet.hash(&mut hasher);
+        hasher.finish()
+    };
+    let high = Alphabet::try_from(high_letters()).unwrap();
+    assert_eq!(high, Alphabet::new(high_letters()).unwrap());
+    assert_eq!(hash(&high), hash(&high.clone()));
+    assert_eq!(
+        Alphabet::try_from([7; 62]),
+        Err(AlphabetError::Repeated(7, 1))
+    );
+    for place in 0..62 {
+        let mut letters = high_letters();
+        letters[place] = b'a';
+        let other = Alphabet::new(letters).unwrap();
+        assert_ne!(other, high);
+        assert_ne!(hash(&other), hash(&high));
+    }
+}
+
+#[test]
 fn one_letter_decides_the_kind() {
     for place in 0..62 {
         let mut letters = *STANDARD;
@@ -355,11 +395,6 @@ fn faults_tell_their_texts() {
     let refused = base62::decode("LZ-").unwrap_err();
     let text = "Encoded input contains the invalid byte b'-' at index 2";
     assert_eq!(refused.to_string(), text);
-    // As the crate `base62` has it: whatever the format asks.
-    assert_eq!(
-        format!("{refused:>100} {refused:.3}"),
-        format!("{text} {text}")
-    );
     let longest = DecodeError::InvalidBase62Byte(255, usize::MAX).to_string();
     let text = r"Encoded input contains the invalid byte b'\xff' at index 18446744073709551615";
     assert_eq!(longest, text);
@@ -373,6 +408,19 @@ fn faults_tell_their_texts() {
     assert_eq!(EncodeError::BufferTooSmall.to_string(), text);
     let repeated = AlphabetError::Repeated(b'\'', 61).to_string();
     assert_eq!(repeated, r"Alphabet repeats the byte b'\'' at index 61");
+}
+
+#[test]
+fn faults_ignore_formats_as_those_of_the_crate() {
+    fn ignores(fault: impl std::error::Error) {
+        let text = fault.to_string();
+        assert_eq!(format!("{fault:>100}"), text);
+        assert_eq!(format!("{fault:.3}"), text);
+    }
+    ignores(DecodeError::InvalidBase62Byte(b'-', 2));
+    ignores(DecodeError::EmptyInput);
+    ignores(EncodeError::BufferTooSmall);
+    ignores(AlphabetError::Repeated(b'-', 2));
 }
 
 #[test]

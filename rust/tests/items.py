@@ -7,6 +7,7 @@ which is `crate` for base62 2.2.6 and else `beyond`, and an item. FEATURES and O
 import pathlib
 import re
 import sys
+from urllib.parse import unquote_plus
 
 
 def parts(page):
@@ -14,7 +15,7 @@ def parts(page):
     ids = re.findall(r'id="([^"]*)"', page.partition('id="synthetic-implementations"')[0])
     own = ids[: ids.index("trait-implementations")] if "trait-implementations" in ids else ids
     named = [name.partition(".")[2] for name in own if re.match(r"(variant|method|structfield)\.", name)]
-    traits = [match[1] for name in ids if (match := re.fullmatch(r"impl-(.+)-for-.+", name))]
+    traits = [unquote_plus(match[1]) for name in ids if (match := re.fullmatch(r"impl-(.+)-for-.+", name))]
     return sorted(named) + sorted(set(traits) - {"StructuralPartialEq"})
 
 

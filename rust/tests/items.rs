@@ -35,6 +35,7 @@ fn writers_of_the_crate<T: Into<u128>, W: std::io::Write + ?Sized>() {
 type Filled = Result<(), EncodeError>;
 type Canonical = Result<Option<u128>, DecodeError>;
 type Uuid = Result<[u8; 16], DecodeError>;
+type CanonicalUuid = Result<Option<[u8; 16]>, DecodeError>;
 type Range = Result<Option<RangeInclusive<u128>>, DecodeError>;
 
 #[allow(dead_code)]
@@ -54,6 +55,9 @@ fn calls_beyond<T: Into<u128>, A: AsRef<[u8]>>(num: fn() -> T) {
     let _: fn(A) -> Uuid = base62::decode_uuid::<A>;
     let _: fn(A) -> Uuid = base62::decode_alternative_uuid::<A>;
     let _: fn(&Alphabet, A) -> Uuid = base62::decode_uuid_with::<A>;
+    let _: fn(A) -> CanonicalUuid = base62::decode_uuid_canonical::<A>;
+    let _: fn(A) -> CanonicalUuid = base62::decode_alternative_uuid_canonical::<A>;
+    let _: fn(&Alphabet, A) -> CanonicalUuid = base62::decode_uuid_canonical_with::<A>;
     let _: fn(A) -> Range = base62::key_range::<A>;
     let _: fn(usize, A) -> Range = base62::fixed_range::<A>;
     let _: fn(&Alphabet, usize, A) -> Range = base62::fixed_range_with::<A>;
@@ -68,11 +72,12 @@ fn calls_beyond<T: Into<u128>, A: AsRef<[u8]>>(num: fn() -> T) {
 #[test]
 fn types() {
     fn fault<T: Copy + Debug + Eq + Hash + Ord + std::error::Error + Send + Sync + Unpin>() {}
-    fn alphabet<T: Copy + Debug + Eq + Send + Sync + Unpin>() {}
+    fn alphabet<T: Copy + Debug + Eq + Hash + Send + Sync + Unpin>() {}
     fault::<DecodeError>();
     fault::<EncodeError>();
     fault::<AlphabetError>();
     alphabet::<Alphabet>();
+    let _: fn([u8; 62]) -> Result<Alphabet, AlphabetError> = Alphabet::try_from;
     let display = base62::encode_fmt(0_u8);
     fn shown(_: impl Display + Send + Sync + 'static) {}
     shown(display);

@@ -188,10 +188,50 @@ mod writers {
         base62::encode_io_with(&Alphabet::standard(), 1337_u32, &mut *boxed).unwrap();
     }
 
+    /// Each call, of one number over the standard letters and over the alternative ones twice.
+    fn write_each<W: Write>(number: u128, writers: [&mut W; 3]) -> [std::io::Result<()>; 3] {
+        let [standard, alternative, own] = writers;
+        [
+            base62::encode_io(number, standard),
+            base62::encode_alternative_io(number, alternative),
+            base62::encode_io_with(&Alphabet::alternative(), number, own),
+        ]
+    }
+
     #[test]
     fn the_error_of_a_writer_is_passed_on() {
-        let mut place = [0; 1];
-        let full = base62::encode_io(1337_u32, &mut &mut place[..]).unwrap_err();
-        assert_eq!(full.kind(), ErrorKind::WriteZero);
+        let mut places = [[0; 1]; 3];
+        let [mut a, mut b, mut c] = places.each_mut().map(|place| &mut place[..]);
+        for answer in write_each(1337, [&mut a, &mut b, &mut c]) {
+            assert_eq!(answer.unwrap_err().kind(), ErrorKind::WriteZero);
+        }
+        assert_eq!(places, [*b"L", *b"l", *b"l"]);
+    }
+
+    /// Takes one byte in a call.
+    #[derive(Default)]
+    struct Narrow(Vec<u8>);
+
+    impl Write for Narrow {
+        fn write(&mut self, bytes: &[u8]) -> std::io::Result<usize> {
+            let taken = &bytes[..bytes.len().min(1)];
+            self.0.extend(taken);
+            Ok(taken.len())
+        }
+
+        fn flush(&mut self) -> std::io::Result<()> {
+            panic!("flushed");
+        }
+    }
+
+    #[test]
+    fn a_writer_of_one_byte_gets_all() {
+        for number in borders() {
+            let mut writers = <[Narrow; 3]>::default();
+            let answers = write_each(number, writers.each_mut());
+            assert!(answers.iter().all(|answer| answer.is_ok()));
+            let texts = [STANDARD, ALTERNATIVE, ALTERNATIVE].map(|it| digits(it, number));
+            assert_eq!(writers.map(|writer| writer.0), texts);
+        }
     }
 }

@@ -3,180 +3,216 @@
 
 #include <fmgr.h>
 #include <utils/builtins.h>
-#include <utils/memutils.h>
 #include <utils/uuid.h>
 #if PG_VERSION_NUM >= 160000
 #include <varatt.h>
 #endif
 
-/* Its calls have the names of the functions in SQL, so those of the module begin with pg_. */
-#include <base62.h>
+/* The library's calls have the names of the functions in SQL, so those of the module begin with pg_. */
+#include "common.h"
 
 PG_MODULE_MAGIC;
 
 StaticAssertDecl(UUID_LEN == BASE62_UUID_LENGTH, "a UUID has 16 bytes");
 
-static void refuse(base62_status status, base62_bad_byte bad) {
-    char said[BASE62_MAX_FAULT_TEXT];
-    size_t length = base62_fault_text(status, bad, said, sizeof said);
-    int state = ERRCODE_INVALID_TEXT_REPRESENTATION;
-    if (status == BASE62_OVERFLOW || status == BASE62_BUFFER_TOO_SMALL)
-        state = ERRCODE_NUMERIC_VALUE_OUT_OF_RANGE;
-    if (status == BASE62_REPEATED_LETTER)
-        state = ERRCODE_INVALID_PARAMETER_VALUE;
-    ereport(ERROR, (errcode(state), errmsg("%.*s", (int)length, said)));
-}
-
-/* Tells why the library wrote no text. */
-static void refuse_number(const char *letters) {
-    base62_bad_byte bad = {0, 0};
-    base62_status status = letters == NULL ? BASE62_OK : base62_check_alphabet(letters, &bad);
-    refuse(status == BASE62_OK ? BASE62_BUFFER_TOO_SMALL : status, bad);
+static void refuse(const refusal *why) {
+    int code = ERRCODE_INVALID_TEXT_REPRESENTATION;
+    if (why->kind == OUT_OF_RANGE)
+        code = ERRCODE_NUMERIC_VALUE_OUT_OF_RANGE;
+    if (why->kind == WRONG_PARAMETER)
+        code = ERRCODE_INVALID_PARAMETER_VALUE;
+    ereport(ERROR, (errcode(code), errmsg("%.*s", (int)why->length, why->said)));
 }
 
 /* Arguments */
 
-static base62_number number_of(int64 given) {
-    if (given < 0)
-        ereport(ERROR, (errcode(ERRCODE_NUMERIC_VALUE_OUT_OF_RANGE), errmsg("a negative number has no base62 text")));
-    return base62_from_u64((uint64)given);
+static base62_number int8_at(FunctionCallInfo fcinfo, int place) {
+    base62_number number;
+    refusal why;
+    if (!number_of_int64(PG_GETARG_INT64(place), &number, &why))
+        refuse(&why);
+    return number;
 }
 
-/* The letters at a place, or NULL where no argument is. Letters that are no ASCII would make texts that the database's
- * encoding has not. That no letter is repeated is the library's to say. */
-static const char *letters_at(FunctionCallInfo fcinfo, int place) {
+static base62_number uuid_at(FunctionCallInfo fcinfo, int place) {
+    return base62_number_of_uuid(PG_GETARG_UUID_P(place)->data);
+}
+
+/* Letters, and the alphabet that was made of them. */
+typedef struct {
+    char letters[BASE62_ALPHABET_LENGTH];
+    base62_alphabet alphabet;
+} kept_alphabet;
+
+/* The alphabet of the letters at a place, or NULL where no argument is. It is kept for the next call of the same
+ * expression. Each call compares the letters: those in a variable of PL/pgSQL, which changes, pass for a constant. */
+static const base62_alphabet *alphabet_at(FunctionCallInfo fcinfo, int place) {
+    FmgrInfo *function = fcinfo->flinfo;
+    kept_alphabet *kept;
     const text *given;
     const char *letters;
-    bool ascii;
+    size_t length;
     if (place >= PG_NARGS())
         return NULL;
+    kept = function->fn_extra;
     given = PG_GETARG_TEXT_PP(place);
     letters = VARDATA_ANY(given);
-    ascii = VARSIZE_ANY_EXHDR(given) == BASE62_ALPHABET_LENGTH;
-    for (int i = 0; ascii && i < BASE62_ALPHABET_LENGTH; i++)
-        ascii = !IS_HIGHBIT_SET(letters[i]);
-    if (!ascii)
-        ereport(ERROR, (errcode(ERRCODE_INVALID_PARAMETER_VALUE), errmsg("an alphabet is 62 letters of ASCII")));
-    return letters;
+    length = VARSIZE_ANY_EXHDR(given);
+    if (kept == NULL || length != sizeof kept->letters || memcmp(kept->letters, letters, length) != 0) {
+        base62_alphabet made;
+        refusal why;
+        if (!make_alphabet(letters, length, &made, &why))
+            refuse(&why);
+        if (kept == NULL)
+            kept = function->fn_extra = MemoryContextAlloc(function->fn_mcxt, sizeof *kept);
+        memcpy(kept->letters, letters, sizeof kept->letters);
+        kept->alphabet = made;
+    }
+    return &kept->alphabet;
 }
 
-static base62_number decoded(FunctionCallInfo fcinfo) {
-    const text *given = PG_GETARG_TEXT_PP(0);
-    const char *letters = letters_at(fcinfo, 1);
-    base62_number number = {0, 0};
-    base62_bad_byte bad = {0, 0};
-    base62_status status;
-    if (letters == NULL)
-        status = base62_decode(VARDATA_ANY(given), VARSIZE_ANY_EXHDR(given), &number, &bad);
-    else
-        status = base62_decode_with(letters, VARDATA_ANY(given), VARSIZE_ANY_EXHDR(given), &number, &bad);
-    if (status != BASE62_OK)
-        refuse(status, bad);
-    return number;
+/* The width at a place, or that of a key where no argument is. */
+static size_t width_at(FunctionCallInfo fcinfo, int place) {
+    int32 width = place < PG_NARGS() ? PG_GETARG_INT32(place) : BASE62_KEY_LENGTH;
+    refusal why;
+    if (!check_width(width, &why))
+        refuse(&why);
+    return (size_t)width;
 }
 
 /* Answers */
 
-static Datum encoded(FunctionCallInfo fcinfo, base62_number number) {
-    const char *letters = letters_at(fcinfo, 1);
+static Datum encoded(base62_number number, const base62_alphabet *alphabet) {
     char buffer[BASE62_MAX_DIGITS];
-    size_t length = letters == NULL ? base62_encode(number, buffer, sizeof buffer)
-                                    : base62_encode_with(letters, number, buffer, sizeof buffer);
-    if (length == 0)
-        refuse_number(letters);
+    size_t length = encode_over(alphabet, number, buffer);
     PG_RETURN_TEXT_P(cstring_to_text_with_len(buffer, (int)length));
 }
 
-static Datum fixed(base62_number number, int32 width, const char *letters) {
-    Size size = (Size)width + VARHDRSZ;
-    text *answer;
-    size_t length;
-    if (!AllocSizeIsValid(size))
-        ereport(ERROR, (errcode(ERRCODE_PROGRAM_LIMIT_EXCEEDED), errmsg("requested length too large")));
-    answer = palloc(size);
-    SET_VARSIZE(answer, size);
-    length = letters == NULL ? base62_encode_fixed(number, VARDATA(answer), (size_t)width)
-                             : base62_encode_fixed_with(letters, number, VARDATA(answer), (size_t)width);
-    if (length == 0)
-        refuse_number(letters);
+static Datum fixed(base62_number number, size_t width, const base62_alphabet *alphabet) {
+    text *answer = palloc(VARHDRSZ + width);
+    refusal why;
+    SET_VARSIZE(answer, VARHDRSZ + width);
+    if (!encode_fixed_over(alphabet, number, VARDATA(answer), width, &why))
+        refuse(&why);
     PG_RETURN_TEXT_P(answer);
 }
 
-/* The width, which is the second argument where one is. */
-static int32 width_of(FunctionCallInfo fcinfo) {
-    int32 width = PG_NARGS() == 1 ? BASE62_KEY_LENGTH : PG_GETARG_INT32(1);
-    if (width < 1)
-        ereport(ERROR, (errcode(ERRCODE_INVALID_PARAMETER_VALUE), errmsg("a width is 1 or more")));
-    return width;
+/* Whether the text that is the first argument, over the alphabet that is the second one, is accepted. */
+static bool decodes(FunctionCallInfo fcinfo, bool canonical, base62_number *number, refusal *why) {
+    const text *given = PG_GETARG_TEXT_PP(0);
+    return decode_over(alphabet_at(fcinfo, 1), VARDATA_ANY(given), VARSIZE_ANY_EXHDR(given), canonical, number, why);
 }
 
-/* Tells whether there is a least and a greatest number of the width whose text begins with the front. */
-static bool range_of(FunctionCallInfo fcinfo, base62_range *range) {
+static base62_number decoded(FunctionCallInfo fcinfo, bool canonical) {
+    base62_number number;
+    refusal why;
+    if (!decodes(fcinfo, canonical, &number, &why))
+        refuse(&why);
+    return number;
+}
+
+static Datum decoded_int8(FunctionCallInfo fcinfo, bool canonical) {
+    int64_t whole;
+    if (!int64_of_number(decoded(fcinfo, canonical), &whole))
+        ereport(ERROR, (errcode(ERRCODE_NUMERIC_VALUE_OUT_OF_RANGE), errmsg("bigint out of range"),
+                        errhint("base62_decode_uuid takes numbers up to 2^128 - 1.")));
+    PG_RETURN_INT64(whole);
+}
+
+static Datum decoded_uuid(FunctionCallInfo fcinfo, bool canonical) {
+    base62_number number = decoded(fcinfo, canonical);
+    pg_uuid_t *answer = palloc(sizeof *answer);
+    base62_uuid_of_number(number, answer->data);
+    PG_RETURN_UUID_P(answer);
+}
+
+/* The first or the last text of a width that begins with the front, or null. */
+static Datum end_of_front(FunctionCallInfo fcinfo, bool last) {
     const text *front = PG_GETARG_TEXT_PP(0);
-    base62_bad_byte bad = {0, 0};
-    base62_status status =
-        base62_fixed_range((size_t)width_of(fcinfo), VARDATA_ANY(front), VARSIZE_ANY_EXHDR(front), range, &bad);
-    if (status != BASE62_OK && status != BASE62_NO_KEY)
-        refuse(status, bad);
-    return status == BASE62_OK;
+    size_t width = width_at(fcinfo, 1);
+    base62_range range;
+    bool none;
+    refusal why;
+    if (!range_of_front(VARDATA_ANY(front), VARSIZE_ANY_EXHDR(front), width, &range, &none, &why))
+        refuse(&why);
+    if (none)
+        PG_RETURN_NULL();
+    return fixed(last ? range.greatest : range.least, width, NULL);
 }
 
 /* Functions */
 
 PG_FUNCTION_INFO_V1(pg_base62_encode_int8);
 Datum pg_base62_encode_int8(PG_FUNCTION_ARGS) {
-    return encoded(fcinfo, number_of(PG_GETARG_INT64(0)));
+    return encoded(int8_at(fcinfo, 0), alphabet_at(fcinfo, 1));
 }
 
 PG_FUNCTION_INFO_V1(pg_base62_encode_uuid);
 Datum pg_base62_encode_uuid(PG_FUNCTION_ARGS) {
-    return encoded(fcinfo, base62_number_of_uuid(PG_GETARG_UUID_P(0)->data));
+    return encoded(uuid_at(fcinfo, 0), alphabet_at(fcinfo, 1));
 }
 
 PG_FUNCTION_INFO_V1(pg_base62_decode_int8);
 Datum pg_base62_decode_int8(PG_FUNCTION_ARGS) {
-    uint64 whole;
-    if (!base62_to_u64(decoded(fcinfo), &whole) || whole > PG_INT64_MAX)
-        ereport(ERROR, (errcode(ERRCODE_NUMERIC_VALUE_OUT_OF_RANGE), errmsg("bigint out of range"),
-                        errhint("base62_decode_uuid takes numbers up to 2^128 - 1.")));
-    PG_RETURN_INT64((int64)whole);
+    return decoded_int8(fcinfo, false);
 }
 
 PG_FUNCTION_INFO_V1(pg_base62_decode_uuid);
 Datum pg_base62_decode_uuid(PG_FUNCTION_ARGS) {
-    base62_number number = decoded(fcinfo);
-    pg_uuid_t *answer = palloc(sizeof *answer);
-    base62_uuid_of_number(number, answer->data);
-    PG_RETURN_UUID_P(answer);
+    return decoded_uuid(fcinfo, false);
+}
+
+PG_FUNCTION_INFO_V1(pg_base62_decode_int8_canonical);
+Datum pg_base62_decode_int8_canonical(PG_FUNCTION_ARGS) {
+    return decoded_int8(fcinfo, true);
+}
+
+PG_FUNCTION_INFO_V1(pg_base62_decode_uuid_canonical);
+Datum pg_base62_decode_uuid_canonical(PG_FUNCTION_ARGS) {
+    return decoded_uuid(fcinfo, true);
+}
+
+PG_FUNCTION_INFO_V1(pg_base62_is_text);
+Datum pg_base62_is_text(PG_FUNCTION_ARGS) {
+    base62_number number;
+    refusal why;
+    PG_RETURN_BOOL(decodes(fcinfo, false, &number, &why));
+}
+
+PG_FUNCTION_INFO_V1(pg_base62_is_int8);
+Datum pg_base62_is_int8(PG_FUNCTION_ARGS) {
+    base62_number number;
+    int64_t whole;
+    refusal why;
+    PG_RETURN_BOOL(decodes(fcinfo, false, &number, &why) && int64_of_number(number, &whole));
 }
 
 PG_FUNCTION_INFO_V1(pg_base62_encode_key_int8);
 Datum pg_base62_encode_key_int8(PG_FUNCTION_ARGS) {
-    return fixed(number_of(PG_GETARG_INT64(0)), BASE62_KEY_LENGTH, NULL);
+    return fixed(int8_at(fcinfo, 0), BASE62_KEY_LENGTH, NULL);
 }
 
 PG_FUNCTION_INFO_V1(pg_base62_encode_key_uuid);
 Datum pg_base62_encode_key_uuid(PG_FUNCTION_ARGS) {
-    return fixed(base62_number_of_uuid(PG_GETARG_UUID_P(0)->data), BASE62_KEY_LENGTH, NULL);
+    return fixed(uuid_at(fcinfo, 0), BASE62_KEY_LENGTH, NULL);
 }
 
 PG_FUNCTION_INFO_V1(pg_base62_encode_fixed_int8);
 Datum pg_base62_encode_fixed_int8(PG_FUNCTION_ARGS) {
-    return fixed(number_of(PG_GETARG_INT64(0)), width_of(fcinfo), letters_at(fcinfo, 2));
+    return fixed(int8_at(fcinfo, 0), width_at(fcinfo, 1), alphabet_at(fcinfo, 2));
+}
+
+PG_FUNCTION_INFO_V1(pg_base62_encode_fixed_uuid);
+Datum pg_base62_encode_fixed_uuid(PG_FUNCTION_ARGS) {
+    return fixed(uuid_at(fcinfo, 0), width_at(fcinfo, 1), alphabet_at(fcinfo, 2));
 }
 
 PG_FUNCTION_INFO_V1(pg_base62_key_first);
 Datum pg_base62_key_first(PG_FUNCTION_ARGS) {
-    base62_range range;
-    if (!range_of(fcinfo, &range))
-        PG_RETURN_NULL();
-    return fixed(range.least, width_of(fcinfo), NULL);
+    return end_of_front(fcinfo, false);
 }
 
 PG_FUNCTION_INFO_V1(pg_base62_key_last);
 Datum pg_base62_key_last(PG_FUNCTION_ARGS) {
-    base62_range range;
-    if (!range_of(fcinfo, &range))
-        PG_RETURN_NULL();
-    return fixed(range.greatest, width_of(fcinfo), NULL);
+    return end_of_front(fcinfo, true);
 }

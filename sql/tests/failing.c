@@ -1,5 +1,5 @@
 /* Refuses each request of SQLite for memory in turn, in each of the queries below and as the module that is named is
- * loaded. A query has to do what stands beside it or to be out of memory, and leaves nothing behind. */
+ * loaded. A query has to do what stands beside it or to be out of memory, takes little, and leaves nothing behind. */
 #include <sqlite3.h>
 #include <stdio.h>
 #include <stdlib.h>
@@ -37,6 +37,9 @@ static void want(int holds, const char *what, const char *said) {
 
 #define OWN "'zyxwvutsrqponmlkjihgfedcbaZYXWVUTSRQPONMLKJIHGFEDCBA9876543210'"
 
+/* More bytes than a query below takes at once. */
+#define LITTLE 10000
+
 /* A query and its answer, or NULL where it is an error. The database is in UTF-16, so a
  * text that is stored there has to be converted for them. */
 static const struct {
@@ -53,7 +56,14 @@ static const struct {
     {"SELECT base62_encode_fixed(n, 3) FROM stored", "0LZ"},
     {"SELECT base62_encode_fixed(n, 3, own) FROM stored", "zeQ"},
     {"SELECT base62_encode_fixed(n, 1) FROM stored", NULL},
-    {"SELECT length(base62_encode_fixed(n, 10000)) FROM stored", "10000"},
+    {"SELECT length(base62_encode_fixed(n, 1000)) FROM stored", "1000"},
+    {"SELECT base62_decode_canonical(t) FROM stored", "1337"},
+    {"SELECT base62_decode_canonical('0' || t) FROM stored", NULL},
+    {"SELECT hex(base62_decode_blob_canonical('eQ', own)) FROM stored", "00000000000000000000000000000539"},
+    {"SELECT base62_is_text(t) FROM stored", "1"},
+    {"SELECT base62_is_text('-', own) FROM stored", "0"},
+    {"SELECT base62_is_integer(t) FROM stored", "1"},
+    {"SELECT base62_encode(n, " OWN ") || base62_encode(61, " OWN ") FROM stored", "eQ0"},
     {"SELECT base62_key_first(t, 3) FROM stored", "LZ0"},
     {"SELECT base62_key_last(t, 3) FROM stored", "LZz"},
 };
@@ -61,12 +71,16 @@ static const struct {
 /* Steps a statement with one request refused. Answers whether a request was. */
 static int refuse_in(sqlite3 *db, const char *query, const char *answer, long request) {
     sqlite3_stmt *statement;
+    sqlite3_int64 used;
     int status;
     want(sqlite3_prepare_v2(db, query, -1, &statement, NULL) == SQLITE_OK, query, "is not prepared");
+    used = sqlite3_memory_used();
+    sqlite3_memory_highwater(1);
     refused = 0;
     granted = request;
     status = sqlite3_step(statement);
     granted = -1;
+    want(sqlite3_memory_highwater(0) - used < LITTLE, query, "takes much memory");
     if (status == SQLITE_ROW && answer != NULL)
         want(strcmp((const char *)sqlite3_column_text(statement, 0), answer) == 0, query, "another answer");
     else if (status == SQLITE_NOMEM)

@@ -8,16 +8,17 @@ import tempfile
 import unittest
 from typing import Any
 
-from values import (ALTERNATIVE, BIGINT, KEY, OWN, STANDARD, TOO_WIDE, Fault, decoded, ends, fixed, fronts, numbers,
-                    text, texts, widths)
+from values import (ALTERNATIVE, BIGINT, KEY, OWN, STANDARD, TOO_WIDE, WIDEST, Fault, accepted, decoded,
+                    decoded_canonical, ends, fixed, fronts, numbers, text, texts, widths)
 
 MODULE = os.environ["BASE62_SQLITE"]
 LETTERS = "base62: an alphabet is 62 letters of ASCII"
-NEGATIVE = "base62: the integer is negative"
+NEGATIVE = "base62: a negative number has no base62 text"
 NUMBER = "base62: a number is an integer or a blob of 16 bytes"
 TEXT = "base62: the argument is no text"
-WIDTH = "base62: a width is an integer from 1 on"
+WIDTH = "base62: a width is an integer from 1 to 1000"
 TOO_BIG = "string or blob too big"
+LARGE = "base62: the number is 2^63 or more, which base62_decode_blob takes"
 REPEATED = "00" + STANDARD[1:61]
 
 
@@ -27,6 +28,11 @@ def opened(place: str = ":memory:", before: str = "") -> sqlite3.Connection:
     db.enable_load_extension(True)
     db.load_extension(MODULE)
     return db
+
+
+def said(wanted: Any) -> Any:
+    """What is said of the library's faults."""
+    return f"base62: {wanted}" if isinstance(wanted, Fault) else wanted
 
 
 def blob(number: int) -> bytes:
@@ -57,40 +63,47 @@ class Values(Case):
             for of in given:
                 calls = "base62_encode(?1), base62_encode(?1, ?2), base62_encode(?1, ?3), base62_encode_key(?1)"
                 self.assertEqual(self.row(calls, of, ALTERNATIVE, OWN), texts_of)
-            calls = "base62_decode_blob(?1), base62_decode_blob('000' || ?1), base62_decode_blob(?2, ?3)"
-            self.assertEqual(self.row(calls, texts_of[0], texts_of[2], OWN), (blob(number),) * 3)
+            calls = ("base62_decode_blob(?1), base62_decode_blob('000' || ?1), base62_decode_blob(?2, ?3),"
+                     " base62_decode_blob_canonical(?1), base62_decode_blob_canonical(?2, ?3)")
+            self.assertEqual(self.row(calls, texts_of[0], texts_of[2], OWN), (blob(number),) * 5)
+            calls = "base62_is_text(?1), base62_is_text(?2, ?3), base62_is_integer(?1), base62_is_integer(?2, ?3)"
+            self.assertEqual(self.row(calls, texts_of[0], texts_of[2], OWN), (1, 1) + (int(number <= BIGINT),) * 2)
             if number <= BIGINT:
-                calls = "base62_decode(?1), base62_decode('000' || ?1), base62_decode(?2, ?3)"
-                self.assertEqual(self.row(calls, texts_of[0], texts_of[1], ALTERNATIVE), (number,) * 3)
+                calls = ("base62_decode(?1), base62_decode('000' || ?1), base62_decode(?2, ?3),"
+                         " base62_decode_canonical(?1), base62_decode_canonical(?2, ?3)")
+                self.assertEqual(self.row(calls, texts_of[0], texts_of[1], ALTERNATIVE), (number,) * 5)
             else:
-                said = "base62: the number is 2^63 or more, which base62_decode_blob takes"
-                self.assertEqual(self.answer("base62_decode(?)", texts_of[0]), said)
+                self.assertEqual(self.answer("base62_decode(?)", texts_of[0]), LARGE)
+                self.assertEqual(self.answer("base62_decode_canonical(?)", texts_of[0]), LARGE)
 
     def test_texts(self) -> None:
         for given in texts():
-            wanted = decoded(given)
-            got = self.answer("base62_decode_blob(?)", given)
-            self.assertEqual(got, wanted if isinstance(wanted, Fault) else blob(wanted), given)
+            for call, wanted in (("decode_blob", decoded(given)), ("decode_blob_canonical", decoded_canonical(given))):
+                got = self.answer(f"base62_{call}(?)", given)
+                self.assertEqual(got, said(wanted) if isinstance(wanted, Fault) else blob(wanted), given)
+            self.assertEqual(self.row("base62_is_text(?1), base62_is_integer(?1)", given), accepted(given), given)
+        self.assertEqual(self.answer("base62_decode_canonical('0LZ')"), said(decoded_canonical("0LZ")))
 
     def test_bytes(self) -> None:
         """Texts that are no UTF-8, or go on after a null byte."""
-        said = "Encoded input contains the invalid byte b'\\x{}' at index {}"
-        for given, wanted in ((b"LZ\xff", said.format("ff", 2)), (b"LZ\0LZ", said.format("00", 2))):
+        for given, byte in ((b"LZ\xff", "\\xff"), (b"LZ\0LZ", "\\x00")):
+            wanted = f"base62: Encoded input contains the invalid byte b'{byte}' at index 2"
             self.assertEqual(self.answer("base62_decode(CAST(? AS TEXT))", given), wanted)
+            self.assertEqual(self.row("base62_is_text(CAST(? AS TEXT))", given), (0,))
 
     def test_widths(self) -> None:
         for number in numbers()[::3]:
             for width in widths(number):
-                wanted = fixed(number, width) or TOO_WIDE
+                wanted = fixed(number, width) or said(Fault(TOO_WIDE))
                 self.assertEqual(self.answer("base62_encode_fixed(?, ?)", blob(number), width), wanted)
-                wanted = fixed(number, width, OWN) or TOO_WIDE
+                wanted = fixed(number, width, OWN) or said(Fault(TOO_WIDE))
                 self.assertEqual(self.answer("base62_encode_fixed(?, ?, ?)", blob(number), width, OWN), wanted)
         self.assertEqual(self.row("base62_encode_fixed(1337, 7), base62_encode_fixed(0, 1)"), ("00000LZ", "0"))
 
     def test_fronts(self) -> None:
         for front, width in fronts():
             wanted = ends(front, width)
-            first, last = (wanted, wanted) if wanted is None or isinstance(wanted, Fault) else wanted
+            first, last = (said(wanted),) * 2 if wanted is None or isinstance(wanted, Fault) else wanted
             self.assertEqual(self.answer("base62_key_first(?, ?)", front, width), first, (front, width))
             self.assertEqual(self.answer("base62_key_last(?, ?)", front, width), last, (front, width))
             if width == KEY:
@@ -106,6 +119,14 @@ CALLS = [
     ("base62_decode", ("LZ", OWN)),
     ("base62_decode_blob", ("LZ",)),
     ("base62_decode_blob", ("LZ", OWN)),
+    ("base62_decode_canonical", ("LZ",)),
+    ("base62_decode_canonical", ("LZ", OWN)),
+    ("base62_decode_blob_canonical", ("LZ",)),
+    ("base62_decode_blob_canonical", ("LZ", OWN)),
+    ("base62_is_text", ("LZ",)),
+    ("base62_is_text", ("LZ", OWN)),
+    ("base62_is_integer", ("LZ",)),
+    ("base62_is_integer", ("LZ", OWN)),
     ("base62_encode_key", (1337,)),
     ("base62_encode_fixed", (1337, 7)),
     ("base62_encode_fixed", (1337, 7, OWN)),
@@ -114,6 +135,10 @@ CALLS = [
     ("base62_key_last", ("1",)),
     ("base62_key_last", ("1", 7)),
 ]
+
+
+# What answers whether decoding accepts, and refuses no text.
+ASK = "base62_is_text", "base62_is_integer"
 
 
 def called(name: str, given: tuple[Any, ...]) -> str:
@@ -145,12 +170,12 @@ class Arguments(Case):
         for name, given in CALLS:
             for value, wanted in refused[type(given[0])]:
                 got = self.answer(called(name, given), value, *given[1:])
-                self.assertEqual(got, wanted, (name, value))
+                self.assertEqual(got, 0 if name in ASK else wanted, (name, value))
 
     def test_alphabets(self) -> None:
         no_alphabets = ["", "01", STANDARD[:61], STANDARD + "-", "é" + STANDARD[2:], "é" * 31, "\0" + STANDARD[1:]]
         faults: list[tuple[Any, str]] = [(value, LETTERS) for value in no_alphabets]
-        faults += [(1, TEXT), (b"1" * 62, TEXT), (REPEATED, "Alphabet repeats the byte b'0' at index 1")]
+        faults += [(1, TEXT), (b"1" * 62, TEXT), (REPEATED, "base62: Alphabet repeats the byte b'0' at index 1")]
         for name, given in CALLS:
             if given[-1] == OWN:
                 for value, wanted in faults:
@@ -159,14 +184,43 @@ class Arguments(Case):
         self.assertEqual(self.row("base62_encode(61, ?)", alphabet), ("\x3e",))
 
     def test_widths(self) -> None:
-        self.db.setlimit(sqlite3.SQLITE_LIMIT_LENGTH, 1000)
-        faults = [(value, WIDTH) for value in (0, -1, -(2**63), 7.0, "7", b"7")]
-        faults += [(value, TOO_BIG) for value in (1001, 2**31, 2**32 + 7, BIGINT)]
-        for name, given in CALLS:
-            if 7 in given:
-                for value, wanted in faults:
-                    self.assertEqual(self.answer(called(name, given), given[0], value, *given[2:]), wanted)
-        self.assertEqual(self.row("base62_encode_fixed(1337, 1000)"), ("LZ".rjust(1000, "0"),))
+        faults = [(value, WIDTH) for value in (0, -1, -(2**63), WIDEST + 1, 2**32 + 7, BIGINT, 7.0, "7", b"7")]
+        wide = [call for call in CALLS if 7 in call[1]]
+        for name, given in wide:
+            for value, wanted in faults:
+                self.assertEqual(self.answer(called(name, given), given[0], value, *given[2:]), wanted)
+        self.assertEqual(self.row("base62_encode_fixed(1337, 1000)"), ("LZ".rjust(WIDEST, "0"),))
+        self.db.setlimit(sqlite3.SQLITE_LIMIT_LENGTH, 100)
+        for call in ("encode_fixed(0, 101)", "encode_fixed(0, 101, ?)", "key_first('0', 101)", "key_last('0', 101)"):
+            self.assertEqual(self.answer("base62_" + call, *[OWN] * call.count("?")), TOO_BIG)
+
+    def test_changing_letters(self) -> None:
+        """Letters that change from row to row, from run to run of a statement, and after a refusal."""
+        self.db.execute("CREATE TABLE chosen (id INTEGER PRIMARY KEY, letters TEXT)")
+        chosen = OWN, ALTERNATIVE, OWN, STANDARD
+        self.db.executemany("INSERT INTO chosen (letters) VALUES (?)", [(letters,) for letters in chosen])
+        query = "SELECT base62_encode(1337, letters), base62_encode(id, ?) FROM chosen ORDER BY id"
+        wanted = [(text(1337, letters), text(number, OWN)) for number, letters in enumerate(chosen, 1)]
+        self.assertEqual(self.db.execute(query, (OWN,)).fetchall(), wanted)
+        refused = {REPEATED: "base62: Alphabet repeats the byte b'0' at index 1", OWN[1:]: LETTERS}
+        for letters in (*chosen, REPEATED, *chosen, OWN[1:], OWN):
+            one = refused[letters] if letters in refused else text(1337, letters)
+            self.assertEqual(self.answer("base62_encode(1337, ?)", letters), one)
+        both = "base62_encode(62, ?1), base62_encode(62, ?2), base62_decode(?3, ?1), base62_encode_fixed(62, 3, ?2)"
+        wanted_both = text(62, OWN), text(62, ALTERNATIVE), 62, fixed(62, 3, ALTERNATIVE)
+        self.assertEqual(self.row(both, OWN, ALTERNATIVE, text(62, OWN)), wanted_both)
+
+    def test_trigger(self) -> None:
+        self.db.executescript(f"""
+            CREATE TABLE entry (n INTEGER, own TEXT, alternative TEXT);
+            CREATE TRIGGER added AFTER INSERT ON entry WHEN new.own IS NULL BEGIN
+                UPDATE entry SET own = base62_encode(n, '{OWN}'), alternative = base62_encode(n, '{ALTERNATIVE}')
+                WHERE n = new.n;
+            END;
+            INSERT INTO entry (n) VALUES (1337), (62), (61);
+        """)
+        wanted = [(text(number, OWN), text(number, ALTERNATIVE)) for number in (1337, 62, 61)]
+        self.assertEqual(self.db.execute("SELECT own, alternative FROM entry").fetchall(), wanted)
 
     def test_columns(self) -> None:
         """A column that makes a number of a text shows it by an error."""
@@ -189,7 +243,7 @@ class Arguments(Case):
 TABLES = """
 CREATE TABLE link (id INTEGER PRIMARY KEY, slug TEXT AS (base62_encode(id)) UNIQUE);
 CREATE TABLE item (u BLOB PRIMARY KEY, key TEXT AS (base62_encode_key(u)) STORED,
-    code TEXT AS (base62_encode_fixed(u, 23)) CHECK (base62_decode_blob(code) = u));
+    code TEXT AS (base62_encode_fixed(u, 23)) CHECK (base62_is_text(code) AND base62_decode_blob(code) = u));
 CREATE INDEX item_key ON item (key);
 CREATE INDEX item_text ON item (base62_encode(u));
 CREATE INDEX item_front ON item (u) WHERE key <= base62_key_last('3');

@@ -1,20 +1,23 @@
--- From a made-up older version, which lacks the functions with a width, to this one.
+-- From the first version to this one.
 \set VERBOSITY sqlstate
-CREATE EXTENSION base62 VERSION '0.9';
+CREATE EXTENSION base62 VERSION '1.0';
 CREATE TABLE item (u uuid PRIMARY KEY, key base62_key GENERATED ALWAYS AS (base62_encode_key_uuid(u)) STORED UNIQUE);
 CREATE INDEX item_text ON item (base62_encode_uuid(u));
 INSERT INTO item VALUES ('00000000-0000-0000-0000-000000000539');
-SELECT base62_encode_fixed(1337, 3);
-SELECT base62_key_first('L', 3);
+SELECT base62_encode_fixed(1337, 3), base62_key_first('L', 3), base62_key_last('L');
+SELECT base62_is_text('LZ');
+SELECT base62_encode_fixed_uuid('00000000-0000-0000-0000-000000000539', 3);
+SELECT base62_decode_canonical('LZ');
 ALTER EXTENSION base62 UPDATE;
 SELECT extversion FROM pg_extension WHERE extname = 'base62';
-SELECT base62_encode_fixed(1337, 3), base62_key_first('L', 3), base62_key_last('L');
+SELECT base62_is_text('LZ'), base62_encode_fixed_uuid('00000000-0000-0000-0000-000000000539', 3),
+    base62_decode_canonical('LZ');
 INSERT INTO item VALUES ('00000000-0000-0000-0000-00000000053a');
 SELECT key, base62_encode_uuid(u) FROM item ORDER BY key;
 \echo The update gives what an installation gives
 CREATE VIEW functions AS
     SELECT p.oid::regprocedure::text, prorettype::regtype::text, proargnames, prosrc, probin, provolatile, proisstrict,
-        proparallel, proleakproof, procost, prorows
+        proparallel, proleakproof, procost, prorows, obj_description(p.oid, 'pg_proc')
     FROM pg_proc p JOIN pg_depend d ON (d.classid, d.objid, d.deptype) = ('pg_proc'::regclass, p.oid, 'e')
     JOIN pg_extension e ON (d.refclassid, d.refobjid, e.extname) = ('pg_extension'::regclass, e.oid, 'base62');
 CREATE TABLE updated AS TABLE functions;
@@ -27,5 +30,6 @@ SELECT count(*) FROM functions;
 DROP EXTENSION base62;
 CREATE SCHEMA tools;
 CREATE EXTENSION base62 SCHEMA tools;
-SELECT tools.base62_encode(1337), tools.base62_key_first('L', 3);
+SELECT tools.base62_encode(1337), tools.base62_key_first('L', 3), tools.base62_is_text('LZ'),
+    obj_description('tools.base62_key'::regtype, 'pg_type') <> '';
 SELECT base62_decode('LZ');

@@ -12,10 +12,12 @@ OWN = STANDARD[::-1]
 LARGEST = 2**128 - 1
 BIGINT = 2**63 - 1
 KEY = 22
+WIDEST = 1000
 
 EMPTY = "Encoded input is an empty string"
 TOO_LARGE = "Decoded number cannot fit into a `u128`"
 TOO_WIDE = "Buffer too small to encode the number"
+NEEDLESS = "Encoded input begins with a needless zero"
 
 
 class Fault(str):
@@ -38,6 +40,7 @@ KNOWN_FAULTS = [
     ("zzzzzzzzzz!00000000000", TOO_LARGE),
     ("zzzzzzzzz!000000000000", "Encoded input contains the invalid byte b'!' at index 9"),
 ]
+KNOWN_CANONICAL = [("0", 0), ("LZ", 1337), ("00", NEEDLESS), ("0LZ", NEEDLESS), ("", EMPTY)]
 KNOWN_ENDS = [
     (("", KEY), ("0" * 22, "7n42DGM5Tflk9n8mt7Fhc7")),
     (("7n", KEY), ("7n" + "0" * 20, "7n42DGM5Tflk9n8mt7Fhc7")),
@@ -96,6 +99,18 @@ def decoded(given: str) -> int | Fault:
     return value(given) if value(given) <= LARGEST else Fault(TOO_LARGE)
 
 
+def accepted(given: str) -> tuple[bool, bool]:
+    """Whether decoding accepts a text, and to a number below 2^63."""
+    got = decoded(given)
+    return not isinstance(got, Fault), not isinstance(got, Fault) and got <= BIGINT
+
+
+def decoded_canonical(given: str) -> int | Fault:
+    """The same of a text that is alone for its number."""
+    got = decoded(given)
+    return got if isinstance(got, Fault) or given == text(got) else Fault(NEEDLESS)
+
+
 def ends(front: str, width: int) -> tuple[str, str] | Fault | None:
     """The first and the last text of a width that begins with a front, if there is one."""
     if fault := bad_byte(front.encode()):
@@ -151,9 +166,9 @@ def fronts() -> list[tuple[str, int]]:
 
 
 def widths(number: int) -> list[int]:
-    """Widths where a number just fits, is too large, and has zeros in front."""
+    """Widths where a number just fits, is too large, and has zeros in front, for some up to the largest."""
     own = len(text(number))
-    return [width for width in (own - 1, own, own + 1, KEY, 30) if width]
+    return [width for width in (own - 1, own, own + 1, KEY, 30) if width] + [WIDEST] * (number % 50 == 0)
 
 
 def check() -> None:
@@ -161,6 +176,8 @@ def check() -> None:
         assert text(number) == written and decoded(written) == number, number
     for given, said in KNOWN_FAULTS:
         assert decoded(given) == said, given
+    for given, answer in KNOWN_CANONICAL:
+        assert decoded_canonical(given) == answer, given
     for front, found in KNOWN_ENDS:
         assert ends(*front) == found, front
 
@@ -183,6 +200,10 @@ def stated(fault: Fault) -> str:
     return f"{STATES.get(fault, '22P02')} {fault}"
 
 
+def shown(got: int | Fault) -> str:
+    return stated(got) if isinstance(got, Fault) else f"{got:032x}"
+
+
 def put(table: str, columns: str, rows: list[tuple[object, ...]]) -> None:
     print(f"CREATE TABLE {table} ({columns});")
     for start in range(0, len(rows), 1000):
@@ -202,18 +223,18 @@ def put_all() -> None:
     )
     put(
         "fixed",
-        "n bigint, w integer, t text, o text",
+        "n bigint, u uuid, w integer, t text, o text",
         [
-            (number, width, fixed(number, width) or stated(Fault(TOO_WIDE)), fixed(number, width, OWN))
-            for number in numbers()[::4] if number <= BIGINT
+            (number if number <= BIGINT else None, f"{number:032x}", width,
+             fixed(number, width) or stated(Fault(TOO_WIDE)), fixed(number, width, OWN))
+            for number in numbers()[::4]
             for width in widths(number)
         ],
     )
-    answers = [(given, decoded(given)) for given in texts()]
     put(
         "given",
-        "t text, answer text",
-        [(given, stated(got) if isinstance(got, Fault) else f"{got:032x}") for given, got in answers],
+        "t text, answer text, canonical text, is_text boolean, is_bigint boolean",
+        [(given, shown(decoded(given)), shown(decoded_canonical(given)), *accepted(given)) for given in texts()],
     )
     found = [(front, width, ends(front, width)) for front, width in fronts()]
     put(

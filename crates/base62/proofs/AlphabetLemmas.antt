@@ -13,7 +13,7 @@ use Rattle.std.specs.Prelude.{nat_eq}
 use Rattle.std.specs.Set.{distinct_count}
 use Rattle.std.specs.Str.{IsAscii}
 use Rattle.std.proofs.lemmas.Str.Ascii.{IsAscii-from_all}
-use Rattle.base62.specs.Alphabet.{IsAlphabet, is_alphabet, standard, alternative, digit_of, is_letter}
+use Rattle.base62.specs.Alphabet.{IsAlphabet, is_alphabet, is_ascii, standard, alternative, digit_of, is_letter}
 use Rattle.base62.specs.Value.{digit_or_zero}
 
 abbrev pub IsLetter : List ℕ → ℕ → Type 0
@@ -91,6 +91,10 @@ alphabet_by_test B test =
       ];
     }
 
+-- letters that pass the other test are ASCII
+pub ascii_by_test : (B : List ℕ) → is_ascii B ≡ true → IsAscii B
+ascii_by_test B test = IsAscii-from_all B (all_below 128 B test)
+
 -- the two built-in alphabets are alphabets, of ASCII bytes
 pub standard_is_alphabet : IsAlphabet standard
 unfolding standard
@@ -102,8 +106,8 @@ alternative_is_alphabet = alphabet_by_test alternative refl
 
 pub standard_is_ascii : IsAscii standard
 unfolding standard
-standard_is_ascii = IsAscii-from_all standard (all_below 128 standard refl)
+standard_is_ascii = ascii_by_test standard refl
 
 pub alternative_is_ascii : IsAscii alternative
 unfolding alternative
-alternative_is_ascii = IsAscii-from_all alternative (all_below 128 alternative refl)
+alternative_is_ascii = ascii_by_test alternative refl

@@ -1,9 +1,9 @@
 -- What the answers of decoding tell of the text.
 use Rattle.std.proofs.Common.{◌≡◌, ℕ, ◌+◌, ◌*◌, ◌^◌, ◌<◌, ◌≤◌, ◌↔◌, Bool, false, List, [], ◌∷◌, ◌++◌, length, get_or, take, drop}
-use Rattle.std.proofs.Common.{Result, Ok, Err, IsOk, refl, sym, ap, ◌∙◌, subst, arith, inl, inr}
+use Rattle.std.proofs.Common.{Result, Ok, Err, IsOk, IfErr, refl, sym, ap, ◌∙◌, subst, arith, inl, inr}
 use Rattle.std.specs.List.{list_all}
-use Rattle.std.proofs.lemmas.Bool.{cases_eq, cases_lt, cond_both, ltb-true, leb-true, leb-false, eqb-true, eqb-false, lt-ltb, le-ltb, not-true, not-false, and_parts, and_left, false≢true}
-use Rattle.std.proofs.lemmas.List.{take-append-drop, length-append, nil_from_length}
+use Rattle.std.proofs.lemmas.Bool.{cases_eq, cases_lt, cases_order, cond_both, ltb-true, leb-true, leb-false, eqb-true, eqb-false, lt-ltb, le-ltb, not-true, not-false, and_parts, and_left, false≢true}
+use Rattle.std.proofs.lemmas.List.{take-append-drop, length-append, length-drop, nil_from_length}
 use Rattle.std.proofs.lemmas.List.Sums.{prefix_len_passes, prefix_len_stops, AllPass-from_list_all, list_all-from_AllPass}
 use Rattle.std.proofs.lemmas.List.Folds.{list_all-append}
 use Rattle.std.proofs.lemmas.List.Elements.{All-nil, All-cons, All-append, All-drop, All-from_get_or}
@@ -12,10 +12,10 @@ use Rattle.base62.specs.declared.fault.DecodeError.TheVariants.{ArithmeticOverfl
 use Rattle.base62.specs.Alphabet.{IsAlphabet, AreLetters, is_letter, zero_letter}
 use Rattle.base62.specs.Value.{value}
 use Rattle.base62.specs.Canonical.{Denotes, IsCanonical}
-use Rattle.base62.specs.Decoding.{decoding, leading_zeros, after_zeros, first_ten, invalid_index, first_invalid, IsFirstInvalid, RefusesLarge}
+use Rattle.base62.specs.Decoding.{decoding, leading_zeros, after_zeros, first_ten, invalid_index, first_invalid, IsFirstInvalid, NamesFirst, RefusesLarge, Decodes}
 use Rattle.base62.specs.Laws.{AgreesAtLetters, AnswerTells, number_or_overflow, without_zeros}
 use Rattle.base62.proofs.AlphabetLemmas.{IsLetter}
-use Rattle.base62.proofs.ValueLemmas.{value-nil, value-append, value-one}
+use Rattle.base62.proofs.ValueLemmas.{value-nil, value-append, value-one, value-lt_most}
 use Rattle.base62.proofs.ZeroLemmas.{letters_from_after_zeros, value-after_zeros, after_zeros_some, after_zeros_first, zero_is_letter, zero_digit}
 use Rattle.base62.proofs.LengthLemmas.{canonical_of_value}
 use Rattle.base62.proofs.OverflowLemmas.{over_long, over_first, over_letters}
@@ -74,6 +74,21 @@ first_invalid_named B text byte index b i is first =
     let index_same : index ≡ i = cc in
     subst (λ x. IsFirstInvalid B text x i) byte_same (subst (IsFirstInvalid B text byte) index_same first)
 
+-- a byte that is no letter stands among no letters
+no_letters : (B text : List ℕ) (byte index : ℕ) → IsFirstInvalid B text byte index
+    → AreLetters B text → ⊥
+no_letters B text byte index first letters =
+    false≢true (sym first.no_letter ∙ ap (is_letter B) first.byte_is ∙ letters index 0 first.within)
+
+-- a text has one first byte that is no letter
+same_invalid : (B text : List ℕ) (byte index b i : ℕ) → IsFirstInvalid B text byte index
+    → IsFirstInvalid B text b i → InvalidBase62Byte byte index ≡ InvalidBase62Byte b i
+same_invalid B text byte index b i p q = elim (cases_order index i) [
+  | inl same ↦ let bytes : byte ≡ b = p.byte_is ∙ ap (λ k. get_or text k 0) same ∙ sym q.byte_is in cc
+  | inr (inl less) ↦ absurd (false≢true (sym p.no_letter ∙ ap (is_letter B) p.byte_is ∙ q.letters_before index less))
+  | inr (inr more) ↦ absurd (false≢true (sym q.no_letter ∙ ap (is_letter B) q.byte_is ∙ p.letters_before i more))
+]
+
 -- whatever letters stand in place of its bad bytes, the text denotes 2^128 or more, if it has more than
 -- leading zeros and the first byte after those is a letter
 abbrev MustOverflow : List ℕ → List ℕ → Type 0
@@ -113,7 +128,7 @@ module _ (B : List ℕ) (ok : IsAlphabet B) where
       answer_cases text (λ r. r ≡ number_or_overflow (value B text))
       (λ e. absurd (omega arith))
       (λ more over. rw (le-ltb (value B text) (2 ^ 128) (over (others 0 0 more) text itself)))
-      (λ byte index first. absurd (false≢true (sym first.no_letter ∙ ap (is_letter B) first.byte_is ∙ letters index 0 first.within)))
+      (λ byte index first. absurd (no_letters B text byte index first letters))
       (λ denotes small. rw (lt-ltb (value B text) (2 ^ 128) small))
 
   -- a text that denotes a number below 2^128 decodes to it
@@ -131,6 +146,66 @@ module _ (B : List ℕ) (ok : IsAlphabet B) where
         | inr some ↦ omega arith
       ] in
       is ∙ decoding-letters text some letters ∙ rw (le-ltb (value B text) (2 ^ 128) large)
+
+  -- so letters that overflow do denote so much
+  overflow_large : (text : List ℕ) → AreLetters B text → decoding B text ≡ Err ArithmeticOverflow
+      → 2 ^ 128 ≤ value B text
+  overflow_large text letters =
+      let others : AreLetters B (after_zeros B text) = All-drop (IsLetter B) (leading_zeros B text) text letters in
+      let itself : AgreesAtLetters B text text = record { size = refl; letters = letters; agrees = λ i h p. refl } in
+      answer_cases text (λ r. r ≡ Err ArithmeticOverflow → 2 ^ 128 ≤ value B text)
+      (λ none e. cc)
+      (λ more over e. over (others 0 0 more) text itself)
+      (λ byte index first e. cc)
+      (λ denotes small e. cc)
+
+  -- a text without bytes has a fault of its own
+  decoding-empty : (text : List ℕ) → length text ≡ 0 → decoding B text ≡ Err EmptyInput
+  decoding-empty text none = answer_cases text (λ r. r ≡ Err EmptyInput)
+      (λ e. refl)
+      (λ some over. absurd (omega (arith, length-drop (leading_zeros B text) text)))
+      (λ byte index first. absurd (omega (arith, first.within)))
+      (λ denotes small. absurd (omega (arith, denotes.nonempty)))
+
+  -- 21 bytes cannot denote 2^128, so they do not overflow
+  short_fits : (text : List ℕ) → length text ≤ 21 → decoding B text ≡ Err ArithmeticOverflow → ⊥
+  short_fits text short =
+      let rest : length (after_zeros B text) ≤ 21 = omega (arith, length-drop (leading_zeros B text) text) in
+      decoding_cases B text (λ r. r ≡ Err ArithmeticOverflow → ⊥)
+      (λ none e. cc)
+      (λ long e. omega arith)
+      (λ bad e. cc)
+      (λ full letters big e. omega arith)
+      (λ letters big e. let less = value-lt_most B ok (after_zeros B text) 21 rest in omega (arith, less))
+      (λ some letters small e. cc)
+
+  -- so their first byte that is no letter is named
+  short_invalid : (text : List ℕ) (byte index : ℕ) → length text ≤ 21
+      → IsFirstInvalid B text byte index → decoding B text ≡ Err (InvalidBase62Byte byte index)
+  short_invalid text byte index short first =
+      answer_cases text (λ r. (r ≡ Err ArithmeticOverflow → ⊥) → r ≡ Err (InvalidBase62Byte byte index))
+      (λ none fits. absurd (omega (arith, first.within)))
+      (λ some over fits. absurd (fits refl))
+      (λ b i other fits. ap Err (same_invalid B text b i byte index other first))
+      (λ denotes small fits. absurd (no_letters B text byte index first denotes.letters))
+      (short_fits text short)
+
+  -- a fault names the first byte that is no letter
+  pub names_first : (text : List ℕ) → IfErr (decoding B text) (NamesFirst B text)
+  names_first text = answer_cases text (λ r. IfErr r (NamesFirst B text)) (λ e. tt) (λ some over. tt) (λ byte index first. first) (λ denotes small. tt)
+
+  -- all that a call of `decode` tells
+  pub decodes : (text : List ℕ) (result : Result ℕ DecodeError) → result ≡ decoding B text
+      → Decodes B text result
+  decodes text result is = record {
+    exact = is;
+    large = refuses_large text result is;
+    overflow = λ letters e. overflow_large text letters (sym is ∙ e);
+    empty = λ none. is ∙ decoding-empty text none;
+    named = rw is (names_first text);
+    short = λ short e. short_fits text short (sym is ∙ e);
+    short_named = λ byte index short first. is ∙ short_invalid text byte index short first;
+  }
 
   -- one accepted text after another
   pub decoding-append : (a b : List ℕ) (m n : ℕ) → decoding B a ≡ Ok m → decoding B b ≡ Ok n
@@ -182,6 +257,7 @@ module _ (B : List ℕ) (ok : IsAlphabet B) where
   -- all that an answer tells
   pub answer_tells : (text : List ℕ) → AnswerTells B text
   answer_tells text = record {
+    decodes = decodes text (decoding B text) refl;
     accepted = decoding_accepts_iff text;
     value_is = λ n is. sym (decoding_accepts text n is).0.value_is;
     canonical = λ n is. without_zeros_canonical text n (decoding_accepts text n is).0;

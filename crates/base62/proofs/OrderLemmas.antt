@@ -1,22 +1,25 @@
 -- Texts over an alphabet whose letters ascend compare as the numbers that they denote.
-use Rattle.std.proofs.Common.{Bool, true, false, Ordering, ◌≡◌, ◌↔◌, ℕ, ◌+◌, ◌-◌, ◌*◌, ◌^◌, ◌<◌, ◌≤◌, ltb, List, [], ◌∷◌, length, get_or, refl, sym, ap, ◌∙◌, inl, inr, Some, arith}
+use Rattle.std.proofs.Common.{Bool, true, false, Ordering, ◌≡◌, ◌↔◌, ℕ, ◌+◌, ◌-◌, ◌*◌, ◌^◌, ◌<◌, ◌≤◌, ltb, List, [], ◌∷◌, length, get_or, refl, sym, ap, ◌∙◌, subst, inl, inr, Some, arith}
 use Rattle.std.specs.Prelude.{IsTrue, MatchBool}
-use Rattle.std.specs.List.{IsAllAdjacentAnswer}
+use Rattle.std.specs.List.{IsAllAdjacentAnswer, range_with_len}
 use Rattle.std.specs.List.Sorted.{IsNonDecreasing}
 use Rattle.std.specs.Ordering.{is_le, is_some_and, nat_cmp, ordering_then, MatchOrdering}
 use Rattle.std.specs.Cmp.{nat_cmp_is}
+use Rattle.std.specs.Cmp.Lexicographic.{lists_agrees}
 use Rattle.std.specs.declared.cmp.Ordering.TheVariants.{Less, Equal, Greater}
 use Rattle.std.proofs.Math.Nat.{mul-le-mul_right}
-use Rattle.std.proofs.lemmas.Bool.{agree_below, agree_below_at, cases_order, ltb-true}
+use Rattle.std.proofs.lemmas.Bool.{cases_order, ltb-true}
 use Rattle.std.proofs.lemmas.List.Elements.{All-head, All-tail}
+use Rattle.std.proofs.lemmas.List.Sums.{AllPass-from_list_all}
+use Rattle.std.proofs.lemmas.List.FromFn.{length-range_with_len, get_or-range_with_len}
 use Rattle.std.proofs.lemmas.List.Sorted.{non_decreasing_from_is_sorted}
 use Rattle.std.proofs.lemmas.Map.Keys.{le_from_is_le, sorted_from_strictly_increasing, below_from_sorted}
 use Rattle.base62.specs.Alphabet.{IsAlphabet, AreLetters, standard, is_letter}
 use Rattle.base62.specs.Value.{value, digit_or_zero}
 use Rattle.base62.specs.Canonical.{IsCanonical}
 use Rattle.base62.specs.Fixed.{IsFixed}
-use Rattle.base62.specs.Order.{lexicographic_order, IsNotAfter, shortlex_order, Ascends}
-use Rattle.base62.proofs.AlphabetLemmas.{IsLetter, letter-digit_of, digit_of-is, same_letter}
+use Rattle.base62.specs.Order.{lexicographic_order, partial_order, IsNotAfter, shortlex_order, Ascends, is_ascending}
+use Rattle.base62.proofs.AlphabetLemmas.{IsLetter, letter-digit_of, digit_of-is, same_letter, alphabet_by_test, ascii_by_test}
 use Rattle.base62.proofs.ValueLemmas.{value-cons, value-lt, value-lt_most}
 use Rattle.base62.proofs.LengthLemmas.{no_needless_zero, needs_each}
 
@@ -24,14 +27,21 @@ use Rattle.base62.proofs.LengthLemmas.{no_needless_zero, needs_each}
 abbrev rises : List ℕ → ℕ → Bool
 rises B d = ltb (get_or B d 0) (get_or B (d + 1) 0)
 
--- an alphabet ascends where that holds at each place but the last
-pub ascends_by : (B : List ℕ) → agree_below (rises B) (λ d. true) 61 ≡ true → Ascends B
-ascends_by B all d h = ltb-true _ _ (agree_below_at (rises B) (λ d. true) 61 d all h)
+-- letters that pass the test ascend
+pub ascends_by_test : (B : List ℕ) → is_ascending B ≡ true → Ascends B
+ascends_by_test B test d h =
+    let places = range_with_len 0 61 in
+    let at = AllPass-from_list_all (rises B) places test d 0 (rw length-range_with_len h) in
+    let place : get_or places d 0 ≡ d = get_or-range_with_len 0 61 d 0 h ∙ omega arith in
+    ltb-true _ _ (subst (λ k. rises B k ≡ true) place at)
+
+-- what tests of letters that are written out show
+pub ruleset letters_by_test = (alphabet_by_test, ascends_by_test, ascii_by_test)
 
 -- the standard letters ascend by byte
 pub standard_ascends : Ascends standard
 unfolding standard
-standard_ascends = ascends_by standard refl
+standard_ascends = ascends_by_test standard refl
 
 -- what a comparison of two numbers answers
 compared : (m n : ℕ) (answer : Ordering) → MatchOrdering answer (m < n) (m ≡ n) (n < m)
@@ -141,6 +151,12 @@ module _ (B : List ℕ) (ok : IsAlphabet B) where
     fixed_compare w a b m n p q =
         rw (p.denotes.value_is, q.denotes.value_is) at (texts_compare a b p.denotes.letters q.denotes.letters (p.size ∙ sym q.size))
 
+    -- by `<` they compare alike
+    pub fixed_compare_partly : (w : ℕ) (a b : List ℕ) (m n : ℕ) → IsFixed B w a m → IsFixed B w b n
+        → partial_order a b ≡ Some (nat_cmp m n)
+    fixed_compare_partly w a b m n p q =
+        lists_agrees {R = nat_cmp} (λ x y. refl) a b ∙ ap Some (fixed_compare w a b m n p q)
+
     -- canonical texts compare in shortlex order as their numbers
     pub canonical_compare : (a b : List ℕ) (m n : ℕ) → IsCanonical B a m → IsCanonical B b n
         → shortlex_order a b ≡ nat_cmp m n
@@ -155,4 +171,4 @@ module _ (B : List ℕ) (ok : IsAlphabet B) where
         → (IsNotAfter a b ↔ (m ≤ n))
     not_after_iff w a b m n p q = rw (fixed_compare w a b m n p q) (at_most_iff m n)
 
-pub ruleset texts_in_order = (standard_ascends, texts_compare, fixed_compare, canonical_compare)
+pub ruleset texts_in_order = (standard_ascends, texts_compare, fixed_compare, fixed_compare_partly, canonical_compare)

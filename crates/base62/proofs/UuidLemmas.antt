@@ -11,7 +11,7 @@ use Rattle.base62.specs.Canonical.{Denotes}
 use Rattle.base62.specs.Decoding.{decoding, DecodesCanonical}
 use Rattle.base62.specs.Uuid.{IsUuid, uuid_number, DecodesUuid, DecodesUuidCanonical}
 use Rattle.base62.proofs.PlacesLemmas.{places-nil, places-cons, places-lt, same_digits}
-use Rattle.base62.proofs.AnswerLemmas.{decoding-denotes}
+use Rattle.base62.proofs.AnswerLemmas.{decoding-denotes, names_first}
 
 -- std's number of sixteen bytes is their sum over places
 pub number_from_bytes : (uuid : List ℕ) → length uuid ≡ 16
@@ -53,7 +53,7 @@ same_uuid a b p q e =
     same_digits 256 a b (p.size ∙ sym q.size) (All-from_get_or (λ b. b < 256) a 0 (λ i h. p.bytes i)) (All-from_get_or (λ b. b < 256) b 0 (λ i h. q.bytes i)) e
 
 -- sixteen bytes denote less than 2^128
-uuid_number-lt : (uuid : List ℕ) → IsUuid uuid → uuid_number uuid < 2 ^ 128
+pub uuid_number-lt : (uuid : List ℕ) → IsUuid uuid → uuid_number uuid < 2 ^ 128
 uuid_number-lt uuid is = rw is.size at (places-lt 256 uuid (All-from_get_or (λ b. b < 256) uuid 0 (λ i h. is.bytes i)))
 
 module _ (B : List ℕ) (ok : IsAlphabet B) (text : List ℕ) where
@@ -72,6 +72,7 @@ module _ (B : List ℕ) (ok : IsAlphabet B) (text : List ℕ) where
         denoted = λ uuid ok denotes. let e = decoded uuid ok denotes in ap Ok (same uuid ok cc);
         refused = λ fault e. cc;
         fault = λ fault e. cc;
+        named = tt;
       }
 
   pub fault_decoded : (e : DecodeError) → decoding B text ≡ Err e → DecodesUuid B text (Err e)
@@ -81,6 +82,7 @@ module _ (B : List ℕ) (ok : IsAlphabet B) (text : List ℕ) where
     denoted = λ uuid ok denotes. let none = decoded uuid ok denotes in cc;
     refused = λ fault same. cc;
     fault = λ fault same. cc;
+    named = rw is at (names_first B ok text);
   }
 
 module _ (B text : List ℕ) where
@@ -100,6 +102,7 @@ module _ (B text : List ℕ) where
         zeros = λ none. cc;
         refused = λ fault e. let none = is.refused fault e in cc;
         fault = λ fault e. cc;
+        named = tt;
       }
 
   pub needless_decoded : DecodesCanonical B text (Ok None) → DecodesUuidCanonical B text (Ok None)
@@ -111,6 +114,7 @@ module _ (B text : List ℕ) where
     zeros = λ _. is.zeros refl;
     refused = λ fault e. let none = is.refused fault e in cc;
     fault = λ fault e. cc;
+    named = tt;
   }
 
   pub canonical_refused : (e : DecodeError) → DecodesCanonical B text (Err e) → DecodesUuidCanonical B text (Err e)
@@ -122,4 +126,5 @@ module _ (B text : List ℕ) where
     zeros = λ none. cc;
     refused = λ fault same. let other = is.refused fault same in cc;
     fault = λ fault same. let other = is.fault e refl in cc;
+    named = is.named;
   }

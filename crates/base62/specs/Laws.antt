@@ -5,7 +5,7 @@ use Rattle.base62.specs.declared.fault.DecodeError.TheVariants.{ArithmeticOverfl
 use Rattle.base62.specs.Alphabet.{AreLetters, is_letter, zero_letter}
 use Rattle.base62.specs.Value.{value}
 use Rattle.base62.specs.Canonical.{IsCanonical}
-use Rattle.base62.specs.Decoding.{decoding, after_zeros, IsFirstInvalid}
+use Rattle.base62.specs.Decoding.{decoding, after_zeros, IsFirstInvalid, Decodes}
 
 -- a nonempty text has one byte, or does not begin with the zero letter
 abbrev pub HasNoNeedlessZero : List ℕ → List ℕ → Type 0
@@ -26,8 +26,10 @@ pub record AgreesAtLetters (B text other : List ℕ) : Type 0 where
 
 -- What the answer of decoding tells of the text: which texts are accepted, and their values and
 -- canonical texts; which byte a fault names; and what an overflow says where a letter follows the
--- leading zeros: with any letters in place of the bad bytes the text denotes 2^128 or more.
+-- leading zeros: with any letters in place of the bad bytes the text denotes 2^128 or more. It also
+-- tells all that a call of `decode` does.
 pub record AnswerTells (B text : List ℕ) : Type 0 where
+  pub decodes : Decodes B text (decoding B text)
   pub accepted : IsOk (decoding B text)
       ↔ ((0 < length text) × AreLetters B text × (value B text < 2 ^ 128))
   pub value_is : (n : ℕ) → decoding B text ≡ Ok n → n ≡ value B text

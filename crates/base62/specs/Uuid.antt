@@ -1,10 +1,10 @@
 -- UUIDs: sixteen bytes, and the number that they denote.
-use Rattle.std.specs.Prelude.{◌≡◌, ℕ, ◌<◌, List, length, slice_index, Option, Some, None, Result, Ok, Err, IsOk}
+use Rattle.std.specs.Prelude.{◌≡◌, ℕ, ◌<◌, List, length, slice_index, Option, Some, None, Result, Ok, Err, IsOk, IfErr}
 use Rattle.base62.specs.declared.fault.DecodeError.{DecodeError}
 use Rattle.base62.specs.Places.{sum_over_places}
 use Rattle.base62.specs.Alphabet.{zero_letter}
 use Rattle.base62.specs.Canonical.{Denotes, IsCanonical}
-use Rattle.base62.specs.Decoding.{decoding}
+use Rattle.base62.specs.Decoding.{decoding, NamesFirst}
 
 -- sixteen bytes
 pub record IsUuid (uuid : List ℕ) : Type 0 where
@@ -23,6 +23,7 @@ pub record DecodesUuid (B text : List ℕ) (result : Result (List ℕ) DecodeErr
   pub denoted : (uuid : List ℕ) → IsUuid uuid → Denotes B text (uuid_number uuid) → result ≡ Ok uuid
   pub refused : (fault : DecodeError) → result ≡ Err fault → decoding B text ≡ Err fault
   pub fault : (fault : DecodeError) → decoding B text ≡ Err fault → result ≡ Err fault
+  pub named : IfErr result (NamesFirst B text)
 
 -- Strict decoding to a UUID. A UUID is answered exactly for the canonical text of its number. None is
 -- answered exactly for the other texts that decode to a number, and these begin with a needless
@@ -39,3 +40,4 @@ pub record DecodesUuidCanonical
       → IsOk (decoding B text) × (1 < length text) × (slice_index text 0 ≡ zero_letter B)
   pub refused : (fault : DecodeError) → decoding B text ≡ Err fault → result ≡ Err fault
   pub fault : (fault : DecodeError) → result ≡ Err fault → decoding B text ≡ Err fault
+  pub named : IfErr result (NamesFirst B text)

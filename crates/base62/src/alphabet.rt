@@ -4,8 +4,8 @@ ghost use Rattle.std.specs.Prelude.{◌≡◌, ◌↔◌, ℕ, Err, IsTrue, IsOk
 ghost use Rattle.std.specs.Cmp.{partial_equiv_from_equiv};
 ghost use Rattle.std.specs.Cmp.Lexicographic.{nat_list_eq_equiv, pointwise};
 ghost use Rattle.std.specs.Str.{IsAscii};
-ghost use Rattle.base62.specs.Alphabet.{IsAlphabet, RepeatsFirst, is_alphabet, standard, alternative};
-ghost use Rattle.base62.specs.Order.{Ascends};
+ghost use Rattle.base62.specs.Alphabet.{IsAlphabet, RepeatsFirst, is_alphabet, is_ascii, standard, alternative};
+ghost use Rattle.base62.specs.Order.{Ascends, is_ascending};
 ghost use Rattle.base62.specs.Tables.{AreTables};
 ghost use Rattle.base62.specs.declared.fault.AlphabetError.TheVariants.{Repeated};
 
@@ -87,18 +87,21 @@ impl Alphabet {
 
     /// The alphabet of letters that are written out in the program.
     ///
-    /// It requires 62 distinct bytes, which the prover checks by computing. It refuses nothing and
-    /// takes no memory. Letters that come as input go to [`new`](Alphabet::new).
+    /// It requires 62 distinct bytes, which the prover checks by computing. So it finds whether they
+    /// ascend, and whether they are ASCII. The call refuses nothing and takes no memory. Letters that
+    /// come as input go to [`new`](Alphabet::new).
     ///
     /// ```rust
     /// let letters = *b"ABCDEFGHIJKLMNOPQRSTUVWXYZabcdefghijklmnopqrstuvwxyz0123456789";
     /// let alphabet = base62::Alphabet::of(letters);
     /// assert_eq!(rt; base62::decode_with(&alphabet, b"BA"), Ok(62));
     /// ```
-    #[tactic(auto, using(crate::proofs::AlphabetLemmas::alphabet_by_test))]
+    #[tactic(auto, using(crate::proofs::OrderLemmas::letters_by_test))]
     pub fn of(letters: [u8; 62]) -> Alphabet
         requires { IsTrue (is_alphabet letters) }
-        ensures { result ≡ letters }
+        ensures letters { result ≡ letters }
+        ensures ascends { IsTrue (is_ascending letters) → Ascends result }
+        ensures ascii { IsTrue (is_ascii letters) → IsAscii result }
     {
         Alphabet::new(letters).unwrap()
     }

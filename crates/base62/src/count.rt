@@ -12,7 +12,8 @@ pub const MAX_DIGITS: usize = 22;
 
 /// The length of the text of `n`, which is 1 to 22, over any alphabet.
 ///
-/// It takes no memory and refuses nothing.
+/// It is at most 6 below 2^32, 9 below 2^53, and 11 below 2^64. For other bounds there is the law
+/// [`of_number`](crate::laws::of_number). The call takes no memory and refuses nothing.
 ///
 /// ```rust
 /// assert_eq!(rt; base62::digit_count(61), 1);
@@ -24,6 +25,9 @@ pub fn digit_count(n: u128) -> usize
     ensures counted { DigitCount n result }
     ensures exact { (B text : List ℕ) → IsAlphabet B → IsCanonical B text n → length text ≡ result }
     ensures within { (k : ℕ) → 0 < k → n < 62 ^ k → result ≤ k }
+    ensures of_32_bits { n < 2 ^ 32 → result ≤ 6 }
+    ensures of_53_bits { n < 2 ^ 53 → result ≤ 9 }
+    ensures of_64_bits { n < 2 ^ 64 → result ≤ 11 }
     ensures least { 1 ≤ result }
     ensures most { result ≤ MAX_DIGITS }
 {

@@ -1,6 +1,6 @@
 //! What follows from the definitions alone. No call here does anything in a run.
 
-ghost use Rattle.std.specs.Prelude.{◌≡◌, ◌+◌, ◌-◌, ◌*◌, ◌<◌, ◌≤◌, ◌^◌, ◌↔◌, [], ◌∷◌, ◌++◌, ℕ, Bool, List, length, map, nat_lt, replicate, true, Result, Ok, Some, None};
+ghost use Rattle.std.specs.Prelude.{◌≡◌, ◌+◌, ◌-◌, ◌*◌, ◌<◌, ◌≤◌, ◌^◌, ◌↔◌, [], ◌∷◌, ◌++◌, ℕ, Bool, IsTrue, List, length, map, nat_lt, replicate, true, Result, Ok, Some, None};
 ghost use Rattle.std.specs.List.{AllPass, list_all, range_with_len};
 ghost use Rattle.std.specs.Ordering.{nat_cmp, ordering_then};
 ghost use Rattle.std.specs.Str.{IsAscii};
@@ -8,7 +8,7 @@ ghost use Rattle.std.specs.declared.cmp.Ordering.TheVariants.{Equal};
 ghost use Rattle.std.specs.declared.fmt.Alignment.TheVariants.{Right};
 ghost use Rattle.base62.specs.Alphabet.{IsAlphabet, AreLetters, digit_of, zero_letter, standard, alternative};
 ghost use Rattle.base62.specs.Places.{sum_over_places};
-ghost use Rattle.base62.specs.Uuid.{uuid_number};
+ghost use Rattle.base62.specs.Uuid.{IsUuid, uuid_number};
 ghost use Rattle.base62.specs.Value.{value};
 ghost use Rattle.base62.specs.Canonical.{Denotes, IsCanonical, CanonicalFits, DigitCount};
 ghost use Rattle.base62.specs.Decoding.{decoding};
@@ -16,7 +16,7 @@ ghost use Rattle.base62.specs.Case.{exchange_case};
 ghost use Rattle.base62.specs.Encoding.{EncodesInto};
 ghost use Rattle.base62.specs.Fixed.{IsFixed};
 ghost use Rattle.base62.specs.Key.{BeginsWith, BeginsTextsOf, BeginsTextsBetween, IsInInterval, interval_ends, range_of};
-ghost use Rattle.base62.specs.Order.{lexicographic_order, IsNotAfter, shortlex_order, Ascends};
+ghost use Rattle.base62.specs.Order.{lexicographic_order, partial_order, IsNotAfter, shortlex_order, Ascends};
 ghost use Rattle.base62.specs.Laws.{HasNoNeedlessZero, AnswerTells, number_or_overflow, one_place_on, without_zeros};
 ghost use Rattle.base62.specs.Fault.{alphabet_error_order, decode_error_order};
 ghost use Rattle.base62.specs.Padding.{padded_to};
@@ -105,6 +105,19 @@ pub fn texts_of_two(alphabet: &Alphabet, first: &[u8], second: &[u8], m: u128, n
     letters_are_distinct(alphabet);
 }
 
+/// A number below 62^k has at most k letters, for k from 1 on: so `digit_count` answers, and so long
+/// is its canonical text over any alphabet.
+pub fn of_number(n: u128, k: usize)
+    ensures count { 0 < k → n < 62 ^ k → (count : ℕ) → DigitCount n count → count ≤ k }
+    ensures length { 0 < k → n < 62 ^ k → (B text : List ℕ) → IsAlphabet B → IsCanonical B text n
+        → length text ≤ k }
+{}
+
+/// The number of a UUID is below 2^128.
+pub fn numbers_of_uuids()
+    ensures { (uuid : List ℕ) → IsUuid uuid → uuid_number uuid < 2 ^ 128 }
+{}
+
 /// Two UUIDs are the same where their numbers are.
 pub fn uuids_of_two(a: [u8; 16], b: [u8; 16])
     ensures { uuid_number a ≡ uuid_number b → a ≡ b }
@@ -118,6 +131,13 @@ pub fn accepted_and_refused()
     ensures { (B : List ℕ) → IsAlphabet B → (text : List ℕ) → AnswerTells B text }
 {}
 
+/// All that [`accepted_and_refused`] says, of one text.
+pub fn answer_for(alphabet: &Alphabet, text: &[u8])
+    ensures { AnswerTells alphabet.now text.now }
+{
+    letters_are_distinct(alphabet);
+}
+
 /// Two texts in a row, over any alphabet: the first has the number m, and the second k letters and
 /// the number n. Together they decode to m * 62^k + n, or overflow where that is 2^128 or more.
 pub fn concatenation()
@@ -125,6 +145,16 @@ pub fn concatenation()
         → decoding B a ≡ Ok m → decoding B b ≡ Ok n
         → decoding B (a ++ b) ≡ number_or_overflow (m * 62 ^ length b + n) }
 {}
+
+/// What [`concatenation`] says, of two texts and their numbers.
+pub fn concatenation_of_two(alphabet: &Alphabet, first: &[u8], second: &[u8], m: u128, n: u128)
+    ensures { decoding alphabet.now first.now ≡ Ok m → decoding alphabet.now second.now ≡ Ok n
+        → decoding alphabet.now (first.now ++ second.now)
+        ≡ number_or_overflow (m * 62 ^ length second.now + n) }
+{
+    letters_are_distinct(alphabet);
+    concatenation();
+}
 
 /// Over any alphabet a zero letter in front of a nonempty text changes nothing but the index of a
 /// bad byte.
@@ -140,11 +170,27 @@ pub fn zero_in_front()
 #[tactic(auto, unfolding(crate::specs::Alphabet::standard, crate::specs::Alphabet::alternative, crate::specs::Case::other_case))]
 pub fn exchange_of_case()
     ensures alphabets { exchange_case standard ≡ alternative }
-    ensures canonical { (text : List ℕ) (n : ℕ)
-        → IsCanonical standard text n ↔ IsCanonical alternative (exchange_case text) n }
+    ensures to_alternative { (text : List ℕ) (n : ℕ)
+        → IsCanonical standard text n → IsCanonical alternative (exchange_case text) n }
+    ensures from_alternative { (text : List ℕ) (n : ℕ)
+        → IsCanonical alternative (exchange_case text) n → IsCanonical standard text n }
+    ensures to_standard { (text : List ℕ) (n : ℕ)
+        → IsCanonical alternative text n → IsCanonical standard (exchange_case text) n }
     ensures decoded { (text : List ℕ)
         → decoding alternative text ≡ decoding standard (exchange_case text) }
 {}
+
+/// What [`exchange_of_case`] says of canonical texts, of one text and its number.
+pub fn exchange_of_text(text: &[u8], n: u128)
+    ensures to_alternative { IsCanonical standard text.now n
+        → IsCanonical alternative (exchange_case text.now) n }
+    ensures from_alternative { IsCanonical alternative (exchange_case text.now) n
+        → IsCanonical standard text.now n }
+    ensures to_standard { IsCanonical alternative text.now n
+        → IsCanonical standard (exchange_case text.now) n }
+{
+    exchange_of_case();
+}
 
 /// Over any alphabet, for w from 1 on, a number has a text of exactly w letters if and only if it
 /// is below 62^w, and it has only one. The text decodes to the number, if that is below 2^128. A
@@ -179,7 +225,7 @@ pub fn order_of_texts()
 {}
 
 /// Over an alphabet that ascends, two texts of `width` letters compare in lexicographic order as
-/// their numbers, and two canonical texts compare in shortlex order as theirs.
+/// their numbers, by `cmp` and by `<`, and two canonical texts compare in shortlex order as theirs.
 #[tactic(auto, using(crate::proofs::OrderLemmas::texts_in_order))]
 pub fn order_of_two(alphabet: &Alphabet, width: usize, a: &[u8], b: &[u8], m: u128, n: u128)
     ensures order { Ascends alphabet.now → IsFixed alphabet.now width a.now m
@@ -188,6 +234,8 @@ pub fn order_of_two(alphabet: &Alphabet, width: usize, a: &[u8], b: &[u8], m: u1
         → IsFixed alphabet.now width b.now n → m ≤ n → IsNotAfter a.now b.now }
     ensures at_most { Ascends alphabet.now → IsFixed alphabet.now width a.now m
         → IsFixed alphabet.now width b.now n → IsNotAfter a.now b.now → m ≤ n }
+    ensures partial { Ascends alphabet.now → IsFixed alphabet.now width a.now m
+        → IsFixed alphabet.now width b.now n → partial_order a.now b.now ≡ Some (nat_cmp m n) }
     ensures canonical { Ascends alphabet.now → IsCanonical alphabet.now a.now m
         → IsCanonical alphabet.now b.now n → shortlex_order a.now b.now ≡ nat_cmp m n }
 {
@@ -205,7 +253,8 @@ pub fn order_of_parts(high: u128, low: u128, other_high: u128, other_low: u128, 
 
 /// If a text of at most `width` letters decodes to a number, the number is below 62^width. If it
 /// has exactly `width` letters, it is the number's text of this width. The text of this width of a
-/// number below 2^128 decodes to the number.
+/// number below 2^128 decodes to the number. A text that denotes a number becomes its text of this
+/// width once zero letters in front fill it up.
 pub fn of_text(alphabet: &Alphabet, width: usize, text: &[u8])
     ensures small { (n : ℕ) → decoding alphabet.now text.now ≡ Ok n → length text.now ≤ width
         → n < 62 ^ width }
@@ -213,6 +262,9 @@ pub fn of_text(alphabet: &Alphabet, width: usize, text: &[u8])
         → IsFixed alphabet.now width text.now n }
     ensures number { (n : ℕ) → n < 2 ^ 128 → IsFixed alphabet.now width text.now n
         → decoding alphabet.now text.now ≡ Ok n }
+    ensures filled_up { (n : ℕ) → Denotes alphabet.now text.now n → length text.now ≤ width
+        → IsFixed alphabet.now width
+        (replicate (width - length text.now) (zero_letter alphabet.now) ++ text.now) n }
 {
     letters_are_distinct(alphabet);
 }
@@ -239,41 +291,43 @@ pub fn fronts()
         → BeginsTextsOf B w front least greatest → BeginsTextsBetween B w front least greatest }
 {}
 
-/// Take an alphabet that ascends, and a text of `width` letters whose value is below 2^128. It
-/// begins with a front exactly where it stands, in lexicographic order, from the text of the least
-/// number of the front's range to that of the greatest.
+/// Take an alphabet that ascends, the ends of a front's range, and their texts `low` and `high` of
+/// `width` letters. A text of `width` letters whose value is below 2^128 begins with the front
+/// exactly where it stands, in lexicographic order, from `low` to `high`.
 pub fn scan_of_front(
     alphabet: &Alphabet,
     width: usize,
     front: &[u8],
     ends: (u128, u128),
     low: &[u8],
-    text: &[u8],
     high: &[u8],
 )
     ensures from { Ascends alphabet.now → range_of alphabet.now width front.now ≡ Ok (Some ends)
-        → IsFixed alphabet.now width low.now ends.0 → IsFixed alphabet.now width high.now ends.1
-        → length text.now ≡ width → AreLetters alphabet.now text.now
-        → value alphabet.now text.now < 2 ^ 128
-        → BeginsWith front.now text.now → IsNotAfter low.now text.now }
+        → IsFixed alphabet.now width low.now ends.0
+        → (text : List ℕ) → length text ≡ width → AreLetters alphabet.now text
+        → value alphabet.now text < 2 ^ 128
+        → BeginsWith front.now text → IsNotAfter low.now text }
     ensures to { Ascends alphabet.now → range_of alphabet.now width front.now ≡ Ok (Some ends)
-        → IsFixed alphabet.now width low.now ends.0 → IsFixed alphabet.now width high.now ends.1
-        → length text.now ≡ width → AreLetters alphabet.now text.now
-        → value alphabet.now text.now < 2 ^ 128
-        → BeginsWith front.now text.now → IsNotAfter text.now high.now }
+        → IsFixed alphabet.now width high.now ends.1
+        → (text : List ℕ) → length text ≡ width → AreLetters alphabet.now text
+        → value alphabet.now text < 2 ^ 128
+        → BeginsWith front.now text → IsNotAfter text high.now }
     ensures taken { Ascends alphabet.now → range_of alphabet.now width front.now ≡ Ok (Some ends)
         → IsFixed alphabet.now width low.now ends.0 → IsFixed alphabet.now width high.now ends.1
-        → length text.now ≡ width → AreLetters alphabet.now text.now
-        → value alphabet.now text.now < 2 ^ 128
-        → IsNotAfter low.now text.now → IsNotAfter text.now high.now
-        → BeginsWith front.now text.now }
+        → (text : List ℕ) → length text ≡ width → AreLetters alphabet.now text
+        → value alphabet.now text < 2 ^ 128
+        → IsNotAfter low.now text → IsNotAfter text high.now → BeginsWith front.now text }
 {
     letters_are_distinct(alphabet);
 }
 
-/// If each byte of an alphabet passes a test, each letter of a text passes it.
-pub fn letters_of_a_kind()
-    ensures { (B text : List ℕ) (p : ℕ → Bool) → AllPass p B → AreLetters B text → AllPass p text }
+/// If each letter of an alphabet passes a test, each letter of a text passes it. For letters that
+/// are written out, computing shows the first.
+pub fn letters_of_a_kind(alphabet: &Alphabet)
+    ensures passed { (p : ℕ → Bool) (text : List ℕ) → AllPass p alphabet.now
+        → AreLetters alphabet.now text → AllPass p text }
+    ensures tested { (p : ℕ → Bool) (text : List ℕ) → IsTrue (list_all p alphabet.now)
+        → AreLetters alphabet.now text → AllPass p text }
 {}
 
 /// The built-in alphabets are ASCII. Over an alphabet of ASCII letters each text of letters is

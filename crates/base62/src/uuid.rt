@@ -120,7 +120,7 @@ fn bytes_of(answer: Result<u128, DecodeError>) -> Result<[u8; 16], DecodeError>
 }
 
 // The bytes of the number whose canonical text was decoded.
-#[tactic(auto, using(crate::proofs::UuidLemmas::canonical_decoded, crate::proofs::UuidLemmas::needless_decoded, crate::proofs::UuidLemmas::canonical_refused))]
+#[tactic(auto, using(crate::proofs::UuidLemmas::needless_decoded, crate::proofs::UuidLemmas::canonical_refused))]
 fn bytes_of_canonical(
     answer: Result<Option<u128>, DecodeError>,
 ) -> Result<Option<[u8; 16]>, DecodeError>

@@ -1,6 +1,6 @@
 //! Fields of a form.
 
-ghost use Rattle.std.specs.Prelude.{◌≡◌, ◌<◌, ◌≤◌, ◌^◌, ◌∷◌, ℕ, List, length, slice_index, true, Err};
+ghost use Rattle.std.specs.Prelude.{◌≡◌, ◌≢◌, ◌<◌, ◌≤◌, ◌^◌, ◌↔◌, ◌∷◌, ℕ, List, length, slice_index, true, IsTrue, Ok, Err};
 ghost use Rattle.base62.specs.Alphabet.{AreLetters, is_letter, standard, zero_letter};
 ghost use Rattle.base62.specs.Value.{value};
 ghost use Rattle.base62.specs.Decoding.{decoding, after_zeros, IsFirstInvalid};
@@ -26,6 +26,7 @@ pub fn verdict_on(text: &[u8]) -> Verdict
     ensures letters { (n : ℕ) → result ≡ Verdict.Fine n → AreLetters standard text.now }
     ensures number { (n : ℕ) → result ≡ Verdict.Fine n → n ≡ value standard text.now }
     ensures empty { result ≡ Verdict.Empty → length text.now ≡ 0 }
+    ensures missing { length text.now ≡ 0 → result ≡ Verdict.Empty }
     ensures bad_letter { (byte index : ℕ) → result ≡ Verdict.BadLetter byte index
         → IsFirstInvalid standard text.now byte index }
     ensures too_large { result ≡ Verdict.TooLarge
@@ -38,21 +39,56 @@ pub fn verdict_on(text: &[u8]) -> Verdict
     match base62::decode(text) {
         Ok(number) => Verdict::Fine(number),
         Err(DecodeError::EmptyInput) => Verdict::Empty,
-        Err(DecodeError::InvalidBase62Byte(byte, index)) => {
-            first_bad_byte(text, byte, index);
-            Verdict::BadLetter(byte, index)
-        }
+        Err(DecodeError::InvalidBase62Byte(byte, index)) => Verdict::BadLetter(byte, index),
         Err(DecodeError::ArithmeticOverflow) => Verdict::TooLarge,
     }
 }
 
-// A byte that decoding names is the first that is no letter.
-pub(crate) fn first_bad_byte(text: &[u8], byte: u8, index: usize)
-    requires { decoding standard text.now ≡ Err (DecodeError.InvalidBase62Byte byte index) }
-    ensures { IsFirstInvalid standard text.now byte index }
+/// Whether letters denote 2^128 or more.
+pub fn is_too_large(text: &[u8]) -> bool
+    requires { AreLetters standard text.now }
+    ensures { IsTrue result ↔ (2 ^ 128 ≤ value standard text.now) }
 {
-    base62::laws::built_in_alphabets();
-    base62::laws::accepted_and_refused();
+    base62::decode(text) == Err(DecodeError::ArithmeticOverflow)
+}
+
+/// What becomes of a voucher that a person typed.
+#[derive(Clone, Copy, Debug, PartialEq, Eq)]
+pub enum Voucher {
+    /// The voucher of this number.
+    Number(u128),
+    Missing,
+    /// This byte at this index is no letter.
+    Typo(u8, usize),
+}
+
+/// What is typed in a field of 12 places. It is never too large, and its first bad byte is named.
+pub fn voucher_in(field: &[u8]) -> Voucher
+    requires { length field.now ≤ 12 }
+    ensures number { (n : ℕ) → decoding standard field.now ≡ Ok n → result ≡ Voucher.Number n }
+    ensures missing { length field.now ≡ 0 → result ≡ Voucher.Missing }
+    ensures typo { (byte index : ℕ) → IsFirstInvalid standard field.now byte index
+        → result ≡ Voucher.Typo byte index }
+    ensures named { (byte index : ℕ) → result ≡ Voucher.Typo byte index
+        → IsFirstInvalid standard field.now byte index }
+{
+    match base62::decode(field) {
+        Ok(number) => Voucher::Number(number),
+        Err(DecodeError::EmptyInput) => Voucher::Missing,
+        Err(DecodeError::InvalidBase62Byte(byte, index)) => Voucher::Typo(byte, index),
+        Err(DecodeError::ArithmeticOverflow) => unreachable!(),
+    }
+}
+
+/// A text of at most 12 bytes has no overflow, and an empty one has its own fault.
+pub fn faults_of_short(text: &[u8])
+    requires { length text.now ≤ 12 }
+    ensures no_overflow { decoding standard text.now ≢ Err DecodeError.ArithmeticOverflow }
+    ensures empty { length text.now ≡ 0 → decoding standard text.now ≡ Err DecodeError.EmptyInput }
+    ensures bad_byte { (byte index : ℕ) → IsFirstInvalid standard text.now byte index
+        → decoding standard text.now ≡ Err (DecodeError.InvalidBase62Byte byte index) }
+{
+    base62::laws::answer_for(&Alphabet::standard(), text);
 }
 
 /// The number of a text in front of which a form put a zero. The index of a bad byte is its place

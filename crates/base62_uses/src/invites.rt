@@ -1,7 +1,7 @@
 //! Codes that people type.
 
-ghost use Rattle.std.specs.Prelude.{◌≡◌, ◌<◌, ◌^◌, ◌↔◌, ℕ, Ok, Err};
-ghost use Rattle.base62.specs.Alphabet.{standard};
+ghost use Rattle.std.specs.Prelude.{◌≡◌, ◌<◌, ◌^◌, ◌↔◌, ℕ, slice_index, Some, Ok, Err, IsTrue, IsOk};
+ghost use Rattle.base62.specs.Alphabet.{standard, zero_letter};
 ghost use Rattle.base62.specs.Canonical.{IsCanonical};
 ghost use Rattle.base62.specs.Decoding.{decoding, IsFirstInvalid};
 ghost use Rattle.base62.specs.declared.fault.DecodeError.{DecodeError};
@@ -45,13 +45,26 @@ pub fn invite_number(code: &[u8], zeros: LeadingZeros) -> Result<u128, InviteFau
     match answer {
         Ok(Some(number)) => Ok(number),
         Ok(None) => Err(InviteFault::LeadingZero),
-        Err(fault) => {
-            if let DecodeError::InvalidBase62Byte(byte, index) = fault {
-                crate::fields::first_bad_byte(code, byte, index);
-            }
-            Err(InviteFault::Text(fault))
-        }
+        Err(fault) => Err(InviteFault::Text(fault)),
     }
+}
+
+/// Whether a code has needless zeros in front, and would be a number without them.
+pub fn has_needless_zeros(code: &[u8]) -> bool
+    ensures number { IsTrue result → IsOk (decoding standard code.now) }
+    ensures zero { IsTrue result → slice_index code.now 0 ≡ zero_letter standard }
+{
+    base62::decode_canonical(code) == Ok(None)
+}
+
+/// The id of a code that is as `encode` writes it. `None` says that it is not, or names no number
+/// below 2^64.
+pub fn id_of_code(code: &[u8]) -> Option<u64>
+    ensures canonical { (id : ℕ) → result ≡ Some id → IsCanonical standard code.now id }
+    ensures back { (id : ℕ) → result ≡ Some id → decoding standard code.now ≡ Ok id }
+{
+    let number = base62::decode_canonical(code).ok()??;
+    u64::try_from(number).ok()
 }
 
 #[cfg(test)]

@@ -32,23 +32,29 @@ pub fn append_mark(line: &mut Vec<u8>, number: u128) -> Result<(), AllocError>
     line.extend_from_slice(&buf[..len])
 }
 
-/// Two marks in a row reach 2^128 - 1 and no further, where the second has 11 letters. A letter
-/// behind the mark of that number overflows.
-pub fn borders_of_joined_marks()
-    ensures greatest { (front back : List ℕ) → length back ≡ 11
-        → decoding mark_letters front ≡ Ok 6539293958884420617
-        → decoding mark_letters back ≡ Ok 38740334223856322559
-        → decoding mark_letters (front ++ back) ≡ Ok (2 ^ 128 - 1) }
-    ensures overflow { (front back : List ℕ) → length back ≡ 11
-        → decoding mark_letters front ≡ Ok 6539293958884420617
-        → decoding mark_letters back ≡ Ok 38740334223856322560
-        → decoding mark_letters (front ++ back) ≡ Err ArithmeticOverflow }
-    ensures longer { (front back : List ℕ) → length back ≡ 1
-        → decoding mark_letters front ≡ Ok (2 ^ 128 - 1) → decoding mark_letters back ≡ Ok 0
-        → decoding mark_letters (front ++ back) ≡ Err ArithmeticOverflow }
+/// Two marks in a row reach 2^128 - 1 and no further, where the second has 11 letters.
+pub fn borders_of_joined_marks(front: &[u8], back: &[u8])
+    requires size { length back.now ≡ 11 }
+    requires front { decoding mark_letters front.now ≡ Ok 6539293958884420617 }
+    ensures greatest { decoding mark_letters back.now ≡ Ok 38740334223856322559
+        → decoding mark_letters (front.now ++ back.now) ≡ Ok (2 ^ 128 - 1) }
+    ensures overflow { decoding mark_letters back.now ≡ Ok 38740334223856322560
+        → decoding mark_letters (front.now ++ back.now) ≡ Err ArithmeticOverflow }
 {
-    base62::laws::letters_are_distinct(&mark_alphabet());
-    base62::laws::concatenation();
+    let marks = mark_alphabet();
+    let m = 6539293958884420617;
+    base62::laws::concatenation_of_two(&marks, front, back, m, 38740334223856322559);
+    base62::laws::concatenation_of_two(&marks, front, back, m, 38740334223856322560);
+}
+
+/// A letter behind the mark of the greatest number overflows.
+pub fn border_of_a_longer_mark(front: &[u8], back: &[u8])
+    requires size { length back.now ≡ 1 }
+    requires front { decoding mark_letters front.now ≡ Ok (2 ^ 128 - 1) }
+    requires back { decoding mark_letters back.now ≡ Ok 0 }
+    ensures { decoding mark_letters (front.now ++ back.now) ≡ Err ArithmeticOverflow }
+{
+    base62::laws::concatenation_of_two(&mark_alphabet(), front, back, u128::MAX, 0);
 }
 
 /// A zero in front of 22 letters changes no number and no overflow. A bad byte at the last place

@@ -1,6 +1,6 @@
 //! Texts that sort.
 
-ghost use Rattle.std.specs.Prelude.{◌≡◌, ◌+◌, ◌*◌, ◌^◌, ◌<◌, ℕ, Some};
+ghost use Rattle.std.specs.Prelude.{◌≡◌, ◌+◌, ◌*◌, ◌^◌, ◌<◌, ◌↔◌, ℕ, IsTrue, Some};
 ghost use Rattle.std.specs.Ordering.{nat_cmp, ordering_then};
 ghost use Rattle.base62.specs.Alphabet.{standard};
 ghost use Rattle.base62.specs.Canonical.{IsCanonical};
@@ -69,6 +69,18 @@ pub fn compare_timed(a: TimedId, b: TimedId) -> Ordering
         1 << 32,
     );
     first.cmp(&second)
+}
+
+/// Whether one id is earlier than another, by `<` of their keys.
+pub fn is_earlier(a: TimedId, b: TimedId) -> bool
+    ensures { IsTrue result
+        ↔ (a.milliseconds * 2 ^ 32 + a.sequence < b.milliseconds * 2 ^ 32 + b.sequence) }
+{
+    base62::laws::built_in_alphabets();
+    let (first, second) = (timed_key(a), timed_key(b));
+    let standard = Alphabet::standard();
+    base62::laws::order_of_two(&standard, 22, &first, &second, a.number(), b.number());
+    first < second
 }
 
 /// The number of a ticket, whose text always has eight letters. `None` says that a byte is no

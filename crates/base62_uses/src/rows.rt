@@ -1,6 +1,6 @@
 //! Ids in rows of fixed sizes, and ids of parts.
 
-ghost use Rattle.std.specs.Prelude.{◌≡◌, ◌≤◌, ◌+◌, ◌*◌, ◌^◌, ◌↔◌, ◌++◌, ℕ, List, take, drop, length, IsTrue, IfSome, Ok};
+ghost use Rattle.std.specs.Prelude.{◌≡◌, ◌<◌, ◌≤◌, ◌+◌, ◌*◌, ◌^◌, ◌↔◌, ◌++◌, ℕ, List, take, drop, length, IsTrue, IfSome, Ok};
 ghost use Rattle.std.specs.Bool.{OnTrue, OnFalse};
 ghost use Rattle.base62.specs.Alphabet.{IsAlphabet, standard};
 ghost use Rattle.base62.specs.Canonical.{IsCanonical, CanonicalFits};
@@ -38,6 +38,35 @@ pub fn column_width(most: u64) -> usize
     ensures { (B text : List ℕ) → IsAlphabet B → IsCanonical B text most → length text ≡ result }
 {
     base62::digit_count(u128::from(most))
+}
+
+/// How many letters a coupon takes.
+pub fn coupon_width(coupon: u128) -> usize
+    ensures { coupon < 62 ^ 6 → result ≤ 6 }
+{
+    base62::laws::of_number(coupon, 6);
+    base62::digit_count(coupon)
+}
+
+/// How many letters the id of a row takes: one of 32 bits, one in a script, whose numbers are below
+/// 2^53, and any.
+pub fn id_width(id: u64) -> usize
+    ensures short { id < 2 ^ 32 → result ≤ 6 }
+    ensures script { id < 2 ^ 53 → result ≤ 9 }
+    ensures all { result ≤ 11 }
+{
+    base62::digit_count(u128::from(id))
+}
+
+/// The text of a short id, in at most six letters.
+pub fn short_text(id: u32, buf: &mut [u8; 22]) -> &[u8]
+    ensures text { IsCanonical standard result.now id }
+    ensures short { length result.now ≤ 6 }
+{
+    base62::laws::built_in_alphabets();
+    base62::laws::of_number(u128::from(id), 6);
+    let len = base62::encode_bytes(id, buf).unwrap();
+    &buf[..len]
 }
 
 /// An id of two parts: the number of a shard, and a row in it.
@@ -79,19 +108,8 @@ pub fn parts_of_code(alphabet: &Alphabet, code: &[u8]) -> Option<(u128, u128)>
     let (front, back) = code.split_at(cut);
     let shard = base62::decode_with(alphabet, front).ok()?;
     let row = base62::decode_with(alphabet, back).ok()?;
-    number_of_both(alphabet, code, front, back, shard, row);
+    base62::laws::concatenation_of_two(alphabet, front, back, shard, row);
     Some((shard, row))
-}
-
-// The number of two texts that stand one after the other.
-fn number_of_both(alphabet: &Alphabet, both: &[u8], front: &[u8], back: &[u8], m: u128, n: u128)
-    requires both { both.now ≡ front.now ++ back.now }
-    requires front { decoding alphabet.now front.now ≡ Ok m }
-    requires back { decoding alphabet.now back.now ≡ Ok n }
-    ensures { decoding alphabet.now both.now ≡ number_or_overflow (m * 62 ^ length back.now + n) }
-{
-    base62::laws::letters_are_distinct(alphabet);
-    base62::laws::concatenation();
 }
 
 #[cfg(test)]

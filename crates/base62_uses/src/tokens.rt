@@ -47,7 +47,10 @@ fn with_case_exchanged(alloc: Global, text: &[u8]) -> Result<Vec<u8>, AllocError
 /// A token as a text over the standard alphabet. It names the token's number, or has the token's
 /// fault. `Err` says that there was no memory for it.
 pub fn text_of_token(alloc: Global, token: &[u8]) -> Result<Vec<u8>, AllocError>
-    ensures { IfOk result (λ text. decoding standard text.items ≡ decoding alternative token.now) }
+    ensures decoded { IfOk result
+        (λ text. decoding standard text.items ≡ decoding alternative token.now) }
+    ensures canonical { IfOk result (λ text. (n : ℕ)
+        → IsCanonical alternative token.now n → IsCanonical standard text.items n) }
 {
     base62::laws::exchange_of_case();
     with_case_exchanged(alloc, token)
@@ -61,6 +64,17 @@ pub fn token_of_text(alloc: Global, text: &[u8]) -> Result<Vec<u8>, AllocError>
 {
     base62::laws::exchange_of_case();
     with_case_exchanged(alloc, text)
+}
+
+/// The token of a number, by way of its text over the standard alphabet. `Err` says that there was
+/// no memory for it.
+pub fn token_of_number(alloc: Global, number: u128) -> Result<Vec<u8>, AllocError>
+    ensures { IfOk result (λ token. IsCanonical alternative token.items number) }
+{
+    let mut buf = [0u8; 22];
+    let len = base62::encode_bytes(number, &mut buf).unwrap();
+    base62::laws::exchange_of_text(&buf[..len], number);
+    with_case_exchanged(alloc, &buf[..len])
 }
 
 #[cfg(test)]

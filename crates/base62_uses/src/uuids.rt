@@ -1,11 +1,12 @@
 //! Short forms of UUIDs.
 
-ghost use Rattle.std.specs.Prelude.{◌≡◌, ◌≢◌, ◌↔◌, ℕ, List, IsTrue, Some};
+ghost use Rattle.std.specs.Prelude.{◌≡◌, ◌≢◌, ◌↔◌, ℕ, List, IsTrue, Some, IfSome};
 ghost use Rattle.base62.specs.Alphabet.{standard};
 ghost use Rattle.base62.specs.Canonical.{IsCanonical};
+ghost use Rattle.base62.specs.Decoding.{IsFirstInvalid};
 ghost use Rattle.base62.specs.Uuid.{IsUuid, uuid_number};
 
-use base62::{Alphabet, Number};
+use base62::{Alphabet, DecodeError, Number};
 
 /// The short form of a UUID's sixteen bytes, the highest first. It never fails.
 pub fn short_uuid(uuid: [u8; 16], buf: &mut [u8; 22]) -> &[u8]
@@ -23,16 +24,29 @@ pub fn uuid_of_short(text: &[u8]) -> Option<[u8; 16]>
     ensures own { (uuid : List ℕ) → IsUuid uuid → IsCanonical standard text.now (uuid_number uuid)
         → result ≡ Some uuid }
 {
-    base62::laws::built_in_alphabets();
-    base62::laws::one_text();
-    let Ok(uuid) = base62::decode_uuid(text) else {
-        return None;
-    };
-    let mut buf = [0u8; 22];
-    if short_uuid(uuid, &mut buf) != text {
-        return None;
+    base62::decode_uuid_canonical(text).ok()?
+}
+
+/// The same, where the number is asked for first.
+pub fn uuid_of_link(text: &[u8]) -> Option<[u8; 16]>
+    ensures canonical { (uuid : List ℕ) → result ≡ Some uuid
+        → IsCanonical standard text.now (uuid_number uuid) }
+    ensures own { (uuid : List ℕ) → IsUuid uuid → IsCanonical standard text.now (uuid_number uuid)
+        → result ≡ Some uuid }
+{
+    base62::laws::numbers_of_uuids();
+    base62::decode_canonical(text).ok()??;
+    base62::decode_uuid(text).ok()
+}
+
+/// The byte of a mistyped short form that is no letter, and its place.
+pub fn bad_letter(text: &[u8]) -> Option<(u8, usize)>
+    ensures { IfSome result (λ bad. IsFirstInvalid standard text.now bad.0 bad.1) }
+{
+    match base62::decode_uuid(text) {
+        Err(DecodeError::InvalidBase62Byte(byte, index)) => Some((byte, index)),
+        _ => None,
     }
-    Some(uuid)
 }
 
 /// The UUID that is read back from a UUID's own short form: it is the UUID.

@@ -3,7 +3,7 @@
 
 ghost use Rattle.std.specs.Prelude.{◌≡◌, ◌++◌, [], ◌∷◌, replicate, codes, true, false, Ok, Err, Some, None};
 ghost use Rattle.std.specs.List.{range_with_len};
-ghost use Rattle.base62.specs.Alphabet.{IsAlphabet, IsRepeated, RepeatsFirst, is_alphabet, digit_of, is_letter, standard, alternative};
+ghost use Rattle.base62.specs.Alphabet.{IsAlphabet, IsRepeated, RepeatsFirst, is_alphabet, is_ascii, digit_of, is_letter, standard, alternative};
 ghost use Rattle.base62.specs.Decoding.{decoding};
 ghost use Rattle.base62.specs.declared.fault.DecodeError.TheVariants.{InvalidBase62Byte};
 
@@ -35,7 +35,7 @@ pub fn no_alphabets_by_example()
     ensures no_byte { IsAlphabet (range_with_len 195 62) → ⊥ }
 {}
 
-/// What the test of letters that are written out answers.
+/// What the tests of letters that are written out answer.
 pub fn letters_tested_by_example()
     ensures from_33 { is_alphabet (range_with_len 33 62) ≡ true }
     ensures one_fewer { is_alphabet (range_with_len 33 61) ≡ false }
@@ -43,6 +43,9 @@ pub fn letters_tested_by_example()
     ensures first_two { is_alphabet (33 ∷ range_with_len 33 61) ≡ false }
     ensures first_and_last { is_alphabet (range_with_len 33 61 ++ 33 ∷ []) ≡ false }
     ensures no_byte { is_alphabet (range_with_len 195 62) ≡ false }
+    ensures up_to_127 { is_ascii (range_with_len 66 62) ≡ true }
+    ensures up_to_128 { is_ascii (range_with_len 67 62) ≡ false }
+    ensures first_above { is_ascii (128 ∷ range_with_len 66 61) ≡ false }
 {}
 
 /// The digits of some bytes: `0`, `Z` and `z` are 48, 90 and 122, and 33 is `!`.

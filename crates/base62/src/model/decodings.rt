@@ -4,7 +4,7 @@
 ghost use Rattle.std.specs.Prelude.{◌≡◌, ◌^◌, ◌-◌, [], ◌∷◌, replicate, codes, Ok, Err, Some, None};
 ghost use Rattle.std.specs.List.{range_with_len};
 ghost use Rattle.base62.specs.Alphabet.{standard, alternative};
-ghost use Rattle.base62.specs.Decoding.{decoding, IsFirstInvalid, RefusesLarge, DecodesCanonical};
+ghost use Rattle.base62.specs.Decoding.{decoding, IsFirstInvalid, NamesFirst, RefusesLarge, Decodes, DecodesCanonical};
 ghost use Rattle.base62.specs.Steps.{decoding_steps, DecodesCounted};
 ghost use Rattle.base62.specs.declared.fault.DecodeError.TheVariants.{ArithmeticOverflow, EmptyInput, InvalidBase62Byte};
 
@@ -96,6 +96,27 @@ pub fn canonical_by_example()
     ensures refused_zero { DecodesCanonical standard (codes "0") (Ok None) → ⊥ }
     ensures other_alphabet { DecodesCanonical alternative (codes "LZ") (Ok (Some 1337)) → ⊥ }
     ensures none_of_bad { DecodesCanonical standard (codes "0!") (Ok None) → ⊥ }
+{}
+
+/// What a call of `decode` tells of some texts, and what it doesn't. Over the numbers below 1000,
+/// which are no alphabet, 21 of them overflow.
+pub fn told_by_example()
+    ensures number { Decodes standard (codes "LZ") (Ok 1337) }
+    ensures empty { Decodes standard [] (Err EmptyInput) }
+    ensures bad_byte { Decodes standard (codes "0!") (Err (InvalidBase62Byte 33 1)) }
+    ensures overflow { Decodes standard (codes "7n42DGM5Tflk9n8mt7Fhc8") (Err ArithmeticOverflow) }
+    ensures other_number { Decodes standard (codes "LZ") (Ok 1338) → ⊥ }
+    ensures other_fault { Decodes standard (codes "0!") (Err EmptyInput) → ⊥ }
+    ensures no_alphabet { Decodes (range_with_len 0 1000) (replicate 21 999)
+        (Err ArithmeticOverflow) → ⊥ }
+{}
+
+/// Which faults name the first byte that is no letter.
+pub fn names_by_example()
+    ensures first { NamesFirst standard (codes "0!?") (InvalidBase62Byte 33 1) }
+    ensures no_byte { NamesFirst standard (codes "0!?") ArithmeticOverflow }
+    ensures later { NamesFirst standard (codes "0!?") (InvalidBase62Byte 63 2) → ⊥ }
+    ensures letter { NamesFirst standard (codes "0!?") (InvalidBase62Byte 48 0) → ⊥ }
 {}
 
 /// Letters that denote 2^128 may have one answer alone. Of a lesser number nothing is said.

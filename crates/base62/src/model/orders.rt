@@ -1,11 +1,11 @@
 //! How texts compare, and which alphabets ascend.
 #![tactic(auto, unfolding(crate::proofs::OnLiterals::base62_on_literals))]
 
-ghost use Rattle.std.specs.Prelude.{◌≡◌, ◌++◌, [], ◌∷◌, replicate, codes};
+ghost use Rattle.std.specs.Prelude.{◌≡◌, ◌++◌, [], ◌∷◌, replicate, codes, true, false, Some};
 ghost use Rattle.std.specs.List.{range_with_len};
 ghost use Rattle.std.specs.declared.cmp.Ordering.TheVariants.{Less, Equal, Greater};
 ghost use Rattle.base62.specs.Alphabet.{alternative};
-ghost use Rattle.base62.specs.Order.{lexicographic_order, IsNotAfter, shortlex_order, Ascends};
+ghost use Rattle.base62.specs.Order.{lexicographic_order, partial_order, IsNotAfter, shortlex_order, Ascends, is_ascending};
 
 /// How some texts compare in lexicographic order.
 pub fn lexicographic_order_by_example()
@@ -20,6 +20,15 @@ pub fn lexicographic_order_by_example()
     ensures not_after_itself { IsNotAfter (codes "LZ") (codes "LZ") }
     ensures after { IsNotAfter (codes "z") (codes "10") → ⊥ }
     ensures after_beginning { IsNotAfter (codes "10") (codes "1") → ⊥ }
+{}
+
+/// How `<` and its kin compare some texts.
+pub fn partial_order_by_example()
+    ensures first_difference { partial_order (codes "10") (codes "z") ≡ Some Less }
+    ensures later_difference { partial_order (codes "1z0") (codes "1a9") ≡ Some Greater }
+    ensures beginning { partial_order (codes "1") (codes "10") ≡ Some Less }
+    ensures beginning_back { partial_order (codes "10") (codes "1") ≡ Some Greater }
+    ensures same { partial_order (codes "LZ") (codes "LZ") ≡ Some Equal }
 {}
 
 /// How some texts compare in shortlex order.
@@ -42,4 +51,14 @@ pub fn ascents_by_example()
     ensures last_descends { Ascends (range_with_len 33 61 ++ 33 ∷ []) → ⊥ }
     ensures first_descends { Ascends (94 ∷ range_with_len 33 61) → ⊥ }
     ensures alternative { Ascends alternative → ⊥ }
+{}
+
+/// What the test of letters that are written out answers of the same.
+pub fn ascents_tested_by_example()
+    ensures from_33 { is_ascending (range_with_len 33 62) ≡ true }
+    ensures first_two_equal { is_ascending (33 ∷ range_with_len 33 61) ≡ false }
+    ensures last_two_equal { is_ascending (range_with_len 33 61 ++ 93 ∷ []) ≡ false }
+    ensures last_descends { is_ascending (range_with_len 33 61 ++ 33 ∷ []) ≡ false }
+    ensures first_descends { is_ascending (94 ∷ range_with_len 33 61) ≡ false }
+    ensures alternative { is_ascending alternative ≡ false }
 {}

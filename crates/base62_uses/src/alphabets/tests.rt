@@ -47,6 +47,12 @@ fn keys_over_alphabets(rt: HostRuntime) {
 }
 
 #[test]
+fn marks_of_shelves(rt: HostRuntime) -> Result<(), Fail> {
+    assert_eq!(rt; shelf_mark(rt.alloc(), 1337)?.as_str(), "KY");
+    Ok(())
+}
+
+#[test]
 fn texts_over_own_letters(rt: HostRuntime) -> Result<(), Fail> {
     let mut letters = standard_letters();
     letters.reverse();

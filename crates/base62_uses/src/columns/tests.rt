@@ -1,4 +1,5 @@
 use super::*;
+use std::test::Fail;
 
 // The bytes from 33 to 94, which ascend.
 const LETTERS: [u8; 62] = *b"!\"#$%&'()*+,-./0123456789:;<=>?@ABCDEFGHIJKLMNOPQRSTUVWXYZ[\\]^";
@@ -11,6 +12,13 @@ fn columns_of_rows(rt: HostRuntime) {
     assert_eq!(rt; &column(&alphabet, 0), b"!!!!!!!!!!!");
     assert_eq!(rt; &column(&alphabet, 1337), b"!!!!!!!!!6D");
     assert_eq!(rt; &column(&alphabet, u64::MAX), b"6]K2E\"'+2C0");
+}
+
+#[test]
+fn widened_texts(rt: HostRuntime) -> Result<(), Fail> {
+    let wide = widened(rt.alloc(), &Alphabet::standard(), 5, b"LZ")?;
+    assert_eq!(rt; wide.as_slice(), b"000LZ".as_slice());
+    Ok(())
 }
 
 #[test]

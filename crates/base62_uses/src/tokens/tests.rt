@@ -15,5 +15,7 @@ fn tokens_and_texts(rt: HostRuntime) -> Result<(), Fail> {
     assert_eq!(rt; text.as_slice(), b"CAcoUun".as_slice());
     let token = token_of_text(rt.alloc(), b"7n42DGM5Tflk9n8mt7Fhc7")?;
     assert_eq!(rt; token_number(token.as_slice()), Some(u128::MAX));
+    let token = token_of_number(rt.alloc(), 691337691337)?;
+    assert_eq!(rt; token.as_slice(), b"caCOuUN".as_slice());
     Ok(())
 }

@@ -1,6 +1,6 @@
 use Rattle.base62.proofs.AnswerLemmas.{decoding_accepts}
 use Rattle.base62.proofs.ValueLemmas.{value-lt_most}
-use Rattle.base62.proofs.WidthLemmas.{fixed_decodes}
+use Rattle.base62.proofs.WidthLemmas.{fixed_decodes, filled_up}
 use Rattle.base62.proofs.laws.of_text.Goals as goal
 
 pub returns-clause-small : goal.returns-clause-small
@@ -13,3 +13,6 @@ returns-clause-fixed c = λ n is size. record { size = size; denotes = (decoding
 
 pub returns-clause-number : goal.returns-clause-number
 returns-clause-number c = λ n small is. fixed_decodes c.args.alphabet.now c.letters_are_distinct.ensures c.args.width n small c.args.text.now is
+
+pub returns-clause-filled_up : goal.returns-clause-filled_up
+returns-clause-filled_up c = λ n denotes short. filled_up c.args.alphabet.now c.letters_are_distinct.ensures c.args.width n c.args.text.now denotes short

@@ -17,3 +17,7 @@ returns-clause-exchanged c = λ h. let same : 1337 ≡ 14597 = ap (λ answer. un
 pub returns-clause-accepted : goal.returns-clause-accepted
 unfolding base62_on_literals
 returns-clause-accepted c = λ h. let none = h.number _ refl in cc
+
+pub returns-clause-refused : goal.returns-clause-refused
+unfolding base62_on_literals
+returns-clause-refused c = λ h. let is = h.refused _ refl in cc

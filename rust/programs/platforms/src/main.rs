@@ -1,0 +1,3 @@
+fn main() {
+    println!("{}", base62::encode(1337_u16));
+}

@@ -15,8 +15,14 @@ except ImportError:
 here = pathlib.Path(__file__).parent
 library = pathlib.Path(os.environ.get("BASE62_C", here / "../c/out"))
 archive, header = library / "lib/libbase62.a", library / "include/base62.h"
-# python/build lays it beside this file.
-version = next(file for file in (here / "VERSION", here / "../VERSION") if file.exists()).read_text().strip()
+
+
+def beside(name):
+    """A file of the top. python/build lays it beside this one."""
+    return next(file for file in (here / name, here / ".." / name) if file.exists())
+
+
+version = beside("VERSION").read_text().strip()
 if not archive.exists() or f'#define BASE62_VERSION "{version}"' not in header.read_text():
     raise SystemExit(f"{library} has no library of version {version}: run c/build, or name its folder in BASE62_C")
 
@@ -48,4 +54,9 @@ extension = Extension(
     define_macros=[("PACKAGE_VERSION", f'"{version}"')],
     py_limited_api=True,
 )
-setup(version=version, ext_modules=[extension], cmdclass={"bdist_wheel": Wheel})
+setup(
+    version=version,
+    ext_modules=[extension],
+    data_files=[("share/doc/base62-proved", [str(beside("CHANGELOG.md"))])],
+    cmdclass={"bdist_wheel": Wheel},
+)

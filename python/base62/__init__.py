@@ -12,18 +12,30 @@ from __future__ import annotations
 
 import uuid
 
-from base62._base62 import __version__ as __version__, decode, digit_count, encode, encode_key, key_range
-from base62._types import (
+from base62._base62 import (
     Alphabet,
+    __version__ as __version__,
+    decode,
+    decode_canonical,
+    digit_count,
+    encode,
+    encode_fixed,
+    encode_key,
+    fixed_range,
+    key_range,
+)
+from base62._types import (
     AlphabetError,
-    AnyAlphabet as AnyAlphabet,
     DecodeError,
     EmptyInputError,
     InvalidByteError,
+    NotCanonicalError,
     Number as Number,
     Text as Text,
     TooLargeError,
 )
+
+AnyAlphabet = Alphabet | str | bytes
 
 __all__ = [
     "Alphabet",
@@ -31,13 +43,18 @@ __all__ = [
     "DecodeError",
     "EmptyInputError",
     "InvalidByteError",
+    "NotCanonicalError",
     "TooLargeError",
     "decode",
+    "decode_canonical",
     "decode_uuid",
+    "decode_uuid_canonical",
     "digit_count",
     "encode",
+    "encode_fixed",
     "encode_key",
     "encode_uuid",
+    "fixed_range",
     "key_bounds",
     "key_range",
 ]
@@ -61,6 +78,15 @@ def decode_uuid(text: Text, alphabet: AnyAlphabet = Alphabet.STANDARD) -> uuid.U
     UUID('12345678-1234-5678-1234-567812345678')
     """
     return uuid.UUID(int=decode(text, alphabet))
+
+
+def decode_uuid_canonical(text: Text, alphabet: AnyAlphabet = Alphabet.STANDARD) -> uuid.UUID:
+    """Return the UUID of a text that encode_uuid writes. Raises what decode_canonical raises.
+
+    >>> decode_uuid_canonical("YLmNWW2NwaipfRR50HIPA")
+    UUID('12345678-1234-5678-1234-567812345678')
+    """
+    return uuid.UUID(int=decode_canonical(text, alphabet))
 
 
 def key_bounds(front: Text) -> tuple[str, str] | None:

@@ -1,50 +1,13 @@
-"""What the extension has in Python: its classes, and the conversions of arguments of rarer types."""
+"""What the extension has in Python: its exceptions, and the conversions of arguments of rarer types."""
 
 from __future__ import annotations
 
 import operator
-from typing import ClassVar, Self, SupportsIndex
+from typing import SupportsIndex
 from uuid import UUID
-
-
-class Alphabet(bytes):
-    """The 62 letters of an alphabet, in the order of their digits.
-
-    The letters are distinct. They are given as a str in ASCII or as bytes. A call over an alphabet also takes such a
-    str or bytes. Raises AlphabetError if one of 62 letters is repeated, and otherwise ValueError. Bytes that are not
-    ASCII can be letters for decoding, but not for encoding.
-
-    >>> own = Alphabet("23456789ABCDEFGHJKLMNPQRSTUVWXYZabcdefghijkmnpqrstuvwxyz-_.~!*")
-    >>> encode(62, own), decode("32", own)
-    ('32', 62)
-    """
-
-    __module__ = "base62"
-    __slots__ = ()
-
-    STANDARD: ClassVar[Alphabet]
-    ALTERNATIVE: ClassVar[Alphabet]
-
-    def __new__(cls, letters: str | bytes) -> Self:
-        # Not above, since the extension imports this module.
-        from base62._base62 import check_alphabet
-
-        return super().__new__(cls, check_alphabet(letters))
-
-    def __repr__(self) -> str:
-        return f"Alphabet({bytes(self)!r})"
-
-    __str__ = __repr__
-
 
 Number = SupportsIndex | UUID
 Text = str | bytes | bytearray | memoryview
-AnyAlphabet = Alphabet | str | bytes
-
-# The library has these two built in. The extension knows them by identity.
-Alphabet.STANDARD = bytes.__new__(Alphabet, b"0123456789ABCDEFGHIJKLMNOPQRSTUVWXYZabcdefghijklmnopqrstuvwxyz")
-Alphabet.ALTERNATIVE = bytes.__new__(Alphabet, b"0123456789abcdefghijklmnopqrstuvwxyzABCDEFGHIJKLMNOPQRSTUVWXYZ")
-
 
 # The library has a number in two halves of so many bits.
 HALF_WIDTH = 64
@@ -99,6 +62,19 @@ class TooLargeError(DecodeError):
     __module__ = "base62"
 
 
+class NotCanonicalError(DecodeError):
+    """A text denotes a number, but begins with a needless zero.
+
+    >>> decode("00LZ")
+    1337
+    >>> decode_canonical("00LZ")
+    Traceback (most recent call last):
+    base62.NotCanonicalError: Encoded input begins with a needless zero
+    """
+
+    __module__ = "base62"
+
+
 class InvalidByteError(_BadByteError, DecodeError):
     """A byte of a text is not a letter.
 
@@ -128,7 +104,7 @@ def whole_of(number: Number) -> int:
 
 
 def bytes_of(text: Text) -> bytes:
-    """Return the bytes of a text that is neither bytes nor a str with UTF-8."""
+    """Return the bytes of a text that is neither bytes nor a str in ASCII."""
     if isinstance(text, str):
         # A lone surrogate is no letter either. A subclass may have an encode of its own.
         return str.encode(text, "utf-8", "surrogatepass")
@@ -142,8 +118,8 @@ def bytes_of(text: Text) -> bytes:
         return bytes(view)
 
 
-def letters_of(alphabet: AnyAlphabet) -> bytes:
-    """Return the letters of an alphabet that is not bytes."""
+def letters_of(alphabet: object) -> bytes:
+    """Return the letters of an alphabet that is neither an Alphabet nor bytes."""
     if not isinstance(alphabet, str):
         raise TypeError(f"an alphabet is an Alphabet, a str or bytes, not {type(alphabet)}")
     return str.encode(alphabet, "ascii")

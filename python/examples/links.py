@@ -42,8 +42,9 @@ def add(links: sqlite3.Connection, number: int | uuid.UUID, where: str) -> str:
 
 def target(links: sqlite3.Connection, text: str, strict: bool = False) -> str | None:
     """Where a link leads. Zeros in front are fine, unless only the text that was given out is."""
-    number = base62.decode(text)
-    if strict and base62.encode(number) != text:
+    try:
+        number = base62.decode_canonical(text) if strict else base62.decode(text)
+    except base62.NotCanonicalError:
         return None
     row = links.execute("SELECT target FROM link WHERE key = ?", (base62.encode_key(number),)).fetchone()
     return row and str(row[0])

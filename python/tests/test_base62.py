@@ -2,11 +2,14 @@
 
 from __future__ import annotations
 
+import contextlib
 import copy
 import enum
 import pickle
 import random
+import sys
 import threading
+import time
 import unittest
 import uuid
 from array import array
@@ -34,9 +37,27 @@ ALPHABETS: list[tuple[str | bytes, str]] = [
     (CONTROLS.encode(), CONTROLS),
 ]
 
+# It has the standard letters, so that both have the same bad bytes.
+OWN_ALPHABET = Alphabet(STANDARD.swapcase())
+
 Call = Callable[..., Any]
-OF_NUMBERS: list[Call] = [base62.encode, base62.digit_count, base62.encode_key]
-OF_TEXTS: list[Call] = [base62.decode, base62.decode_uuid, base62.key_range, base62.key_bounds]
+OF_NUMBERS: list[Call] = [
+    base62.encode,
+    base62.digit_count,
+    base62.encode_key,
+    lambda number: base62.encode_fixed(number, 22),
+    lambda number: base62.encode_fixed(number, 5000, OWN_ALPHABET),
+]
+OF_TEXTS: list[Call] = [
+    base62.decode,
+    base62.decode_canonical,
+    base62.decode_uuid,
+    base62.decode_uuid_canonical,
+    base62.key_range,
+    base62.key_bounds,
+    lambda front: base62.fixed_range(22, front),
+    lambda front: base62.fixed_range(5000, front, OWN_ALPHABET),
+]
 
 
 def value(text: str, letters: str = STANDARD) -> int:
@@ -93,7 +114,10 @@ class Texts(unittest.TestCase):
                 self.assertEqual(value(text, letters), number)
                 self.assertEqual(base62.encode(name, alphabet), text)
                 self.assertEqual(base62.decode_uuid(text, alphabet), name)
+                self.assertEqual(base62.decode_uuid(letters[0] + text, alphabet), name)
+                self.assertEqual(base62.decode_uuid_canonical(text, alphabet), name)
             self.assertEqual(base62.decode_uuid(base62.encode_uuid(name)), name)
+            self.assertEqual(base62.decode_uuid_canonical(base62.encode_uuid(name)), name)
             self.assertEqual(base62.encode_key(name), base62.encode_key(number))
             self.assertEqual(base62.digit_count(name), base62.digit_count(number))
 
@@ -106,6 +130,20 @@ class Texts(unittest.TestCase):
         for text in ("1a", Own("1a"), b"1a", bytearray(b"1a"), *views, *items):
             self.assertEqual(base62.decode(text), 98)
             self.assertEqual(base62.key_range(text), (98 * 62**20, 99 * 62**20 - 1))
+
+    def test_nothing_is_left(self) -> None:
+        """A str keeps no UTF-8 that a call has asked for."""
+
+        class Own(str):
+            pass
+
+        for text in ("é", "é" * 5000, Own("é" * 30), "\u20ac" * 30, "\U0001f600" * 30, "\ud800" * 30):
+            for call in OF_TEXTS:
+                copy = type(text)(text[:1] + text[1:])
+                size = sys.getsizeof(copy)
+                with contextlib.suppress(base62.DecodeError):
+                    call(copy)
+                self.assertEqual(sys.getsizeof(copy), size)
 
     def test_own_encode(self) -> None:
         """What a subclass of str says of its bytes is not asked."""
@@ -162,19 +200,79 @@ class Threads(unittest.TestCase):
             thread.join()
         self.assertEqual(wrong, [])
 
+    def ends_alone(self, call: Call) -> bool:
+        """Whether this thread sees another only before and after a call."""
+        steps: list[str] = []
+
+        def run() -> None:
+            steps.append("before")
+            call()
+            steps.append("after")
+
+        other = threading.Thread(target=run)
+        other.start()
+        while not steps:
+            time.sleep(0)
+        seen = [*steps]
+        other.join()
+        return seen == ["before", "after"]
+
+    def test_others_run(self) -> None:
+        """While a call reads or writes a long text, others run. The interpreter lets none run by the clock."""
+        self.addCleanup(sys.setswitchinterval, sys.getswitchinterval())
+        sys.setswitchinterval(1000)
+        zeros = "0" * 20_000_000
+        calls: list[Call] = [
+            lambda: base62.decode(zeros),
+            lambda: base62.decode(zeros.encode(), OWN_ALPHABET),
+            lambda: base62.decode(bytearray(zeros, "ascii")),
+            lambda: base62.key_range(zeros),
+            lambda: base62.fixed_range(5, zeros),
+            lambda: base62.encode_fixed(1337, len(zeros)),
+        ]
+        for call in calls:
+            self.assertFalse(all(self.ends_alone(call) for _ in range(200)))
+
 
 class Alphabets(Refusing):
     def test_built_in(self) -> None:
         self.assertEqual(Alphabet.STANDARD, STANDARD.encode())
         self.assertEqual(Alphabet.ALTERNATIVE, STANDARD.swapcase().encode())
+        for built_in in (Alphabet.STANDARD, Alphabet.ALTERNATIVE):
+            stored = [pickle.loads(pickle.dumps(built_in, protocol)) for protocol in range(pickle.HIGHEST_PROTOCOL + 1)]
+            for again in (copy.copy(built_in), copy.deepcopy(built_in), *stored):
+                self.assertIs(again, built_in)
 
     def test_own(self) -> None:
         own = Alphabet(OWN)
         self.assertEqual(bytes(own), OWN.encode())
+        self.assertEqual(repr(own), f"Alphabet(b'{OWN}')")
+        self.assertEqual(str(own), repr(own))
         self.assertEqual(eval(repr(own)), own)
-        for again in (pickle.loads(pickle.dumps(own)), copy.deepcopy(own), Alphabet(own), Alphabet(OWN.encode())):
+        self.assertEqual((own, hash(own)), (OWN.encode(), hash(OWN.encode())))
+        stored = [pickle.loads(pickle.dumps(own, protocol)) for protocol in range(pickle.HIGHEST_PROTOCOL + 1)]
+        again: Any
+        for again in (*stored, copy.copy(own), copy.deepcopy(own), Alphabet(own), Alphabet(letters=OWN)):
             self.assertIs(type(again), Alphabet)
             self.assertEqual((again, hash(again)), (own, hash(own)))
+            self.assertEqual(base62.decode(base62.encode(1337, own), again), 1337)
+
+    def test_of_version_2(self) -> None:
+        """What version 2 has pickled is read."""
+        front = b"\x80\x04\x95\\\0\0\0\0\0\0\0\x8c\x06base62\x94\x8c\x08Alphabet\x94\x93\x94C>"
+        again = pickle.loads(front + OWN.encode() + b"\x94\x85\x94\x81\x94.")
+        self.assertEqual((type(again), again), (Alphabet, OWN.encode()))
+
+    def test_own_bytes(self) -> None:
+        """What a subclass of bytes says of its bytes is not asked."""
+
+        class Own(bytes):
+            def __bytes__(self) -> bytes:
+                return STANDARD.encode()
+
+        own = Alphabet(Own(OWN.encode()))
+        self.assertEqual(own, OWN.encode())
+        self.assertEqual(base62.decode("1", own), OWN.index("1"))
 
     def test_no_more_names(self) -> None:
         own: Any = Alphabet(OWN)
@@ -189,6 +287,10 @@ class Alphabets(Refusing):
             lambda letters: base62.decode("9", letters),
             lambda letters: base62.encode_uuid(uuid.UUID(int=1), letters),
             lambda letters: base62.decode_uuid("", letters),
+            lambda letters: base62.encode_fixed(1, 5, letters),
+            lambda letters: base62.decode_canonical("9", letters),
+            lambda letters: base62.decode_uuid_canonical("9", letters),
+            lambda letters: base62.fixed_range(5, "9", letters),
         ]
         for letters, byte, index in (
             (STANDARD[:-1] + "7", ord("7"), 61),
@@ -206,7 +308,7 @@ class Alphabets(Refusing):
 
     def test_other_letters(self) -> None:
         lengths: list[Any] = ["", "standard", STANDARD[:-1], STANDARD + "-", b"", STANDARD[:-1].encode()]
-        for letters in (*lengths, bytes.__new__(Alphabet, b"0")):
+        for letters in lengths:
             error = self.refused(ValueError, Alphabet, letters)
             self.assertEqual(str(error), "an alphabet has 62 letters")
             self.refused(ValueError, base62.encode, 1, letters)
@@ -219,15 +321,114 @@ class Alphabets(Refusing):
     def test_encoding_wants_ascii(self) -> None:
         mixed = STANDARD[:61].encode() + b"\xff"
         for letters in (HIGH, Alphabet(HIGH), mixed, Alphabet(mixed)):
-            with self.assertRaises(ValueError):
-                base62.encode(1, letters)
+            for call in (lambda own: base62.encode(1, own), lambda own: base62.encode_fixed(1, 5, own)):
+                error = self.refused(ValueError, call, letters)
+                self.assertEqual(str(error), "an alphabet to encode has ASCII letters")
         self.assertEqual(base62.decode("1", mixed), 1)
+        self.assertEqual(base62.fixed_range(3, b"\xff", Alphabet(mixed)), (61 * 62**2, 62**3 - 1))
 
     def test_types(self) -> None:
+        calls: list[Call] = [
+            Alphabet,
+            lambda own: base62.encode(1, own),
+            lambda own: base62.encode_fixed(1, 5, own),
+            lambda own: base62.decode("1", own),
+            lambda own: base62.decode_canonical("1", own),
+            lambda own: base62.fixed_range(5, "1", own),
+        ]
         for letters in (None, 62, [*STANDARD], bytearray(STANDARD.encode()), Alphabet):
-            for call in (Alphabet, lambda own: base62.encode(1, own), lambda own: base62.decode("1", own)):
+            for call in calls:
                 error = self.refused(TypeError, call, letters)
                 self.assertRegex(str(error), "an alphabet is an Alphabet, a str or bytes, not <class '[a-zA-Z]+'>")
+
+
+class Canonical(Refusing):
+    def test_one_text(self) -> None:
+        for alphabet, letters in ALPHABETS:
+            for number in numbers(300):
+                text = base62.encode(number, alphabet)
+                self.assertEqual(base62.decode_canonical(text, alphabet), number)
+                self.assertEqual(base62.decode_canonical(text.encode(), alphabet), number)
+                for zeros in (1, 3, 5000):
+                    for call in (base62.decode_canonical, base62.decode_uuid_canonical):
+                        error = self.refused(base62.NotCanonicalError, call, letters[0] * zeros + text, alphabet)
+                        self.assertEqual(str(error), "Encoded input begins with a needless zero")
+        self.assertEqual(base62.decode_canonical("0"), 0)
+        self.refused(base62.NotCanonicalError, base62.decode_canonical, "00")
+
+    def test_as_decoding(self) -> None:
+        """What decode refuses is refused so."""
+        invalid = ["-", "0-", "00LZ-", "é", "z" * 9 + "-" * 13]
+        too_large = ["7n42DGM5Tflk9n8mt7Fhc8", "0" + "z" * 22, "1" * 5000, "z" * 10 + "-" * 12]
+        for alphabet, letters in ALPHABETS[:3]:
+            for standard in ("", *invalid, *too_large):
+                text = standard.translate(str.maketrans(STANDARD, letters))
+                with self.assertRaises(base62.DecodeError) as caught:
+                    base62.decode(text, alphabet)
+                error = self.refused(type(caught.exception), base62.decode_canonical, text, alphabet)
+                self.assertEqual((str(error), vars(error)), (str(caught.exception), vars(caught.exception)))
+
+
+class Widths(Refusing):
+    def test_fixed(self) -> None:
+        for alphabet, letters in ALPHABETS:
+            for number in numbers(60):
+                for width in (*range(26), 64, 65, 5000):
+                    if number >= 62**width:
+                        error = self.refused(OverflowError, base62.encode_fixed, number, width, alphabet)
+                        self.assertEqual(str(error), "the number has more letters than the width")
+                        continue
+                    if not width:
+                        self.refused(OverflowError, base62.encode_fixed, number, width, alphabet)
+                        continue
+                    text = base62.encode_fixed(number, width, alphabet)
+                    self.assertEqual(len(text), width)
+                    self.assertEqual(text[:-22].strip(letters[0]), "")
+                    self.assertEqual(value(text[-22:], letters), number)
+
+    def test_default(self) -> None:
+        for number in numbers(100):
+            self.assertEqual(base62.encode_fixed(number, 22), base62.encode_key(number))
+            self.assertEqual(base62.encode_fixed(uuid.UUID(int=number), width=23), "0" + base62.encode_key(number))
+
+    def test_ranges(self) -> None:
+        for alphabet, letters in ALPHABETS:
+            for number in numbers(20):
+                for width in (1, 2, 3, 11, 21, 22, 23, 40):
+                    digits = [number // 62**place % 62 for place in reversed(range(width))]
+                    for length in range(0, width + 1):
+                        front = "".join(letters[digit] for digit in digits[:length])
+                        least = value(front, letters) * 62 ** (width - length)
+                        wanted = (least, min(least + 62 ** (width - length) - 1, LARGEST))
+                        self.assertEqual(base62.fixed_range(width, front, alphabet), wanted)
+                    self.assertIsNone(base62.fixed_range(width, letters[0] * (width + 1), alphabet))
+            self.assertIsNone(base62.fixed_range(0, "", alphabet))
+            self.assertIsNone(base62.fixed_range(22, letters[8], alphabet))
+            self.assertEqual(base62.fixed_range(2**63 - 1, letters[0] * 5000, alphabet), (0, LARGEST))
+        for front in ("", "0", "00000000000000000000L", "8", "7n"):
+            self.assertEqual(base62.fixed_range(22, front), base62.key_range(front))
+            self.assertEqual(base62.fixed_range(22, front.encode()), base62.key_range(front))
+
+    def test_widths(self) -> None:
+        class Indexed:
+            def __index__(self) -> int:
+                return 4
+
+        calls: list[tuple[Call, object]] = [
+            (lambda width: base62.encode_fixed(1337, width), "00LZ"),
+            (lambda width: base62.fixed_range(width, "00L"), (1302, 1363)),
+        ]
+        for call, answer in calls:
+            self.assertEqual(call(Indexed()), answer)
+            for width in (-1, -22, -(2**63)):
+                self.assertEqual(str(self.refused(ValueError, call, width)), "the width is negative")
+            for width in (2**63, 2**64 + 4, -(2**64) + 4):
+                self.refused(OverflowError, call, width)
+            for other in (4.0, "4", None, b"4"):
+                self.refused(TypeError, call, other)
+
+    def test_no_memory(self) -> None:
+        self.refused(MemoryError, base62.encode_fixed, 1, 2**62)
 
 
 class Keys(unittest.TestCase):
@@ -325,6 +526,7 @@ class Faults(Refusing):
             (base62.DecodeError, []),
             (base62.EmptyInputError, ["DecodeError"]),
             (base62.TooLargeError, ["DecodeError"]),
+            (base62.NotCanonicalError, ["DecodeError"]),
             (base62.InvalidByteError, [bad_byte, "DecodeError"]),
             (base62.AlphabetError, [bad_byte]),
         ]
@@ -344,6 +546,6 @@ class Faults(Refusing):
             for again in (pickle.loads(pickle.dumps(error)), copy.copy(error)):
                 self.assertIs(type(again), type(error))
                 self.assertEqual((str(again), again.byte, again.index), (str(error), error.byte, error.index))
-        for kind in (base62.EmptyInputError, base62.TooLargeError, base62.DecodeError):
+        for kind in (base62.EmptyInputError, base62.TooLargeError, base62.NotCanonicalError, base62.DecodeError):
             again = pickle.loads(pickle.dumps(kind("said")))
             self.assertEqual((type(again), str(again)), (kind, "said"))

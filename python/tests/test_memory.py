@@ -48,9 +48,13 @@ def load_extension() -> str:
 
 
 @unittest.skipIf(memory is None, "this Python has no _testcapi, by which memory is refused")
-class Refused(unittest.TestCase):
+class Refusing(unittest.TestCase):
+    def setUp(self) -> None:
+        self.told = 0
+
     def is_told(self, wanted: object, first: int, last: int, call: Call, *given: Any, **named: Any) -> bool:
-        """Whether a call tells that requests from the first to before the last failed. Else it answers as ever."""
+        """Whether a call tells that requests from the first to before the last failed. Else it answers as ever. They
+        are counted from 0."""
         try:
             memory.set_nomemory(first, last)
             try:
@@ -72,23 +76,22 @@ class Refused(unittest.TestCase):
         for follow in (False, True):
             told = [
                 self.is_told(wanted, first, 0 if follow else first + 1, call, *given, **named)
-                for first in range(1, BEYOND)
+                for first in range(BEYOND)
             ]
             self.assertFalse(any(told[-20:]), f"{call} makes more requests")
             self.told += sum(told)
 
+
+class Refused(Refusing):
     def is_refused(self, call: Call, *given: Any, **named: Any) -> None:
-        """No refusal keeps memory: twenty sweeps would keep twenty blocks. The first ones fill CPython's stores."""
+        """No refusal keeps memory: ten sweeps would keep ten blocks. The first ones fill CPython's stores."""
         blocks = []
-        for sweeps in (10, 20):
+        for sweeps in (5, 10):
             for _ in range(sweeps):
                 self.sweep(call, *given, **named)
             gc.collect()
             blocks.append(sys.getallocatedblocks())
-        self.assertLess(blocks[1] - blocks[0], 20)
-
-    def setUp(self) -> None:
-        self.told = 0
+        self.assertLess(blocks[1] - blocks[0], 10)
 
     def tearDown(self) -> None:
         self.assertGreater(self.told, 50)
@@ -98,13 +101,23 @@ class Refused(unittest.TestCase):
             self.is_refused(base62.encode, number)
             self.is_refused(base62.digit_count, number)
             self.is_refused(base62.encode_key, number)
+            self.is_refused(base62.encode_fixed, number, 22)
         for letters in (base62.Alphabet.ALTERNATIVE, base62.Alphabet(OWN), OWN, OWN.encode()):
             self.is_refused(base62.encode, WIDE, letters)
             self.is_refused(base62.decode, "LZ", letters)
+            self.is_refused(base62.decode_canonical, "LZ", letters)
+            self.is_refused(base62.encode_fixed, WIDE, 65, letters)
+            self.is_refused(base62.fixed_range, 40, "0", letters)
         texts: list[Any] = ["LZ", TEXT, TEXT.encode(), bytearray(TEXT, "ascii"), memoryview(b"0L0Z")[::2]]
         for text in texts:
             self.is_refused(base62.decode, text)
             self.is_refused(base62.key_range, text[:2])
+            self.is_refused(base62.fixed_range, 22, text[:2])
+        for shown in (base62.Alphabet(OWN), base62.Alphabet.STANDARD):
+            self.is_refused(repr, shown)
+            self.is_refused(shown.__reduce__)
+        self.is_refused(base62.decode_uuid_canonical, TEXT)
+        self.is_refused(base62.fixed_range, width=40, front="0", alphabet=OWN)
         self.is_refused(base62.encode, number=WIDE, alphabet=base62.Alphabet(OWN))
         self.is_refused(base62.decode, "LZ", alphabet=OWN)
         self.is_refused(base62.Alphabet, OWN)
@@ -118,6 +131,9 @@ class Refused(unittest.TestCase):
             (base62.encode, [(1, None), (1, "short"), (1, "0" * 62), (1, bytes(range(194, 256))), (1, "é" * 62)]),
             (base62.decode, [("",), ("-",), (b"-",), (bytearray(b"-"),), ("é",), ("\ud800",), ("z" * 22,), (5,)]),
             (base62.decode, [("1", None), ("1", "0" * 62)]),
+            (base62.decode_canonical, [("00LZ",), ("",), ("é",), (5,), ("1", "0" * 62)]),
+            (base62.encode_fixed, [(1337, 1), (1, -1), (1, 2**64), (1, "1"), (1,), (1, 5, bytes(range(194, 256)))]),
+            (base62.fixed_range, [(5, "-"), (5, 5), (-1, "0"), ("5", "0"), (5, "0", "0" * 62), (5,)]),
             (base62.key_range, [("-",), (5,), ()]),
             (base62.Alphabet, [("0" * 62,), (b"short",), (5,)]),
         ]
@@ -128,3 +144,20 @@ class Refused(unittest.TestCase):
 
     def test_loading(self) -> None:
         self.sweep(load_extension)
+
+class Asked(Refusing):
+    def test_alphabet(self) -> None:
+        """A call over an Alphabet asks for the memory of its answer, and makes no object of letters."""
+        calls: list[tuple[Call, tuple[Any, ...]]] = [
+            (base62.encode, (1337,)),
+            (base62.encode_fixed, (1337, 22)),
+            (base62.decode, ("LZ",)),
+            (base62.decode_canonical, ("LZ",)),
+        ]
+        for alphabet in (base62.Alphabet.STANDARD, base62.Alphabet.ALTERNATIVE, base62.Alphabet(OWN)):
+            for call, given in calls:
+                # The first sweep fills CPython's stores.
+                self.sweep(call, *given, alphabet)
+                self.told = 0
+                self.sweep(call, *given, alphabet)
+                self.assertEqual(self.told, 2, call)

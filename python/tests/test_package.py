@@ -4,6 +4,7 @@ from __future__ import annotations
 
 import ast
 import contextlib
+import copy
 import ctypes
 import doctest
 import gc
@@ -14,16 +15,18 @@ import pathlib
 import sys
 import unittest
 import uuid
+import weakref
 from array import array
 from collections.abc import Callable
 from typing import Any
 
 import base62
-from base62 import _base62
+from base62 import _base62, _types
 
 EXPORTED = """
-    Alphabet AlphabetError DecodeError EmptyInputError InvalidByteError TooLargeError
-    decode decode_uuid digit_count encode encode_key encode_uuid key_bounds key_range
+    Alphabet AlphabetError DecodeError EmptyInputError InvalidByteError NotCanonicalError TooLargeError
+    decode decode_canonical decode_uuid decode_uuid_canonical digit_count encode encode_fixed encode_key encode_uuid
+    fixed_range key_bounds key_range
 """.split()
 OWN = "zyxwvutsrqponmlkjihgfedcbaZYXWVUTSRQPONMLKJIHGFEDCBA9876543210"
 
@@ -35,6 +38,7 @@ class Package(unittest.TestCase):
         self.assertEqual(sorted(set(names) - {"__builtins__"}), sorted(EXPORTED))
         for name in EXPORTED:
             self.assertTrue(inspect.getdoc(names[name]), name)
+            self.assertEqual(getattr(names[name], "__module__"), "base62", name)
 
     def test_version(self) -> None:
         file = pathlib.Path(__file__).parents[2] / "VERSION"
@@ -47,6 +51,11 @@ class Package(unittest.TestCase):
             ("decode", ["text", "alphabet"]),
             ("encode_uuid", ["value", "alphabet"]),
             ("decode_uuid", ["text", "alphabet"]),
+            ("encode_fixed", ["number", "width", "alphabet"]),
+            ("fixed_range", ["width", "front", "alphabet"]),
+            ("decode_canonical", ["text", "alphabet"]),
+            ("decode_uuid_canonical", ["text", "alphabet"]),
+            ("Alphabet", ["letters"]),
             ("digit_count", ["number"]),
             ("encode_key", ["number"]),
             ("key_range", ["front"]),
@@ -60,9 +69,10 @@ class Package(unittest.TestCase):
     def test_stub(self) -> None:
         """Editors show what help shows."""
         stub = ast.parse(pathlib.Path(_base62.__file__).with_name("_base62.pyi").read_text())
-        told = {node.name: ast.get_docstring(node) for node in stub.body if isinstance(node, ast.FunctionDef)}
-        calls = {name: call for name, call in vars(_base62).items() if inspect.isbuiltin(call)}
-        self.assertEqual(told, {name: inspect.getdoc(call) for name, call in calls.items()})
+        documented = [node for node in stub.body if isinstance(node, (ast.FunctionDef, ast.ClassDef))]
+        told = {node.name: ast.get_docstring(node) for node in documented}
+        shown = {name: inspect.getdoc(one) for name, one in vars(_base62).items() if callable(one)}
+        self.assertEqual(told, shown)
 
     def test_keywords(self) -> None:
         letters = base62.Alphabet.ALTERNATIVE
@@ -74,16 +84,35 @@ class Package(unittest.TestCase):
         self.assertEqual(base62.digit_count(number=62), 2)
         self.assertEqual(base62.encode_key(number=1337), "00000000000000000000LZ")
         self.assertEqual(base62.key_range(front="00000000000000000000L"), (1302, 1363))
+        self.assertEqual(base62.encode_fixed(number=1337, width=4), "00LZ")
+        self.assertEqual(base62.encode_fixed(1337, 4, alphabet=letters), "00lz")
+        self.assertEqual(base62.encode_fixed(width=4, alphabet=letters, number=1337), "00lz")
+        self.assertEqual(base62.fixed_range(width=4, front="00L"), (1302, 1363))
+        self.assertEqual(base62.fixed_range(4, "00l", alphabet=letters), (1302, 1363))
+        self.assertEqual(base62.fixed_range(alphabet=letters, front="00l", width=4), (1302, 1363))
+        self.assertEqual(base62.decode_canonical(alphabet=letters, text="lz"), 1337)
 
     def test_wrong_arguments(self) -> None:
         calls: list[Any] = [base62.encode, base62.decode, base62.digit_count, base62.encode_key, base62.key_range]
+        calls.insert(0, base62.decode_canonical)
         for call in calls:
             for placed, named in (((), {}), (("1", OWN, 1), {}), (("1",), {"other": 1}), ((), {"alphabet": OWN})):
                 with self.assertRaisesRegex(TypeError, call.__name__ + r"\(\)"):
                     call(*placed, **named)
-        for call in calls[2:]:
+        for call in calls[3:]:
             self.assertRaises(TypeError, call, 1, OWN)
         self.assertRaises(TypeError, base62.encode, 1, number=1)
+        wide: list[Any] = [base62.encode_fixed, base62.fixed_range]
+        for call in wide:
+            for placed, named in (
+                ((), {}),
+                (("1",), {}),
+                (("1",), {"alphabet": OWN}),
+                (("1", "1", OWN, 1), {}),
+                (("1", "1"), {"other": 1}),
+            ):
+                with self.assertRaisesRegex(TypeError, call.__name__ + r"\(\)"):
+                    call(*placed, **named)
 
     def test_private_library(self) -> None:
         """The library's own calls are not seen by other libraries of the process."""
@@ -119,15 +148,35 @@ class Modules(unittest.TestCase):
             self.assertEqual(module.encode(1337, module.Alphabet.ALTERNATIVE), "lz")
             self.assertRaises(module.InvalidByteError, module.decode, "-")
 
+    def test_unmade(self) -> None:
+        """What a changed class lets through as an Alphabet is no more than its letters."""
+        again = made_again()
+        again.Alphabet.__new__ = lambda kind, letters: bytes.__new__(kind, letters)
+        own = again.Alphabet(OWN.encode())
+        self.assertIs(type(own), again.Alphabet)
+        self.assertEqual((again.encode(61, own), again.decode("0", own)), ("0", 61))
+        for letters in (b"", b"0", b"0" * 62, b"0" * 5000):
+            self.assertRaises(ValueError, again.encode, 1, again.Alphabet(letters))
+
+    def test_seen(self) -> None:
+        """The collector sees what the module holds, and what an alphabet does."""
+        seen = gc.get_referents(_base62)
+        errors = [base62.AlphabetError, base62.EmptyInputError, base62.InvalidByteError]
+        errors += [base62.NotCanonicalError, base62.TooLargeError]
+        alphabets = [base62.Alphabet, base62.Alphabet.STANDARD, base62.Alphabet.ALTERNATIVE]
+        conversions = [_types.whole_of, _types.bytes_of, _types.letters_of, _types.HALF_WIDTH]
+        for held in (*errors, *alphabets, *conversions):
+            self.assertTrue(any(one is held for one in seen), held)
+        self.assertEqual(gc.get_referents(base62.Alphabet(OWN)), [base62.Alphabet])
+
     def test_let_go(self) -> None:
         """A module that is gone leaves nothing of what it held."""
-        blocks = []
-        for _ in range(20):
-            made_again()
-            gc.collect()
-            blocks.append(sys.getallocatedblocks())
-        # Any import keeps a few.
-        self.assertLess(blocks[-1] - blocks[0], 1000)
+        again = made_again()
+        left = [weakref.ref(one) for one in (again.encode, again.Alphabet, again.InvalidByteError, again.decode_uuid)]
+        self.assertTrue(all(one() for one in left))
+        del again
+        gc.collect()
+        self.assertEqual([one() for one in left], [None] * len(left))
 
     def run_apart(self, isolated: bool) -> None:
         said = "import base62\nassert base62.decode(base62.encode(2**128 - 1)) == 2**128 - 1"
@@ -154,7 +203,7 @@ def refused(call: Callable[..., object]) -> Callable[..., None]:
     def run(*given: object, **named: object) -> None:
         try:
             call(*given, **named)
-        except (TypeError, ValueError, OverflowError):
+        except (TypeError, ValueError, OverflowError, MemoryError):
             return
         raise AssertionError(f"{call} takes {given} and {named}")
 
@@ -163,9 +212,9 @@ def refused(call: Callable[..., object]) -> Callable[..., None]:
 
 @unittest.skipUnless(sys.getallocatedblocks(), "Python counts no blocks of memory of another malloc")
 class Kept(unittest.TestCase):
-    """A hundred thousand runs of each call, and of each refusal, leave memory and counts of references as they were."""
+    """Ten thousand runs of each call, and of each refusal, leave memory and counts of references as they were."""
 
-    RUNS = 100_000
+    RUNS = 10_000
     WIDE = 2**128 - 1
     TEXT = "7n42DGM5Tflk9n8mt7Fhc7"
     LETTERS = base62.Alphabet(OWN)
@@ -174,6 +223,7 @@ class Kept(unittest.TestCase):
     SHARED: list[object] = [None, 0, 64, uuid.UUID, base62.Alphabet]
     SHARED += [base62.Alphabet.STANDARD, base62.Alphabet.ALTERNATIVE]
     SHARED += [base62.AlphabetError, base62.EmptyInputError, base62.InvalidByteError, base62.TooLargeError]
+    SHARED += [base62.NotCanonicalError]
 
     def kept(self, call: Callable[..., object], *given: object, **named: object) -> None:
         def run(times: int) -> None:
@@ -195,13 +245,25 @@ class Kept(unittest.TestCase):
             self.kept(base62.encode, number)
             self.kept(base62.digit_count, number)
             self.kept(base62.encode_key, number)
+            self.kept(base62.encode_fixed, number, 22)
         for letters in (base62.Alphabet.ALTERNATIVE, self.LETTERS, OWN, OWN.encode()):
             self.kept(base62.encode, self.WIDE, letters)
             self.kept(base62.decode, "LZ", letters)
+            self.kept(base62.decode_canonical, "LZ", letters)
+            self.kept(base62.encode_fixed, self.WIDE, 65, letters)
+            self.kept(base62.fixed_range, 5, "0", letters)
         buffers: list[Any] = [self.TEXT.encode(), bytearray(self.TEXT, "ascii"), memoryview(b"0L0Z")[::2]]
         for text in ("LZ", self.TEXT, *buffers):
             self.kept(base62.decode, text)
+            self.kept(base62.decode_canonical, text[-1:])
             self.kept(base62.key_range, text[:2])
+            self.kept(base62.fixed_range, 5, text[:2])
+        shown: list[Callable[..., object]] = [repr, str, copy.copy, base62.Alphabet]
+        for call in shown:
+            self.kept(call, self.LETTERS)
+            self.kept(call, base62.Alphabet.STANDARD)
+        self.kept(base62.fixed_range, width=5, front="0", alphabet=OWN)
+        self.kept(base62.decode_uuid_canonical, self.TEXT)
         self.kept(base62.encode, number=self.WIDE, alphabet=self.LETTERS)
         self.kept(base62.decode, "LZ", alphabet=self.LETTERS)
         self.kept(base62.Alphabet, OWN)
@@ -218,8 +280,13 @@ class Kept(unittest.TestCase):
             (base62.encode_key, [(self.WIDE + 1,), (None,)]),
             (base62.decode, [("",), ("-",), (b"-",), (bytearray(b"-"),), ("é",), ("\ud800",), ("z" * 22,), (5,)]),
             (base62.decode, [(array("H", [48]),), (memoryview(array("H", [48])),), ("1", None), ("1", self.REPEATED)]),
+            (base62.decode_canonical, [("00LZ",), ("",), ("-",), (5,), ("1", None), ("1", self.REPEATED)]),
+            (base62.encode_fixed, [(1337, 1), (1, -1), (1, 2**64), (1, "1"), (-1, 5), (1,), (1, 2**62)]),
+            (base62.encode_fixed, [(1, 5, None), (1, 5, self.REPEATED), (1, 5, bytes(range(194, 256)))]),
             (base62.key_range, [("-",), (bytearray(b"-"),), (5,), ()]),
-            (base62.Alphabet, [(self.REPEATED,), (b"short",), (5,)]),
+            (base62.fixed_range, [(5, "-"), (5, bytearray(b"-")), (5, 5), (-1, "0"), ("5", "0"), (5, "0", None)]),
+            (base62.fixed_range, [(5, "0", self.REPEATED), (5,)]),
+            (base62.Alphabet, [(self.REPEATED,), (b"short",), (5,), ()]),
         ]
         for call, rows in refusals:
             for given in rows:
@@ -229,6 +296,6 @@ class Kept(unittest.TestCase):
 
 def load_tests(loader: unittest.TestLoader, tests: unittest.TestSuite, pattern: object) -> unittest.TestSuite:
     names = {**vars(base62), "uuid": uuid}
-    for module in (base62, _base62):
-        tests.addTests(doctest.DocTestSuite(module, globs=dict(names)))
+    # Those of _types are found where callers find them.
+    tests.addTests(doctest.DocTestSuite(base62, globs=names))
     return tests

@@ -17,14 +17,22 @@ def right(number: int, name: UUID, text: str, packed: bytes, own: Alphabet) -> N
     assert_type(base62.decode(packed, packed), int)
     assert_type(base62.decode(bytearray(packed), alphabet=text), int)
     assert_type(base62.decode(text=memoryview(packed), alphabet=own), int)
+    assert_type(base62.decode_canonical(text, packed), int)
+    assert_type(base62.decode_canonical(text=packed, alphabet=own), int)
     assert_type(base62.digit_count(number), int)
+    assert_type(base62.encode_fixed(number, number), str)
+    assert_type(base62.encode_fixed(number=name, width=True, alphabet=text), str)
     assert_type(base62.encode_key(name), str)
     assert_type(base62.key_range(text), tuple[int, int] | None)
     assert_type(base62.key_bounds(front=packed), tuple[str, str] | None)
+    assert_type(base62.fixed_range(number, text), tuple[int, int] | None)
+    assert_type(base62.fixed_range(width=number, front=packed, alphabet=own), tuple[int, int] | None)
     assert_type(base62.encode_uuid(name, own), str)
     assert_type(base62.decode_uuid(text, own), UUID)
+    assert_type(base62.decode_uuid_canonical(text, alphabet=packed), UUID)
     assert_type(Alphabet(text), Alphabet)
     assert_type(Alphabet(packed), Alphabet)
+    assert_type(Alphabet(own), Alphabet)
     assert_type((Alphabet.STANDARD, Alphabet.ALTERNATIVE), tuple[Alphabet, Alphabet])
     assert_type(base62.__version__, str)
 
@@ -53,13 +61,26 @@ def wrong(number: int, name: UUID, text: str, own: Alphabet) -> None:
     base62.decode(text, None)  # type: ignore[arg-type]
     base62.decode(text, letters=own)  # type: ignore[call-arg]
     base62.decode()  # type: ignore[call-arg]
+    base62.decode_canonical(number)  # type: ignore[arg-type]
+    base62.decode_canonical(text, None)  # type: ignore[arg-type]
+    base62.decode_canonical()  # type: ignore[call-arg]
     base62.digit_count(text)  # type: ignore[arg-type]
     base62.digit_count(number, own)  # type: ignore[call-arg]
+    base62.encode_fixed(number)  # type: ignore[call-arg]
+    base62.encode_fixed(text, number)  # type: ignore[arg-type]
+    base62.encode_fixed(number, text)  # type: ignore[arg-type]
+    base62.encode_fixed(number, name)  # type: ignore[arg-type]
+    base62.encode_fixed(number, number, None)  # type: ignore[arg-type]
     base62.encode_key(text)  # type: ignore[arg-type]
     base62.encode_key(number, own)  # type: ignore[call-arg]
     base62.key_range(number)  # type: ignore[arg-type]
     base62.key_range(text, own)  # type: ignore[call-arg]
     base62.key_range(text)[0]  # type: ignore[index]
+    base62.fixed_range(number)  # type: ignore[call-arg]
+    base62.fixed_range(text, text)  # type: ignore[arg-type]
+    base62.fixed_range(number, number)  # type: ignore[arg-type]
+    base62.fixed_range(number, text, None)  # type: ignore[arg-type]
+    base62.fixed_range(number, text)[0]  # type: ignore[index]
     base62.key_bounds(number)  # type: ignore[arg-type]
     base62.key_bounds(text)[0]  # type: ignore[index]
     base62.encode_uuid(number)  # type: ignore[arg-type]
@@ -67,9 +88,15 @@ def wrong(number: int, name: UUID, text: str, own: Alphabet) -> None:
     base62.encode_uuid(name, number)  # type: ignore[arg-type]
     base62.decode_uuid(name)  # type: ignore[arg-type]
     base62.decode_uuid(text, number)  # type: ignore[arg-type]
+    base62.decode_uuid_canonical(name)  # type: ignore[arg-type]
+    base62.decode_uuid_canonical(text, number)  # type: ignore[arg-type]
     Alphabet(number)  # type: ignore[arg-type]
     Alphabet([text])  # type: ignore[arg-type]
     Alphabet()  # type: ignore[call-arg]
     own.letters  # type: ignore[attr-defined]
     own.name = text  # type: ignore[attr-defined]
     base62.check_alphabet(text)  # type: ignore[attr-defined]
+
+
+class Own(Alphabet):  # type: ignore[misc]
+    """An Alphabet has no subclasses."""

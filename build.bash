@@ -105,8 +105,10 @@ check_folders() {
     done
 }
 
+# The kit is here, and its work can be kept.
 check_kit() {
     command -v rt >/dev/null || stop 'rt is missing: install the kit that README names'
+    check_folders "$top"/crates/base62{,_c}/out
 }
 
 check_compiler() {

@@ -1,7 +1,7 @@
 //! What decoding answers, and its steps.
 #![tactic(auto, unfolding(crate::proofs::OnLiterals::base62_on_literals))]
 
-ghost use Rattle.std.specs.Prelude.{◌≡◌, ◌^◌, ◌-◌, [], ◌∷◌, replicate, codes, Ok, Err, Some, None};
+ghost use Rattle.std.specs.Prelude.{◌≡◌, ◌^◌, ◌-◌, [], ◌∷◌, ℕ, List, replicate, codes, Ok, Err, Some, None, IsOk};
 ghost use Rattle.std.specs.List.{range_with_len};
 ghost use Rattle.base62.specs.Alphabet.{standard, alternative};
 ghost use Rattle.base62.specs.Decoding.{decoding, IsFirstInvalid, NamesFirst, RefusesLarge, Decodes, DecodesCanonical};
@@ -96,6 +96,15 @@ pub fn canonical_by_example()
     ensures refused_zero { DecodesCanonical standard (codes "0") (Ok None) → ⊥ }
     ensures other_alphabet { DecodesCanonical alternative (codes "LZ") (Ok (Some 1337)) → ⊥ }
     ensures none_of_bad { DecodesCanonical standard (codes "0!") (Ok None) → ⊥ }
+{}
+
+/// What `DecodesCanonical` tells of a result whose value is not known. It follows from the value, but
+/// a caller has only what the record says.
+pub fn canonical_of_any_result()
+    ensures back { (B text : List ℕ) (n : ℕ) → DecodesCanonical B text (Ok (Some n))
+        → decoding B text ≡ Ok n }
+    ensures accepted { (B text : List ℕ) → DecodesCanonical B text (Ok None)
+        → IsOk (decoding B text) }
 {}
 
 /// What a call of `decode` tells of some texts, and what it doesn't. Over the numbers below 1000,

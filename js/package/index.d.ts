@@ -1,0 +1,136 @@
+/**
+ * Whole numbers below 2**128 and UUIDs as short texts in base 62, and back.
+ *
+ * An argument of another type than is declared throws a TypeError. All other faults are a {@link Base62Error}.
+ */
+
+/** What a text can be. A string is read as UTF-8, in which a lone surrogate has three bytes. */
+export type Text = string | Uint8Array;
+
+/**
+ * Returns the text of a number. It is the shortest one, with 1 to 22 letters.
+ *
+ * @example encode(1337) === 'LZ'
+ * @param number an integer from 0 on. As a `number` it is at most 2**53 - 1, since greater ones were rounded. As a
+ *   `bigint` it is at most 2n ** 128n - 1n. -0 is 0.
+ * @param alphabet the letters, by default the standard ones
+ * @throws {Base62Error} `OUT_OF_RANGE`
+ */
+export function encode(number: number | bigint, alphabet?: Alphabet): string;
+
+/**
+ * Returns the text of a number in exactly `width` letters, with zeros in front. Texts of one width sort as their
+ * numbers, if each letter is a greater byte than the one before it. The standard letters are such.
+ *
+ * @example encodeFixed(1337, 4) === '00LZ'
+ * @param number as of {@link encode}
+ * @param width an integer from 1 on. Each number has a text of 22 letters.
+ * @throws {Base62Error} `BUFFER_TOO_SMALL` if the width is 0 or the number needs more letters, and `OUT_OF_RANGE`.
+ *   Where the host has no memory for the text, it throws an error of its own.
+ */
+export function encodeFixed(number: number | bigint, width: number, alphabet?: Alphabet): string;
+
+/**
+ * Returns the key of a number: its text in 22 standard letters. Keys sort as their numbers.
+ *
+ * @example encodeKey(1337) === '00000000000000000000LZ'
+ * @param number as of {@link encode}
+ * @throws {Base62Error} `OUT_OF_RANGE`
+ */
+export function encodeKey(number: number | bigint): string;
+
+/**
+ * Returns the text of a UUID. It is that of the number with the same 16 bytes, the highest first.
+ *
+ * @example encodeUuid('550e8400-e29b-41d4-a716-446655440000') === '2aUyqjCzEIiEcYMKj7TZtw'
+ * @param uuid 36 characters, with hyphens and with letters of either case, or 16 bytes
+ * @throws {Base62Error} `INVALID_UUID`
+ */
+export function encodeUuid(uuid: string | Uint8Array, alphabet?: Alphabet): string;
+
+/** Returns the length of the text of a number, from 1 to 22. Throws what {@link encode} throws. */
+export function digitCount(number: number | bigint): number;
+
+/**
+ * Returns the number of a text. Zeros in front change nothing.
+ *
+ * @example decode('LZ') === 1337n
+ * @throws {Base62Error} `EMPTY_INPUT`, `INVALID_BYTE`, or `OVERFLOW` if the text denotes 2**128 or more. A text with
+ *   more than 22 bytes after its leading zeros overflows, even if some are no letters. So does one with exactly 22 if
+ *   the first ten of them are letters and already show it.
+ */
+export function decode(text: Text, alphabet?: Alphabet): bigint;
+
+/**
+ * Returns the number of a text as a `number`, as {@link decode} does.
+ *
+ * @example decodeNumber('LZ') === 1337
+ * @throws {Base62Error} what {@link decode} throws, and `UNSAFE_INTEGER` if the number is above 2**53 - 1
+ */
+export function decodeNumber(text: Text, alphabet?: Alphabet): number;
+
+/**
+ * Returns the number of a text, as {@link decode} does, but takes only what {@link encode} writes. Each number has
+ * exactly one such text.
+ *
+ * @throws {Base62Error} what {@link decode} throws, and `NOT_CANONICAL` for a needless zero in front
+ */
+export function decodeCanonical(text: Text, alphabet?: Alphabet): bigint;
+
+/**
+ * Returns the UUID of a text's number, in small letters and with hyphens. Each number has one.
+ *
+ * @example decodeUuid('2aUyqjCzEIiEcYMKj7TZtw') === '550e8400-e29b-41d4-a716-446655440000'
+ * @throws {Base62Error} what {@link decode} throws
+ */
+export function decodeUuid(text: Text, alphabet?: Alphabet): string;
+
+/**
+ * Returns the least and the greatest number whose texts of `width` letters begin with `front`, which may be empty. All
+ * numbers between them have such texts too, and no other has one. Returns null if no number has one.
+ *
+ * @example fixedRange(7, '00a') gives [531948096n, 546724431n]
+ * @param width an integer from 0 on
+ * @throws {Base62Error} `INVALID_BYTE` and, for a width, `OUT_OF_RANGE`
+ */
+export function fixedRange(width: number, front: Text, alphabet?: Alphabet): [least: bigint, greatest: bigint] | null;
+
+/** Returns the range of {@link fixedRange} for keys, which have 22 standard letters. */
+export function keyRange(front: Text): [least: bigint, greatest: bigint] | null;
+
+/** Letters for the digits from 0 to 61. */
+export class Alphabet {
+  /**
+   * @param letters 62 distinct letters of ASCII, the zero first
+   * @throws {Base62Error} `REPEATED_LETTER`, which names the first letter that equals an earlier one, or
+   *   `INVALID_ALPHABET` if they are not 62 letters of ASCII
+   */
+  constructor(letters: string);
+  /** The letters that it was made of. */
+  readonly letters: string;
+  /** `0` to `9`, `A` to `Z` and `a` to `z`, the default. */
+  static readonly standard: Alphabet;
+  /** `0` to `9`, `a` to `z` and `A` to `Z`. Its texts do not sort as their numbers. */
+  static readonly alternative: Alphabet;
+  #private;
+}
+
+/** What was wrong with an argument of the right type. */
+export class Base62Error extends RangeError {
+  private constructor();
+  readonly code:
+    | 'BUFFER_TOO_SMALL'
+    | 'EMPTY_INPUT'
+    | 'INVALID_BYTE'
+    | 'OVERFLOW'
+    | 'REPEATED_LETTER'
+    | 'NOT_CANONICAL'
+    | 'OUT_OF_RANGE'
+    | 'UNSAFE_INTEGER'
+    | 'INVALID_UUID'
+    | 'INVALID_ALPHABET';
+  /** With `INVALID_BYTE` and `REPEATED_LETTER`: the first byte that is no letter, or that is a letter again. */
+  readonly byte?: number;
+  /** Its index among the bytes, from 0. In a string whose letters before it are ASCII, its character has that index. */
+  readonly index?: number;
+}

@@ -1,0 +1,17 @@
+// What a browser runs, once it is bundled with the package.
+import * as base62 from 'base62-proved';
+import { testsOf } from './calls.mjs';
+
+// The tests that fail of those that there are.
+globalThis.run = (values) => {
+  const tests = Object.entries(testsOf(base62, values));
+  const failed = [];
+  for (const [name, test] of tests) {
+    try {
+      test();
+    } catch (fault) {
+      failed.push(`${name}: ${fault}`);
+    }
+  }
+  return { count: tests.length, failed };
+};

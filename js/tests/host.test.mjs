@@ -1,0 +1,131 @@
+// What a program around the calls could disturb: memory, the stack, other copies and threads, and changed prototypes.
+import assert from 'node:assert/strict';
+import { spawnSync } from 'node:child_process';
+import { test } from 'node:test';
+import { fileURLToPath } from 'node:url';
+import { runInNewContext } from 'node:vm';
+import { Worker } from 'node:worker_threads';
+import * as base62 from 'base62-proved';
+
+const { Alphabet, decode, encode } = base62;
+const own = '23456789ABCDEFGHJKLMNPQRSTUVWXYZabcdefghijkmnpqrstuvwxyz-_.~!*';
+const MEGABYTE = 2 ** 20;
+
+// Memory outside the heap is counted when it is freed too, which can take some rounds.
+function resident() {
+  for (let i = 0; i < 8; i++) globalThis.gc();
+  return process.memoryUsage().rss;
+}
+
+test('a text of 100 MB is read, and no memory is kept', () => {
+  const before = resident();
+  (() => {
+    const zeros = new Uint8Array(100 * MEGABYTE).fill(48);
+    zeros.set([76, 90], zeros.length - 2);
+    assert.equal(decode(zeros), 1337n);
+    assert.equal(decode('Pd'.padStart(100 * MEGABYTE, '2'), new Alphabet(own)), 1337n);
+    assert.throws(() => decode(`${'0'.repeat(100 * MEGABYTE)}\u20ac`), { code: 'INVALID_BYTE', byte: 0xe2, index: 100 * MEGABYTE });
+    assert.equal(base62.encodeFixed(1337, 100 * MEGABYTE).length, 100 * MEGABYTE);
+  })();
+  assert.ok(resident() - before < 50 * MEGABYTE);
+});
+
+test('a thousand long texts need no more memory than one', () => {
+  const before = resident();
+  const text = 'LZ'.padStart(100_000, '0');
+  for (let i = 0; i < 1000; i++) assert.equal(decode(text), 1337n);
+  assert.ok(resident() - before < 50 * MEGABYTE);
+});
+
+test('a call keeps nothing in the heap', () => {
+  const bytes = new Uint8Array(16);
+  const alphabet = new Alphabet(own);
+  const round = () => {
+    for (let i = 0; i < 20_000; i++) {
+      encode(i);
+      encode(2n ** 100n, alphabet);
+      decode('7n42DGM5Tflk9n8mt7Fhc7');
+      base62.decodeNumber('LZ');
+      base62.decodeUuid('LZ');
+      base62.encodeUuid(bytes);
+      base62.keyRange('L');
+      new Alphabet(own);
+      try {
+        decode('LZ-');
+      } catch {}
+    }
+    globalThis.gc();
+    return process.memoryUsage().heapUsed;
+  };
+  round();
+  const before = round();
+  assert.ok(round() - before < 20_000 * 8);
+});
+
+test('calls go on after the stack has run out in one', () => {
+  const results = new Set();
+  const dive = () => {
+    try {
+      dive();
+    } catch {}
+    // Near the end of the stack some of these fail.
+    try {
+      results.add(encode(1337)).add(decode('LZ')).add(base62.digitCount(62));
+    } catch (fault) {
+      assert.ok(fault instanceof RangeError, fault);
+    }
+    try {
+      decode('LZ-');
+    } catch (fault) {
+      assert.ok(fault instanceof RangeError, fault);
+    }
+  };
+  for (let i = 0; i < 3; i++) dive();
+  assert.deepEqual(results, new Set(['LZ', 1337n, 2]));
+  assert.equal(encode(1337), 'LZ');
+  assert.equal(encode(1337, new Alphabet(own)), 'Pd');
+});
+
+test('copies do not meet', async () => {
+  const other = await import(new URL('node_modules/base62-proved/index.js?copy', import.meta.url));
+  const alphabet = new other.Alphabet(own);
+  assert.notEqual(other.encode, encode);
+  assert.throws(() => encode(1337, alphabet), TypeError);
+  for (let i = 0; i < 1000; i++) {
+    assert.equal(other.encode(1337, alphabet), 'Pd');
+    assert.equal(encode(1337), 'LZ');
+    assert.equal(other.decode('LZ'), 1337n);
+  }
+});
+
+test('threads do not meet', async () => {
+  const work = `
+    const { parentPort, workerData } = require('worker_threads');
+    const { Alphabet, decode, encode } = require(workerData);
+    const alphabet = new Alphabet('${own}');
+    let isRight = true;
+    for (let i = 0n; i < 100_000n; i++) isRight &&= decode(encode(i * i * i, alphabet), alphabet) === i * i * i;
+    parentPort.postMessage(isRight);`;
+  const workerData = fileURLToPath(new URL('node_modules/base62-proved/index.cjs', import.meta.url));
+  const answers = Array.from({ length: 4 }, () =>
+    new Promise((resolve, reject) => new Worker(work, { eval: true, workerData }).on('message', resolve).on('error', reject)),
+  );
+  for (let i = 0n; i < 100_000n; i++) assert.equal(decode(encode(i * i)), i * i);
+  assert.deepEqual(await Promise.all(answers), [true, true, true, true]);
+});
+
+test('bytes of another realm and shared ones are read', () => {
+  assert.equal(decode(runInNewContext('Uint8Array.of(76, 90)')), 1337n);
+  const shared = new Uint8Array(new SharedArrayBuffer(2));
+  shared.set([76, 90]);
+  assert.equal(decode(shared), 1337n);
+  assert.equal(decode(Buffer.from('LZ')), 1337n);
+});
+
+test('changed prototypes change no answer', () => {
+  for (const how of ['poison', 'freeze']) {
+    const ran = spawnSync(process.execPath, [fileURLToPath(new URL('changed.mjs', import.meta.url)), how], { encoding: 'utf8' });
+    assert.equal(ran.stderr, '');
+    assert.equal(ran.stdout, `${how}: right\n`);
+  }
+});

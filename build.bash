@@ -9,7 +9,7 @@ build=${build#"$top/"}
 read -r version <"$top/VERSION"
 # The processor of this machine.
 machine=x86_64
-[[ $HOSTTYPE != aarch64 ]] || machine=aarch64
+[[ $(uname -m) != aarch64 ]] || machine=aarch64
 # Processors, by their names in packages of Debian.
 declare -A processors=([x86_64]=amd64 [aarch64]=arm64)
 # The time of what is packed, by default the start of 1980: zip knows none before.

@@ -6,8 +6,12 @@ trap 'rm -rf "$work"' EXIT
 trap 'echo "$0: line $LINENO fails" >&2' ERR
 read -r version <VERSION
 
+# Where .ci/setup lays what runs on 64-bit ARM and can't be installed here.
+arm=${XDG_CACHE_HOME:-$HOME/.cache}/base62-arm
+
 # What the gate needs besides the kit, and the packages of Debian that have it.
 declare -A packages=(
+    [aarch64-linux-gnu-gcc]='gcc-aarch64-linux-gnu libc6-dev-arm64-cross'
     [cargo]=cargo
     [cargo-clippy]=rust-clippy
     [chromium]=chromium
@@ -32,6 +36,7 @@ declare -A packages=(
     [Python.h]=python3-dev
     [python3]=python3
     [/usr/bin/python3]=python3
+    [qemu-aarch64]=qemu-user
     [rustfmt]=rustfmt
     [setuptools]=python3-setuptools
     [sqlite3]=sqlite3

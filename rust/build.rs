@@ -1,4 +1,5 @@
-//! Names the folder of the archive to link: that of this package, or the one that `BASE62_PROVED_LIB` names.
+//! Names the folder of the archive to link: that for the target in this package, or the one that `BASE62_PROVED_LIB`
+//! names.
 
 use std::{env, fs, path::PathBuf, process};
 
@@ -7,15 +8,17 @@ const VERSION: &str = env!("CARGO_PKG_VERSION");
 
 fn main() {
     println!("cargo::rerun-if-env-changed={OWN}");
-    let target = ["ARCH", "OS", "POINTER_WIDTH"]
+    let [processor, target @ ..] = ["ARCH", "OS", "POINTER_WIDTH", "ENDIAN"]
         .map(|of| env::var(format!("CARGO_CFG_TARGET_{of}")).unwrap_or_default());
-    if target != ["x86_64", "linux", "64"] {
+    if !["x86_64", "aarch64"].contains(&&*processor) || target != ["linux", "64", "little"] {
         return; // src/lib.rs tells it, in one error.
     }
     let own = env::var_os(OWN).filter(|folder| !folder.is_empty());
     let named = own.as_ref().map(|_| format!("{OWN}=")).unwrap_or_default();
     let folder = own.map(PathBuf::from).unwrap_or_else(|| {
-        PathBuf::from(env::var_os("CARGO_MANIFEST_DIR").unwrap_or_default()).join("native")
+        PathBuf::from(env::var_os("CARGO_MANIFEST_DIR").unwrap_or_default())
+            .join("native")
+            .join(processor)
     });
     let archive = folder.join("libbase62_proved.a");
     // Cargo does not look into archives by itself.

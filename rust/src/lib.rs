@@ -2,7 +2,8 @@
 //!
 //! The calls of the crate `base62` 2.2.6 have their names, types, features and answers here. The codec under them is
 //! proved: it is a static library of the project `base62`, written in Rattle, a dialect of Rust with contracts. This
-//! crate passes arguments to it and returns what it returns. The package has the library for 64-bit Linux on x86-64.
+//! crate passes arguments to it and returns what it returns. The package has the library for 64-bit Linux on x86-64 and on
+//! ARM.
 //!
 //! ```
 //! let mut buffer = [0; base62::MAX_DIGITS];
@@ -46,11 +47,14 @@
 #![warn(missing_docs)]
 
 #[cfg(not(all(
-    target_arch = "x86_64",
+    any(target_arch = "x86_64", target_arch = "aarch64"),
     target_os = "linux",
-    target_pointer_width = "64"
+    target_pointer_width = "64",
+    target_endian = "little"
 )))]
-compile_error!("base62-proved is for 64-bit Linux on x86-64 alone; elsewhere use the crate base62");
+compile_error!(
+    "base62-proved is for 64-bit Linux on x86-64 and ARM alone; elsewhere use the crate base62"
+);
 
 #[cfg(feature = "alloc")]
 extern crate alloc;

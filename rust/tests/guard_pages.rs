@@ -19,7 +19,8 @@ extern "C" {
     fn mprotect(at: *mut c_void, size: usize, prot: c_int) -> c_int;
 }
 
-const PAGE: usize = 4096;
+/// As long as the longest on ARM, and so a whole number of each other.
+const PAGE: usize = 65536;
 
 /// A page between two that end the process where they are touched.
 struct Page(*mut u8);

@@ -36,10 +36,10 @@ class Wheel(bdist_wheel):
         told = subprocess.run(["readelf", "-dVW", extension], check=True, capture_output=True, text=True).stdout
         libraries = re.findall(r"\(NEEDED\).*\[(.*)\]", told)
         minors = [re.match(r"GLIBC_2\.(\d+)", name) for name in re.findall(r"Name: (\S+)", told)]
+        # On ARM the loader has what the compiler guards the stack by.
         if set(libraries) <= {"libc.so.6", "ld-linux-aarch64.so.1"} and all(minors):
-            # The earliest that there is.
-            earliest = 17 if system == "linux_aarch64" else 5
-            system = system.replace("linux", f"manylinux_2_{max([earliest, *(int(minor[1]) for minor in minors)])}")
+            # manylinux_2_5 is the earliest.
+            system = system.replace("linux", f"manylinux_2_{max([5, *(int(minor[1]) for minor in minors)])}")
         return python, abi, system
 
 

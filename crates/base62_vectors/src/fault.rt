@@ -18,22 +18,15 @@ fn assert_prints<E: Error>(
     fault: &E,
     text: &str,
 ) -> Result<(), Fail> {
-    assert_eq!(rt; format!(in alloc; "{fault}")?.as_str(), text);
-    assert_eq!(rt;
-        format!(in alloc; "{fault:80}")?.as_str(),
-        text,
-        "under a width"
-    );
-    assert_eq!(rt;
-        format!(in alloc; "{fault:>60}")?.as_str(),
-        text,
-        "at the right"
-    );
-    assert_eq!(rt;
-        format!(in alloc; "{fault:*^60}")?.as_str(),
-        text,
-        "between stars"
-    );
+    let printed = [
+        format!(in alloc; "{fault}")?,
+        format!(in alloc; "{fault:80}")?,
+        format!(in alloc; "{fault:>60}")?,
+        format!(in alloc; "{fault:*^60}")?,
+    ];
+    for it in &printed {
+        assert!(rt; it.as_str() == text, "{it}, and not {text}");
+    }
     Ok(())
 }
 
@@ -125,8 +118,10 @@ fn assert_derives<F: Copy + fmt::Debug + PartialEq>(
         let clone = fault.clone()?;
         for (other_place, other) in faults.iter().enumerate() {
             let same = place == other_place;
-            assert_eq!(rt; copy == *other, same, "a copy of {fault:?} and {other:?}");
-            assert_eq!(rt; clone == *other, same, "a clone of {fault:?} and {other:?}");
+            assert!(rt;
+                (copy == *other) == same && (clone == *other) == same,
+                "{fault:?} and {other:?}"
+            );
         }
     }
     Ok(())
@@ -167,11 +162,9 @@ fn assert_ascends<F: Ord + fmt::Debug>(rt: &impl Abort, faults: &[F]) {
     for (place, fault) in faults.iter().enumerate() {
         for (other_place, other) in faults.iter().enumerate() {
             let order = place.cmp(&other_place);
-            assert_eq!(rt; fault.cmp(other), order, "{fault:?} and {other:?}");
-            assert_eq!(rt;
-                fault.partial_cmp(other),
-                Some(order),
-                "{fault:?} and {other:?}, partially"
+            assert!(rt;
+                fault.cmp(other) == order && fault.partial_cmp(other) == Some(order),
+                "{fault:?} and {other:?}"
             );
         }
     }
@@ -203,7 +196,26 @@ fn hashes_of_faults(rt: HostRuntime) {
     }
 }
 
-// A set takes each fault once and keeps it.
+// A set takes a fault once.
+fn is_taken<F: Copy + Ord + Hash>(
+    ordered: &mut BTreeSet<F>,
+    hashed: &mut HashSet<F>,
+    fault: &F,
+) -> Result<bool, AllocError> {
+    let is_new = !ordered.contains(fault) && !hashed.contains(fault);
+    Ok(ordered.insert(*fault)? && hashed.insert(*fault)? && is_new)
+}
+
+// It has the fault, and takes it no more.
+fn is_kept<F: Copy + Ord + Hash>(
+    ordered: &mut BTreeSet<F>,
+    hashed: &mut HashSet<F>,
+    fault: &F,
+) -> Result<bool, AllocError> {
+    let is_there = ordered.contains(fault) && hashed.contains(fault);
+    Ok(!ordered.insert(*fault)? && !hashed.insert(*fault)? && is_there)
+}
+
 fn assert_keys<F: Copy + Ord + Hash + fmt::Debug>(
     rt: &impl Abort,
     alloc: Global,
@@ -212,19 +224,15 @@ fn assert_keys<F: Copy + Ord + Hash + fmt::Debug>(
     let mut ordered = BTreeSet::new(alloc);
     let mut hashed = HashSet::new(alloc);
     for fault in faults.iter() {
-        assert!(rt; !ordered.contains(fault), "{fault:?}");
-        assert!(rt; !hashed.contains(fault), "{fault:?}");
-        assert!(rt; ordered.insert(*fault)?, "{fault:?}");
-        assert!(rt; hashed.insert(*fault)?, "{fault:?}");
+        assert!(rt; is_taken(&mut ordered, &mut hashed, fault)?, "{fault:?}");
     }
     for fault in faults.iter() {
-        assert!(rt; ordered.contains(fault), "{fault:?}");
-        assert!(rt; hashed.contains(fault), "{fault:?}");
-        assert!(rt; !ordered.insert(*fault)?, "{fault:?} again");
-        assert!(rt; !hashed.insert(*fault)?, "{fault:?} again");
+        assert!(rt;
+            is_kept(&mut ordered, &mut hashed, fault)?,
+            "{fault:?} again"
+        );
     }
-    assert_eq!(rt; ordered.len(), faults.len());
-    assert_eq!(rt; hashed.len(), faults.len());
+    assert!(rt; ordered.len() == faults.len() && hashed.len() == faults.len());
     Ok(())
 }
 

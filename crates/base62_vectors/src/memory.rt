@@ -27,8 +27,10 @@ fn is_text_refused(
     let Ok(text) = alphabet.text(rt.alloc(), number) else {
         return true;
     };
-    assert_eq!(rt; text.as_str(), wanted, "{alphabet:?}");
-    assert_eq!(rt; text.capacity(), wanted.len(), "{alphabet:?}");
+    assert!(rt;
+        text.as_str() == wanted && text.capacity() == wanted.len(),
+        "{alphabet:?}"
+    );
     false
 }
 
@@ -42,76 +44,100 @@ fn is_append_refused(
     joined: &str,
 ) -> bool {
     let earlier = text.len();
-    assert_eq!(rt;
-        text.capacity(),
-        earlier,
+    assert!(rt;
+        text.capacity() == earlier,
         "there is room to spare, {alphabet:?}"
     );
     let is_refused = alphabet.append(number, text).is_err();
     if is_refused {
-        let front = joined.as_bytes().get(..earlier);
-        assert_eq!(rt; Some(text.as_bytes()), front, "{alphabet:?}");
-        assert_eq!(rt; text.capacity(), earlier, "{alphabet:?}");
-        assert!(rt; alphabet.append(number, text).is_ok(), "{alphabet:?}");
+        let is_as_before = text.capacity() == earlier
+            && joined.as_bytes().get(..earlier) == Some(text.as_bytes());
+        assert!(rt;
+            is_as_before && alphabet.append(number, text).is_ok(),
+            "refused, {alphabet:?}"
+        );
     }
-    assert_eq!(rt; text.as_str(), joined, "{alphabet:?}");
     assert!(rt;
-        text.capacity() < earlier.saturating_add(22),
+        text.as_str() == joined && text.capacity() < earlier.saturating_add(22),
         "{alphabet:?}"
     );
     is_refused
 }
 
-// These calls ask for no memory, so none of them is ever refused any.
-fn assert_no_memory(rt: &impl Abort, text: &mut String) {
+fn are_texts_appended(text: &mut String) -> bool {
     for (alphabet, wanted) in in_ascii("LZ", "lz", "eQ") {
         text.clear();
-        assert!(rt; alphabet.append(1337_u32, text).is_ok(), "{alphabet:?}");
-        assert_eq!(rt; text.as_str(), wanted, "{alphabet:?}");
+        if alphabet.append(1337_u32, text).is_err() || text.as_str() != wanted {
+            return false;
+        }
     }
+    true
+}
+
+fn are_calls_over_the_greatest_answered() -> bool {
     for (alphabet, wanted) in in_ascii(STANDARD, ALTERNATIVE, DESCENDING) {
         let mut room = [0u8; 22];
-        assert_eq!(rt;
-            alphabet.encode(u128::MAX, &mut room),
-            Ok(22),
-            "{alphabet:?}"
-        );
+        let is_encoded = alphabet.encode(u128::MAX, &mut room) == Ok(22);
         let mut writer = room.as_mut_slice();
-        assert!(rt;
-            alphabet.write(u128::MAX, &mut writer).is_ok(),
-            "{alphabet:?}"
-        );
-        assert_eq!(rt;
-            alphabet.decode(wanted.as_bytes()),
-            Ok(u128::MAX),
-            "{alphabet:?}"
-        );
+        let is_written = alphabet.write(u128::MAX, &mut writer).is_ok();
+        if !is_encoded || !is_written || alphabet.decode(wanted.as_bytes()) != Ok(u128::MAX) {
+            return false;
+        }
     }
-    // A display takes no memory of its own, and this one's room is at hand.
+    true
+}
+
+// A display takes no memory of its own, and this one's room is at hand.
+fn is_displayed(text: &mut String) -> bool {
     text.clear();
-    assert!(rt; write!(text, "{:>3}", encode_fmt(1337_u32)).is_ok());
-    assert!(rt; write!(text, "{}", encode_fmt_alt(1337_u32)).is_ok());
-    assert_eq!(rt; text.as_str(), " LZlz");
-    assert_eq!(rt; digit_count(u128::MAX), 22);
+    write!(text, "{:>3}", encode_fmt(1337_u32)).is_ok()
+        && write!(text, "{}", encode_fmt_alt(1337_u32)).is_ok()
+        && text.as_str() == " LZlz"
+}
+
+fn are_texts_written() -> bool {
     let mut bytes = [FILLER; 5];
-    assert_eq!(rt; Letters::Standard.encode(1337_u32, &mut bytes), Ok(2));
-    assert_eq!(rt; bytes, *b"LZ\xa5\xa5\xa5");
-    assert_eq!(rt; Letters::Standard.decode(b"1LY7VK"), Ok(1234567890));
-    assert_eq!(rt; encode_key(1337_u32), *b"00000000000000000000LZ");
-    assert_eq!(rt; encode_key(0_u8), *b"0000000000000000000000");
-    let range = (340236514539200045093703517809706795008, u128::MAX);
-    assert_eq!(rt; key_range(b"7n"), Ok(Some(range)));
-    let standard = Letters::Standard;
     let mut places = [FILLER; 5];
-    assert_eq!(rt; standard.encode_fixed(1337_u32, &mut places), Ok(()));
-    assert_eq!(rt; places, *b"000LZ");
-    assert_eq!(rt; standard.fixed_range(5, b"000L"), Ok(Some((1302, 1363))));
-    assert_eq!(rt; standard.decode_canonical(b"LZ"), Ok(Some(1337)));
-    assert_eq!(rt; standard.decode_canonical(b"0LZ"), Ok(None));
+    Letters::Standard.encode(1337_u32, &mut bytes) == Ok(2)
+        && bytes == *b"LZ\xa5\xa5\xa5"
+        && Letters::Standard.encode_fixed(1337_u32, &mut places) == Ok(())
+        && places == *b"000LZ"
+}
+
+fn are_texts_decoded() -> bool {
+    Letters::Standard.decode(b"1LY7VK") == Ok(1234567890)
+        && Letters::Standard.decode_canonical(b"LZ") == Ok(Some(1337))
+        && Letters::Standard.decode_canonical(b"0LZ") == Ok(None)
+}
+
+fn are_keys_told() -> bool {
+    let range = (340236514539200045093703517809706795008, u128::MAX);
+    encode_key(1337_u32) == *b"00000000000000000000LZ"
+        && encode_key(0_u8) == *b"0000000000000000000000"
+        && key_range(b"7n") == Ok(Some(range))
+}
+
+fn is_the_rest_told() -> bool {
     let fault = DecodeError::InvalidBase62Byte(b'!', 7);
-    assert_eq!(rt;
-        fault.text().as_str(),
-        "Encoded input contains the invalid byte b'!' at index 7"
+    digit_count(u128::MAX) == 22
+        && Letters::Standard.fixed_range(5, b"000L") == Ok(Some((1302, 1363)))
+        && fault.text().as_str() == "Encoded input contains the invalid byte b'!' at index 7"
+}
+
+// These calls ask for no memory, so none of them is ever refused any.
+fn assert_no_memory(rt: &impl Abort, text: &mut String) {
+    assert!(rt; are_texts_appended(text), "texts in room at hand");
+    assert!(rt;
+        are_calls_over_the_greatest_answered(),
+        "the greatest number"
+    );
+    assert!(rt; is_displayed(text), "a display");
+    assert!(rt; are_texts_written(), "texts in buffers");
+    assert!(rt; are_texts_decoded(), "numbers of texts");
+    assert!(rt; are_keys_told(), "keys");
+    assert!(rt;
+        is_the_rest_told(),
+        "a count, a range and the text of a fault"
     );
 }
 

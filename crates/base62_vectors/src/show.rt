@@ -1,19 +1,35 @@
 //! Numbers that display as their texts.
 
 use crate::support::alphabets::{Letters, texts};
-use base62::{Alphabet, Fmt, FmtAlternative, FmtWith, encode_fmt, encode_fmt_alt, encode_fmt_with};
+use base62::{
+    Alphabet, Fmt, FmtAlternative, FmtWith, Number, encode_fmt, encode_fmt_alt, encode_fmt_with,
+};
 use std::alloc::{AllocError, Global};
 use std::fmt::{self, Write};
 use std::process::Abort;
 use std::test::Fail;
 
+fn is_shown<T: Number + Drop>(
+    alloc: Global,
+    alphabet: Letters,
+    number: T,
+    text: &str,
+) -> Result<bool, AllocError> {
+    Ok(alphabet.shown(alloc, number)?.as_str() == text)
+}
+
 fn assert_shown(rt: &(impl Abort + AllocGlobal), alphabet: Letters) -> Result<(), Fail> {
     for (number, text) in [(1337_u32, alphabet.of_two("LZ", "lz")), (0, "0")] {
-        assert_eq!(rt; alphabet.shown(rt.alloc(), number)?.as_str(), text);
+        assert!(rt;
+            is_shown(rt.alloc(), alphabet, number, text)?,
+            "a u32 as {text}"
+        );
     }
     for (number, text) in &texts(rt, alphabet)? {
-        let shown = alphabet.shown(rt.alloc(), *number)?;
-        assert_eq!(rt; shown.as_str(), text.as_str(), "{alphabet:?}");
+        assert!(rt;
+            is_shown(rt.alloc(), alphabet, *number, text.as_str())?,
+            "{text}"
+        );
     }
     Ok(())
 }
@@ -53,27 +69,48 @@ fn test_fmt_alternative_padding(rt: HostRuntime) -> Result<(), Fail> {
     Ok(())
 }
 
-// Each format, and what it makes of `LZ`.
+fn aligned(alloc: Global) -> Result<[String; 4], AllocError> {
+    Ok([
+        format!(in alloc; "{:<5}", encode_fmt(1337_u32))?,
+        format!(in alloc; "{:>5}", encode_fmt(1337_u32))?,
+        format!(in alloc; "{:^5}", encode_fmt(1337_u32))?,
+        format!(in alloc; "{:^5}", encode_fmt_alt(1337_u32))?,
+    ])
+}
+
+fn unaligned(alloc: Global) -> Result<[String; 3], AllocError> {
+    Ok([
+        format!(in alloc; "{:5}", encode_fmt(1337_u32))?,
+        format!(in alloc; "{:1}", encode_fmt(1337_u32))?,
+        format!(in alloc; "{:2}", encode_fmt(1337_u32))?,
+    ])
+}
+
+// A width counts characters, and the last fill has two bytes.
+fn filled(alloc: Global) -> Result<[String; 3], AllocError> {
+    Ok([
+        format!(in alloc; "{:*^7}", encode_fmt(1337_u32))?,
+        format!(in alloc; "{:*<4}", encode_fmt(1337_u32))?,
+        format!(in alloc; "{:é>4}", encode_fmt(1337_u32))?,
+    ])
+}
+
+fn assert_texts(rt: &impl Abort, texts: &[String], wanted: &[&str]) {
+    assert!(rt; texts.len() == wanted.len());
+    for (text, wanted) in texts.iter().zip(wanted) {
+        assert!(rt; text.as_str() == *wanted, "{text}, and not {wanted}");
+    }
+}
+
 #[test]
 fn test_fmt_alignment(rt: HostRuntime) -> Result<(), Fail> {
-    let shown = || encode_fmt(1337_u32);
-    let cases = [
-        (format!(in rt.alloc(); "{:<5}", shown())?, "LZ   "),
-        (format!(in rt.alloc(); "{:>5}", shown())?, "   LZ"),
-        (format!(in rt.alloc(); "{:^5}", shown())?, " LZ  "),
-        (format!(in rt.alloc(); "{:5}", shown())?, "LZ   "),
-        (format!(in rt.alloc(); "{:1}", shown())?, "LZ"),
-        (format!(in rt.alloc(); "{:2}", shown())?, "LZ"),
-        (format!(in rt.alloc(); "{:*^7}", shown())?, "**LZ***"),
-        (format!(in rt.alloc(); "{:*<4}", shown())?, "LZ**"),
-        // A width counts characters, and this fill has two bytes.
-        (format!(in rt.alloc(); "{:é>4}", shown())?, "ééLZ"),
-    ];
-    for (text, wanted) in &cases {
-        assert_eq!(rt; text.as_str(), *wanted);
-    }
-    let centred = format!(in rt.alloc(); "{:^5}", encode_fmt_alt(1337_u32))?;
-    assert_eq!(rt; centred.as_str(), " lz  ");
+    assert_texts(
+        &rt,
+        &aligned(rt.alloc())?,
+        &["LZ   ", "   LZ", " LZ  ", " lz  "],
+    );
+    assert_texts(&rt, &unaligned(rt.alloc())?, &["LZ   ", "LZ", "LZ"]);
+    assert_texts(&rt, &filled(rt.alloc())?, &["**LZ***", "LZ**", "ééLZ"]);
     Ok(())
 }
 
@@ -104,25 +141,12 @@ fn precision(rt: HostRuntime) -> Result<(), Fail> {
         panic!(rt; "it has the standard letters");
     }
     let number = 1234567890_u64;
-    let rows = [
-        (
-            cut_texts(rt.alloc(), &encode_fmt(number))?,
-            ["1LY", "   1L", "", "***"],
-        ),
-        (
-            cut_texts(rt.alloc(), &encode_fmt_alt(number))?,
-            ["1ly", "   1l", "", "***"],
-        ),
-        (
-            cut_texts(rt.alloc(), &encode_fmt_with(&own, number))?,
-            ["yeR", "   ye", "", "***"],
-        ),
-    ];
-    for (shown, wanted) in &rows {
-        for (text, cut) in shown.iter().zip(wanted) {
-            assert_eq!(rt; text.as_str(), *cut);
-        }
-    }
+    let standard = cut_texts(rt.alloc(), &encode_fmt(number))?;
+    assert_texts(&rt, &standard, &["1LY", "   1L", "", "***"]);
+    let alternative = cut_texts(rt.alloc(), &encode_fmt_alt(number))?;
+    assert_texts(&rt, &alternative, &["1ly", "   1l", "", "***"]);
+    let with = cut_texts(rt.alloc(), &encode_fmt_with(&own, number))?;
+    assert_texts(&rt, &with, &["yeR", "   ye", "", "***"]);
     Ok(())
 }
 
@@ -183,16 +207,12 @@ impl Write for Sink {
 fn failed_writes(rt: HostRuntime) {
     for (calls_left, is_ok) in [(0, false), (1, false), (4, true)] {
         let mut standard = Sink { calls_left };
-        assert_eq!(rt;
-            write!(standard, "{:>4}", encode_fmt(1337_u32)).is_ok(),
-            is_ok,
-            "with {calls_left} writes"
-        );
         let mut alternative = Sink { calls_left };
-        assert_eq!(rt;
-            write!(alternative, "{:>4}", encode_fmt_alt(1337_u32)).is_ok(),
-            is_ok,
-            "with {calls_left} writes, alternative"
+        let is_shown = write!(standard, "{:>4}", encode_fmt(1337_u32)).is_ok();
+        let is_alternative_shown = write!(alternative, "{:>4}", encode_fmt_alt(1337_u32)).is_ok();
+        assert!(rt;
+            is_shown == is_ok && is_alternative_shown == is_ok,
+            "with {calls_left} writes"
         );
     }
 }

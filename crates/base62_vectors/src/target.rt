@@ -3,14 +3,29 @@
 use crate::support::alphabets::{Letters, texts};
 use crate::support::writers::TestWriter;
 use base62::{Number, encode_alternative_io, encode_io};
+use std::alloc::{AllocError, Global};
 use std::process::Abort;
 use std::test::Fail;
 
+fn is_alone<T: Number + Drop>(
+    alloc: Global,
+    alphabet: Letters,
+    number: T,
+    text: &str,
+) -> Result<bool, AllocError> {
+    Ok(alphabet.text(alloc, number)?.as_str() == text)
+}
+
 fn assert_alone(rt: &(impl Abort + AllocGlobal), alphabet: Letters) -> Result<(), Fail> {
-    assert_eq!(rt; alphabet.text(rt.alloc(), 0_u8)?.as_str(), "0");
+    assert!(rt;
+        is_alone(rt.alloc(), alphabet, 0_u8, "0")?,
+        "the text of a u8"
+    );
     for (number, text) in &texts(rt, alphabet)? {
-        let alone = alphabet.text(rt.alloc(), *number)?;
-        assert_eq!(rt; alone.as_str(), text.as_str(), "{alphabet:?}");
+        assert!(rt;
+            is_alone(rt.alloc(), alphabet, *number, text.as_str())?,
+            "{text}"
+        );
     }
     Ok(())
 }
@@ -25,23 +40,46 @@ fn test_encode_alternative(rt: HostRuntime) -> Result<(), Fail> {
     assert_alone(&rt, Letters::Alternative)
 }
 
+fn is_appended<T: Number + Drop>(
+    alphabet: Letters,
+    number: T,
+    mut earlier: String,
+    joined: &str,
+) -> Result<bool, AllocError> {
+    alphabet.append(number, &mut earlier)?;
+    Ok(earlier.as_str() == joined)
+}
+
 // The text comes behind no text, and behind an earlier one.
+fn are_appended(
+    alloc: Global,
+    alphabet: Letters,
+    number: u128,
+    text: &str,
+) -> Result<bool, AllocError> {
+    let joined = format!(in alloc; "é={text}")?;
+    let earlier = String::from_str(alloc, "é=")?;
+    Ok(
+        is_appended(alphabet, number, String::new(alloc), text)?
+            && is_appended(alphabet, number, earlier, joined.as_str())?,
+    )
+}
+
 fn assert_appends(
     rt: &(impl Abort + AllocGlobal),
     alphabet: Letters,
     number: u64,
 ) -> Result<(), Fail> {
-    let mut base62 = String::from_str(rt.alloc(), "Base62: ")?;
-    alphabet.append(number, &mut base62)?;
-    assert_eq!(rt; base62.as_str(), "Base62: Base62", "{alphabet:?}");
+    let base62 = String::from_str(rt.alloc(), "Base62: ")?;
+    assert!(rt;
+        is_appended(alphabet, number, base62, "Base62: Base62")?,
+        "the text of a u64"
+    );
     for (number, text) in &texts(rt, alphabet)? {
-        let mut only = String::new(rt.alloc());
-        alphabet.append(*number, &mut only)?;
-        assert_eq!(rt; only.as_str(), text.as_str(), "{alphabet:?}");
-        let mut joined = String::from_str(rt.alloc(), "é=")?;
-        alphabet.append(*number, &mut joined)?;
-        let wanted = format!(in rt.alloc(); "é={text}")?;
-        assert_eq!(rt; joined.as_str(), wanted.as_str(), "{alphabet:?}");
+        assert!(rt;
+            are_appended(rt.alloc(), alphabet, *number, text.as_str())?,
+            "{text}"
+        );
     }
     Ok(())
 }
@@ -65,14 +103,12 @@ fn assert_written<T: Number + Drop>(
 ) -> Result<(), Fail> {
     let mut writer = TestWriter::taking(rt.alloc(), usize::MAX);
     alphabet.write(number, &mut writer)?;
-    assert_eq!(rt; writer.written.as_slice(), text.as_bytes(), "{alphabet:?}");
     let whole = [text.len()];
-    assert_eq!(rt;
-        writer.handed.as_slice(),
-        whole.as_slice(),
-        "{text}, {alphabet:?}"
+    let is_at_once = writer.handed.as_slice() == whole.as_slice() && writer.flushes == 0;
+    assert!(rt;
+        is_at_once && writer.written.as_slice() == text.as_bytes(),
+        "{text}"
     );
-    assert_eq!(rt; writer.flushes, 0, "{text}, {alphabet:?}");
     Ok(())
 }
 

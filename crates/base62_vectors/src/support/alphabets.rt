@@ -263,8 +263,24 @@ const NUMBERS: [(u128, &str, &str); 19] = [
     ),
 ];
 
-// Numbers with their texts in a built-in alphabet, of each length. A text becomes one letter longer at 62^k, which is
-// a `1` and k zeros: the number before it is k times the highest letter, and the one after it ends with a `1`.
+// The numbers around 62^k. A text becomes one letter longer at 62^k, which is a `1` and k zeros: the number before it is
+// k times the highest letter, and the one after it ends with a `1`.
+fn push_around(
+    alloc: Global,
+    texts: &mut Vec<(u128, String)>,
+    exponent: u8,
+    highest: &str,
+) -> Result<(), AllocError> {
+    let power = 62_u128.saturating_pow(u32::from(exponent));
+    let zeros = "0".repeat(alloc, usize::from(exponent).saturating_sub(1))?;
+    let before = highest.repeat(alloc, usize::from(exponent))?;
+    texts.push((power.saturating_sub(1), before))?;
+    texts.push((power, format!(in alloc; "1{zeros}0")?))?;
+    texts.push((power.saturating_add(1), format!(in alloc; "1{zeros}1")?))?;
+    Ok(())
+}
+
+// Numbers with their texts in a built-in alphabet, of each length.
 pub(crate) fn texts(
     rt: &(impl Abort + AllocGlobal),
     alphabet: Letters,
@@ -274,19 +290,8 @@ pub(crate) fn texts(
         let text = alphabet.of_two(standard, alternative);
         texts.push((number, String::from_str(rt.alloc(), text)?))?;
     }
-    for exponent in 1..=21_usize {
-        let power = 62_u128
-            .checked_pow(exponent as u32)
-            .expect(rt, "a power of 62 fits a u128");
-        let before = power.checked_sub(1).expect(rt, "a power of 62 is not 0");
-        let after = power
-            .checked_add(1)
-            .expect(rt, "a power of 62 is not the largest number");
-        let zeros = "0".repeat(rt.alloc(), exponent - 1)?;
-        let highest = alphabet.of_two("z", "Z");
-        texts.push((before, highest.repeat(rt.alloc(), exponent)?))?;
-        texts.push((power, format!(in rt.alloc(); "1{zeros}0")?))?;
-        texts.push((after, format!(in rt.alloc(); "1{zeros}1")?))?;
+    for exponent in 1..=21_u8 {
+        push_around(rt.alloc(), &mut texts, exponent, alphabet.of_two("z", "Z"))?;
     }
     Ok(texts)
 }

@@ -33,18 +33,11 @@ pub(crate) fn assert_encodes<T: Number + Copy>(
         let outcome = alphabet.encode(number, &mut bytes[1..][..length]);
         let mut counted = untouched;
         let again = alphabet.encode_counted(number, &mut counted[1..][..length], &mut Work::new());
-        for (outcome, bytes) in [(outcome, bytes), (again, counted)] {
-            assert_eq!(rt;
-                outcome,
-                answer,
-                "encoding to {text:?} in {length} bytes, {alphabet:?}"
-            );
-            assert_eq!(rt;
-                bytes,
-                wanted,
-                "encoding to {text:?} in {length} bytes, {alphabet:?}"
-            );
-        }
+        let is_so = outcome == answer && bytes == wanted;
+        assert!(rt;
+            is_so && again == answer && counted == wanted,
+            "encoding to {text:?} in {length} bytes, {alphabet:?}"
+        );
     }
 }
 
@@ -65,7 +58,8 @@ pub(crate) fn assert_decodes(
 ) {
     let counted = alphabet.decode_counted(text, &mut Work::default());
     let plain = plain_decode(alphabet.letters(), text);
-    for outcome in [alphabet.decode(text), counted, plain] {
-        assert_eq!(rt; outcome, answer, "decoding {text:?}, {alphabet:?}");
-    }
+    assert!(rt;
+        alphabet.decode(text) == answer && counted == answer && plain == answer,
+        "decoding {text:?}, {alphabet:?}"
+    );
 }

@@ -1,5 +1,7 @@
 //! Tests of a run over readers and writers in memory, against values from outside.
 
+// What a row claims is gathered in one `bool`, and asserted once: the proof of each assert costs much.
+
 mod borders;
 mod fault;
 mod memory;

@@ -28,8 +28,25 @@ impl Write for RoomWriter<'_> {
     }
 }
 
-// The input and the output stand in fixed arrays, so that the run makes each request for memory. A
-// refused run writes no part of a reply, and does not flush.
+// Whether a run did so. A refused one writes no part of a reply, and does not flush.
+fn is_outcome(
+    outcome: Result<(), ToolFault>,
+    written: &[u8],
+    output: &[u8],
+    flushes: usize,
+) -> bool {
+    match outcome {
+        Ok(()) => written == output && flushes == 1,
+        Err(fault) => {
+            fault == ToolFault::Memory
+                && output.starts_with(written)
+                && (written.is_empty() || written.ends_with(b"\n"))
+                && flushes == 0
+        }
+    }
+}
+
+// The input and the output stand in fixed arrays, so that the run makes each request for memory.
 fn is_refused<R: Read>(
     rt: &(impl Abort + AllocGlobal),
     name: &str,
@@ -45,22 +62,16 @@ fn is_refused<R: Read>(
     let (left, flushes) = (writer.room.len(), writer.flushes);
     assert!(rt; left <= ROOM);
     let written = &room[..ROOM - left];
-    match outcome {
-        Ok(()) => {
-            assert_eq!(rt; written, output.as_bytes(), "the run {name}");
-            assert_eq!(rt; flushes, 1, "the run {name}");
-        }
-        Err(fault) => {
-            assert_eq!(rt; fault, ToolFault::Memory, "the run {name}");
-            assert!(rt; output.as_bytes().starts_with(written), "the run {name}");
-            assert!(rt;
-                written.is_empty() || written.ends_with(b"\n"),
-                "a part of a reply, the run {name}"
-            );
-            assert_eq!(rt; flushes, 0, "the run {name}");
-        }
-    }
+    let is_so = is_outcome(outcome, written, output.as_bytes(), flushes);
+    assert!(rt; is_so, "the run {name}");
     outcome.is_err()
+}
+
+fn tell(rt: &HostRuntime, name: &str, is_told: bool) -> Result<(), Fail> {
+    if is_told {
+        println!(rt; "refused: {name}")?;
+    }
+    Ok(())
 }
 
 // Says which run was refused memory. `.ci/refused-memory` reads this, has each request refused in
@@ -87,17 +98,12 @@ fn refused_memory(rt: HostRuntime) -> Result<(), Fail> {
     ];
     for (name, input, output) in cases {
         let mut reader = input;
-        if is_refused(&rt, name, &mut reader, output) {
-            println!(rt; "refused: {name}")?;
-        }
+        tell(&rt, name, is_refused(&rt, name, &mut reader, output))?;
     }
     // One for the line and one for the replies, in which the second read finds room.
     let parts = ["enc 1337\n", "alt 1337\n"];
-    if is_refused(&rt, "two_reads", &mut PartReader::new(&parts), "LZ\nlz\n") {
-        println!(rt; "refused: two_reads")?;
-    }
-    if Vec::<u8>::with_capacity(rt.alloc(), 1).is_err() {
-        println!(rt; "refused: after")?;
-    }
-    Ok(())
+    let two_reads = is_refused(&rt, "two_reads", &mut PartReader::new(&parts), "LZ\nlz\n");
+    tell(&rt, "two_reads", two_reads)?;
+    let after = Vec::<u8>::with_capacity(rt.alloc(), 1).is_err();
+    tell(&rt, "after", after)
 }

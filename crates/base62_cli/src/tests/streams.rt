@@ -97,21 +97,23 @@ impl Write for ByteWriter {
     }
 }
 
-// The one flush is at the end, of no output too.
+// Whether the input has the output where a read and a write take one byte. The one flush is at the
+// end.
+fn is_answered_by_byte(alloc: Global, input: &[u8], output: &[u8]) -> Result<bool, Fail> {
+    let mut reader = ByteReader::new(input, Calls::default());
+    let mut writer = ByteWriter::new(alloc, Calls::default(), Calls::default());
+    run(alloc, &mut reader, &mut writer)?;
+    let end = [output.len()];
+    Ok(writer.written.as_slice() == output && writer.flushed_at.as_slice() == end.as_slice())
+}
+
+// No output is flushed too.
 #[test]
 fn one_byte_a_call(rt: HostRuntime) -> Result<(), Fail> {
     let [ended, unended] = stored_inputs();
     for (input, output) in [(ended, STORED_OUTPUT), (unended, STORED_OUTPUT), ("", "")] {
-        let mut reader = ByteReader::new(input.as_bytes(), Calls::default());
-        let mut writer = ByteWriter::new(rt.alloc(), Calls::default(), Calls::default());
-        run(rt.alloc(), &mut reader, &mut writer)?;
-        assert_eq!(rt; writer.written.as_slice(), output.as_bytes());
-        let end = [output.len()];
-        assert_eq!(rt;
-            writer.flushed_at.as_slice(),
-            end.as_slice(),
-            "after {input:?}"
-        );
+        let is_so = is_answered_by_byte(rt.alloc(), input.as_bytes(), output.as_bytes())?;
+        assert!(rt; is_so, "answering {input:?}");
     }
     Ok(())
 }
@@ -126,34 +128,34 @@ fn count_lines(text: &[u8]) -> usize {
     count
 }
 
-// What was read before is answered, and no part of a reply follows.
+// Whether each line that was read is answered, and no part of a reply follows.
+fn are_lines_answered(read: &[u8], written: &[u8]) -> bool {
+    count_lines(written) == count_lines(read)
+        && STORED_OUTPUT.as_bytes().starts_with(written)
+        && (written.is_empty() || written.ends_with(b"\n"))
+}
+
+// Whether the run ends at the read that fails, and what was read before is answered.
+fn is_read_fault(alloc: Global, input: &[u8], call: usize) -> bool {
+    let Some(read) = input.get(..call.saturating_sub(1)) else {
+        return false;
+    };
+    let mut reader = ByteReader::new(input, Calls::failing_at(call));
+    let mut writer = ByteWriter::new(alloc, Calls::default(), Calls::default());
+    let outcome = run(alloc, &mut reader, &mut writer);
+    outcome == Err(ToolFault::Read)
+        && reader.reads.made == call
+        && are_lines_answered(read, writer.written.as_slice())
+        && writer.flushes.made == 0
+}
+
 #[test]
 fn failed_reads(rt: HostRuntime) {
     for input in stored_inputs() {
         // The last read is the one that meets the end.
         for call in 1..=input.len().saturating_add(1) {
-            let mut reader = ByteReader::new(input.as_bytes(), Calls::failing_at(call));
-            let mut writer = ByteWriter::new(rt.alloc(), Calls::default(), Calls::default());
-            let outcome = run(rt.alloc(), &mut reader, &mut writer);
-            assert_eq!(rt; outcome, Err(ToolFault::Read), "at read {call}");
-            assert_eq!(rt; reader.reads.made, call, "reads, of which {call} fails");
-            let answered = count_lines(&input.as_bytes()[..call - 1]);
-            assert_eq!(rt;
-                count_lines(writer.written.as_slice()),
-                answered,
-                "at read {call}"
-            );
-            assert!(rt;
-                STORED_OUTPUT
-                    .as_bytes()
-                    .starts_with(writer.written.as_slice()),
-                "at read {call}"
-            );
-            assert!(rt;
-                writer.written.is_empty() || writer.written.ends_with(b"\n"),
-                "at read {call}"
-            );
-            assert_eq!(rt; writer.flushes.made, 0, "flushes after read {call} failed");
+            let is_so = is_read_fault(rt.alloc(), input.as_bytes(), call);
+            assert!(rt; is_so, "at read {call}");
         }
     }
 }
@@ -175,26 +177,32 @@ fn reads_for(input: &[u8], line: usize) -> usize {
     reads.saturating_add(1)
 }
 
-// Nothing is read after a write that failed, nor is anything written or flushed.
+// Whether the writer has made that write, the bytes before it are written, and none is flushed.
+fn is_written_before(writer: &ByteWriter, call: usize) -> bool {
+    let before = STORED_OUTPUT.as_bytes().get(..call.saturating_sub(1));
+    before == Some(writer.written.as_slice())
+        && writer.writes.made == call
+        && writer.flushes.made == 0
+}
+
+// Whether the run ends at the write that fails: nothing is read after it, nor is anything written
+// or flushed.
+fn is_write_fault(alloc: Global, input: &[u8], call: usize) -> bool {
+    let mut reader = ByteReader::new(input, Calls::default());
+    let mut writer = ByteWriter::new(alloc, Calls::failing_at(call), Calls::default());
+    let outcome = run(alloc, &mut reader, &mut writer);
+    let line = count_lines(writer.written.as_slice()).saturating_add(1);
+    outcome == Err(ToolFault::Write)
+        && reader.reads.made == reads_for(input, line)
+        && is_written_before(&writer, call)
+}
+
 #[test]
 fn failed_writes(rt: HostRuntime) {
     for input in stored_inputs() {
         for call in 1..=STORED_OUTPUT.len() {
-            let mut reader = ByteReader::new(input.as_bytes(), Calls::default());
-            let mut writer = ByteWriter::new(rt.alloc(), Calls::failing_at(call), Calls::default());
-            let outcome = run(rt.alloc(), &mut reader, &mut writer);
-            assert_eq!(rt; outcome, Err(ToolFault::Write), "at write {call}");
-            let line = count_lines(writer.written.as_slice()).saturating_add(1);
-            let reads = reads_for(input.as_bytes(), line);
-            assert_eq!(rt;
-                reader.reads.made,
-                reads,
-                "reads, of which write {call} failed"
-            );
-            let before = STORED_OUTPUT.as_bytes().get(..call - 1);
-            assert_eq!(rt; Some(writer.written.as_slice()), before, "at write {call}");
-            assert_eq!(rt; writer.writes.made, call, "writes, of which {call} fails");
-            assert_eq!(rt; writer.flushes.made, 0, "flushes after write {call} failed");
+            let is_so = is_write_fault(rt.alloc(), input.as_bytes(), call);
+            assert!(rt; is_so, "at write {call}");
         }
     }
 }
@@ -205,7 +213,8 @@ fn full_writer(rt: HostRuntime) {
     for len in 0..=2 {
         let mut writer = &mut room[..len];
         let outcome = run(rt.alloc(), &mut STORED_INPUT.as_bytes(), &mut writer);
-        assert_eq!(rt; outcome, Err(ToolFault::Write), "with room for {len} bytes");
+        let is_so = outcome == Err(ToolFault::Write);
+        assert!(rt; is_so, "with room for {len} bytes");
     }
 }
 
@@ -213,9 +222,10 @@ fn full_writer(rt: HostRuntime) {
 fn failed_flush(rt: HostRuntime) {
     let mut writer = ByteWriter::new(rt.alloc(), Calls::default(), Calls::failing_at(1));
     let outcome = run(rt.alloc(), &mut STORED_INPUT.as_bytes(), &mut writer);
-    assert_eq!(rt; outcome, Err(ToolFault::Write));
-    assert_eq!(rt; writer.written.as_slice(), STORED_OUTPUT.as_bytes());
-    assert_eq!(rt; writer.flushes.made, 1, "flushes, of which the first fails");
+    let is_so = outcome == Err(ToolFault::Write)
+        && writer.written.as_slice() == STORED_OUTPUT.as_bytes()
+        && writer.flushes.made == 1;
+    assert!(rt; is_so, "at the flush");
 }
 
 // Puts as much of a part into the buffer as there is room for.
@@ -250,6 +260,19 @@ impl Read for PartReader<'_> {
     }
 }
 
+// Whether the parts have the output, and so many are left.
+fn is_read_to_its_end(
+    alloc: Global,
+    parts: &[&'static str],
+    behind: usize,
+    output: &str,
+) -> Result<bool, Fail> {
+    let mut reader = PartReader::new(parts);
+    let mut written = Vec::new(alloc);
+    run(alloc, &mut reader, &mut written)?;
+    Ok(reader.parts.len() == behind && written.as_slice() == output.as_bytes())
+}
+
 // Each row has the parts of an input, how many are behind its end, and the output.
 #[test]
 fn no_read_after_the_end(rt: HostRuntime) -> Result<(), Fail> {
@@ -266,15 +289,8 @@ fn no_read_after_the_end(rt: HostRuntime) -> Result<(), Fail> {
         ),
     ];
     for (parts, behind, output) in rows {
-        let mut reader = PartReader::new(&parts);
-        let mut written = Vec::new(rt.alloc());
-        run(rt.alloc(), &mut reader, &mut written)?;
-        assert_eq!(rt; reader.parts.len(), behind, "left of {parts:?}");
-        assert_eq!(rt;
-            written.as_slice(),
-            output.as_bytes(),
-            "answering {parts:?}"
-        );
+        let is_so = is_read_to_its_end(rt.alloc(), &parts, behind, output)?;
+        assert!(rt; is_so, "with {behind} parts behind the end");
     }
     Ok(())
 }
@@ -330,5 +346,6 @@ fn replies_before_the_next_read(rt: HostRuntime) {
         taken: &taken,
     };
     let mut writer = Taker { taken: &taken };
-    assert_eq!(rt; run(rt.alloc(), &mut reader, &mut writer), Ok(()));
+    let outcome = run(rt.alloc(), &mut reader, &mut writer);
+    assert!(rt; outcome == Ok(()), "a reply came late");
 }

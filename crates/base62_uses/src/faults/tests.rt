@@ -1,5 +1,10 @@
 use super::*;
+use std::alloc::Global;
 use std::test::Fail;
+
+fn is_counted(counts: &BTreeMap<DecodeError, u64>, fault: DecodeError, times: u64) -> bool {
+    counts.get(&fault) == Some(&times)
+}
 
 #[test]
 fn counts_of_faults(rt: HostRuntime) -> Result<(), Fail> {
@@ -8,20 +13,28 @@ fn counts_of_faults(rt: HostRuntime) -> Result<(), Fail> {
     count_fault(&mut counts, bad_byte)?;
     count_fault(&mut counts, DecodeError::EmptyInput)?;
     count_fault(&mut counts, bad_byte)?;
-    assert_eq!(rt; counts.get(&bad_byte), Some(&2));
-    assert_eq!(rt; counts.get(&DecodeError::EmptyInput), Some(&1));
-    assert_eq!(rt; counts.get(&DecodeError::ArithmeticOverflow), None);
+    assert!(rt; is_counted(&counts, bad_byte, 2));
+    assert!(rt; is_counted(&counts, DecodeError::EmptyInput, 1));
+    assert!(rt; counts.get(&DecodeError::ArithmeticOverflow).is_none());
     Ok(())
+}
+
+fn is_complaint(wanted: &str, text: &[u8]) -> bool {
+    complaint(text).as_str() == wanted
 }
 
 #[test]
 fn complaints(rt: HostRuntime) {
-    assert_eq!(rt; complaint(b"LZ").as_str(), "");
-    assert_eq!(rt; complaint(b"").as_str(), "Encoded input is an empty string");
-    assert_eq!(rt;
-        complaint(b"LZ?").as_str(),
-        "Encoded input contains the invalid byte b'?' at index 2"
-    );
+    assert!(rt; is_complaint("", b"LZ"));
+    assert!(rt; is_complaint("Encoded input is an empty string", b""));
+    let bad_byte = "Encoded input contains the invalid byte b'?' at index 2";
+    assert!(rt; is_complaint(bad_byte, b"LZ?"));
+}
+
+fn is_refusal_noted(alloc: Global) -> Result<bool, AllocError> {
+    let mut refusals = HashSet::new(alloc);
+    note_refusal(&mut refusals, EncodeError::BufferTooSmall)?;
+    Ok(refusals.contains(&EncodeError::BufferTooSmall))
 }
 
 #[test]
@@ -30,11 +43,9 @@ fn faults_that_were_noted(rt: HostRuntime) -> Result<(), Fail> {
     let first = AlphabetError::Repeated(b'A', 61);
     let second = AlphabetError::Repeated(b'A', 60);
     for (fault, is_noted) in [(first, false), (second, false), (first, true)] {
-        assert_eq!(rt; was_noted(&mut noted, fault)?, is_noted);
+        assert!(rt; was_noted(&mut noted, fault)? == is_noted);
     }
-    let mut refusals = HashSet::new(rt.alloc());
-    note_refusal(&mut refusals, EncodeError::BufferTooSmall)?;
-    assert!(rt; refusals.contains(&EncodeError::BufferTooSmall));
+    assert!(rt; is_refusal_noted(rt.alloc())?);
     Ok(())
 }
 
@@ -43,7 +54,7 @@ fn answers_of_a_batch(rt: HostRuntime) {
     let mut answers = [DecodeError::EmptyInput; 3];
     answer_all(&mut answers[1..], DecodeError::ArithmeticOverflow);
     let overflow = DecodeError::ArithmeticOverflow;
-    assert_eq!(rt; answers, [DecodeError::EmptyInput, overflow, overflow]);
+    assert!(rt; answers == [DecodeError::EmptyInput, overflow, overflow]);
 }
 
 // Each fault is less than the one after it.
@@ -58,7 +69,7 @@ fn order_of_faults(rt: HostRuntime) {
     ];
     for (place, fault) in faults.iter().enumerate() {
         for (other_place, other) in faults.iter().enumerate() {
-            assert_eq!(rt; is_worse(*fault, *other), place > other_place);
+            assert!(rt; is_worse(*fault, *other) == (place > other_place));
         }
     }
     let repeats = [(b'A', 7), (b'B', 3), (b'B', 5)];
@@ -66,7 +77,7 @@ fn order_of_faults(rt: HostRuntime) {
         for (other_place, (other, at)) in repeats.iter().enumerate() {
             let fault = AlphabetError::Repeated(*byte, *index);
             let other = AlphabetError::Repeated(*other, *at);
-            assert_eq!(rt; is_later_repeat(fault, other), place > other_place);
+            assert!(rt; is_later_repeat(fault, other) == (place > other_place));
         }
     }
 }

@@ -1,21 +1,17 @@
 use super::*;
 
+const COUNTED: [u8; 16] = [
+    0x01, 0x23, 0x45, 0x67, 0x89, 0xab, 0xcd, 0xef, 0xfe, 0xdc, 0xba, 0x98, 0x76, 0x54, 0x32, 0x10,
+];
+
 #[test]
 fn short_forms(rt: HostRuntime) {
-    let mut buf = [0u8; 22];
-    let uuid = [
-        0x01, 0x23, 0x45, 0x67, 0x89, 0xab, 0xcd, 0xef, 0xfe, 0xdc, 0xba, 0x98, 0x76, 0x54, 0x32,
-        0x10,
-    ];
-    assert_eq!(rt;
-        short_uuid(uuid, &mut buf),
-        b"296tiiBb3UUmdjYQ3ySu0".as_slice()
-    );
-    assert_eq!(rt; uuid_of_short(b"296tiiBb3UUmdjYQ3ySu0"), Some(uuid));
-    assert_eq!(rt; uuid_of_short(b"0296tiiBb3UUmdjYQ3ySu0"), None);
-    assert_eq!(rt; uuid_of_short(b"!"), None);
-    for uuid in [[0; 16], uuid, [255; 16]] {
-        assert_eq!(rt; uuid_of_own_short(&uuid), Some(uuid));
+    assert!(rt; short_uuid(COUNTED, &mut [0u8; 22]) == b"296tiiBb3UUmdjYQ3ySu0".as_slice());
+    assert!(rt; uuid_of_short(b"296tiiBb3UUmdjYQ3ySu0") == Some(COUNTED));
+    assert!(rt; uuid_of_short(b"0296tiiBb3UUmdjYQ3ySu0").is_none());
+    assert!(rt; uuid_of_short(b"!").is_none());
+    for uuid in [[0; 16], COUNTED, [255; 16]] {
+        assert!(rt; uuid_of_own_short(&uuid) == Some(uuid));
     }
 }
 

@@ -1,11 +1,13 @@
 //! Texts of a fixed number of letters, and the ranges of the numbers whose texts begin alike.
 
+ghost use Rattle.std.specs.Prelude.{◌≤◌};
+
 use crate::support::alphabets::{FOUR, Letters};
 use crate::support::checks::FILLER;
 use crate::support::reference::{plain_digit, plain_fixed};
-use base62::DecodeError;
 use base62::DecodeError::InvalidBase62Byte;
 use base62::EncodeError::BufferTooSmall;
+use base62::{DecodeError, fixed_range};
 use std::process::Abort;
 
 // The greatest width that a test goes to.
@@ -13,7 +15,29 @@ const WIDEST: usize = 100;
 
 const WIDTHS: [usize; 9] = [0, 1, 2, 5, 11, 21, 22, 23, WIDEST];
 
+// The places behind a first byte after the text came into them, if it has so many letters.
+fn filled(width: usize, text: &[u8]) -> Option<[u8; WIDEST + 2]> {
+    if width > WIDEST || text.len() != width {
+        return None;
+    }
+    let mut filled = [FILLER; WIDEST + 2];
+    filled[1..][..width].copy_from_slice(text);
+    Some(filled)
+}
+
 // Into so many places behind a first byte: they all get the text, or stay where it has more letters or none.
+fn fills(alphabet: Letters, number: u128, width: usize, text: Option<&[u8]>) -> bool {
+    if width > WIDEST {
+        return false;
+    }
+    let mut bytes = [FILLER; WIDEST + 2];
+    let outcome = alphabet.encode_fixed(number, &mut bytes[1..][..width]);
+    match text {
+        Some(text) => outcome == Ok(()) && filled(width, text) == Some(bytes),
+        None => outcome == Err(BufferTooSmall) && bytes == [FILLER; WIDEST + 2],
+    }
+}
+
 fn assert_fills(
     rt: &impl Abort,
     alphabet: Letters,
@@ -21,17 +45,8 @@ fn assert_fills(
     width: usize,
     text: Option<&[u8]>,
 ) {
-    assert!(rt; width <= WIDEST, "{width} places");
-    let mut wanted = [FILLER; WIDEST + 2];
-    if let Some(text) = text {
-        assert_eq!(rt; text.len(), width, "the text of {number}");
-        wanted[1..][..width].copy_from_slice(text);
-    }
-    let mut bytes = [FILLER; WIDEST + 2];
-    let outcome = alphabet.encode_fixed(number, &mut bytes[1..][..width]);
-    let answer = text.map(|_| ()).ok_or(BufferTooSmall);
-    assert_eq!(rt; outcome, answer, "{number} in {width} places, {alphabet:?}");
-    assert_eq!(rt; bytes, wanted, "{number} in {width} places, {alphabet:?}");
+    let has_filled = fills(alphabet, number, width, text);
+    assert!(rt; has_filled, "{number} in {width} places, {alphabet:?}");
 }
 
 #[test]
@@ -195,11 +210,8 @@ fn ranges_of_fronts(rt: HostRuntime) {
         (100, "000!", Err(InvalidBase62Byte(b'!', 3))),
     ];
     for (width, front, answer) in rows {
-        assert_eq!(rt;
-            Letters::Standard.fixed_range(width, front.as_bytes()),
-            answer,
-            "the range of {front:?} in {width} letters"
-        );
+        let is_answer = fixed_range(width, front.as_bytes()) == answer;
+        assert!(rt; is_answer, "the range of {front} in {width} letters");
     }
 }
 
@@ -213,38 +225,21 @@ fn ranges_of_zeros(rt: HostRuntime) {
                 Some(power) => power.saturating_sub(1),
                 None => u128::MAX,
             };
-            let range = alphabet.fixed_range(WIDEST, &zeros[..length]);
-            assert_eq!(rt;
-                range,
-                Ok(Some((0, greatest))),
-                "{length} zeros, {alphabet:?}"
-            );
+            let is_range = alphabet.fixed_range(WIDEST, &zeros[..length])
+                == Ok(Some((0, greatest)));
+            assert!(rt; is_range, "{length} zeros, {alphabet:?}");
         }
-        assert_eq!(rt;
-            alphabet.fixed_range(WIDEST, &zeros),
-            Ok(None),
-            "{alphabet:?}"
-        );
+        let has_none = alphabet.fixed_range(WIDEST, &zeros) == Ok(None);
+        assert!(rt; has_none, "101 zeros, {alphabet:?}");
     }
 }
 
-fn assert_begins(
-    rt: &impl Abort,
-    alphabet: Letters,
-    width: usize,
-    number: u128,
-    front: &[u8],
-    begins: bool,
-) {
-    assert!(rt; width <= WIDEST, "{width} letters");
+fn begins(alphabet: Letters, width: usize, number: u128, front: &[u8]) -> bool
+    requires { width ≤ WIDEST }
+{
     let mut places = [0; WIDEST];
     let text = &mut places[..width];
-    let has_text = plain_fixed(alphabet.letters(), number, text) && width > 0;
-    assert_eq!(rt;
-        has_text && text.starts_with(front),
-        begins,
-        "does {number} in {width} letters begin with {front:?}, {alphabet:?}"
-    );
+    plain_fixed(alphabet.letters(), number, text) && width > 0 && text.starts_with(front)
 }
 
 // The least number of a front with zeros up to so many letters, where it has no more and that is below 2^128.
@@ -262,58 +257,79 @@ fn least_of(alphabet: Letters, width: usize, front: &[u8]) -> Option<u128> {
     Some(value)
 }
 
+// Whether the text of a number just outside begins with the front.
+fn begins_outside(alphabet: Letters, width: usize, ends: (u128, u128), front: &[u8]) -> bool
+    requires { width ≤ WIDEST }
+{
+    if let Some(before) = ends.0.checked_sub(1) {
+        if begins(alphabet, width, before, front) {
+            return true;
+        }
+    }
+    match ends.1.checked_add(1) {
+        Some(after) => begins(alphabet, width, after, front),
+        None => false,
+    }
+}
+
+fn are_ends(alphabet: Letters, width: usize, ends: (u128, u128), front: &[u8]) -> bool
+    requires { width ≤ WIDEST }
+{
+    least_of(alphabet, width, front) == Some(ends.0)
+        && begins(alphabet, width, ends.0, front)
+        && begins(alphabet, width, ends.1, front)
+        && !begins_outside(alphabet, width, ends, front)
+}
+
 // The texts of the ends begin with the front, those of the numbers just outside do not, and that of the given number
 // does where it is within. Where there is no range, the front is too long or too large, or no text has letters.
-fn assert_range(rt: &impl Abort, alphabet: Letters, width: usize, front: &[u8], number: u128) {
-    let Ok(range) = alphabet.fixed_range(width, front) else {
-        panic!(rt; "the front {front:?} of letters is refused, {alphabet:?}");
-    };
-    let least = if width > 0 {
-        least_of(alphabet, width, front)
-    } else {
-        None
-    };
-    assert_eq!(rt;
-        range.map(|ends| ends.0),
-        least,
-        "{front:?} of {width}, {alphabet:?}"
-    );
-    let Some((least, greatest)) = range else {
-        assert_begins(rt, alphabet, width, number, front, false);
-        return;
-    };
-    let is_within = least <= number && number <= greatest;
-    assert_begins(rt, alphabet, width, number, front, is_within);
-    assert_begins(rt, alphabet, width, least, front, true);
-    assert_begins(rt, alphabet, width, greatest, front, true);
-    if let Some(before) = least.checked_sub(1) {
-        assert_begins(rt, alphabet, width, before, front, false);
+fn has_range(alphabet: Letters, width: usize, front: &[u8], number: u128) -> bool
+    requires { width ≤ WIDEST }
+{
+    let begins = begins(alphabet, width, number, front);
+    match alphabet.fixed_range(width, front) {
+        Ok(Some(ends)) => {
+            let is_within = ends.0 <= number && number <= ends.1;
+            width > 0 && are_ends(alphabet, width, ends, front) && begins == is_within
+        }
+        Ok(None) => !begins && (width == 0 || least_of(alphabet, width, front).is_none()),
+        Err(_) => false,
     }
-    if let Some(after) = greatest.checked_add(1) {
-        assert_begins(rt, alphabet, width, after, front, false);
+}
+
+// With another last letter too.
+fn have_ranges(alphabet: Letters, width: usize, front: &[u8], number: u128) -> bool
+    requires { width ≤ WIDEST }
+{
+    if front.len() > WIDEST || !has_range(alphabet, width, front, number) {
+        return false;
     }
+    let Some(last) = front.len().checked_sub(1) else {
+        return true;
+    };
+    let mut changed = [0; WIDEST];
+    changed[..last].copy_from_slice(&front[..last]);
+    for letter in [alphabet.letters()[0], alphabet.letters()[61]] {
+        changed[last] = letter;
+        if !has_range(alphabet, width, &changed[..=last], number) {
+            return false;
+        }
+    }
+    true
 }
 
 // The first letters of a text and a zero, as they are and with the zero or the last letter as their last one.
 #[test]
 fn ranges_by_plain_texts(rt: HostRuntime) {
     for alphabet in FOUR {
-        let (zero, last) = (alphabet.letters()[0], alphabet.letters()[61]);
         for width in [0, 1, 5, 22, 23, 25] {
             assert!(rt; width <= WIDEST, "{width} letters");
             for number in borders() {
-                let mut letters = [zero; WIDEST + 1];
+                let mut letters = [alphabet.letters()[0]; WIDEST + 1];
                 let _ = plain_fixed(alphabet.letters(), number, &mut letters[..width]);
                 for length in 0..=width + 1 {
-                    assert_range(&rt, alphabet, width, &letters[..length], number);
-                    let Some(place) = length.checked_sub(1) else {
-                        continue;
-                    };
-                    for letter in [zero, last] {
-                        let mut changed = letters;
-                        changed[place] = letter;
-                        assert_range(&rt, alphabet, width, &changed[..length], number);
-                    }
+                    let are_ranges = have_ranges(alphabet, width, &letters[..length], number);
+                    assert!(rt; are_ranges, "{length} of {width}, {number}, {alphabet:?}");
                 }
             }
         }
@@ -333,14 +349,9 @@ fn bytes_that_are_no_letters(rt: HostRuntime) {
                 let refused: Result<Option<(u128, u128)>, DecodeError> = Err(InvalidBase62Byte(
                     byte, place,
                 ));
-                for front in [&front[..], &front[..=place]] {
-                    let range = alphabet.fixed_range(width, front);
-                    assert_eq!(rt;
-                        range,
-                        refused,
-                        "the byte at {place} of {width}, {alphabet:?}"
-                    );
-                }
+                let is_refused = alphabet.fixed_range(width, &front) == refused
+                    && alphabet.fixed_range(width, &front[..=place]) == refused;
+                assert!(rt; is_refused, "the byte at {place} of {width}, {alphabet:?}");
             }
         }
     }

@@ -86,26 +86,34 @@ fn push_around(numbers: &mut Vec<u128>, center: u128) -> Result<(), AllocError> 
 
 #[test]
 fn keys_of_numbers(rt: HostRuntime) {
-    assert_eq!(rt; encode_key(1337_u32), *b"00000000000000000000LZ");
-    assert_eq!(rt; encode_key(0_u8), *b"0000000000000000000000");
-    assert_eq!(rt; encode_key(u128::MAX), *b"7n42DGM5Tflk9n8mt7Fhc7");
+    let are_keys = encode_key(1337_u32) == *b"00000000000000000000LZ"
+        && encode_key(0_u8) == *b"0000000000000000000000"
+        && encode_key(u128::MAX) == *b"7n42DGM5Tflk9n8mt7Fhc7";
+    assert!(rt; are_keys, "the keys of 1337, 0 and the largest number");
 
     // As texts `10` comes before `z`, and as keys it comes after it.
     let (before, after) = (encode_key(61_u8), encode_key(62_u8));
-    assert_eq!(rt; before, *b"000000000000000000000z");
-    assert_eq!(rt; after, *b"0000000000000000000010");
-    assert_eq!(rt; before.cmp(&after), Ordering::Less);
+    let are_sorted = before == *b"000000000000000000000z"
+        && after == *b"0000000000000000000010"
+        && before.cmp(&after) == Ordering::Less;
+    assert!(rt; are_sorted, "the keys of 61 and 62");
+}
+
+// The number's key, of each type that has it, is the digit loop's, and is decoded to the number.
+fn has_plain_key(number: u128) -> bool {
+    let key = plain_letters(Letters::Standard.letters(), number);
+    if let Ok(small) = u64::try_from(number) {
+        if encode_key(small) != key {
+            return false;
+        }
+    }
+    encode_key(number) == key && decode(&key) == Ok(number)
 }
 
 #[test]
 fn keys_by_division(rt: HostRuntime) -> Result<(), Fail> {
     for number in &numbers(&rt, 3000)? {
-        let key = plain_letters(Letters::Standard.letters(), *number);
-        assert_eq!(rt; encode_key(*number), key, "the key of {number}");
-        assert_eq!(rt; decode(&key), Ok(*number), "decoding the key of {number}");
-        if let Ok(small) = u64::try_from(*number) {
-            assert_eq!(rt; encode_key(small), key, "the key of {number} as a u64");
-        }
+        assert!(rt; has_plain_key(*number), "the key of {number}");
     }
     Ok(())
 }
@@ -115,16 +123,9 @@ fn keys_sort_as_numbers(rt: HostRuntime) -> Result<(), Fail> {
     let mut previous: u128 = 0;
     for number in &numbers(&rt, 3000)? {
         let (one, other) = (encode_key(previous), encode_key(*number));
-        assert_eq!(rt;
-            plain_order(&one, &other),
-            previous.cmp(number),
-            "the key of {previous} against that of {number}"
-        );
-        assert_eq!(rt;
-            plain_order(&other, &one),
-            number.cmp(&previous),
-            "the key of {number} against that of {previous}"
-        );
+        let are_sorted = plain_order(&one, &other) == previous.cmp(number)
+            && plain_order(&other, &one) == number.cmp(&previous);
+        assert!(rt; are_sorted, "the keys of {previous} and {number}");
         previous = *number;
     }
     Ok(())
@@ -162,49 +163,70 @@ fn ranges_of_fronts(rt: HostRuntime) {
         ("00000000000000000000000!", Err(InvalidBase62Byte(b'!', 23))),
     ];
     for (front, answer) in rows {
-        assert_eq!(rt;
-            key_range(front.as_bytes()),
-            answer,
-            "the range of {front:?}"
-        );
+        let is_answer = key_range(front.as_bytes()) == answer;
+        assert!(rt; is_answer, "the range of {front}");
     }
 }
 
-fn assert_begins(rt: &impl Abort, number: u128, front: &[u8], begins: bool) {
-    assert_eq!(rt;
-        plain_letters(Letters::Standard.letters(), number)
-            .as_slice()
-            .starts_with(front),
-        begins,
-        "does the key of {number} begin with {front:?}"
-    );
+fn begins(number: u128, front: &[u8]) -> bool {
+    plain_letters(Letters::Standard.letters(), number)
+        .as_slice()
+        .starts_with(front)
+}
+
+// Whether the key of a number just outside begins with the front.
+fn begins_outside(least: u128, greatest: u128, front: &[u8]) -> bool {
+    if let Some(before) = least.checked_sub(1) {
+        if begins(before, front) {
+            return true;
+        }
+    }
+    match greatest.checked_add(1) {
+        Some(after) => begins(after, front),
+        None => false,
+    }
+}
+
+fn are_ends(least: u128, greatest: u128, front: &[u8]) -> bool {
+    value_with_zeros(front) == Some(least)
+        && begins(least, front)
+        && begins(greatest, front)
+        && !begins_outside(least, greatest, front)
 }
 
 // The keys of the ends begin with the front and those of the numbers just outside do not, and the given
 // number is within where its key begins so. Where there is no range, the front is too long or too large.
-fn assert_range(rt: &impl Abort, front: &[u8], number: u128) {
-    let Ok(range) = key_range(front) else {
-        panic!(rt; "the front {front:?} of letters is refused");
-    };
-    let Some((least, greatest)) = range else {
-        assert_eq!(rt; value_with_zeros(front), None, "{front:?} has no range");
-        assert_begins(rt, number, front, false);
-        return;
-    };
-    assert_eq!(rt;
-        value_with_zeros(front),
-        Some(least),
-        "the least number of {front:?}"
-    );
-    assert_begins(rt, number, front, least <= number && number <= greatest);
-    assert_begins(rt, least, front, true);
-    assert_begins(rt, greatest, front, true);
-    if let Some(before) = least.checked_sub(1) {
-        assert_begins(rt, before, front, false);
+fn has_range(front: &[u8], number: u128) -> bool {
+    match key_range(front) {
+        Ok(Some((least, greatest))) => {
+            let is_within = least <= number && number <= greatest;
+            are_ends(least, greatest, front) && begins(number, front) == is_within
+        }
+        Ok(None) => value_with_zeros(front).is_none() && !begins(number, front),
+        Err(_) => false,
     }
-    if let Some(after) = greatest.checked_add(1) {
-        assert_begins(rt, after, front, false);
+}
+
+// With another last letter too.
+fn have_ranges(front: &[u8], number: u128) -> bool {
+    if front.len() > 24 || !has_range(front, number) {
+        return false;
     }
+    let Some(last) = front.len().checked_sub(1) else {
+        return true;
+    };
+    for beside in letters_beside(front[last]) {
+        let Some(letter) = beside else {
+            continue;
+        };
+        let mut changed = [b'0'; 24];
+        changed[..last].copy_from_slice(&front[..last]);
+        changed[last] = letter;
+        if !has_range(&changed[..=last], number) {
+            return false;
+        }
+    }
+    true
 }
 
 // The first letters of a key, and of a key and two zeros, as they are and with another last letter.
@@ -214,18 +236,8 @@ fn ranges_by_plain_keys(rt: HostRuntime) -> Result<(), Fail> {
         let mut letters = [b'0'; 24];
         letters[..22].copy_from_slice(&plain_letters(Letters::Standard.letters(), *number));
         for length in 0..=24_usize {
-            assert_range(&rt, &letters[..length], *number);
-            let Some(last) = length.checked_sub(1) else {
-                continue;
-            };
-            for beside in letters_beside(letters[last]) {
-                let Some(letter) = beside else {
-                    continue;
-                };
-                let mut changed = letters;
-                changed[last] = letter;
-                assert_range(&rt, &changed[..length], *number);
-            }
+            let are_ranges = have_ranges(&letters[..length], *number);
+            assert!(rt; are_ranges, "{length} letters of the key of {number}");
         }
     }
     Ok(())
@@ -242,12 +254,8 @@ fn bytes_that_are_no_letters(rt: HostRuntime) {
             let mut front = [b'0'; 24];
             front[place] = byte;
             let refused = Err(InvalidBase62Byte(byte, place));
-            assert_eq!(rt; key_range(&front), refused, "the byte {byte} at {place}");
-            assert_eq!(rt;
-                key_range(&front[..=place]),
-                refused,
-                "the byte {byte} at the end, {place}"
-            );
+            let is_refused = key_range(&front) == refused && key_range(&front[..=place]) == refused;
+            assert!(rt; is_refused, "the byte {byte} at {place}");
         }
     }
 }

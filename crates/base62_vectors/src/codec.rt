@@ -191,20 +191,23 @@ const REFUSED: [(&str, &str, DecodeError); 10] = [
     ),
 ];
 
-// At the ends of the parts in which 22 letters are read, each byte that is no letter is reported with its index.
+// At the ends of the parts in which 22 letters are read, a byte that is no letter is reported with its index.
+fn assert_names(rt: &impl Abort, byte: u8) {
+    for place in [2, 3, 11, 12, 21, 22, 23_usize] {
+        let mut text = [b'0'; 24];
+        text[2] = b'1';
+        text[place] = byte;
+        for alphabet in BOTH {
+            assert_decodes(rt, alphabet, &text, Err(InvalidBase62Byte(byte, place)));
+        }
+    }
+}
+
 #[test]
 fn test_decode_invalid_bytes_and_overflow_precedence(rt: HostRuntime) {
     for byte in 0..=255_u8 {
-        if byte.is_ascii_alphanumeric() {
-            continue;
-        }
-        for place in [2, 3, 11, 12, 21, 22, 23_usize] {
-            let mut text = [b'0'; 24];
-            text[2] = b'1';
-            text[place] = byte;
-            for alphabet in BOTH {
-                assert_decodes(&rt, alphabet, &text, Err(InvalidBase62Byte(byte, place)));
-            }
+        if !byte.is_ascii_alphanumeric() {
+            assert_names(&rt, byte);
         }
     }
     for (standard, alternative, fault) in REFUSED {

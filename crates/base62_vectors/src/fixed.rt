@@ -149,69 +149,68 @@ fn texts_by_division(rt: HostRuntime) {
     }
 }
 
+// Each width with a front and the least and the greatest number whose text begins so.
+const RANGES: [(usize, &str, u128, u128); 16] = [
+    (1, "", 0, 61),
+    (1, "0", 0, 0),
+    (1, "z", 61, 61),
+    (5, "", 0, 916132831),
+    (5, "000L", 1302, 1363),
+    (11, "L", 17625286683235144704, 18464586049103484927),
+    (21, "", 0, 43674252383913877424036476406214950911),
+    (22, "", 0, u128::MAX),
+    (22, "7n", 340236514539200045093703517809706795008, u128::MAX),
+    (23, "", 0, u128::MAX),
+    (23, "0", 0, u128::MAX),
+    (23, "00", 0, 43674252383913877424036476406214950911),
+    (
+        23,
+        "07n",
+        340236514539200045093703517809706795008,
+        u128::MAX,
+    ),
+    (23, "07n42DGM5Tflk9n8mt7Fhc7", u128::MAX, u128::MAX),
+    (100, "", 0, u128::MAX),
+    (100, "000", 0, u128::MAX),
+];
+
+// Those with which no text begins.
+const NO_RANGES: [(usize, &str); 9] = [
+    // No text has no letters.
+    (0, ""),
+    (0, "0"),
+    (1, "00"),
+    (22, "7o"),
+    (23, "07o"),
+    // It is 62^22.
+    (23, "1"),
+    (23, "07n42DGM5Tflk9n8mt7Fhc8"),
+    (23, "000000000000000000000000"),
+    (100, "0001"),
+];
+
+// Those with a byte that is no letter, and its index.
+const REFUSED: [(usize, &str, u8, usize); 4] = [
+    (0, "!", b'!', 0),
+    (1, "0-!", b'-', 1),
+    (22, "7o!", b'!', 2),
+    (100, "000!", b'!', 3),
+];
+
 #[test]
 fn ranges_of_fronts(rt: HostRuntime) {
-    let all = Ok(Some((0, u128::MAX)));
-    let rows = [
-        // No text has no letters.
-        (0, "", Ok(None)),
-        (0, "0", Ok(None)),
-        (0, "!", Err(InvalidBase62Byte(b'!', 0))),
-        (1, "", Ok(Some((0, 61)))),
-        (1, "0", Ok(Some((0, 0)))),
-        (1, "z", Ok(Some((61, 61)))),
-        (1, "00", Ok(None)),
-        (1, "0-!", Err(InvalidBase62Byte(b'-', 1))),
-        (5, "", Ok(Some((0, 916132831)))),
-        (5, "000L", Ok(Some((1302, 1363)))),
-        (
-            11,
-            "L",
-            Ok(Some((17625286683235144704, 18464586049103484927))),
-        ),
-        (
-            21,
-            "",
-            Ok(Some((0, 43674252383913877424036476406214950911))),
-        ),
-        (22, "", all),
-        (
-            22,
-            "7n",
-            Ok(Some((340236514539200045093703517809706795008, u128::MAX))),
-        ),
-        (22, "7o", Ok(None)),
-        (22, "7o!", Err(InvalidBase62Byte(b'!', 2))),
-        (23, "", all),
-        (23, "0", all),
-        (
-            23,
-            "00",
-            Ok(Some((0, 43674252383913877424036476406214950911))),
-        ),
-        (
-            23,
-            "07n",
-            Ok(Some((340236514539200045093703517809706795008, u128::MAX))),
-        ),
-        (23, "07o", Ok(None)),
-        // It is 62^22.
-        (23, "1", Ok(None)),
-        (
-            23,
-            "07n42DGM5Tflk9n8mt7Fhc7",
-            Ok(Some((u128::MAX, u128::MAX))),
-        ),
-        (23, "07n42DGM5Tflk9n8mt7Fhc8", Ok(None)),
-        (23, "000000000000000000000000", Ok(None)),
-        (100, "", all),
-        (100, "000", all),
-        (100, "0001", Ok(None)),
-        (100, "000!", Err(InvalidBase62Byte(b'!', 3))),
-    ];
-    for (width, front, answer) in rows {
-        let is_answer = fixed_range(width, front.as_bytes()) == answer;
-        assert!(rt; is_answer, "the range of {front} in {width} letters");
+    for (width, front, least, greatest) in RANGES {
+        let is_range = fixed_range(width, front.as_bytes()) == Ok(Some((least, greatest)));
+        assert!(rt; is_range, "the range of {front} in {width} letters");
+    }
+    for (width, front) in NO_RANGES {
+        let has_none = fixed_range(width, front.as_bytes()) == Ok(None);
+        assert!(rt; has_none, "the range of {front} in {width} letters");
+    }
+    for (width, front, byte, index) in REFUSED {
+        let refused = Err(InvalidBase62Byte(byte, index));
+        let is_refused = fixed_range(width, front.as_bytes()) == refused;
+        assert!(rt; is_refused, "the range of {front} in {width} letters");
     }
 }
 

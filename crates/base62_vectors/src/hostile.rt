@@ -132,7 +132,7 @@ fn round_number(random: &mut Random) -> u128 {
 fn assert_by_digits(rt: &impl Abort, alphabet: Letters, number: u128) {
     let (letters, zeros) = plain_text(alphabet, number);
     assert_encodes(rt, alphabet, number, &letters[zeros..]);
-    assert_eq!(rt; digit_count(number), 22 - zeros, "the digits of {number}");
+    assert!(rt; digit_count(number) == 22 - zeros, "the digits of {number}");
 }
 
 #[test]
@@ -154,17 +154,21 @@ fn numbers_near_round_ones(rt: HostRuntime) {
 // Kernels cut numbers at the multiples of 62^10, and those of 62^20 among them.
 const CUT: u128 = 839299365868340224;
 
-// So many times 62^10, the number before it and the one after it. The buffer has no byte to spare.
+// The buffer has no byte to spare.
+fn fills_buffer(alphabet: Letters, number: u128) -> bool {
+    let (letters, zeros) = plain_text(alphabet, number);
+    let mut text = [FILLER; 22];
+    let answer = alphabet.encode(number, &mut text[zeros..]);
+    answer == Ok(22 - zeros) && &text[zeros..] == &letters[zeros..]
+}
+
+// So many times 62^10, the number before it and the one after it.
 fn assert_around(rt: &impl Abort, quotient: u128) {
     let multiple = quotient.wrapping_mul(CUT);
     for number in [multiple.wrapping_sub(1), multiple, multiple.wrapping_add(1)] {
-        for alphabet in BOTH {
-            let (letters, zeros) = plain_text(alphabet, number);
-            let mut text = [FILLER; 22];
-            let answer = alphabet.encode(number, &mut text[zeros..]);
-            assert_eq!(rt; answer, Ok(22 - zeros), "{number}, {alphabet:?}");
-            assert_eq!(rt; &text[zeros..], &letters[zeros..], "{number}, {alphabet:?}");
-        }
+        let fill = fills_buffer(Letters::Standard, number)
+            && fills_buffer(Letters::Alternative, number);
+        assert!(rt; fill, "{number}");
     }
 }
 

@@ -25,13 +25,10 @@ fn assert_decodes(
     text: &str,
     answer: Result<u128, DecodeError>,
 ) -> Result<(), Fail> {
-    assert_eq!(rt; decode(text.as_bytes()), answer, "decoding {text:?}");
     let alternative = exchanged(rt.alloc(), text)?;
-    assert_eq!(rt;
-        decode_alternative(alternative.as_slice()),
-        answer,
-        "decoding {text:?} with its case exchanged, alternative"
-    );
+    let are_answers = decode(text.as_bytes()) == answer
+        && decode_alternative(alternative.as_slice()) == answer;
+    assert!(rt; are_answers, "decoding {text}");
     Ok(())
 }
 

@@ -25,16 +25,20 @@ impl Number for Pair {
 // The largest values are written out, so that a cast is not compared with itself.
 #[test]
 fn a_value_means_itself(rt: HostRuntime) {
-    assert_eq!(rt; false.number(), 0);
-    assert_eq!(rt; true.number(), 1);
-    assert_eq!(rt; 'z'.number(), 122);
-    assert_eq!(rt; char::MAX.number(), 1114111);
-    assert_eq!(rt; u8::MAX.number(), 255);
-    assert_eq!(rt; u16::MAX.number(), 65535);
-    assert_eq!(rt; u32::MAX.number(), 4294967295);
-    assert_eq!(rt; 1337_u64.number(), 1337);
-    assert_eq!(rt; u64::MAX.number(), 18446744073709551615);
-    assert_eq!(rt; u128::MAX.number(), 340282366920938463463374607431768211455);
+    for (number, meaning) in [
+        (false.number(), 0),
+        (true.number(), 1),
+        ('z'.number(), 122),
+        (char::MAX.number(), 1114111),
+        (u8::MAX.number(), 255),
+        (u16::MAX.number(), 65535),
+        (u32::MAX.number(), 4294967295),
+        (1337_u64.number(), 1337),
+        (u64::MAX.number(), 18446744073709551615),
+        (u128::MAX.number(), 340282366920938463463374607431768211455),
+    ] {
+        assert!(rt; number == meaning, "{number} instead of {meaning}");
+    }
 }
 
 fn assert_standard<T: Number + Copy>(rt: &impl Abort, number: T, text: &str) {

@@ -45,12 +45,9 @@ fn texts_of_uuids(rt: HostRuntime) {
     for (uuid, text, alternative) in UUIDS {
         assert_encodes(&rt, Letters::Standard, uuid, text.as_bytes());
         assert_encodes(&rt, Letters::Alternative, uuid, alternative.as_bytes());
-        assert_eq!(rt; decode_uuid(text.as_bytes()), Ok(uuid), "{text}");
-        assert_eq!(rt;
-            decode_alternative_uuid(alternative.as_bytes()),
-            Ok(uuid),
-            "{alternative}"
-        );
+        let are_read = decode_uuid(text.as_bytes()) == Ok(uuid)
+            && decode_alternative_uuid(alternative.as_bytes()) == Ok(uuid);
+        assert!(rt; are_read, "{text}");
     }
 }
 
@@ -63,13 +60,11 @@ fn uuids_over_own_letters(rt: HostRuntime) {
     }
     let own = Alphabet::new(letters).expect(&rt, "no byte is repeated");
     let uuid = [0, 0, 0, 0, 0, 0, 0, 0, 0, 0, 0, 0, 0, 0, 5, 57];
-    assert_eq!(rt; decode_uuid_with(&own, &[215, 229]), Ok(uuid));
-    assert_eq!(rt; decode_uuid_with(&own, &[194, 215, 229]), Ok(uuid));
-    assert_eq!(rt; decode_uuid_with(&own, &[194]), Ok([0; 16]));
-    assert_eq!(rt;
-        decode_uuid_with(&own, b"LZ"),
-        Err(InvalidBase62Byte(b'L', 0))
-    );
+    let are_read = decode_uuid_with(&own, &[215, 229]) == Ok(uuid)
+        && decode_uuid_with(&own, &[194, 215, 229]) == Ok(uuid)
+        && decode_uuid_with(&own, &[194]) == Ok([0; 16])
+        && decode_uuid_with(&own, b"LZ") == Err(InvalidBase62Byte(b'L', 0));
+    assert!(rt; are_read, "UUIDs over the bytes from 194");
 }
 
 #[test]
@@ -80,39 +75,29 @@ fn texts_of_no_uuid(rt: HostRuntime) {
         ("LZ-", InvalidBase62Byte(b'-', 2)),
     ];
     for (text, fault) in refused {
-        assert_eq!(rt; decode_uuid(text.as_bytes()), Err(fault), "{text:?}");
+        assert!(rt; decode_uuid(text.as_bytes()) == Err(fault), "{text}");
     }
-    assert_eq!(rt;
-        decode_alternative_uuid(b"7N42dgm5tFLK9N8MT7fHC8"),
-        Err(ArithmeticOverflow)
+    let alternative = decode_alternative_uuid(b"7N42dgm5tFLK9N8MT7fHC8");
+    assert!(rt;
+        alternative == Err(ArithmeticOverflow),
+        "2^128, alternative"
     );
 }
 
 #[test]
 fn canonical_texts_of_uuids(rt: HostRuntime) {
     for (uuid, text, alternative) in UUIDS {
-        assert_eq!(rt;
-            decode_uuid_canonical(text.as_bytes()),
-            Ok(Some(uuid)),
-            "{text}"
-        );
-        assert_eq!(rt;
-            decode_alternative_uuid_canonical(alternative.as_bytes()),
-            Ok(Some(uuid)),
-            "{alternative}"
-        );
+        let are_read = decode_uuid_canonical(text.as_bytes()) == Ok(Some(uuid))
+            && decode_alternative_uuid_canonical(alternative.as_bytes()) == Ok(Some(uuid));
+        assert!(rt; are_read, "{text}");
     }
-    assert_eq!(rt; decode_uuid_canonical(b"0LygHa16AHYG"), Ok(None));
-    assert_eq!(rt; decode_alternative_uuid_canonical(b"00"), Ok(None));
-    assert_eq!(rt; decode_uuid_canonical(b""), Err(EmptyInput));
-    assert_eq!(rt;
-        decode_uuid_canonical(b"0-"),
-        Err(InvalidBase62Byte(b'-', 1))
-    );
-    assert_eq!(rt;
-        decode_alternative_uuid_canonical(b"7N42dgm5tFLK9N8MT7fHC8"),
-        Err(ArithmeticOverflow)
-    );
+    let have_zeros = decode_uuid_canonical(b"0LygHa16AHYG") == Ok(None)
+        && decode_alternative_uuid_canonical(b"00") == Ok(None);
+    assert!(rt; have_zeros, "needless zeros");
+    let are_refused = decode_uuid_canonical(b"") == Err(EmptyInput)
+        && decode_uuid_canonical(b"0-") == Err(InvalidBase62Byte(b'-', 1))
+        && decode_alternative_uuid_canonical(b"7N42dgm5tFLK9N8MT7fHC8") == Err(ArithmeticOverflow);
+    assert!(rt; are_refused, "texts of no UUID");
 }
 
 // The zero letter is `A`, and `BF` is 62 + 5.
@@ -121,7 +106,8 @@ fn canonical_texts_of_uuids_over_own_letters(rt: HostRuntime) {
     let letters = *b"ABCDEFGHIJKLMNOPQRSTUVWXYZabcdefghijklmnopqrstuvwxyz0123456789";
     let own = Alphabet::new(letters).expect(&rt, "no byte is repeated");
     let uuid = [0, 0, 0, 0, 0, 0, 0, 0, 0, 0, 0, 0, 0, 0, 0, 67];
-    assert_eq!(rt; decode_uuid_canonical_with(&own, b"BF"), Ok(Some(uuid)));
-    assert_eq!(rt; decode_uuid_canonical_with(&own, b"ABF"), Ok(None));
-    assert_eq!(rt; decode_uuid_canonical_with(&own, b"A"), Ok(Some([0; 16])));
+    let are_read = decode_uuid_canonical_with(&own, b"BF") == Ok(Some(uuid))
+        && decode_uuid_canonical_with(&own, b"ABF") == Ok(None)
+        && decode_uuid_canonical_with(&own, b"A") == Ok(Some([0; 16]));
+    assert!(rt; are_read, "UUIDs over own letters");
 }

@@ -318,18 +318,24 @@ fn have_ranges(alphabet: Letters, width: usize, front: &[u8], number: u128) -> b
 }
 
 // The first letters of a text and a zero, as they are and with the zero or the last letter as their last one.
+fn assert_ranges(rt: &impl Abort, alphabet: Letters, width: usize, number: u128)
+    requires { width ≤ WIDEST }
+{
+    let mut letters = [alphabet.letters()[0]; WIDEST + 1];
+    let _ = plain_fixed(alphabet.letters(), number, &mut letters[..width]);
+    for length in 0..=width + 1 {
+        let are_ranges = have_ranges(alphabet, width, &letters[..length], number);
+        assert!(rt; are_ranges, "{length} of {width}, {number}, {alphabet:?}");
+    }
+}
+
 #[test]
 fn ranges_by_plain_texts(rt: HostRuntime) {
     for alphabet in FOUR {
         for width in [0, 1, 5, 22, 23, 25] {
             assert!(rt; width <= WIDEST, "{width} letters");
             for number in borders() {
-                let mut letters = [alphabet.letters()[0]; WIDEST + 1];
-                let _ = plain_fixed(alphabet.letters(), number, &mut letters[..width]);
-                for length in 0..=width + 1 {
-                    let are_ranges = have_ranges(alphabet, width, &letters[..length], number);
-                    assert!(rt; are_ranges, "{length} of {width}, {number}, {alphabet:?}");
-                }
+                assert_ranges(&rt, alphabet, width, number);
             }
         }
     }

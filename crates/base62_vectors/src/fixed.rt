@@ -197,21 +197,33 @@ const REFUSED: [(usize, &str, u8, usize); 4] = [
     (100, "000!", b'!', 3),
 ];
 
-#[test]
-fn ranges_of_fronts(rt: HostRuntime) {
+fn assert_known(rt: &impl Abort) {
     for (width, front, least, greatest) in RANGES {
         let is_range = fixed_range(width, front.as_bytes()) == Ok(Some((least, greatest)));
-        assert!(rt; is_range, "the range of {front} in {width} letters");
+        assert!(rt; is_range, "{front} of {width}");
     }
+}
+
+fn assert_none(rt: &impl Abort) {
     for (width, front) in NO_RANGES {
         let has_none = fixed_range(width, front.as_bytes()) == Ok(None);
-        assert!(rt; has_none, "the range of {front} in {width} letters");
+        assert!(rt; has_none, "{front} of {width}");
     }
+}
+
+fn assert_refused(rt: &impl Abort) {
     for (width, front, byte, index) in REFUSED {
         let refused = Err(InvalidBase62Byte(byte, index));
         let is_refused = fixed_range(width, front.as_bytes()) == refused;
-        assert!(rt; is_refused, "the range of {front} in {width} letters");
+        assert!(rt; is_refused, "{front} of {width}");
     }
+}
+
+#[test]
+fn ranges_of_fronts(rt: HostRuntime) {
+    assert_known(&rt);
+    assert_none(&rt);
+    assert_refused(&rt);
 }
 
 // The ends of fronts of zeros, one letter more at a time, in 100 letters: all numbers, and then those of fewer letters.

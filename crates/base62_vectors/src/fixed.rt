@@ -197,21 +197,33 @@ const REFUSED: [(usize, &str, u8, usize); 4] = [
     (100, "000!", b'!', 3),
 ];
 
-#[test]
-fn ranges_of_fronts(rt: HostRuntime) {
+fn assert_known(rt: &impl Abort) {
     for (width, front, least, greatest) in RANGES {
         let is_range = fixed_range(width, front.as_bytes()) == Ok(Some((least, greatest)));
-        assert!(rt; is_range, "the range of {front} in {width} letters");
+        assert!(rt; is_range, "{front} of {width}");
     }
+}
+
+fn assert_none(rt: &impl Abort) {
     for (width, front) in NO_RANGES {
         let has_none = fixed_range(width, front.as_bytes()) == Ok(None);
-        assert!(rt; has_none, "the range of {front} in {width} letters");
+        assert!(rt; has_none, "{front} of {width}");
     }
+}
+
+fn assert_refused(rt: &impl Abort) {
     for (width, front, byte, index) in REFUSED {
         let refused = Err(InvalidBase62Byte(byte, index));
         let is_refused = fixed_range(width, front.as_bytes()) == refused;
-        assert!(rt; is_refused, "the range of {front} in {width} letters");
+        assert!(rt; is_refused, "{front} of {width}");
     }
+}
+
+#[test]
+fn ranges_of_fronts(rt: HostRuntime) {
+    assert_known(&rt);
+    assert_none(&rt);
+    assert_refused(&rt);
 }
 
 // The ends of fronts of zeros, one letter more at a time, in 100 letters: all numbers, and then those of fewer letters.
@@ -318,18 +330,24 @@ fn have_ranges(alphabet: Letters, width: usize, front: &[u8], number: u128) -> b
 }
 
 // The first letters of a text and a zero, as they are and with the zero or the last letter as their last one.
+fn assert_ranges(rt: &impl Abort, alphabet: Letters, width: usize, number: u128)
+    requires { width ≤ WIDEST }
+{
+    let mut letters = [alphabet.letters()[0]; WIDEST + 1];
+    let _ = plain_fixed(alphabet.letters(), number, &mut letters[..width]);
+    for length in 0..=width + 1 {
+        let are_ranges = have_ranges(alphabet, width, &letters[..length], number);
+        assert!(rt; are_ranges, "{length} of {width}, {number}, {alphabet:?}");
+    }
+}
+
 #[test]
 fn ranges_by_plain_texts(rt: HostRuntime) {
     for alphabet in FOUR {
         for width in [0, 1, 5, 22, 23, 25] {
             assert!(rt; width <= WIDEST, "{width} letters");
             for number in borders() {
-                let mut letters = [alphabet.letters()[0]; WIDEST + 1];
-                let _ = plain_fixed(alphabet.letters(), number, &mut letters[..width]);
-                for length in 0..=width + 1 {
-                    let are_ranges = have_ranges(alphabet, width, &letters[..length], number);
-                    assert!(rt; are_ranges, "{length} of {width}, {number}, {alphabet:?}");
-                }
+                assert_ranges(&rt, alphabet, width, number);
             }
         }
     }

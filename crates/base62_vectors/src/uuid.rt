@@ -84,6 +84,17 @@ fn texts_of_no_uuid(rt: HostRuntime) {
     );
 }
 
+fn are_needless() -> bool {
+    decode_uuid_canonical(b"0LygHa16AHYG") == Ok(None)
+        && decode_alternative_uuid_canonical(b"00") == Ok(None)
+}
+
+fn are_refused() -> bool {
+    decode_uuid_canonical(b"") == Err(EmptyInput)
+        && decode_uuid_canonical(b"0-") == Err(InvalidBase62Byte(b'-', 1))
+        && decode_alternative_uuid_canonical(b"7N42dgm5tFLK9N8MT7fHC8") == Err(ArithmeticOverflow)
+}
+
 #[test]
 fn canonical_texts_of_uuids(rt: HostRuntime) {
     for (uuid, text, alternative) in UUIDS {
@@ -91,13 +102,8 @@ fn canonical_texts_of_uuids(rt: HostRuntime) {
             && decode_alternative_uuid_canonical(alternative.as_bytes()) == Ok(Some(uuid));
         assert!(rt; are_read, "{text}");
     }
-    let have_zeros = decode_uuid_canonical(b"0LygHa16AHYG") == Ok(None)
-        && decode_alternative_uuid_canonical(b"00") == Ok(None);
-    assert!(rt; have_zeros, "needless zeros");
-    let are_refused = decode_uuid_canonical(b"") == Err(EmptyInput)
-        && decode_uuid_canonical(b"0-") == Err(InvalidBase62Byte(b'-', 1))
-        && decode_alternative_uuid_canonical(b"7N42dgm5tFLK9N8MT7fHC8") == Err(ArithmeticOverflow);
-    assert!(rt; are_refused, "texts of no UUID");
+    assert!(rt; are_needless(), "needless zeros");
+    assert!(rt; are_refused(), "texts of no UUID");
 }
 
 // The zero letter is `A`, and `BF` is 62 + 5.

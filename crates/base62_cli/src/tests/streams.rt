@@ -107,7 +107,7 @@ fn is_answered_by_byte(alloc: Global, input: &[u8], output: &[u8]) -> Result<boo
     Ok(writer.written.as_slice() == output && writer.flushed_at.as_slice() == end.as_slice())
 }
 
-// No output is flushed too.
+// An empty output is flushed too.
 #[test]
 fn one_byte_a_call(rt: HostRuntime) -> Result<(), Fail> {
     let [ended, unended] = stored_inputs();

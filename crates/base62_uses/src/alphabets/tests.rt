@@ -33,7 +33,7 @@ fn codes_and_their_ids(rt: HostRuntime) {
     assert!(rt; is_code(b"2", 0) && is_code(b"Pd", 1337));
     assert!(rt; code_id(b"Pd") == Some(1337) && code_id(b"P0").is_none());
     for id in [0, 61, 62, u64::MAX] {
-        assert!(rt; id_of_own_code(id) == Some(id));
+        assert!(rt; id_of_own_code(id) == Some(id), "{id}");
     }
 }
 

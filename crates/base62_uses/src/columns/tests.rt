@@ -46,7 +46,8 @@ fn scans_of_columns(rt: HostRuntime) {
         (b"!!!!!!!!!7!", false),
     ];
     for (column, is_wanted) in columns {
-        assert!(rt; is_column_scanned(&alphabet, b"!!!!!!!!!6", column) == is_wanted);
-        assert!(rt; is_scanned_by_others(&alphabet, column));
+        let is_scanned = is_column_scanned(&alphabet, b"!!!!!!!!!6", column);
+        let is_so = is_scanned == is_wanted && is_scanned_by_others(&alphabet, column);
+        assert!(rt; is_so, "{column:?}");
     }
 }

@@ -43,7 +43,7 @@ fn faults_that_were_noted(rt: HostRuntime) -> Result<(), Fail> {
     let first = AlphabetError::Repeated(b'A', 61);
     let second = AlphabetError::Repeated(b'A', 60);
     for (fault, is_noted) in [(first, false), (second, false), (first, true)] {
-        assert!(rt; was_noted(&mut noted, fault)? == is_noted);
+        assert!(rt; was_noted(&mut noted, fault)? == is_noted, "{fault:?}");
     }
     assert!(rt; is_refusal_noted(rt.alloc())?);
     Ok(())
@@ -69,7 +69,8 @@ fn order_of_faults(rt: HostRuntime) {
     ];
     for (place, fault) in faults.iter().enumerate() {
         for (other_place, other) in faults.iter().enumerate() {
-            assert!(rt; is_worse(*fault, *other) == (place > other_place));
+            let is_so = is_worse(*fault, *other) == (place > other_place);
+            assert!(rt; is_so, "{fault:?} and {other:?}");
         }
     }
     let repeats = [(b'A', 7), (b'B', 3), (b'B', 5)];
@@ -77,7 +78,8 @@ fn order_of_faults(rt: HostRuntime) {
         for (other_place, (other, at)) in repeats.iter().enumerate() {
             let fault = AlphabetError::Repeated(*byte, *index);
             let other = AlphabetError::Repeated(*other, *at);
-            assert!(rt; is_later_repeat(fault, other) == (place > other_place));
+            let is_so = is_later_repeat(fault, other) == (place > other_place);
+            assert!(rt; is_so, "{fault:?} and {other:?}");
         }
     }
 }

@@ -22,14 +22,14 @@ fn ids_of_links(rt: HostRuntime) {
         (b"rust-lang", None),
     ];
     for (link, id) in ids {
-        assert!(rt; link_id(link) == id);
+        assert!(rt; link_id(link) == id, "{link:?}");
     }
 }
 
 #[test]
 fn ids_of_own_links(rt: HostRuntime) {
     for id in [0, 61, 62, 1337, u64::MAX] {
-        assert!(rt; id_of_own_link(id) == Some(id));
+        assert!(rt; id_of_own_link(id) == Some(id), "{id}");
     }
 }
 

@@ -15,8 +15,9 @@ fn scans_of_a_table(rt: HostRuntime) {
         (b"00000000000000000000M0", false),
     ];
     for (key, is_wanted) in keys {
-        assert!(rt; is_scanned(b"00000000000000000000L", key) == is_wanted);
-        assert!(rt; is_scanned_by_others(key));
+        let is_taken = is_scanned(b"00000000000000000000L", key);
+        let is_so = is_taken == is_wanted && is_scanned_by_others(key);
+        assert!(rt; is_so, "{key:?}");
     }
 }
 

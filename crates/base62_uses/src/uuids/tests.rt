@@ -11,7 +11,7 @@ fn short_forms(rt: HostRuntime) {
     assert!(rt; uuid_of_short(b"0296tiiBb3UUmdjYQ3ySu0").is_none());
     assert!(rt; uuid_of_short(b"!").is_none());
     for uuid in [[0; 16], COUNTED, [255; 16]] {
-        assert!(rt; uuid_of_own_short(&uuid) == Some(uuid));
+        assert!(rt; uuid_of_own_short(&uuid) == Some(uuid), "{uuid:?}");
     }
 }
 

@@ -6,19 +6,29 @@ trap 'stop_parts; rm -rf "$room"' EXIT
 trap 'exit 130' INT
 trap 'exit 143' HUP TERM
 
-# One for each processor that has 4 GB of memory: a proof from nothing takes 1 to 4.
-lanes=$(nproc)
-fits=$(awk '/^MemAvailable/ { print int($2 / 4e6) }' /proc/meminfo)
+# The processors that it may run on, as 0-2,5 tells them.
+processors() {
+    local ranges first last
+    ranges=$(awk '/^Cpus_allowed_list:/ { print $2 }' /proc/self/status)
+    while IFS=- read -r first last; do
+        seq "$first" "${last:-$first}"
+    done <<<"${ranges//,/$'\n'}"
+}
+
+# The processors that no part has. Of all there are as many as have 4 GB of memory each: a proof from nothing takes 1 to 4.
+mapfile -t idle < <(processors)
+lanes=${#idle[@]}
+fits=$(awk '/^MemAvailable:/ { print int($2 / 4e6) }' /proc/meminfo)
 lanes=$((fits < 1 ? 1 : fits < lanes ? fits : lanes))
-idle=$lanes
+idle=("${idle[@]:0:lanes}")
 passed=0
 failed=0
 names=()
-declare -A width after command state began
+declare -A width after command state began held
 # The name of each part that runs, by its group of processes.
 declare -A running=()
 
-# NAME LANES AFTER COMMAND.. A part that takes so many lanes. It begins once the part AFTER has ended well, and has the
+# NAME LANES AFTER COMMAND.. A part that runs on so many processors. It begins once the part AFTER has ended well, and has the
 # proofs that are kept there.
 part() {
     names+=("$1")
@@ -44,11 +54,14 @@ start() {
     echo "gate: $1 begins"
     state[$1]=runs
     began[$1]=$SECONDS
-    idle=$((idle - width[$1]))
+    held[$1]=${idle[*]:0:width[$1]}
+    idle=("${idle[@]:width[$1]}")
     # With job control it gets a group of its own, by which it is stopped.
     set -m
     (
         trap - EXIT INT HUP TERM
+        # What would take more threads than there are processors for it loses time in waits of one for another.
+        taskset --cpu-list --pid "${held[$1]// /,}" "$BASHPID" >/dev/null
         run_part "$1"
     ) >"$room/$1.said" 2>&1 </dev/null &
     set +m
@@ -59,7 +72,7 @@ start_what_fits() {
     local name
     for name in "${names[@]}"; do
         if [[ ${state[$name]} = waits && (! ${after[$name]} || ${state[${after[$name]}]} = passed) ]] &&
-            ((width[$name] <= idle)); then
+            ((width[$name] <= ${#idle[@]})); then
             start "$name"
         fi
     done
@@ -79,7 +92,7 @@ end() {
         state[$1]=passed
         well=$((well ? well : 1))
     fi
-    idle=$((idle + width[$1]))
+    read -ra idle <<<"${idle[*]} ${held[$1]}"
     passed=$((passed + well))
     failed=$((failed + bad))
     echo "== $1"

@@ -78,6 +78,3 @@ pub fn leader_line(alloc: Global, number: u128) -> Result<String, AllocError>
 {
     format!(in alloc; "{:é>1000}", base62::encode_fmt(number))
 }
-
-#[cfg(test)]
-mod tests;

@@ -110,6 +110,3 @@ pub fn complaint(text: &[u8]) -> InlineText<MAX_FAULT_TEXT>
         Err(fault) => fault.text(),
     }
 }
-
-#[cfg(test)]
-mod tests;

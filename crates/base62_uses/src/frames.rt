@@ -16,6 +16,3 @@ pub fn put_frame(id: u64, frame: &mut [u8; 64], work: &mut Work) -> u8
 {
     base62::encode_bytes_counted(id, frame, work).unwrap() as u8
 }
-
-#[cfg(test)]
-mod tests;

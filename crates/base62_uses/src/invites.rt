@@ -9,14 +9,14 @@ ghost use Rattle.base62.specs.declared.fault.DecodeError.{DecodeError};
 use base62::DecodeError;
 
 /// What becomes of a code with needless zeros in front.
-#[derive(Clone, Copy, Debug, PartialEq, Eq)]
+#[derive(Clone, Copy, PartialEq, Eq)]
 pub enum LeadingZeros {
     Accepted,
     Refused,
 }
 
 /// Why a code is refused.
-#[derive(Clone, Copy, Debug, PartialEq, Eq)]
+#[derive(Clone, Copy, PartialEq, Eq)]
 pub enum InviteFault {
     /// It has needless zeros in front.
     LeadingZero,
@@ -66,6 +66,3 @@ pub fn id_of_code(code: &[u8]) -> Option<u64>
     let number = base62::decode_canonical(code).ok()??;
     u64::try_from(number).ok()
 }
-
-#[cfg(test)]
-mod tests;

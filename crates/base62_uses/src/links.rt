@@ -86,6 +86,3 @@ pub fn link_address(alloc: Global, id: u64) -> Result<String, AllocError>
     base62::encode_buf(id, &mut address)?;
     Ok(address)
 }
-
-#[cfg(test)]
-mod tests;

@@ -19,6 +19,3 @@ pub fn manual_link(buf: &mut [u8; 22]) -> &[u8]
     base62::laws::text_of_number(&base62::Alphabet::standard(), b"LZ", 1337);
     crate::link_text(1337, buf)
 }
-
-#[cfg(test)]
-mod tests;

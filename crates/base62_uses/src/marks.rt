@@ -74,6 +74,3 @@ pub fn borders_of_zeros_in_front()
     base62::laws::letters_are_distinct(&mark_alphabet());
     base62::laws::zero_in_front();
 }
-
-#[cfg(test)]
-mod tests;

@@ -23,7 +23,7 @@ pub fn compare_links(a: &[u8], b: &[u8]) -> Ordering
 
 /// An id that sorts by the time at which it was made, and then by its place among those of one
 /// time.
-#[derive(Clone, Copy, Debug, PartialEq, Eq)]
+#[derive(Clone, Copy, PartialEq, Eq)]
 pub struct TimedId {
     pub milliseconds: u64,
     pub sequence: u32,
@@ -94,6 +94,3 @@ pub fn ticket_number(text: &[u8; 8]) -> Option<u64>
     // 62^8 is below 2^64.
     Some(number as u64)
 }
-
-#[cfg(test)]
-mod tests;

@@ -54,6 +54,3 @@ pub fn letters_cells(alloc: Global, fault: AlphabetError) -> Result<String, Allo
 {
     format!(in alloc; "{fault:<100}|{fault:.3}|")
 }
-
-#[cfg(test)]
-mod tests;

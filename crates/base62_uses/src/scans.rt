@@ -69,6 +69,3 @@ pub fn count_ids(texts: &[&[u8]], work: &mut Work) -> usize
     }
     count
 }
-
-#[cfg(test)]
-mod tests;

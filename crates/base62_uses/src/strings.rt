@@ -87,6 +87,3 @@ pub fn write_line<W: Write>(number: u128, writer: &mut W) -> io::Result<()>
     base62::encode_io(number, writer)?;
     writer.write_all(b"\n")
 }
-
-#[cfg(test)]
-mod tests;

@@ -76,6 +76,3 @@ pub fn token_of_number(alloc: Global, number: u128) -> Result<Vec<u8>, AllocErro
     base62::laws::exchange_of_text(&buf[..len], number);
     with_case_exchanged(alloc, &buf[..len])
 }
-
-#[cfg(test)]
-mod tests;

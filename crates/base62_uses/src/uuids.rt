@@ -69,6 +69,3 @@ pub fn shorts_differ(a: [u8; 16], b: [u8; 16]) -> bool
     base62::laws::uuids_of_two(a, b);
     first != second
 }
-
-#[cfg(test)]
-mod tests;

@@ -125,6 +125,3 @@ pub fn uuid_of_own_text(alphabet: &Alphabet, text: &[u8]) -> Option<[u8; 16]>
 {
     base62::decode_uuid_canonical_with(alphabet, text).ok()?
 }
-
-#[cfg(test)]
-mod tests;

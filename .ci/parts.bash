@@ -28,11 +28,11 @@ declare -A width after command state began held
 # The name of each part that runs, by its group of processes.
 declare -A running=()
 
-# NAME LANES AFTER COMMAND.. A part that runs on so many processors. It begins once the part AFTER has ended well, and has the
-# proofs that are kept there.
+# NAME PROCESSORS AFTER COMMAND.. A part that runs on so many processors, or on one where they are fewer than twice as
+# many. It begins once the part AFTER has ended well, and has the proofs that are kept there.
 part() {
     names+=("$1")
-    width[$1]=$2
+    width[$1]=$((2 * $2 > lanes ? 1 : $2))
     after[$1]=$3
     command[$1]=${*:4}
     state[$1]=waits

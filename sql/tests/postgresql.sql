@@ -18,9 +18,9 @@ END $$;
 
 \echo The values are there
 SELECT (SELECT count(*) > 15000 FROM number), (SELECT count(*) > 10000 FROM fixed),
-    (SELECT count(*) > 10000 FROM given), (SELECT count(*) > 3000 FROM front),
+    (SELECT count(*) > 6000 FROM given), (SELECT count(*) > 3000 FROM front),
     (SELECT count(*) > 500 FROM front WHERE first IS NULL),
-    (SELECT count(*) > 3000 FROM given WHERE canonical LIKE '%needless%');
+    (SELECT count(*) > 600 FROM given WHERE canonical LIKE '%needless%');
 \echo Values that differ: none
 SELECT * FROM number, letters WHERE
     base62_encode(n) IS DISTINCT FROM CASE WHEN n IS NOT NULL THEN t END

@@ -122,12 +122,12 @@ def ends(front: str, width: int) -> tuple[str, str] | Fault | None:
     return text(least).rjust(width, "0"), text(min(least + span - 1, LARGEST)).rjust(width, "0")
 
 
-def numbers() -> list[int]:
-    """Numbers around each power of 62 and of 2, and others."""
+def numbers(others: int = 2000) -> list[int]:
+    """Numbers around each power of 62 and of 2, and so many others."""
     choice = random.Random(62)
     centers = [base**power for base in (2, 62) for power in range(129)]
     found = {center + beside for center in centers for beside in (-1, 0, 1)}
-    found |= {choice.getrandbits(choice.randint(1, 128)) for _ in range(20000)}
+    found |= {choice.getrandbits(choice.randint(1, 128)) for _ in range(others)}
     return sorted(number for number in found if number <= LARGEST)
 
 
@@ -143,7 +143,7 @@ def texts() -> list[str]:
                 found.add("000" + filler * place + no_letter + filler * 2)
     for number in [LARGEST + beside for beside in range(-3, 4)] + [62**22 - 1, 62**22, 62**23, 62**40]:
         found |= {text(number), "0" + text(number), "0" * 40 + text(number)}
-    for _ in range(10000):
+    for _ in range(2000):
         given = list(text(choice.getrandbits(choice.randint(1, 131))).rjust(choice.randint(0, 24), "0"))
         if choice.random() < 0.5:
             given[choice.randrange(len(given))] = choice.choice("!_é-z0")
@@ -212,13 +212,15 @@ def put(table: str, columns: str, rows: list[tuple[object, ...]]) -> None:
 
 
 def put_all() -> None:
+    # PostgreSQL plans by how many there are.
+    many = numbers(20000)
     put(
         "number",
         "n bigint, u uuid, t text, z text, k text, a text, o text",
         [
             (number if number <= BIGINT else None, f"{number:032x}", text(number), "000" + text(number),
              fixed(number, KEY), text(number, ALTERNATIVE), text(number, OWN))
-            for number in numbers()
+            for number in many
         ],
     )
     put(
@@ -227,7 +229,7 @@ def put_all() -> None:
         [
             (number if number <= BIGINT else None, f"{number:032x}", width,
              fixed(number, width) or stated(Fault(TOO_WIDE)), fixed(number, width, OWN))
-            for number in numbers()[::4]
+            for number in many[::4]
             for width in widths(number)
         ],
     )

@@ -1,6 +1,6 @@
 //! Why a run ended early.
 
-ghost use Rattle.std.specs.Prelude.{Some};
+ghost use Rattle.std.specs.Prelude.{◌≡◌, Some};
 ghost use Rattle.base62_cli.specs.Fault.{fault_text};
 
 use std::{error, fmt};
@@ -16,19 +16,27 @@ pub enum ToolFault {
     Memory,
 }
 
+impl ToolFault {
+    #[tactic(auto, unfolding(crate::specs::Fault::fault_text))]
+    fn text(self) -> &'static str
+        ensures { result.now ≡ fault_text self }
+    {
+        match self {
+            ToolFault::Read => "base62_cli: read failed",
+            ToolFault::Write => "base62_cli: write failed",
+            ToolFault::Memory => "base62_cli: out of memory",
+        }
+    }
+}
+
 /// Says what failed, and the same under any width, fill and alignment.
 impl fmt::Display for ToolFault {
     ghost output = { λ fault. Some (fault_text fault) };
 
     ghost styled_output = { λ fault _. Some (fault_text fault) };
 
-    #[tactic(auto, unfolding(crate::specs::Fault::fault_text))]
     fn fmt<W: fmt::Write>(&self, f: &mut fmt::Formatter<W>) -> fmt::Result {
-        match *self {
-            ToolFault::Read => f.write_str("base62_cli: read failed"),
-            ToolFault::Write => f.write_str("base62_cli: write failed"),
-            ToolFault::Memory => f.write_str("base62_cli: out of memory"),
-        }
+        f.write_str(self.text())
     }
 }
 

@@ -212,9 +212,9 @@ def refused(call: Callable[..., object]) -> Callable[..., None]:
 
 @unittest.skipUnless(sys.getallocatedblocks(), "Python counts no blocks of memory of another malloc")
 class Kept(unittest.TestCase):
-    """Ten thousand runs of each call, and of each refusal, leave memory and counts of references as they were."""
+    """Two thousand runs of each call, and of each refusal, leave memory and counts of references as they were."""
 
-    RUNS = 10_000
+    RUNS = 2_000
     WIDE = 2**128 - 1
     TEXT = "7n42DGM5Tflk9n8mt7Fhc7"
     LETTERS = base62.Alphabet(OWN)
@@ -238,7 +238,7 @@ class Kept(unittest.TestCase):
         before = state()
         run(self.RUNS)
         for was, now in zip(before, state()):
-            self.assertLess(abs(now - was), self.RUNS // 100, f"{call} of {given} and {named}")
+            self.assertLess(abs(now - was), self.RUNS // 10, f"{call} of {given} and {named}")
 
     def test_calls(self) -> None:
         for number in (1337, self.WIDE, uuid.UUID(int=self.WIDE), True):

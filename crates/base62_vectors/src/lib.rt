@@ -34,4 +34,6 @@ mod support;
 #[cfg(test)]
 mod target;
 #[cfg(test)]
+mod uses;
+#[cfg(test)]
 mod uuid;

@@ -1,8 +1,15 @@
-//! With ample memory each caller ends well that can be refused memory, or a write. What it answers
-//! then its clauses say, and so do those of callers that always end well.
+//! With ample memory each caller of `base62_uses` ends well that can be refused memory, or a write. What it answers then
+//! its clauses say, and so do those of callers that always end well.
 
-use super::*;
 use base62::{Alphabet, AlphabetError, DecodeError, EncodeError};
+use base62_uses::{
+    append_exactly, append_mark, append_number, append_or_mark, append_own, append_pair,
+    append_token, centred_text, column_text, count_fault, leader_line, letters_cells,
+    letters_report, link_address, link_cells, link_report, note_refusal, order_heading,
+    own_heading, own_text, row_cells, row_report, shelf_mark, text_of_token, token_column,
+    token_heading, token_of_number, token_of_text, token_string, was_noted, widened, write_line,
+    write_own, write_token,
+};
 use std::alloc::{AllocError, Global};
 use std::collections::{BTreeMap, BTreeSet, HashSet};
 use std::io;

@@ -15,7 +15,8 @@ processors() {
     done <<<"${ranges//,/$'\n'}"
 }
 
-# The processors that no part has. Of all there are as many as have 4 GB of memory each: a proof from nothing takes 1 to 4.
+# The processors that no part has. Those with less than 4 GB of memory each are left out: a proof from nothing takes 1
+# to 4.
 mapfile -t idle < <(processors)
 lanes=${#idle[@]}
 fits=$(awk '/^MemAvailable:/ { print int($2 / 4e6) }' /proc/meminfo)
@@ -28,8 +29,8 @@ declare -A width after command state began held
 # The name of each part that runs, by its group of processes.
 declare -A running=()
 
-# NAME PROCESSORS AFTER COMMAND.. A part that runs on so many processors, or on one where they are fewer than twice as
-# many. It begins once the part AFTER has ended well, and has the proofs that are kept there.
+# NAME PROCESSORS AFTER COMMAND.. A part that runs on so many processors, or on one if so many are more than half of
+# all. It begins once the part AFTER has ended well, and has the proofs that are kept there.
 part() {
     names+=("$1")
     width[$1]=$((2 * $2 > lanes ? 1 : $2))
@@ -60,7 +61,7 @@ start() {
     set -m
     (
         trap - EXIT INT HUP TERM
-        # What would take more threads than there are processors for it loses time in waits of one for another.
+        # rt takes threads for each processor that it sees. Where other parts use them too, they wait for one another.
         taskset --cpu-list --pid "${held[$1]// /,}" "$BASHPID" >/dev/null
         run_part "$1"
     ) >"$room/$1.said" 2>&1 </dev/null &

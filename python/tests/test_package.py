@@ -238,7 +238,7 @@ class Kept(unittest.TestCase):
         before = state()
         run(self.RUNS)
         for was, now in zip(before, state()):
-            self.assertLess(abs(now - was), self.RUNS // 10, f"{call} of {given} and {named}")
+            self.assertLess(abs(now - was), self.RUNS // 20, f"{call} of {given} and {named}")
 
     def test_calls(self) -> None:
         for number in (1337, self.WIDE, uuid.UUID(int=self.WIDE), True):

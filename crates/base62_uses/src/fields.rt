@@ -9,7 +9,7 @@ ghost use Rattle.base62.specs.Laws.{AgreesAtLetters};
 use base62::{Alphabet, DecodeError};
 
 /// What a form says beside a field.
-#[derive(Clone, Copy, PartialEq, Eq)]
+#[derive(Clone, Copy)]
 pub enum Verdict {
     /// The text has this number.
     Fine(u128),
@@ -53,7 +53,7 @@ pub fn is_too_large(text: &[u8]) -> bool
 }
 
 /// What becomes of a voucher that a person typed.
-#[derive(Clone, Copy, PartialEq, Eq)]
+#[derive(Clone, Copy)]
 pub enum Voucher {
     /// The voucher of this number.
     Number(u128),

@@ -9,14 +9,14 @@ ghost use Rattle.base62.specs.declared.fault.DecodeError.{DecodeError};
 use base62::DecodeError;
 
 /// What becomes of a code with needless zeros in front.
-#[derive(Clone, Copy, PartialEq, Eq)]
+#[derive(Clone, Copy)]
 pub enum LeadingZeros {
     Accepted,
     Refused,
 }
 
 /// Why a code is refused.
-#[derive(Clone, Copy, PartialEq, Eq)]
+#[derive(Clone, Copy)]
 pub enum InviteFault {
     /// It has needless zeros in front.
     LeadingZero,

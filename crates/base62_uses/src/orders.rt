@@ -23,7 +23,7 @@ pub fn compare_links(a: &[u8], b: &[u8]) -> Ordering
 
 /// An id that sorts by the time at which it was made, and then by its place among those of one
 /// time.
-#[derive(Clone, Copy, PartialEq, Eq)]
+#[derive(Clone, Copy)]
 pub struct TimedId {
     pub milliseconds: u64,
     pub sequence: u32,

@@ -10,7 +10,7 @@ ghost use Rattle.base62.specs.Laws.{number_or_overflow};
 use base62::{Alphabet, Number};
 
 /// A row with fields of fixed sizes, whose id is the first `id_len` bytes of `id`.
-#[derive(Clone, Copy, PartialEq, Eq)]
+#[derive(Clone, Copy)]
 pub struct Row {
     pub id: [u8; 16],
     pub id_len: u8,
@@ -70,7 +70,7 @@ pub fn short_text(id: u32, buf: &mut [u8; 22]) -> &[u8]
 }
 
 /// An id of two parts: the number of a shard, and a row in it.
-#[derive(Clone, Copy, PartialEq, Eq)]
+#[derive(Clone, Copy)]
 pub struct ShardedId {
     pub shard: u32,
     pub row: u64,

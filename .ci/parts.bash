@@ -29,11 +29,11 @@ declare -A width after command state began held
 # The name of each part that runs, by its group of processes.
 declare -A running=()
 
-# NAME PROCESSORS AFTER COMMAND.. A part that runs on so many processors, or on one if so many are more than half of
-# all. It begins once the part AFTER has ended well, and has the proofs that are kept there.
+# NAME PROCESSORS AFTER COMMAND.. A part that runs on so many processors, or on fewer where it would have them all. It
+# begins once the part AFTER has ended well, and has the proofs that are kept there.
 part() {
     names+=("$1")
-    width[$1]=$((2 * $2 > lanes ? 1 : $2))
+    width[$1]=$(($2 < lanes ? $2 : lanes > 1 ? lanes - 1 : 1))
     after[$1]=$3
     command[$1]=${*:4}
     state[$1]=waits

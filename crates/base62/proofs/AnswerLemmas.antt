@@ -148,7 +148,7 @@ module _ (B : List ℕ) (ok : IsAlphabet B) where
       is ∙ decoding-letters text some letters ∙ rw (le-ltb (value B text) (2 ^ 128) large)
 
   -- so letters that overflow do denote so much
-  overflow_large : (text : List ℕ) → AreLetters B text → decoding B text ≡ Err ArithmeticOverflow
+  pub overflow_large : (text : List ℕ) → AreLetters B text → decoding B text ≡ Err ArithmeticOverflow
       → 2 ^ 128 ≤ value B text
   overflow_large text letters =
       let others : AreLetters B (after_zeros B text) = All-drop (IsLetter B) (leading_zeros B text) text letters in

@@ -13,5 +13,7 @@ use Rattle.base62.specs.Case.{other_case}
 use Rattle.base62.specs.Key.{interval_ends}
 
 unfoldable pub base62_on_literals : ⊤
-unfolding encode_utf8 char_count digits standard alternative digit_of sum_over_places value decoding decoding_steps encoding_steps escaped byte_at_index decode_error_text encode_error_text alphabet_error_text displayed other_case interval_ends
+unfolding encode_utf8 char_count digits standard alternative digit_of sum_over_places value decoding
+    decoding_steps encoding_steps escaped byte_at_index decode_error_text encode_error_text
+    alphabet_error_text displayed other_case interval_ends
 base62_on_literals = tt

@@ -1,4 +1,4 @@
-//! Alphabets: their letters, the digits of bytes, and the steps that reading these takes.
+//! Alphabets: their letters, and the digits of bytes.
 
 ghost use Rattle.std.specs.Prelude.{◌≡◌, ◌↔◌, ℕ, Err, IsTrue, IsOk, IfOk, nat_eq};
 ghost use Rattle.std.specs.Cmp.{partial_equiv_from_equiv};
@@ -21,8 +21,8 @@ pub use work::Work;
 /// 62 distinct bytes: the letters of the digits 0 to 61, in order. The first is the zero letter.
 ///
 /// The calls over an alphabet have `_with` in their names: [`decode_with`] is [`decode`] over your
-/// own letters. Contracts see an alphabet as the list of its letters. Its size is 318 bytes: it
-/// holds its letters and the digits of all bytes. It takes no memory besides.
+/// own letters. An alphabet is 318 bytes: its letters, and the digits of all bytes. It takes no
+/// memory besides.
 ///
 /// ```rust
 /// // Digits and letters, but none that look alike, and some marks.
@@ -33,7 +33,7 @@ pub use work::Work;
 ///
 /// [`decode`]: crate::decode
 /// [`decode_with`]: crate::decode_with
-// Laid out as in C, which holds one and lends it to calls.
+// The layout is part of the interface for C, whose callers hold alphabets and lend them to calls.
 #[repr(C)]
 #[derive(Clone, Copy)]
 pub struct Alphabet {
@@ -42,6 +42,7 @@ pub struct Alphabet {
 
 const _: () = prove!(size_of::<Alphabet>() == 318);
 
+// Contracts see an alphabet as the list of its letters.
 impl Model for Alphabet {
     ghost use Rattle.std.specs.Prelude.{ℕ, List};
     ghost use Rattle.base62.specs.Tables.{AreTables, digits_of_bytes};
@@ -59,8 +60,8 @@ impl Model for Alphabet {
 impl Alphabet {
     /// The alphabet of these letters, which may be any bytes, ASCII or not.
     ///
-    /// `Err(Repeated(byte, index))` comes exactly where a byte is repeated. The index is the least
-    /// one whose byte stands at an earlier index too. The call takes no memory.
+    /// `Err(Repeated(byte, index))` comes exactly if a byte is repeated. The index is the least one
+    /// whose byte stands at an earlier index too. The call takes no memory.
     ///
     /// ```rust
     /// let repeated = base62::Alphabet::new([b'a'; 62]);
@@ -73,12 +74,11 @@ impl Alphabet {
             → RepeatsFirst letters byte index }
     {
         let mut digits = [255u8; 256];
-        'letters: for index in 0..62 {
-            let byte = letters[index];
-            if digits[byte as usize] != 255 {
-                return Err(AlphabetError::Repeated(byte, index));
+        for (index, byte) in letters.iter().enumerate() {
+            if digits[*byte as usize] != 255 {
+                return Err(AlphabetError::Repeated(*byte, index));
             }
-            digits[byte as usize] = index as u8;
+            digits[*byte as usize] = index as u8;
         }
         Ok(Alphabet {
             tables: Tables { letters, digits },
@@ -87,9 +87,9 @@ impl Alphabet {
 
     /// The alphabet of letters that are written out in the program.
     ///
-    /// It requires 62 distinct bytes, which the prover checks by computing. So it finds whether they
-    /// ascend, and whether they are ASCII. The call refuses nothing and takes no memory. Letters that
-    /// come as input go to [`new`](Alphabet::new).
+    /// It requires 62 distinct bytes, which the prover checks by computing. So it finds whether
+    /// they ascend, and whether they are ASCII. The call refuses nothing and takes no memory.
+    /// Letters that come as input go to [`new`](Alphabet::new).
     ///
     /// ```rust
     /// let letters = *b"ABCDEFGHIJKLMNOPQRSTUVWXYZabcdefghijklmnopqrstuvwxyz0123456789";
@@ -107,6 +107,10 @@ impl Alphabet {
     }
 
     /// The standard alphabet: `0` to `9`, `A` to `Z`, `a` to `z`.
+    ///
+    /// ```rust
+    /// assert!(rt; base62::Alphabet::standard().is_ascending());
+    /// ```
     pub fn standard() -> Alphabet
         ensures { result ≡ standard }
     {
@@ -116,6 +120,11 @@ impl Alphabet {
     }
 
     /// The alternative alphabet: `0` to `9`, `a` to `z`, `A` to `Z`.
+    ///
+    /// ```rust
+    /// let alphabet = base62::Alphabet::alternative();
+    /// assert_eq!(rt; base62::decode_with(&alphabet, b"lz"), Ok(1337));
+    /// ```
     pub fn alternative() -> Alphabet
         ensures { result ≡ alternative }
     {
@@ -125,6 +134,10 @@ impl Alphabet {
     }
 
     /// The letters: the one at index d has digit d.
+    ///
+    /// ```rust
+    /// assert_eq!(rt; base62::Alphabet::standard().letters()[10], b'A');
+    /// ```
     pub fn letters(&self) -> &[u8; 62]
         ensures letters { result.now ≡ self.now }
         ensures alphabet { IsAlphabet self.now }
@@ -133,14 +146,23 @@ impl Alphabet {
     }
 
     /// Whether each letter is below 128. The calls that make strings and displays require it.
+    ///
+    /// ```rust
+    /// assert!(rt; base62::Alphabet::standard().is_ascii());
+    /// ```
     pub fn is_ascii(&self) -> bool
         ensures { IsTrue result ↔ IsAscii self.now }
     {
         self.tables.letters.is_ascii()
     }
 
-    /// Whether each letter is a greater byte than the one before it. Then the lexicographic
-    /// order of texts of one length is the order of their numbers.
+    /// Whether each letter is a greater byte than the one before it. Then the lexicographic order
+    /// of texts of one length is the order of their numbers.
+    ///
+    /// ```rust
+    /// let alphabet = base62::Alphabet::alternative();
+    /// assert_eq!(rt; alphabet.is_ascending(), false);
+    /// ```
     #[tactic(auto, using(crate::proofs::OrderLemmas::is_sorted_ascends))]
     pub fn is_ascending(&self) -> bool
         ensures { IsTrue result ↔ Ascends self.now }
@@ -159,7 +181,7 @@ impl Alphabet {
     }
 }
 
-/// Two alphabets are equal where their letters are.
+/// Two alphabets are equal if their letters are.
 impl PartialEq for Alphabet {
     ghost eq = { pointwise nat_eq };
 

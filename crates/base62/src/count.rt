@@ -7,13 +7,13 @@ ghost use Rattle.base62.specs.Canonical.{IsCanonical, DigitCount};
 
 use crate::powers::{GREATEST, GREATEST_NARROW};
 
-/// The length of the longest text of a number below 2^128, as `u128::MAX` has it.
+/// The length of the longest text of a number below 2^128, as 2^128 - 1 has it.
 pub const MAX_DIGITS: usize = 22;
 
 /// The length of the text of `n`, which is 1 to 22, over any alphabet.
 ///
-/// It is at most 6 below 2^32, 9 below 2^53, and 11 below 2^64. For other bounds there is the law
-/// [`of_number`](crate::laws::of_number). The call takes no memory and refuses nothing.
+/// It is at most 6 below 2^32, 9 below 2^53, and 11 below 2^64. The call takes no memory and
+/// refuses nothing.
 ///
 /// ```rust
 /// assert_eq!(rt; base62::digit_count(61), 1);

@@ -1,9 +1,10 @@
 //! Why a text is not decoded, a number not encoded, and a list of letters no alphabet.
 //!
-//! Each is called a fault; only the types have `..Error` in their names, as in the Rust crate.
+//! Each is called a fault; only the types have `..Error` in their names.
 
-ghost use Rattle.std.specs.Prelude.{◌≡◌, ◌+◌, ◌<◌, ◌≤◌, [], ◌∷◌, ◌++◌, Some, decimal, length};
+ghost use Rattle.std.specs.Prelude.{◌≡◌, ◌+◌, ◌<◌, ◌≤◌, ◌++◌, Some, decimal, length};
 ghost use Rattle.std.specs.Char.{digit_char};
+ghost use Rattle.std.specs.Str.{IsAscii};
 ghost use Rattle.std.specs.Fmt.{WritesOnOk, WritesStyledOnOk};
 ghost use Rattle.std.specs.Fmt.InlineText.{inline_text};
 ghost use Rattle.base62.specs.declared.fault.TheConstants.{MAX_FAULT_TEXT};
@@ -59,21 +60,17 @@ impl DecodeError {
         ensures { inline_text result ≡ decode_error_text self.now }
     {
         match *self {
-            DecodeError::ArithmeticOverflow => append(
-                InlineText::new(),
-                "Decoded number cannot fit into a `u128`",
-            ),
-            DecodeError::EmptyInput => append(
-                InlineText::new(),
-                "Encoded input is an empty string",
-            ),
-            DecodeError::InvalidBase62Byte(byte, index) => {
-                append_byte_at_index(
-                    append(InlineText::new(), "Encoded input contains the invalid "),
-                    byte,
-                    index,
-                )
+            DecodeError::ArithmeticOverflow => {
+                append(InlineText::new(), "Decoded number cannot fit into a `u128`")
             }
+            DecodeError::EmptyInput => {
+                append(InlineText::new(), "Encoded input is an empty string")
+            }
+            DecodeError::InvalidBase62Byte(byte, index) => append_byte_at_index(
+                append(InlineText::new(), "Encoded input contains the invalid "),
+                byte,
+                index,
+            ),
         }
     }
 }
@@ -93,15 +90,19 @@ impl error::Error for DecodeError {}
 
 impl EncodeError {
     /// What the fault says, in 37 characters of ASCII. It takes no memory and refuses nothing.
+    ///
+    /// ```rust
+    /// let fault = base62::encode_bytes(1337_u64, &mut [0u8; 1]).unwrap_err();
+    /// assert!(rt; fault.text().as_str().starts_with("Buffer too small"));
+    /// ```
     #[tactic(auto, unfolding(crate::specs::Fault::encode_error_text))]
     pub fn text(&self) -> InlineText<MAX_FAULT_TEXT>
         ensures { inline_text result ≡ encode_error_text self.now }
     {
         match *self {
-            EncodeError::BufferTooSmall => append(
-                InlineText::new(),
-                "Buffer too small to encode the number",
-            ),
+            EncodeError::BufferTooSmall => {
+                append(InlineText::new(), "Buffer too small to encode the number")
+            }
         }
     }
 }
@@ -120,8 +121,13 @@ impl fmt::Display for EncodeError {
 impl error::Error for EncodeError {}
 
 impl AlphabetError {
-    /// What the fault says, in at most 63 ASCII characters for any index, with the byte
-    /// shown as by [`DecodeError::text`]. The call takes no memory and refuses nothing.
+    /// What the fault says, in at most 63 characters of ASCII for any index, with the byte shown as
+    /// by [`DecodeError::text`]. The call takes no memory and refuses nothing.
+    ///
+    /// ```rust
+    /// let fault = base62::Alphabet::new([b'a'; 62]).unwrap_err();
+    /// assert_eq!(rt; fault.text().as_str(), "Alphabet repeats the byte b'a' at index 1");
+    /// ```
     #[tactic(auto, unfolding(crate::specs::Fault::alphabet_error_text))]
     pub fn text(&self) -> InlineText<MAX_FAULT_TEXT>
         ensures { inline_text result ≡ alphabet_error_text self.now }
@@ -186,20 +192,24 @@ fn append_escaped(text: InlineText<MAX_FAULT_TEXT>, byte: u8) -> InlineText<MAX_
         b'\"' => append(text, "\\\""),
         b'\'' => append(text, "\\'"),
         b'\\' => append(text, "\\\\"),
-        32..=126 => append_char(text, char::from(byte)),
+        32..=126 => append_bytes(text, &[byte]),
         _ => {
-            let high = append_char(append(text, "\\x"), hex_digit(byte / 16));
-            append_char(high, hex_digit(byte % 16))
+            let escape = [b'\\', b'x', hex_digit(byte / 16), hex_digit(byte % 16)];
+            append_bytes(text, &escape)
         }
     }
 }
 
-fn hex_digit(digit: u8) -> char
+fn hex_digit(digit: u8) -> u8
     requires { digit < 16 }
     ensures value { result ≡ digit_char digit }
     ensures ascii { result < 128 }
 {
-    char::from_digit(u32::from(digit), 16).unwrap()
+    if digit < 10 {
+        b'0' + digit
+    } else {
+        b'a' + (digit - 10)
+    }
 }
 
 #[tactic(auto, using(crate::proofs::AppendLemmas::appends))]
@@ -217,16 +227,15 @@ fn append_decimal(text: InlineText<MAX_FAULT_TEXT>, number: usize) -> InlineText
         start -= 1;
     }
     digits[start] = b'0' + left as u8;
-    append(text, unsafe { str::from_utf8_unchecked(&digits[start..]) })
+    append_bytes(text, &digits[start..])
 }
 
-fn append_char(text: InlineText<MAX_FAULT_TEXT>, c: char) -> InlineText<MAX_FAULT_TEXT>
-    requires roomy { length (inline_text text) < MAX_FAULT_TEXT }
-    requires ascii { c < 128 }
-    ensures { inline_text result ≡ inline_text text ++ c ∷ [] }
+fn append_bytes(text: InlineText<MAX_FAULT_TEXT>, bytes: &[u8]) -> InlineText<MAX_FAULT_TEXT>
+    requires fits { length (inline_text text) + length bytes.now ≤ MAX_FAULT_TEXT }
+    requires ascii { IsAscii bytes.now }
+    ensures { inline_text result ≡ inline_text text ++ bytes.now }
 {
-    let mut bytes = [0; 4];
-    append(text, c.encode_utf8(&mut bytes))
+    append(text, unsafe { str::from_utf8_unchecked(bytes) })
 }
 
 #[tactic(auto, using(crate::proofs::AppendLemmas::appends))]

@@ -13,13 +13,13 @@ use crate::text::Text;
 use std::fmt;
 use std::marker::Model;
 
-/// A number that displays as its standard text: what [`encode_fmt`] answers. It holds the text, and
-/// contracts see it as that text.
+/// A number that displays as its standard text: what [`encode_fmt`] answers. It holds the text.
 #[derive(Drop)]
 pub struct Fmt {
     text: Text,
 }
 
+// Contracts see a value that displays as the text that it holds.
 impl Model for Fmt {
     ghost Value = { List ℕ };
 
@@ -30,11 +30,11 @@ impl Model for Fmt {
 
 /// Writes the text, padded to the formatter's width.
 ///
-/// A width counts characters. One that is not greater than the text leaves it as it is. The fill is
-/// a space where none is stated. A text with no stated alignment is left-aligned. A centred one has
-/// half of the padding in front, rounded down. What a stated
-/// precision leaves of the text is not specified. `Err` is the error of the underlying writer. The call takes no memory
-/// of its own.
+/// A width counts characters. If it is not greater than the text's length, nothing is added. The
+/// fill is a space if none is stated. A text with no stated alignment is left-aligned. A centred
+/// text has half of the padding in front, rounded down. What a stated precision leaves of the text
+/// is not specified. `Err` is the error of the underlying writer. The call takes no memory of its
+/// own.
 impl fmt::Display for Fmt {
     ghost output = { λ text. Some text };
 

@@ -16,8 +16,7 @@ use std::io::{self, Write};
 
 /// The standard text of `num`: the 1 to 22 letters that [`encode_bytes`] writes.
 ///
-/// Memory for the text is requested once. `Err` says that the request was refused. The call takes
-/// no other memory.
+/// Memory is requested once, for just the text. The call takes no other memory.
 ///
 /// ```rust
 /// let text = base62::encode(rt.alloc(), 1234567890_u64)?;
@@ -69,9 +68,9 @@ pub fn encode_with<T: Number>(
 
 /// Appends the standard text of `num`, which has 1 to 22 letters, to `buf`.
 ///
-/// `Err` says that memory was refused, and leaves `buf` as it was. Where its spare capacity is too
-/// small, room for the whole text is requested once, before any of it is appended. 22 spare bytes
-/// are always enough. The capacity never shrinks. The call takes no other memory.
+/// If the spare capacity of `buf` is too small, room for the whole text is requested once, before
+/// any of it is appended. If that is refused, `buf` stays as it was. 22 spare bytes are always
+/// enough. The capacity never shrinks. The call takes no other memory.
 ///
 /// ```rust
 /// let mut link = String::from_str(rt.alloc(), "https://example.org/")?;
@@ -154,9 +153,9 @@ fn append_over<T: Number>(tables: &Tables, num: T, buf: &mut String) -> Result<(
 
 /// Writes the standard text of `num`, which has 1 to 22 letters, to `w`.
 ///
-/// The text is handed to the writer whole, and the writer is not flushed. `Err` is the writer's own
-/// error, or says that the writer took nothing or kept being interrupted. How many bytes it
-/// had taken by then is not specified. The call takes no memory of its own.
+/// The text is handed to the writer whole, and the writer is not flushed. `Err` is the error of the
+/// writer's `write_all`. How many bytes the writer had taken by then is not specified. The call
+/// takes no memory of its own.
 ///
 /// ```rust
 /// let mut out = Vec::new(rt.alloc());

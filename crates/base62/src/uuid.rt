@@ -13,9 +13,9 @@ use crate::laws::letters_are_distinct;
 
 /// The UUID of a text: the sixteen bytes of the number that [`decode`] answers, the highest first.
 ///
-/// `Err` comes exactly where [`decode`] has it, with the same fault. Each number below 2^128 is
-/// that of one UUID, whose version and variant are not looked at. A UUID is encoded as any other
-/// [`Number`] is, and its text is read back to the same bytes. The call takes no memory.
+/// `Err` comes exactly if [`decode`] answers it, with the same fault. Each number below 2^128 is
+/// that of one UUID, whose version and variant are not looked at. The text of a UUID's number gives
+/// the UUID back. The call takes no memory.
 ///
 /// ```rust
 /// let uuid = base62::decode_uuid(b"LZ").unwrap();
@@ -23,7 +23,6 @@ use crate::laws::letters_are_distinct;
 /// ```
 ///
 /// [`decode`]: crate::decode
-/// [`Number`]: crate::Number
 #[tactic(auto, using(crate::proofs::AlphabetLemmas::standard_is_alphabet))]
 pub fn decode_uuid(input: &[u8]) -> Result<[u8; 16], DecodeError>
     ensures { DecodesUuid standard input.now result }
@@ -61,9 +60,9 @@ pub fn decode_uuid_with(alphabet: &Alphabet, input: &[u8]) -> Result<[u8; 16], D
 /// The UUID whose canonical standard text is `input`: the sixteen bytes of the number that
 /// [`decode_canonical`] answers, the highest first.
 ///
-/// `Ok(Some(uuid))` comes exactly for the text that [`encode_bytes`] writes for the UUID, so one
-/// text alone gives each UUID. `Ok(None)` comes exactly where [`decode_uuid`] gives a UUID, but
-/// `input` begins with a needless zero. `Err` comes exactly where [`decode`] has it, with the same
+/// `Ok(Some(uuid))` comes exactly for the text that [`encode_bytes`] writes for the UUID's number,
+/// so one text alone gives each UUID. `Ok(None)` comes exactly if [`decode_uuid`] gives a UUID, but
+/// `input` begins with a needless zero. `Err` comes exactly if [`decode`] answers it, with the same
 /// fault. The call takes no memory.
 ///
 /// ```rust

@@ -14,7 +14,7 @@ pub struct Number {
 pub(crate) fn joined(number: Number) -> u128
     ensures { result ≡ number_of number }
 {
-    (u128::from(number.high) << 64) + u128::from(number.low)
+    (u128::from(number.high) << 64) | u128::from(number.low)
 }
 
 pub(crate) fn halves(n: u128) -> Number
@@ -22,6 +22,6 @@ pub(crate) fn halves(n: u128) -> Number
 {
     Number {
         high: (n >> 64) as u64,
-        low: (n % (1 << 64)) as u64,
+        low: (n & 0xffffffff_ffffffff) as u64,
     }
 }

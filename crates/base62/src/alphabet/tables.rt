@@ -6,7 +6,7 @@ ghost use Rattle.base62.specs.Tables.{AreTables, digit_or_255};
 
 use super::Work;
 
-// The letters of an alphabet by their digits, and the digit of each byte, 255 where it has none.
+// The letters of an alphabet by their digits, and the digit of each byte, 255 if it has none.
 #[repr(C)]
 #[derive(Clone, Copy)]
 pub(crate) struct Tables {
@@ -15,7 +15,7 @@ pub(crate) struct Tables {
 }
 
 impl Tables {
-    // The digit of a byte, or 255 where it has none: one step.
+    // The digit of a byte, or 255 if it has none.
     #[inline]
     pub(crate) fn digit(&self, byte: u8, work: &mut Work) -> u8
         requires { AreTables self.now }
@@ -34,7 +34,7 @@ impl Tables {
         byte == self.letters[0]
     }
 
-    // The letters of a number's two digits: one step.
+    // The letters of a number's two digits.
     #[inline(always)]
     pub(crate) fn pair(&self, number: u32, work: &mut Work) -> (u8, u8)
         requires { number < 3844 }
@@ -45,12 +45,13 @@ impl Tables {
         work.tick();
         // The quotient by 62, since the number is small.
         let quotient = (number * 4229) >> 18;
-        let first = self.letters[quotient as usize];
-        let second = self.letters[(number - quotient * 62) as usize];
+        let first = unsafe { *self.letters.get_unchecked(quotient as usize) };
+        let rest = number - quotient * 62;
+        let second = unsafe { *self.letters.get_unchecked(rest as usize) };
         (first, second)
     }
 
-    // The letter of a digit: one step.
+    // The letter of a digit.
     #[inline(always)]
     pub(crate) fn letter(&self, digit: u32, work: &mut Work) -> u8
         requires { digit < 62 }
@@ -58,7 +59,7 @@ impl Tables {
         ensures step { work.new ≡ work.old + 1 }
     {
         work.tick();
-        self.letters[digit as usize]
+        unsafe { *self.letters.get_unchecked(digit as usize) }
     }
 }
 

@@ -73,14 +73,13 @@ fn read_long(
         → DecodesCounted tables.now.letters input work.old work.new result }
 {
     let (first, later) = after_zeros.split_at(10);
-    let high = read_10(tables, first, zeros, work)?;
+    let leading = read_10(tables, first, zeros, work)?;
     if later.len() <= 10 {
-        let high = high as u128 * power(later.len()) as u128;
         let last = read_up_to_10(tables, later, zeros + 10, work)?;
-        return Ok(high + last as u128);
+        return Ok(leading as u128 * power(later.len()) as u128 + last as u128);
     }
     let weight = power(later.len() - 10) as u128 * POWER_10 as u128;
-    let Some(high) = (high as u128).checked_mul(weight) else {
+    let Some(high) = (leading as u128).checked_mul(weight) else {
         return Err(DecodeError::ArithmeticOverflow);
     };
     let low = read_11_or_12(tables, later, zeros + 10, work)?;

@@ -1,7 +1,6 @@
 use Rattle.std.proofs.Common.{◌≡◌, ◌+◌, ◌-◌, ◌∙◌, drop, set, take, refl, arith, length-set, length-drop}
 use Rattle.std.proofs.lemmas.Fmt.{IsAscii-decimal}
 use Rattle.std.proofs.lemmas.List.{take_all}
-use Rattle.std.proofs.lemmas.Str.{IsUtf8-from_ascii}
 use Rattle.std.specs.Fmt.{decimal}
 use Rattle.base62.proofs.AppendLemmas.{digit_more, last_digit, first_digit}
 use Rattle.base62.proofs.fault.append_decimal.Goals as goal
@@ -19,7 +18,7 @@ loop-left-preserved c =
     )
 
 -- the written part is the digits
-written : (c : goal.After-from_utf8_unchecked-arg-1)
+written : (c : goal.After-append_bytes-arg-1)
     → take (20 - c.loop-left.start) (drop c.loop-left.start (set c.loop-left.digits c.loop-left.start (48 + c.loop-left.left))) ≡ decimal c.args.number
 written c =
     let l = c.loop-left in
@@ -27,11 +26,11 @@ written c =
     take_all (20 - l.start) (drop l.start digits) (omega (arith, length-drop l.start digits, c.loop-left-test.array_long))
     ∙ first_digit l.left l.start l.digits c.loop-left-test.false (omega (arith, l.invariant.2)) ∙ l.invariant.3
 
-pub from_utf8_unchecked-requires : goal.from_utf8_unchecked-requires
-from_utf8_unchecked-requires c = IsUtf8-from_ascii _ (rw (written c) (IsAscii-decimal c.args.number c.ranges.number.fits))
-
-pub append-requires : goal.append-requires
-append-requires c = rw (c.from_utf8_unchecked.ensures, written c.before) c.requires
+pub append_bytes-requires : goal.append_bytes-requires
+append_bytes-requires c = record {
+  fits = rw (written c) c.requires;
+  ascii = rw (written c) (IsAscii-decimal c.args.number c.ranges.number.fits);
+}
 
 pub returns : goal.returns
-returns c = rw (c.append.ensures, c.from_utf8_unchecked.ensures, written c.before.before) refl
+returns c = rw (c.append_bytes.ensures, written c.before) refl

@@ -5,15 +5,15 @@ use Rattle.base62.specs.Tables.{digits_of_bytes}
 use Rattle.base62.proofs.TableFillLemmas.{alphabet_of_all}
 use Rattle.base62.proofs.alphabet.Alphabet.new.Goals as goal
 
-pub letters-init : goal.letters-init
-letters-init c = record {
+pub loop-index-init : goal.loop-index-init
+loop-index-init c = record {
   size = refl;
   digits = λ k below. absurd (omega arith);
   bytes = λ x fits. inl (get_or-replicate 256 x 255 0 fits);
 }
 
-done : (c : goal.After-letters) → IsAlphabet c.args.letters × (c.letters.digits ≡ digits_of_bytes c.args.letters)
-done c = alphabet_of_all c.args.letters c.letters.digits c.letters.index (omega arith) (λ k. search rules) c.letters-test.false c.letters.auto.index-end c.letters.invariant
+done : (c : goal.After-loop-index) → IsAlphabet c.args.letters × (c.loop-index.digits ≡ digits_of_bytes c.args.letters)
+done c = alphabet_of_all c.args.letters c.loop-index.digits c.loop-index.index (omega arith) (λ k. search rules) c.loop-index-test.false c.loop-index.auto.index-end c.loop-index.invariant
 
 pub invariant_of-result : goal.invariant_of-result
 invariant_of-result c = record { alphabet = (done c).0; digits = (done c).1 }

@@ -235,6 +235,7 @@ fn append_bytes(text: InlineText<MAX_FAULT_TEXT>, bytes: &[u8]) -> InlineText<MA
     requires ascii { IsAscii bytes.now }
     ensures { inline_text result ≡ inline_text text ++ bytes.now }
 {
+    // SAFETY: the bytes are ASCII.
     append(text, unsafe { str::from_utf8_unchecked(bytes) })
 }
 

@@ -6,9 +6,7 @@ ghost use Rattle.base62.specs.Alphabet.{standard, alternative};
 ghost use Rattle.base62.specs.Encoding.{AnswersCanonical, AppendsTo, WritesCanonical};
 ghost use Rattle.base62.specs.Tables.{AreTables};
 
-use crate::alphabet::{Alphabet, Tables, Work, alternative_tables, standard_tables};
-use crate::codec::encoder::write_text;
-use crate::count::digit_count;
+use crate::alphabet::{Alphabet, Tables, alternative_tables, standard_tables};
 use crate::number::Number;
 use crate::text::Text;
 use std::alloc::{AllocError, Global};
@@ -121,18 +119,16 @@ pub fn encode_buf_with<T: Number>(
     append_over(alphabet.as_tables(), num, buf)
 }
 
-// The text over the alphabet of the tables, written into the memory of its string.
+// The text over the alphabet of the tables, in a string.
+#[tactic(auto, using(crate::proofs::CanonicalLemmas::ascii_texts))]
 fn string_over<T: Number>(alloc: Global, tables: &Tables, num: T) -> Result<String, AllocError>
     requires tables { AreTables tables.now }
     requires ascii { IsAscii tables.now.letters }
     ensures { AnswersCanonical tables.now.letters (T.meaning num) result }
 {
-    let n = num.number();
-    let count = digit_count(n);
-    let mut bytes = Vec::from_elem(alloc, 0u8, count)?;
-    write_text(tables, n, count, bytes.as_mut_slice(), &mut Work::new());
-    // The letters are ASCII.
-    Ok(unsafe { String::from_utf8_unchecked(bytes) })
+    let mut text = Text::new();
+    text.set(tables, num);
+    String::from_str(alloc, text.as_str())
 }
 
 // Appends the text over the alphabet of the tables.
@@ -144,10 +140,10 @@ fn append_over<T: Number>(tables: &Tables, num: T, buf: &mut String) -> Result<(
 {
     let mut text = Text::new();
     text.set(tables, num);
-    let text = text.as_str();
-    buf.reserve(text.len())?;
-    // There is room now, so nothing is refused here.
-    buf.push_str(text).unwrap();
+    let letters = text.as_str();
+    buf.reserve(letters.len())?;
+    // There is room now.
+    buf.push_str(letters).unwrap();
     Ok(())
 }
 

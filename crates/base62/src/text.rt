@@ -8,8 +8,8 @@ ghost use Rattle.base62.specs.Decoding.{decoding};
 ghost use Rattle.base62.specs.Tables.{AreTables};
 
 use crate::alphabet::{Tables, Work};
-use crate::codec::encoder::encode_over;
-use crate::count::MAX_DIGITS;
+use crate::codec::encoder::write_text;
+use crate::count::{MAX_DIGITS, digit_count};
 use crate::number::Number;
 use std::marker::Model;
 use std::str;
@@ -31,6 +31,7 @@ impl Model for Text {
 
 impl Text {
     // No letters yet.
+    #[inline]
     pub(crate) fn new() -> Text {
         Text {
             bytes: [0; MAX_DIGITS],
@@ -40,14 +41,19 @@ impl Text {
 
     // Replaces the text by that of a number over the alphabet of the tables. Unlike `over`, it
     // copies no text.
+    #[inline]
     pub(crate) fn set<T: Number>(&mut self, tables: &Tables, num: T)
         requires { AreTables tables.now }
         ensures text { IsCanonical tables.now.letters self.new (T.meaning num) }
         ensures back { decoding tables.now.letters self.new ≡ Ok (T.meaning num) }
     {
-        self.len = encode_over(tables, num.number(), &mut self.bytes, &mut Work::new()).unwrap();
+        let n = num.number();
+        let len = digit_count(n);
+        write_text(tables, n, len, &mut self.bytes, &mut Work::new());
+        self.len = len;
     }
 
+    #[inline]
     pub(crate) fn over<T: Number>(tables: &Tables, num: T) -> Text
         requires { AreTables tables.now }
         ensures { IsCanonical tables.now.letters result (T.meaning num) }
@@ -57,6 +63,7 @@ impl Text {
         text
     }
 
+    #[inline]
     pub(crate) fn as_bytes(&self) -> &[u8]
         ensures bytes { result.now ≡ self.now }
         ensures short { length result.now ≤ MAX_DIGITS }
@@ -64,11 +71,13 @@ impl Text {
         &self.bytes[..self.len]
     }
 
+    #[inline]
     pub(crate) fn as_str(&self) -> &str
         requires { IsAscii self.now }
         ensures bytes { result.now ≡ self.now }
         ensures short { length result.now ≤ MAX_DIGITS }
     {
+        // SAFETY: the letters are ASCII.
         unsafe { str::from_utf8_unchecked(self.as_bytes()) }
     }
 }

@@ -45,9 +45,10 @@ impl Tables {
         work.tick();
         // The quotient by 62, since the number is small.
         let quotient = (number * 4229) >> 18;
+        let remainder = number - quotient * 62;
+        // SAFETY: both are below 62, since the number is below 62^2.
         let first = unsafe { *self.letters.get_unchecked(quotient as usize) };
-        let rest = number - quotient * 62;
-        let second = unsafe { *self.letters.get_unchecked(rest as usize) };
+        let second = unsafe { *self.letters.get_unchecked(remainder as usize) };
         (first, second)
     }
 
@@ -59,6 +60,7 @@ impl Tables {
         ensures step { work.new ≡ work.old + 1 }
     {
         work.tick();
+        // SAFETY: a digit is below 62.
         unsafe { *self.letters.get_unchecked(digit as usize) }
     }
 }

@@ -150,6 +150,7 @@ fn one_more_10(estimate: u64, remainder: u64) -> (u64, u64)
 }
 
 // One to nine letters. Where there are more than four, the last four are written first.
+#[inline(always)]
 fn write_up_to_9(tables: &Tables, n: u64, places: usize, buf: &mut [u8], work: &mut Work)
     requires fits { n < 62 ^ places }
     requires least { 1 ≤ places }
@@ -258,6 +259,7 @@ fn write_10(tables: &Tables, n: u64, buf: &mut [u8], work: &mut Work)
 }
 
 // Twenty letters of a number, which is given by its quotient and its remainder by 62^10.
+#[inline(always)]
 fn write_20(tables: &Tables, high: u64, low: u64, buf: &mut [u8], work: &mut Work)
     requires high { high < 62 ^ 10 }
     requires low { low < 62 ^ 10 }

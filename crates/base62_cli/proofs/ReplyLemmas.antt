@@ -1,5 +1,5 @@
 -- An input has one output, and what the reply to each command is.
-use Rattle.std.proofs.Common.{◌≡◌, ◌≢◌, ℕ, ◌^◌, ◌<◌, Some, None, Result, Ok, Err, is_ok, OnOk, if◌then◌else◌, Bool, true, false, List, [], ◌∷◌, ◌++◌, drop, codes, nat_eq, refl, sym, ◌∙◌}
+use Rattle.std.proofs.Common.{◌≡◌, ◌≢◌, ℕ, ◌^◌, ◌<◌, Some, None, if◌then◌else◌, Bool, true, false, List, [], ◌∷◌, ◌++◌, drop, codes, nat_eq, refl, sym, ◌∙◌}
 use Rattle.std.specs.Bool.{MatchBool}
 use Rattle.std.specs.List.{starts_with}
 use Rattle.std.proofs.lemmas.Bool.{false_from_ne_true}
@@ -95,12 +95,6 @@ pub reply_to_other : (line : List ℕ) → ((text : List ℕ) → line ≢ codes
 unfolding IsReply
 reply_to_other line enc alt dec adc =
     rw (begins_not line (codes "enc ") enc, begins_not line (codes "alt ") alt, begins_not line (codes "dec ") dec, begins_not line (codes "adc ") adc) refl
-
--- what a call that appends says of its `Ok`
-pub appended_on_ok : {T E : Type 0} (r : Result T E) (old new bytes : List ℕ)
-    → new ≡ (if is_ok r then old ++ bytes else old) → OnOk r (new ≡ old ++ bytes)
-appended_on_ok (Ok x) old new bytes h = h
-appended_on_ok (Err e) old new bytes h = tt
 
 -- where `number_of` gave nothing, the text is no number
 pub not_a_number : (test : Bool) (n : ℕ) (P Q : Type 0) → (if test then Some n else None) ≡ None

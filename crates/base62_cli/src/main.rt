@@ -4,6 +4,7 @@
 
 mod fault;
 mod laws;
+mod line_end;
 mod reply;
 #[cfg(test)]
 mod tests;

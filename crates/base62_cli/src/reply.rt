@@ -7,7 +7,6 @@ ghost use Rattle.base62_cli.specs.BuiltIn.{alphabet_of};
 ghost use Rattle.base62_cli.specs.Reply.{IsReply, IsEncodeReply, decode_reply, decimal_value, is_number};
 
 use base62::DecodeError;
-use std::alloc::AllocError;
 use std::io::{self, Write};
 use std::str;
 
@@ -25,7 +24,7 @@ pub(crate) enum BuiltIn {
 
 /// Appends the reply to `line`, and `\n`. `Err` says that there was no memory; a part of
 /// them may have been appended.
-pub fn push_reply(line: &[u8], out: &mut Vec<u8>) -> Result<(), AllocError>
+pub fn push_reply(line: &[u8], out: &mut Vec<u8>) -> io::Result<()>
     ensures { OnOk result ((reply : List ℕ) × IsReply line.now reply
         × (out.new.items ≡ out.old.items ++ (reply ++ 10 ∷ []))) }
 {
@@ -38,22 +37,22 @@ pub fn push_reply(line: &[u8], out: &mut Vec<u8>) -> Result<(), AllocError>
     } else if let Some(text) = line.strip_prefix(b"adc ") {
         push_decoded(BuiltIn::Alternative, text, out)
     } else {
-        out.extend_from_slice(b"fault: unknown command\n")
+        out.write_all(b"fault: unknown command\n")
     }
 }
 
-fn push_encoded(alphabet: BuiltIn, text: &[u8], out: &mut Vec<u8>) -> Result<(), AllocError>
+fn push_encoded(alphabet: BuiltIn, text: &[u8], out: &mut Vec<u8>) -> io::Result<()>
     ensures { OnOk result ((reply : List ℕ) × IsEncodeReply (alphabet_of alphabet) text.now reply
         × (out.new.items ≡ out.old.items ++ (reply ++ 10 ∷ []))) }
 {
     let Some(number) = number_of(text) else {
-        return out.extend_from_slice(b"fault: not a number\n");
+        return out.write_all(b"fault: not a number\n");
     };
     // The text has 22 letters at most.
     let mut buf = [0u8; 23];
     let len = encode(alphabet, number, &mut buf);
     buf[len] = b'\n';
-    out.extend_from_slice(&buf[..=len])
+    out.write_all(&buf[..=len])
 }
 
 fn encode(alphabet: BuiltIn, number: u128, buf: &mut [u8; 23]) -> usize
@@ -66,15 +65,14 @@ fn encode(alphabet: BuiltIn, number: u128, buf: &mut [u8; 23]) -> usize
     }
 }
 
-fn push_decoded(alphabet: BuiltIn, text: &[u8], out: &mut Vec<u8>) -> Result<(), AllocError>
+fn push_decoded(alphabet: BuiltIn, text: &[u8], out: &mut Vec<u8>) -> io::Result<()>
     ensures { OnOk result (out.new.items
         ≡ out.old.items ++ (decode_reply (alphabet_of alphabet) text.now ++ 10 ∷ [])) }
 {
-    let written = match decode(alphabet, text) {
+    match decode(alphabet, text) {
         Ok(number) => push_number(number, out),
         Err(fault) => writeln!(out, "fault: {fault}"),
-    };
-    written.map_err(|_| AllocError)
+    }
 }
 
 // Appends the number in decimal, and `\n`. A number above 64 bits goes in two parts, since each of

@@ -1,15 +1,15 @@
 //! The run over a reader and a writer.
 
-ghost use Rattle.std.specs.Prelude.{◌≡◌, ◌≢◌, ℕ, ◌<◌, List, [], ◌∷◌, ◌++◌, length, Some, OnOk, IfSome, MatchOption};
-ghost use Rattle.std.specs.List.{All, AllWithin, HoldsAt};
+ghost use Rattle.std.specs.Prelude.{◌≡◌, ◌≢◌, List, [], ◌∷◌, ◌++◌, ℕ, Some, OnOk, IfSome, MatchOption};
+ghost use Rattle.std.specs.List.{All};
 ghost use Rattle.std.specs.Io.KnownBytes.{Appends};
 ghost use Rattle.base62_cli.specs.Output.{IsOutput, Leaves};
 
 use crate::fault::ToolFault;
+use crate::line_end::line_end;
 use crate::reply::push_reply;
-use std::alloc::{AllocError, Global};
-use std::io::{Read, Write};
-use std::simd::prelude::*;
+use std::alloc::Global;
+use std::io::{self, Read, Write};
 
 // How many bytes a read may take.
 pub(crate) const CHUNK_LEN: usize = 32768;
@@ -74,26 +74,25 @@ pub fn run<R: Read, W: Write>(
 
 // Answers the lines that end in the chunk. The first of them began with `line`. What has come of
 // the next is left in `line`.
-fn answer(chunk: &[u8], line: &mut Vec<u8>, out: &mut Vec<u8>) -> Result<(), AllocError>
+fn answer(chunk: &[u8], line: &mut Vec<u8>, out: &mut Vec<u8>) -> io::Result<()>
     requires { All (λ b. b ≢ 10) line.old.items }
     ensures unended { OnOk result (All (λ b. b ≢ 10) line.new.items) }
     ensures answered { OnOk result ((replies : List ℕ) × (out.new.items ≡ out.old.items ++ replies)
         × ((more : List ℕ)
         → Leaves (line.old.items ++ (chunk.now ++ more)) replies (line.new.items ++ more))) }
 {
-    let Some((end, after)) = split_line(chunk) else {
-        return line.extend_from_slice(chunk);
+    let Some((end, mut rest)) = split_line(chunk) else {
+        return line.write_all(chunk);
     };
-    line.extend_from_slice(end)?;
+    line.write_all(end)?;
     push_reply(line.as_slice(), out)?;
     line.clear();
     // The others stand whole in the chunk.
-    let mut rest = after;
     while let Some((whole, after)) = split_line(rest) {
         push_reply(whole, out)?;
         rest = after;
     }
-    line.extend_from_slice(rest)
+    line.write_all(rest)
 }
 
 // What stands before the first byte 10, and what after it.
@@ -103,23 +102,6 @@ fn split_line(bytes: &[u8]) -> Option<(&[u8], &[u8])>
 {
     let end = line_end(bytes)?;
     Some((&bytes[..end], &bytes[end + 1..]))
-}
-
-// The index of the first byte 10. Of 64 bytes it is the lowest bit of a mask.
-fn line_end(bytes: &[u8]) -> Option<usize>
-    ensures { MatchOption result (All (λ b. b ≢ 10) bytes.now)
-        (λ end. (end < length bytes.now) × HoldsAt (λ b. b ≡ 10) bytes.now end
-        × AllWithin (λ b. b ≢ 10) bytes.now 0 end) }
-{
-    if bytes.len() >= 64 {
-        let ends = u8x64::from_slice(bytes)
-            .simd_eq(u8x64::splat(b'\n'))
-            .to_bitmask();
-        if ends != 0 {
-            return Some(ends.trailing_zeros() as usize);
-        }
-    }
-    bytes.iter().position(|byte| *byte == b'\n')
 }
 
 // Answers a last line that no byte 10 ends, if there is one, and flushes.
@@ -141,7 +123,7 @@ fn finish<W: Write>(line: &[u8], out: &mut Vec<u8>, writer: &mut W) -> Result<()
     Ok(())
 }
 
-fn answer_last(line: &[u8], out: &mut Vec<u8>) -> Result<(), AllocError>
+fn answer_last(line: &[u8], out: &mut Vec<u8>) -> io::Result<()>
     requires unended { All (λ b. b ≢ 10) line.now }
     requires empty { out.old.items ≡ [] }
     ensures { OnOk result (IsOutput line.now out.new.items) }

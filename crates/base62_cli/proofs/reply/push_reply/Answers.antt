@@ -4,7 +4,7 @@ use Rattle.std.proofs.lemmas.Result.{on_ok_weaker}
 use Rattle.std.proofs.lemmas.Slice.Eq.{strip_prefix_is}
 use Rattle.base62.specs.Alphabet.{standard, alternative}
 use Rattle.base62_cli.specs.Reply.{decode_reply}
-use Rattle.base62_cli.proofs.ReplyLemmas.{appended_on_ok, reply_to_enc, reply_to_alt, reply_to_dec, reply_to_adc, reply_to_other}
+use Rattle.base62_cli.proofs.ReplyLemmas.{reply_to_enc, reply_to_alt, reply_to_dec, reply_to_adc, reply_to_other}
 use Rattle.base62_cli.proofs.reply.push_reply.Goals as goal
 
 pub returns-in-Some : goal.returns-in-Some
@@ -42,5 +42,4 @@ returns-in_default-strip_prefix-3 c =
     let not_alt = rw c.in_default-strip_prefix.is at (strip_prefix_is Decides-eqb line (codes "alt ") _ c.strip_prefix-in_default.ensures.cases) in
     let not_dec = rw c.in_default-strip_prefix-2.is at (strip_prefix_is Decides-eqb line (codes "dec ") _ c.strip_prefix-in_default-strip_prefix.ensures.cases) in
     let not_adc = rw c.in_default-strip_prefix-3.is at (strip_prefix_is Decides-eqb line (codes "adc ") _ c.strip_prefix-in_default-strip_prefix-2.ensures.cases) in
-    on_ok_weaker c.extend_from_slice.result (λ h. (codes "fault: unknown command", reply_to_other line not_enc not_alt not_dec not_adc, h))
-    (appended_on_ok c.extend_from_slice.result _ _ (codes "fault: unknown command\n") c.extend_from_slice.ensures.items)
+    on_ok_weaker c.write_all.result (λ h. (codes "fault: unknown command", reply_to_other line not_enc not_alt not_dec not_adc, h)) c.write_all.ensures.bytes

@@ -1,7 +1,7 @@
 use Rattle.std.proofs.Common.{eqb, take, arith, w8}
 use Rattle.std.proofs.lemmas.Simd.{bitmask_splat, length-chunk}
 use Rattle.base62_cli.proofs.LineLemmas.{first_line_end}
-use Rattle.base62_cli.proofs.tool.line_end.Goals as goal
+use Rattle.base62_cli.proofs.line_end.line_end.Goals as goal
 
 pub returns-then-ends-ne0 : goal.returns-then-ends-ne0
 returns-then-ends-ne0 c =

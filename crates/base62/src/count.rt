@@ -34,7 +34,7 @@ pub fn digit_count(n: u128) -> usize
     letter_count(n)
 }
 
-// The count alone. The clauses of the public call follow from it.
+// The count of a number of 64 bits, or of more.
 #[inline(always)]
 fn letter_count(n: u128) -> usize
     ensures { DigitCount n result }

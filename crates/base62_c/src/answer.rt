@@ -39,7 +39,7 @@ pub struct BadByte {
     pub byte: u8,
 }
 
-// The count of the places, or 0 where they are too few.
+// The count of the places, or 0 if they are too few.
 pub(crate) fn count_filled(answer: Result<(), EncodeError>, places: usize) -> usize
     ensures ok { OnOk answer (result ≡ places) }
     ensures err { OnErr answer (result ≡ 0) }
@@ -128,7 +128,8 @@ pub(crate) fn tell_repeat(fault: AlphabetError, bad: &mut BadByte) -> u32
 pub(crate) fn tell_text(text: &[u8], buf: &mut [u8]) -> usize
     ensures { WritesText text.now buf.old buf.new result }
 {
-    if buf.len() < text.len() {
+    // No byte is copied if there is none, and then `buf` may be empty too.
+    if text.is_empty() || buf.len() < text.len() {
         return 0;
     }
     buf[..text.len()].copy_from_slice(text);

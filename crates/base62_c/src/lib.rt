@@ -167,38 +167,42 @@ pub extern "C" fn base62_decode_canonical_with(
 }
 
 #[unsafe(no_mangle)]
-pub extern "C" fn base62_key_range(front: &[u8], range: &mut Range, bad: &mut BadByte) -> u32
-    ensures { TellsRange (range_of standard 22 front.now) result range.old range.new
+pub extern "C" fn base62_key_range(prefix: &[u8], range: &mut Range, bad: &mut BadByte) -> u32
+    ensures { TellsRange (range_of standard 22 prefix.now) result range.old range.new
         bad.old bad.new }
 {
-    tell_range(base62::key_range(front), range, bad)
+    tell_range(base62::key_range(prefix), range, bad)
 }
 
 #[unsafe(no_mangle)]
 pub extern "C" fn base62_fixed_range(
     width: usize,
-    front: &[u8],
+    prefix: &[u8],
     range: &mut Range,
     bad: &mut BadByte,
 ) -> u32
-    ensures { TellsRange (range_of standard width front.now) result range.old range.new
+    ensures { TellsRange (range_of standard width prefix.now) result range.old range.new
         bad.old bad.new }
 {
-    tell_range(base62::fixed_range(width, front), range, bad)
+    tell_range(base62::fixed_range(width, prefix), range, bad)
 }
 
 #[unsafe(no_mangle)]
 pub extern "C" fn base62_fixed_range_with(
     alphabet: &Alphabet,
     width: usize,
-    front: &[u8],
+    prefix: &[u8],
     range: &mut Range,
     bad: &mut BadByte,
 ) -> u32
-    ensures { TellsRange (range_of alphabet.now width front.now) result range.old range.new
+    ensures { TellsRange (range_of alphabet.now width prefix.now) result range.old range.new
         bad.old bad.new }
 {
-    tell_range(base62::fixed_range_with(alphabet, width, front), range, bad)
+    tell_range(
+        base62::fixed_range_with(alphabet, width, prefix),
+        range,
+        bad,
+    )
 }
 
 // Nothing that stands at `alphabet` before is read, so C can hand over memory that it has not

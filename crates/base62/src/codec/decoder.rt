@@ -123,12 +123,12 @@ fn read_up_to_10(
     let mut number = 0;
     let mut done = 0;
     if part.len() >= 5 {
-        let (front, _) = part.split_at(5);
-        number = read_5(tables, front, start, work)? as u64;
+        let (first, _) = part.split_at(5);
+        number = read_5(tables, first, start, work)? as u64;
         done = 5;
     }
-    let (_, tail) = part.split_at(done);
-    read_on(tables, number, tail, start + done, work)
+    let (_, later) = part.split_at(done);
+    read_on(tables, number, later, start + done, work)
 }
 
 // At most five bytes more, after a number that has been read.
@@ -165,9 +165,9 @@ fn read_10(tables: &Tables, part: &[u8], start: usize, work: &mut Work) -> Resul
     requires within { start + 10 < 2 ^ 64 }
     ensures { ReadsPart tables.now.letters part.now start work.old work.new result }
 {
-    let (front, back) = part.split_at(5);
-    let high = read_5(tables, front, start, work)?;
-    let low = read_5(tables, back, start + 5, work)?;
+    let (first, later) = part.split_at(5);
+    let high = read_5(tables, first, start, work)?;
+    let low = read_5(tables, later, start + 5, work)?;
     Ok(high as u64 * POWER_5 + low as u64)
 }
 

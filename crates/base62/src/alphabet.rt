@@ -109,7 +109,8 @@ impl Alphabet {
     /// The standard alphabet: `0` to `9`, `A` to `Z`, `a` to `z`.
     ///
     /// ```rust
-    /// assert!(rt; base62::Alphabet::standard().is_ascending());
+    /// let alphabet = base62::Alphabet::standard();
+    /// assert_eq!(rt; base62::decode_with(&alphabet, b"LZ"), Ok(1337));
     /// ```
     pub fn standard() -> Alphabet
         ensures { result ≡ standard }
@@ -160,8 +161,8 @@ impl Alphabet {
     /// of texts of one length is the order of their numbers.
     ///
     /// ```rust
-    /// let alphabet = base62::Alphabet::alternative();
-    /// assert_eq!(rt; alphabet.is_ascending(), false);
+    /// assert!(rt; base62::Alphabet::standard().is_ascending());
+    /// assert!(rt; !base62::Alphabet::alternative().is_ascending());
     /// ```
     #[tactic(auto, using(crate::proofs::OrderLemmas::is_sorted_ascends))]
     pub fn is_ascending(&self) -> bool

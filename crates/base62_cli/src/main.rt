@@ -21,7 +21,7 @@ fn main(rt: HostRuntime) -> ExitCode {
     }
 }
 
-// Where standard error takes nothing, the exit status alone tells the fault.
+// If standard error takes nothing, the exit status alone tells the fault.
 fn fail(rt: &impl Eprint, fault: ToolFault) -> ExitCode {
     let _ = eprintln!(rt; "{fault}");
     ExitCode::FAILURE

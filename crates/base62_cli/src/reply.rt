@@ -109,7 +109,7 @@ fn decode(alphabet: BuiltIn, text: &[u8]) -> Result<u128, DecodeError>
     }
 }
 
-// The number that decimal digits denote, where it is below 2^128.
+// The number that decimal digits denote, if it is below 2^128.
 fn number_of(text: &[u8]) -> Option<u128>
     ensures { result ≡ (if is_number text.now then Some (decimal_value text.now) else None) }
 {

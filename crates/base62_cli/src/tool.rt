@@ -29,10 +29,10 @@ pub(crate) const CHUNK_LEN: usize = 32768;
 /// Each reply is followed by `\n`. The replies to what a read gave go out before the next read. The
 /// writer is flushed once, at the end.
 ///
-/// `Err(Read)` comes where a read fails, or 2^64 - 1 reads meet no end. `Err(Write)` comes where
-/// the writer or its flush fails, or the writer takes nothing. `Err(Memory)` comes where there is
-/// no memory for a line, or for the replies to a read. A run takes no other memory. On `Err` some
-/// replies may have been written.
+/// `Err(Read)` comes if a read fails, or 2^64 - 1 reads meet no end. `Err(Write)` comes if the
+/// writer or its flush fails, or the writer takes nothing. `Err(Memory)` comes if there is no memory
+/// for a line, or for the replies to a read. A run takes no other memory. On `Err` some replies may
+/// have been written.
 ///
 /// ```rust
 /// let mut input = b"enc 1337\ndec LZ".as_slice();

@@ -1,0 +1,477 @@
+#!/usr/bin/env python3
+"""What each call has to answer, by whole numbers, and the file of such values that the tests of every language read.
+
+    python3 tests/model.py            writes tests/values.tsv
+    python3 tests/model.py --check    fails if the file is not what it would write
+
+The functions follow docs/DEFINITIONS.md and know nothing of the library. As this file is imported, they are checked by
+values that are known from outside. An answer is a word and its numbers, as in the rows.
+"""
+
+import hashlib
+import sys
+import uuid
+from collections.abc import Iterator
+from pathlib import Path
+
+HEAD = r"""
+# Values that the calls have to answer. tests/model.py writes this file: change the model, and run it.
+#
+# The fields of a row stand between tabs. The first is its kind. Numbers are decimal. In a text, each byte other than 33
+# to 126, each % and each \ is % and two hexadecimal digits. An empty text is an empty field.
+#
+#   alphabet  NAME  LETTERS  ASCII  ASCENDING  62 letters; 1 or 0: all are ASCII; each is greater than the one before it
+#   repeated  LETTERS  BYTE  INDEX             62 bytes that are no alphabet: the first repeated byte, and its index
+#   encode    ALPHABET  NUMBER  TEXT           the canonical text: encoding writes it, and both decodings read it
+#   zeros     ALPHABET  TEXT  NUMBER           decoding answers the number; strict decoding refuses a needless zero
+#   refused   ALPHABET  TEXT  FAULT            both decodings refuse the text
+#   fixed     ALPHABET  NUMBER  WIDTH  TEXT    the text of WIDTH letters, which decoding reads
+#   narrow    ALPHABET  NUMBER  WIDTH          the number has no text of WIDTH letters
+#   range     ALPHABET  WIDTH  PREFIX  RANGE   the numbers whose texts of WIDTH letters begin with the prefix
+#   uuid      NUMBER  UUID  TEXT               the number as a UUID, and its canonical standard text
+#   message   TEXT  FAULT                      what a fault says
+#
+# FAULT  empty | overflow | byte BYTE INDEX
+#        in messages also: zero (a needless one) | narrow (a buffer is too small) | none (no text has the prefix) |
+#        repeated BYTE INDEX (in an alphabet)
+# RANGE  numbers LEAST GREATEST | none | byte BYTE INDEX
+#
+# The count of a number's digits is the length of its canonical text. An index or a width may be 2^32 - 1 or more: not
+# every machine, and not every call, takes it.
+""".lstrip()
+
+Answer = tuple[str | int, ...]
+Row = tuple[str | int | bytes, ...]
+
+LARGEST = 2**128 - 1
+KEY = 22
+STANDARD = b"0123456789ABCDEFGHIJKLMNOPQRSTUVWXYZabcdefghijklmnopqrstuvwxyz"
+ALTERNATIVE = b"0123456789abcdefghijklmnopqrstuvwxyzABCDEFGHIJKLMNOPQRSTUVWXYZ"
+LETTERS = {
+    "standard": STANDARD,
+    "alternative": ALTERNATIVE,
+    "reversed": STANDARD[::-1],
+    "readable": b"23456789ABCDEFGHJKLMNPQRSTUVWXYZabcdefghijkmnpqrstuvwxyz-_.~!*",
+    "lowest": bytes(range(62)),
+    "highest": bytes(range(194, 256)),
+}
+
+
+# The calls
+
+
+def is_ascii(letters: bytes) -> bool:
+    return max(letters) < 128
+
+
+def is_ascending(letters: bytes) -> bool:
+    return sorted(letters) == [*letters]
+
+
+def first_repeat(letters: bytes) -> Answer | None:
+    """The first byte that also stands at an earlier index."""
+    found = ((byte, index) for index, byte in enumerate(letters) if byte in letters[:index])
+    return next((("repeated", *named) for named in found), None)
+
+
+def text_of(letters: bytes, number: int) -> bytes:
+    """The canonical text."""
+    rest, digit = divmod(number, 62)
+    digits = [digit]
+    while rest:
+        rest, digit = divmod(rest, 62)
+        digits.append(digit)
+    return bytes(letters[digit] for digit in reversed(digits))
+
+
+def fixed_text(letters: bytes, number: int, width: int) -> bytes | None:
+    """The text of so many letters, if there is one."""
+    text = text_of(letters, number)
+    return text.rjust(width, letters[:1]) if len(text) <= width else None
+
+
+def value(letters: bytes, text: bytes) -> int:
+    """The number that letters denote."""
+    total = 0
+    for letter in text:
+        total = total * 62 + letters.index(letter)
+    return total
+
+
+def first_bad(letters: bytes, text: bytes) -> Answer | None:
+    """The first byte that is no letter."""
+    found = ((byte, index) for index, byte in enumerate(text) if byte not in letters)
+    return next((("byte", *named) for named in found), None)
+
+
+def decoded(letters: bytes, text: bytes) -> Answer:
+    """The first case that fits, in the order of the table in docs/DEFINITIONS.md."""
+    remaining = text.lstrip(letters[:1])
+    named = first_bad(letters, text)
+    if not text:
+        return ("empty",)
+    if len(remaining) > 22:
+        return ("overflow",)
+    if named and first_bad(letters, remaining[:10]):
+        return named
+    if len(remaining) == 22 and 62**12 * value(letters, remaining[:10]) > LARGEST:
+        return ("overflow",)
+    if named:
+        return named
+    if value(letters, remaining) > LARGEST:
+        return ("overflow",)
+    return "number", value(letters, remaining)
+
+
+def decoded_canonical(letters: bytes, text: bytes) -> Answer:
+    """The same, where a needless zero is a fault."""
+    answer = decoded(letters, text)
+    needless = len(text) > 1 and text.startswith(letters[:1])
+    return ("zero",) if answer[0] == "number" and needless else answer
+
+
+def range_of(letters: bytes, width: int, prefix: bytes) -> Answer:
+    """The least and the greatest number whose text of the width begins with the prefix."""
+    if named := first_bad(letters, prefix):
+        return named
+    if width == 0 or len(prefix) > width:
+        return ("none",)
+    # A greater width only puts more zeros in front, where the prefix has no other letter.
+    span = 62 ** min(width - len(prefix), 30)
+    least = value(letters, prefix) * span
+    return ("numbers", least, min(least + span - 1, LARGEST)) if least <= LARGEST else ("none",)
+
+
+def escaped(byte: int) -> str:
+    """A byte as a fault shows it."""
+    own = {9: "\\t", 10: "\\n", 13: "\\r", 34: '\\"', 39: "\\'", 92: "\\\\"}
+    return own.get(byte) or (chr(byte) if 32 <= byte <= 126 else f"\\x{byte:02x}")
+
+
+def message(fault: Answer) -> str:
+    texts = {
+        "empty": "Encoded input is an empty string",
+        "overflow": "Decoded number cannot fit into a `u128`",
+        "byte": "Encoded input contains the invalid byte b'{}' at index {}",
+        "zero": "Encoded input begins with a needless zero",
+        "narrow": "Buffer too small to encode the number",
+        "none": "No text of so many letters begins with the front",
+        "repeated": "Alphabet repeats the byte b'{}' at index {}",
+    }
+    word, *named = fault
+    return texts[str(word)].format(*[escaped(int(named[0])), named[1]] if named else [])
+
+
+# Values from outside: those that the documentation of the Rust crate base62 2.2.6 states, RFC 4122 and RFC 9562, and
+# borders computed by hand.
+
+KNOWN_NUMBERS = [
+    (0, b"0", b"0"),
+    (1337, b"LZ", b"lz"),
+    (2975, b"lz", b"LZ"),
+    (1234567890, b"1LY7VK", b"1ly7vk"),
+    (691337691337, b"CAcoUun", b"caCOuUN"),
+    (189876682536016, b"rustlang", b"RUSTLANG"),
+    (96813686712946, b"RUSTLANG", b"rustlang"),
+    (17625286683235144704, b"L0000000000", b"l0000000000"),
+    (18446744073709551614, b"LygHa16AHYE", b"lYGhA16ahye"),
+    (18446744073709551615, b"LygHa16AHYF", b"lYGhA16ahyf"),
+    (18464586049103484928, b"M0000000000", b"m0000000000"),
+    (6539293958884420617, b"7n42DGM5Tfl", b"7N42dgm5tFL"),
+    (38740334223856322559, b"k9n8mt7Fhc7", b"K9N8MT7fHC7"),
+    (38740334223856322560, b"k9n8mt7Fhc8", b"K9N8MT7fHC8"),
+    (715971350555965203672729121413359851, b"1" * 21, b"1" * 21),
+    (44390223734469842627709205527628310763, b"1" * 22, b"1" * 22),
+    (92202686130861137968548313400401640448, b"26tF05fvSIgh0000000000", b"26Tf05FVsiGH0000000000"),
+    (2**128 - 3, b"7n42DGM5Tflk9n8mt7Fhc5", b"7N42dgm5tFLK9N8MT7fHC5"),
+    (2**128 - 2, b"7n42DGM5Tflk9n8mt7Fhc6", b"7N42dgm5tFLK9N8MT7fHC6"),
+    (2**128 - 1, b"7n42DGM5Tflk9n8mt7Fhc7", b"7N42dgm5tFLK9N8MT7fHC7"),
+]
+KNOWN_ZEROS = [(b"00", 0), (b"0LZ", 1337), (b"0" * 22 + b"rustlang", 189876682536016), (b"0" * 100 + b"z", 61)]
+KNOWN_REFUSED: list[tuple[bytes, Answer]] = [
+    (b"", ("empty",)),
+    (b"!", ("byte", 33, 0)),
+    (b"0!", ("byte", 33, 1)),
+    (b"LZ-", ("byte", 45, 2)),
+    (b"1" * 23, ("overflow",)),
+    (b"!" + b"0" * 22, ("overflow",)),
+    (b"!" + b"0" * 21, ("byte", 33, 0)),
+    (b"0" * 40 + b"zzzzzzzzz!000000000000", ("byte", 33, 49)),
+    (b"zzzzzzzzz!000000000000", ("byte", 33, 9)),
+    (b"zzzzzzzzzz!00000000000", ("overflow",)),
+    (b"7n42DGM5Tf!00000000000", ("byte", 33, 10)),
+    (b"7n42DGM5Tg!00000000000", ("overflow",)),
+    (b"7n42DGM5Tflk9n8mt7Fhc!", ("byte", 33, 21)),
+    (b"7n42DGM5Tflk9n8mt7Fhc8", ("overflow",)),
+    (b"z" * 22, ("overflow",)),
+]
+KNOWN_FIXED: list[tuple[int, int, bytes | None]] = [
+    (0, 0, None),
+    (0, 1, b"0"),
+    (61, 1, b"z"),
+    (62, 1, None),
+    (1337, 5, b"000LZ"),
+    (LARGEST, 21, None),
+    (1337, 22, b"00000000000000000000LZ"),
+    (LARGEST, 22, b"7n42DGM5Tflk9n8mt7Fhc7"),
+    (LARGEST, 23, b"07n42DGM5Tflk9n8mt7Fhc7"),
+    (1337, 100, b"0" * 98 + b"LZ"),
+]
+LEAST_OF_7 = 305719766687397141968255334843504656384
+KNOWN_RANGES: list[tuple[int, bytes, Answer]] = [
+    (22, b"", ("numbers", 0, LARGEST)),
+    (22, b"0", ("numbers", 0, 43674252383913877424036476406214950911)),
+    (22, b"00000000000000000000L", ("numbers", 1302, 1363)),
+    (22, b"00000000000000000000LZ", ("numbers", 1337, 1337)),
+    (22, b"7", ("numbers", LEAST_OF_7, LARGEST)),
+    (22, b"7n", ("numbers", 340236514539200045093703517809706795008, LARGEST)),
+    (22, b"7o", ("none",)),
+    (22, b"8", ("none",)),
+    (22, b"7n42DGM5Tflk9n8mt7Fhc8", ("none",)),
+    (22, b"0" * 23, ("none",)),
+    (22, b"0-!", ("byte", 45, 1)),
+    (22, b"7o!", ("byte", 33, 2)),
+    (22, b"0" * 23 + b"!", ("byte", 33, 23)),
+    (0, b"", ("none",)),
+    (0, b"0", ("none",)),
+    (0, b"!", ("byte", 33, 0)),
+    (1, b"", ("numbers", 0, 61)),
+    (1, b"z", ("numbers", 61, 61)),
+    (1, b"0z", ("none",)),
+    (3, b"000L", ("none",)),
+    (5, b"000", ("numbers", 0, 3843)),
+    (5, b"000L", ("numbers", 1302, 1363)),
+    (7, b"2a", ("numbers", 2 * 62**6 + 36 * 62**5, 2 * 62**6 + 37 * 62**5 - 1)),
+    (21, b"", ("numbers", 0, 62**21 - 1)),
+    (23, b"", ("numbers", 0, LARGEST)),
+    (23, b"0", ("numbers", 0, LARGEST)),
+    (23, b"07", ("numbers", LEAST_OF_7, LARGEST)),
+    (23, b"1", ("none",)),
+    (100, b"0" * 98 + b"LZ", ("numbers", 1337, 1337)),
+    (100, b"0" * 78 + b"7", ("numbers", LEAST_OF_7, LARGEST)),
+    (100, b"0" * 78 + b"8", ("none",)),
+    (100, b"1", ("none",)),
+    (2**32 - 1, b"0" * 30, ("numbers", 0, LARGEST)),
+    (2**32 - 1, b"0" * 30 + b"1", ("none",)),
+]
+KNOWN_UUIDS = [
+    (1337, "00000000-0000-0000-0000-000000000539"),
+    (143098242404177361603877621312831893704, "6ba7b810-9dad-11d1-80b4-00c04fd430c8"),
+    (113059749145936325402354257176981405696, "550e8400-e29b-41d4-a716-446655440000"),
+    (1989357241971137676463954034883508623, "017f22e2-79b0-7cc3-98c4-dc0c0c07398f"),
+    (LARGEST, "ffffffff-ffff-ffff-ffff-ffffffffffff"),
+]
+KNOWN_MESSAGES: list[tuple[str, Answer]] = [
+    ("Encoded input contains the invalid byte b'-' at index 2", ("byte", 45, 2)),
+    ("Encoded input contains the invalid byte b'\\xff' at index 18446744073709551615", ("byte", 255, 2**64 - 1)),
+    ("Encoded input contains the invalid byte b'\\n' at index 10", ("byte", 10, 10)),
+    ("Alphabet repeats the byte b'\\'' at index 61", ("repeated", 39, 61)),
+    ("Alphabet repeats the byte b'0' at index 1", ("repeated", 48, 1)),
+    ("Decoded number cannot fit into a `u128`", ("overflow",)),
+    ("Encoded input is an empty string", ("empty",)),
+    ("Buffer too small to encode the number", ("narrow",)),
+    ("Encoded input begins with a needless zero", ("zero",)),
+    ("No text of so many letters begins with the front", ("none",)),
+]
+
+
+def check_model() -> None:
+    for number, standard, alternative in KNOWN_NUMBERS:
+        for letters, text in ((STANDARD, standard), (ALTERNATIVE, alternative)):
+            assert text_of(letters, number) == text, text
+            assert decoded(letters, text) == decoded_canonical(letters, text) == ("number", number), text
+    for text, number in KNOWN_ZEROS:
+        assert decoded(STANDARD, text) == ("number", number) and decoded_canonical(STANDARD, text) == ("zero",), text
+    for text, fault in KNOWN_REFUSED:
+        assert decoded(STANDARD, text) == decoded_canonical(STANDARD, text) == fault, text
+    for number, width, filled in KNOWN_FIXED:
+        assert fixed_text(STANDARD, number, width) == filled, (number, width)
+    for width, prefix, answer in KNOWN_RANGES:
+        assert range_of(STANDARD, width, prefix) == answer, (width, prefix)
+    assert range_of(ALTERNATIVE, 2, b"l") == ("numbers", 1302, 1363)
+    for number, name in KNOWN_UUIDS:
+        assert uuid.UUID(name).int == number, name
+    for said, fault in KNOWN_MESSAGES:
+        assert message(fault) == said, fault
+    for letters in LETTERS.values():
+        assert len(letters) == len({*letters}) == 62, letters
+    assert first_repeat(b"a" * 62) == ("repeated", 97, 1)
+    assert first_repeat(STANDARD[:-1] + b"7") == ("repeated", 55, 61)
+
+
+check_model()
+
+
+# The choice of values
+
+
+def drawn(count: int, seed: str) -> list[int]:
+    """Numbers of each length from 1 to 128 bits, without a pattern and always the same."""
+    digest = hashlib.shake_128(seed.encode()).digest(16 * count)
+    wide = [int.from_bytes(digest[16 * i : 16 * i + 16], "big") for i in range(count)]
+    return [number >> i % 128 for i, number in enumerate(wide)]
+
+
+def numbers() -> list[int]:
+    """Each power of 62 and of 2 with its neighbours, letters at each place, and others."""
+    centers = [62**power for power in range(22)] + [2**power for power in range(129)]
+    near = [center + beside for center in centers for beside in (-1, 0, 1)]
+    # In these 62 texts of 21 letters each letter stands at each place.
+    turned = [sum((place * 7 + turn) % 62 * 62**place for place in range(21)) for turn in range(62)]
+    found = [number for number, *_ in KNOWN_NUMBERS + KNOWN_UUIDS] + near + turned + drawn(256, "numbers")
+    return list(dict.fromkeys(number for number in found if number <= LARGEST))
+
+
+def over(letters: bytes, text: bytes) -> bytes:
+    """A standard text in the letters of another alphabet. Its other bytes become ones that are no letters there."""
+    others = [byte for byte in range(256) if byte not in letters]
+    at_others = [byte for byte in range(256) if byte not in STANDARD]
+    return text.translate(bytes.maketrans(STANDARD + bytes(at_others), letters + bytes(others)))
+
+
+def refused_texts() -> Iterator[bytes]:
+    """Standard texts with a byte that is no letter, and texts of numbers that are too large."""
+    no_letters = [byte for byte in range(256) if byte not in STANDARD]
+    turn = 0
+    # In these each such byte stands somewhere, and one stands at each place of each length.
+    for length in range(1, 24):
+        for place in range(length):
+            text = bytearray(b"z1Z"[turn % 3 : turn % 3 + 1] * length)
+            text[place] = no_letters[turn % len(no_letters)]
+            yield bytes(text)
+            turn += 1
+    # Two such bytes, zeros in front, and the borders of the first ten bytes and of the number.
+    for place in range(22):
+        for front in (b"7n42DGM5Tf", b"7n42DGM5Tg", b"0007n42DGM5Tg", b"1000000000"):
+            text = bytearray(front.ljust(22 + len(front) - len(front.lstrip(b"0")), b"0"))
+            text[place] = 0x80 + place
+            text[-1] = ord("/")
+            yield bytes(text)
+        yield b"0" * place + b"!"
+        yield b"0" * place + b"7n42DGM5Tflk9n8mt7Fhc8"
+    for number in [LARGEST + 1, LARGEST + 2, 2**129, 62**22 - 1, 62**22, 62**23, 62**40, *drawn(32, "too large")]:
+        yield text_of(STANDARD, number + LARGEST + 1 if number <= LARGEST else number)
+    yield b"0" * 300 + b"_"
+    yield b"\xc3\xa9" * 12
+
+
+def prefixes() -> Iterator[tuple[int, bytes]]:
+    """Standard prefixes of each length and one more, for widths below, at and above that of a key."""
+    for width in (1, 2, 3, 7, 10, 11, 12, 13, 20, 21, 22, 23, 40):
+        largest = text_of(STANDARD, LARGEST).rjust(width, b"0")
+        for length in range(min(width, 24) + 2):
+            chosen = largest[:length] if length <= width else b"0" * length
+            yield width, chosen
+            if length:
+                yield width, chosen[:-1] + (b"8" if length % 2 else b"o")
+                yield width, chosen[:-1] + b"0"
+            if length % 4 == 3:
+                yield width, chosen[:-2] + b"-" + chosen[-1:]
+    for number in drawn(64, "prefixes"):
+        yield number % 40, text_of(STANDARD, number >> 6)[: number % 7]
+
+
+# The rows
+
+
+def rows_of_alphabets() -> Iterator[Row]:
+    for name, letters in LETTERS.items():
+        yield "alphabet", name, letters, int(is_ascii(letters)), int(is_ascending(letters))
+    for later in range(1, 62):
+        letters_again = bytearray(list(LETTERS.values())[later % len(LETTERS)])
+        letters_again[later] = letters_again[later * later % 62 % later]
+        yield from repeated(bytes(letters_again))
+    for letters in (b"a" * 62, b"\0" * 62, bytes(range(31)) * 2, STANDARD[:-2] + b"zz"):
+        yield from repeated(letters)
+
+
+def repeated(letters: bytes) -> Iterator[Row]:
+    found = first_repeat(letters)
+    assert found, letters
+    yield "repeated", letters, *found[1:]
+
+
+def rows_of_texts(alphabet: str, step: int) -> Iterator[Row]:
+    """The rows of decoding and encoding, for one number and one text in so many."""
+    letters = LETTERS[alphabet]
+    for number in numbers()[::step]:
+        yield "encode", alphabet, number, text_of(letters, number)
+    for count, number in enumerate(numbers()[:: 5 * step]):
+        zeros = (1, 2, 9, 10, 21, 22, 23, 40)[count % 8]
+        yield "zeros", alphabet, letters[:1] * zeros + text_of(letters, number), number
+    for text, number in KNOWN_ZEROS:
+        yield "zeros", alphabet, over(letters, text), number
+    texts = [text for text, _ in KNOWN_REFUSED] + [*refused_texts()][::step]
+    for text in (over(letters, text) for text in texts):
+        answer = decoded(letters, text)
+        assert answer[0] != "number", text
+        yield "refused", alphabet, text, *answer
+
+
+def rows_of_widths(alphabet: str, step: int) -> Iterator[Row]:
+    letters = LETTERS[alphabet]
+    pairs = [(number, width) for number, width, _ in KNOWN_FIXED]
+    for number in numbers()[::step]:
+        count = len(text_of(letters, number))
+        others = (number % 23, 23, 30) if alphabet == "standard" else (number % 31,)
+        pairs += [(number, width) for width in (count - 1, count, count + 1, KEY, *others)]
+    for number, width in dict.fromkeys(pairs):
+        text = fixed_text(letters, number, width)
+        if text is None:
+            yield "narrow", alphabet, number, width
+        else:
+            yield "fixed", alphabet, number, width, text
+
+
+def rows_of_ranges(alphabet: str, step: int) -> Iterator[Row]:
+    letters = LETTERS[alphabet]
+    for width, standard in [(width, prefix) for width, prefix, _ in KNOWN_RANGES] + [*prefixes()][::step]:
+        prefix = over(letters, standard)
+        yield "range", alphabet, width, prefix, *range_of(letters, width, prefix)
+
+
+def rows_of_messages() -> Iterator[Row]:
+    faults: list[Answer] = [fault for _, fault in KNOWN_MESSAGES]
+    indices = [0, 7, *(10**power - low for power in range(1, 20) for low in (1, 0)), 2**32 - 1, 2**64 - 1]
+    faults += [("byte", byte, indices[byte % len(indices)]) for byte in range(256)]
+    faults += [("repeated", byte, byte % 61 + 1) for byte in range(0, 256, 3)]
+    for fault in faults:
+        yield "message", message(fault).encode(), *fault
+
+
+def rows() -> Iterator[Row]:
+    yield from rows_of_alphabets()
+    for alphabet in LETTERS:
+        step = {"standard": 1, "alternative": 2}.get(alphabet, 7)
+        yield from rows_of_texts(alphabet, step)
+        yield from rows_of_widths(alphabet, 7 * step)
+        yield from rows_of_ranges(alphabet, 2 * step)
+    for number in [number for number, *_ in KNOWN_UUIDS] + numbers()[::8]:
+        yield "uuid", number, str(uuid.UUID(int=number)), text_of(STANDARD, number)
+    yield from rows_of_messages()
+
+
+def field(of: str | int | bytes) -> str:
+    if not isinstance(of, bytes):
+        return str(of)
+    return "".join(chr(byte) if 33 <= byte <= 126 and byte not in b"%\\" else f"%{byte:02X}" for byte in of)
+
+
+def written() -> str:
+    lines = dict.fromkeys("\t".join(map(field, row)) for row in rows())
+    return HEAD + "".join(line + "\n" for line in lines)
+
+
+def main() -> None:
+    path = Path(__file__).with_name("values.tsv")
+    if sys.argv[1:] == ["--check"]:
+        if not path.exists() or path.read_bytes() != written().encode():
+            raise SystemExit(f"{path} is not what {__file__} writes: run it")
+    elif sys.argv[1:]:
+        raise SystemExit(__doc__)
+    else:
+        path.write_bytes(written().encode())
+
+
+if __name__ == "__main__":
+    main()

@@ -84,9 +84,9 @@ bool decode_over(const base62_alphabet *alphabet, const char *text, size_t lengt
     return status == BASE62_OK || refuse_status(status, bad, why);
 }
 
-bool range_of_front(const char *front, size_t length, size_t width, base62_range *range, bool *none, refusal *why) {
+bool range_of_prefix(const char *prefix, size_t length, size_t width, base62_range *range, bool *none, refusal *why) {
     base62_bad_byte bad = {0, 0};
-    base62_status status = base62_fixed_range(width, front, length, range, &bad);
+    base62_status status = base62_fixed_range(width, prefix, length, range, &bad);
     *none = status == BASE62_NO_KEY;
     return *none || status == BASE62_OK || refuse_status(status, bad, why);
 }

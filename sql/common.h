@@ -3,7 +3,7 @@
 #ifndef BASE62_COMMON_H
 #define BASE62_COMMON_H
 
-#include <base62.h>
+#include "base62.h"
 #include <stdbool.h>
 
 /* No number needs more than 22 letters. More fill a column that is wider, and far more only take time. */
@@ -22,8 +22,6 @@ typedef struct {
     size_t length;
     char said[BASE62_MAX_FAULT_TEXT];
 } refusal;
-
-#pragma GCC visibility push(hidden)
 
 /* Those that answer bool write what they find and answer true, or write why not and answer false. Where the alphabet is
  * NULL, it is the standard one. */
@@ -46,9 +44,7 @@ bool decode_over(const base62_alphabet *alphabet, const char *text, size_t lengt
 
 bool check_width(int64_t width, refusal *why);
 
-/* The numbers whose texts of the width begin with the front. Where there are none, *none is true. */
-bool range_of_front(const char *front, size_t length, size_t width, base62_range *range, bool *none, refusal *why);
-
-#pragma GCC visibility pop
+/* The numbers whose texts of the width begin with the prefix. Where there are none, *none is true. */
+bool range_of_prefix(const char *prefix, size_t length, size_t width, base62_range *range, bool *none, refusal *why);
 
 #endif

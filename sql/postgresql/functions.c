@@ -67,6 +67,7 @@ static const base62_alphabet *alphabet_at(FunctionCallInfo fcinfo, int place) {
             kept = function->fn_extra = MemoryContextAlloc(function->fn_mcxt, sizeof *kept);
         memcpy(kept->letters, letters, sizeof kept->letters);
         kept->alphabet = made;
+        elog(DEBUG1, "base62 made an alphabet");
     }
     return &kept->alphabet;
 }
@@ -126,14 +127,14 @@ static Datum decoded_uuid(FunctionCallInfo fcinfo, bool canonical) {
     PG_RETURN_UUID_P(answer);
 }
 
-/* The first or the last text of a width that begins with the front, or null. */
-static Datum end_of_front(FunctionCallInfo fcinfo, bool last) {
-    const text *front = PG_GETARG_TEXT_PP(0);
+/* The first or the last text of a width that begins with the prefix, or null. */
+static Datum end_of_prefix(FunctionCallInfo fcinfo, bool last) {
+    const text *prefix = PG_GETARG_TEXT_PP(0);
     size_t width = width_at(fcinfo, 1);
     base62_range range;
     bool none;
     refusal why;
-    if (!range_of_front(VARDATA_ANY(front), VARSIZE_ANY_EXHDR(front), width, &range, &none, &why))
+    if (!range_of_prefix(VARDATA_ANY(prefix), VARSIZE_ANY_EXHDR(prefix), width, &range, &none, &why))
         refuse(&why);
     if (none)
         PG_RETURN_NULL();
@@ -209,10 +210,10 @@ Datum pg_base62_encode_fixed_uuid(PG_FUNCTION_ARGS) {
 
 PG_FUNCTION_INFO_V1(pg_base62_key_first);
 Datum pg_base62_key_first(PG_FUNCTION_ARGS) {
-    return end_of_front(fcinfo, false);
+    return end_of_prefix(fcinfo, false);
 }
 
 PG_FUNCTION_INFO_V1(pg_base62_key_last);
 Datum pg_base62_key_last(PG_FUNCTION_ARGS) {
-    return end_of_front(fcinfo, true);
+    return end_of_prefix(fcinfo, true);
 }

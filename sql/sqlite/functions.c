@@ -190,15 +190,15 @@ static void encode_fixed(sqlite3_context *context, int count, sqlite3_value **gi
 
 /* The last key where the function has data, and else the first one. */
 static void key_end(sqlite3_context *context, int count, sqlite3_value **given) {
-    const char *front;
+    const char *prefix;
     size_t length, width = BASE62_KEY_LENGTH;
     base62_range range;
     bool none;
     refusal why;
-    if (any_null(count, given) || !text_of(context, given[0], &front, &length) ||
+    if (any_null(count, given) || !text_of(context, given[0], &prefix, &length) ||
         (count > 1 && !width_of(context, given[1], &width)))
         return;
-    if (!range_of_front(front, length, width, &range, &none, &why))
+    if (!range_of_prefix(prefix, length, width, &range, &none, &why))
         refuse(context, &why);
     else if (!none)
         result_fixed(context, NULL, sqlite3_user_data(context) == NULL ? range.least : range.greatest, width);
@@ -246,7 +246,11 @@ static int create_functions(sqlite3 *db) {
 
 /* SQLite tries the first name, and then sqlite3_base_init, which it makes of base62.so. The second name is for those
  * who ask for it. The module exports these two alone. */
+#ifdef _WIN32
+#define EXPORT __declspec(dllexport)
+#else
 #define EXPORT __attribute__((visibility("default")))
+#endif
 
 EXPORT int sqlite3_extension_init(sqlite3 *db, char **error, const sqlite3_api_routines *api);
 EXPORT int sqlite3_base62_init(sqlite3 *db, char **error, const sqlite3_api_routines *api);

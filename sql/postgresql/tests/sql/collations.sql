@@ -1,0 +1,62 @@
+-- Keys in a database that sorts by a language, of a user who is no superuser.
+SET client_min_messages = warning;
+DROP DATABASE IF EXISTS contrib_regression_language;
+DROP ROLE IF EXISTS regress_base62;
+CREATE ROLE regress_base62;
+CREATE DATABASE contrib_regression_language OWNER regress_base62 TEMPLATE template0 ENCODING 'UTF8'
+    LOCALE_PROVIDER icu ICU_LOCALE 'en-US' LOCALE 'C';
+\c contrib_regression_language
+SET SESSION AUTHORIZATION regress_base62;
+CREATE EXTENSION base62;
+SELECT 'a' < 'B' language, 'a' < 'B' COLLATE "C" bytes;
+
+CREATE TABLE item (u uuid PRIMARY KEY, key base62_key GENERATED ALWAYS AS (base62_encode_key_uuid(u)) STORED UNIQUE);
+CREATE TABLE code (id bigint PRIMARY KEY, code base62_key GENERATED ALWAYS AS (base62_encode_fixed(id, 11)) STORED);
+CREATE TABLE plain (u uuid, key text PRIMARY KEY, declared text COLLATE "en-x-icu");
+INSERT INTO item SELECT md5(i::text)::uuid FROM generate_series(1, 20000) i;
+INSERT INTO item SELECT lpad(to_hex(i), 32, '0')::uuid FROM generate_series(0, 100) i;
+INSERT INTO code SELECT i * 461168601842738 FROM generate_series(0, 20000) i;
+INSERT INTO plain SELECT u, key, key FROM item;
+ANALYZE item, code, plain;
+
+-- What functions return.
+\set own '\'zyxwvutsrqponmlkjihgfedcbaZYXWVUTSRQPONMLKJIHGFEDCBA9876543210\''
+SELECT DISTINCT pg_collation_for(answer) FROM (VALUES (base62_encode_key(1)),
+    (base62_encode_key_uuid(gen_random_uuid())), (base62_encode_fixed(1, 5)), (base62_encode_fixed(1, 5, :own::text)),
+    (base62_encode_fixed_uuid(gen_random_uuid(), 22, :own)), (base62_key_first('1')), (base62_key_first('1', 4)),
+    (base62_key_last('1')), (base62_key_last('1', 4))) answers (answer);
+SELECT pg_collation_for(base62_encode_key(1)) key, pg_collation_for(base62_encode_fixed(1, 5, :own::text)) fixed,
+    pg_collation_for(base62_key_first('1'::text)) first, pg_collation_for(base62_key_last('1'::text, 4)) last,
+    pg_collation_for(base62_encode(1)) encoded;
+
+-- Keys sort as their numbers, and in a text column they do not.
+SELECT count(*) FROM (SELECT u, lag(u) OVER (ORDER BY key) p FROM item) i WHERE p >= u;
+SELECT count(*) FROM (SELECT id, lag(id) OVER (ORDER BY code) p FROM code) i WHERE p >= id;
+SELECT count(*) > 1000 FROM (SELECT u, lag(u) OVER (ORDER BY key) p FROM plain) i WHERE p >= u;
+
+-- How many rows have a prefix, and how many more or fewer each other way finds.
+SELECT p prefix, count(*) FILTER (WHERE starts_with(key, p)) > 0 has,
+    count(*) FILTER (WHERE starts_with(key, p))
+    - count(*) FILTER (WHERE key BETWEEN base62_key_first(p) AND base62_key_last(p)) "between",
+    count(*) FILTER (WHERE starts_with(key, p)) - count(*) FILTER (WHERE key LIKE p || '%') "like",
+    count(*) FILTER (WHERE starts_with(key, p)) - count(*) FILTER
+        (WHERE u BETWEEN base62_decode_uuid(base62_key_first(p)) AND base62_decode_uuid(base62_key_last(p))) "uuid"
+    FROM item, (VALUES ('2'), ('7n'), ('1a'), ('0000000'), ('')) prefixes (p) GROUP BY p ORDER BY p;
+
+-- Over text columns: by constants, by the functions, by parameters of type text, and by an index.
+SELECT count(*) FILTER (WHERE starts_with(key, '2a')) <> count(*) FILTER (WHERE key BETWEEN '2a' || repeat('0', 20)
+    AND '2a' || repeat('z', 20)) wrong FROM plain;
+SELECT count(*) FILTER (WHERE starts_with(key, '2a')) - count(*) FILTER
+    (WHERE key BETWEEN base62_key_first('2a') AND base62_key_last('2a'::text)) "between" FROM plain;
+EXPLAIN (COSTS off) SELECT * FROM plain WHERE key BETWEEN base62_key_first('2a') AND base62_key_last('2a');
+PREPARE by_texts (text, text) AS SELECT count(*) FILTER (WHERE starts_with(key, '2a')) <> count(*) FILTER
+    (WHERE key BETWEEN $1 AND $2) wrong, count(*) FILTER (WHERE starts_with(key, '2a')) - count(*) FILTER
+    (WHERE key COLLATE "C" BETWEEN $1 AND $2) bytes FROM plain;
+EXECUTE by_texts ('2a00000000000000000000', '2azzzzzzzzzzzzzzzzzzzz');
+CREATE INDEX plain_key ON plain (key COLLATE "C");
+EXPLAIN (COSTS off) SELECT * FROM plain WHERE key BETWEEN base62_key_first('2a') AND base62_key_last('2a');
+\set VERBOSITY sqlstate
+SELECT count(*) FROM plain WHERE declared BETWEEN base62_key_first('2a') AND base62_key_last('2a');
+\set VERBOSITY default
+SELECT count(*) FILTER (WHERE starts_with(key, '2a')) - count(*) FILTER
+    (WHERE declared COLLATE "C" BETWEEN base62_key_first('2a') AND base62_key_last('2a')) declared FROM plain;

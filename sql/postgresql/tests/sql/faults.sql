@@ -1,0 +1,71 @@
+-- What is refused, and how.
+CREATE FUNCTION refusal(expression text) RETURNS text LANGUAGE plpgsql AS $$
+DECLARE
+    answer text;
+    hint text;
+BEGIN
+    EXECUTE 'SELECT ' || expression INTO answer;
+    RETURN answer;
+EXCEPTION WHEN OTHERS THEN
+    GET STACKED DIAGNOSTICS hint = PG_EXCEPTION_HINT;
+    RETURN concat_ws(' | ', sqlstate || ' ' || sqlerrm, nullif(hint, ''));
+END $$;
+CREATE FUNCTION own() RETURNS text IMMUTABLE LANGUAGE sql
+    AS $$ SELECT 'zyxwvutsrqponmlkjihgfedcbaZYXWVUTSRQPONMLKJIHGFEDCBA9876543210' $$;
+CREATE FUNCTION repeated() RETURNS text IMMUTABLE LANGUAGE sql
+    AS $$ SELECT '00123456789ABCDEFGHIJKLMNOPQRSTUVWXYZabcdefghijklmnopqrstuvwxy' $$;
+CREATE FUNCTION accented() RETURNS text IMMUTABLE LANGUAGE sql
+    AS $$ SELECT 'é23456789ABCDEFGHIJKLMNOPQRSTUVWXYZabcdefghijklmnopqrstuvwxyz' $$;
+
+\pset format unaligned
+\pset tuples_only on
+SELECT call, refusal(call) FROM (VALUES
+    ($$base62_encode(-1)$$),
+    ($$base62_encode(-9223372036854775808, own())$$),
+    ($$base62_encode_key(-1)$$),
+    ($$base62_encode_fixed(-1, 22)$$),
+    ($$base62_encode_fixed(62, 1)$$),
+    ($$base62_encode_fixed(62, 1, own())$$),
+    ($$base62_encode_fixed(62, 0)$$),
+    ($$base62_encode_fixed(62, -1)$$),
+    ($$base62_encode_fixed(62, 1001)$$),
+    ($$base62_encode_fixed(62, 2147483647)$$),
+    ($$base62_encode_fixed_uuid('00000000-0000-0000-0000-000000000539', 1)$$),
+    ($$base62_encode_fixed_uuid('00000000-0000-0000-0000-000000000539', 1001, own())$$),
+    ($$base62_key_first('', 0)$$),
+    ($$base62_key_last('', -1)$$),
+    ($$base62_key_last('', 1001)$$)
+) calls (call);
+SELECT call, refusal(call) FROM (VALUES
+    ($$base62_decode('AzL8n0Y58m7')$$),
+    ($$base62_decode('AzL8n0Y58m8')$$),
+    ($$base62_decode('LygHa16AHYG')$$),
+    ($$base62_decode('7n42DGM5Tflk9n8mt7Fhc8')$$),
+    ($$base62_decode_uuid('7n42DGM5Tflk9n8mt7Fhc8')$$),
+    ($$base62_decode('')$$),
+    ($$base62_decode_uuid('')$$),
+    ($$base62_decode('LZ-')$$),
+    ($$base62_decode_uuid('LZ-', own())$$),
+    ($$base62_decode_canonical('0LZ')$$),
+    ($$base62_decode_canonical('zLZ', own())$$),
+    ($$base62_decode_canonical('AzL8n0Y58m8')$$),
+    ($$base62_decode_uuid_canonical('00')$$),
+    ($$base62_decode_uuid_canonical('')$$),
+    ($$base62_key_first('-')$$),
+    ($$base62_key_last('0é', 1)$$)
+) calls (call);
+SELECT call, refusal(call) FROM (VALUES
+    ($$base62_encode(1, '01')$$),
+    ($$base62_encode(1, '')$$),
+    ($$base62_encode(1, accented())$$),
+    ($$base62_decode('LZ', accented())$$),
+    ($$base62_encode_fixed(1, 1, accented())$$),
+    ($$base62_encode(1, repeated())$$),
+    ($$base62_encode_uuid('00000000-0000-0000-0000-000000000539', repeated())$$),
+    ($$base62_decode('LZ', repeated())$$),
+    ($$base62_encode_fixed(1, 1, repeated())$$),
+    ($$base62_is_text('-', repeated())$$),
+    ($$base62_is_bigint('LZ', '01')$$),
+    ($$base62_encode(1.5)$$),
+    ($$base62_encode('LZ'::text)$$)
+) calls (call);

@@ -1,0 +1,47 @@
+-- Generated columns, constraints and indexes, and the plans that use them.
+CREATE TABLE link (id bigint PRIMARY KEY, slug text GENERATED ALWAYS AS (base62_encode(id)) STORED UNIQUE);
+CREATE TABLE item (u uuid PRIMARY KEY, key base62_key GENERATED ALWAYS AS (base62_encode_key_uuid(u)) STORED UNIQUE,
+    CHECK (base62_is_text(key) AND length(key) = 22 AND base62_decode_uuid(key) = u));
+CREATE TABLE code (id bigint PRIMARY KEY, code base62_key GENERATED ALWAYS AS (base62_encode_fixed(id, 11)) STORED);
+CREATE UNIQUE INDEX item_text ON item (base62_encode_uuid(u));
+CREATE INDEX item_prefix ON item (u) WHERE key < base62_key_last('3');
+CREATE INDEX code_code ON code (code);
+INSERT INTO link SELECT i * 461168601842738 FROM generate_series(0, 20000) i;
+INSERT INTO code SELECT id FROM link;
+INSERT INTO item SELECT md5(i::text)::uuid FROM generate_series(1, 20000) i;
+INSERT INTO item SELECT lpad(to_hex(i), 32, '0')::uuid FROM generate_series(0, 100) i;
+ANALYZE link, item, code;
+SET enable_bitmapscan = off;
+EXPLAIN (COSTS off) SELECT * FROM link WHERE slug = 'LZ';
+EXPLAIN (COSTS off) SELECT * FROM link WHERE slug = base62_encode(1337);
+EXPLAIN (COSTS off) SELECT * FROM link WHERE id = base62_decode('LZ');
+EXPLAIN (COSTS off) SELECT * FROM item WHERE u = base62_decode_uuid('LZ');
+EXPLAIN (COSTS off) SELECT * FROM item WHERE base62_encode_uuid(u) = 'LZ';
+EXPLAIN (COSTS off) SELECT * FROM item WHERE key LIKE '2aU%';
+EXPLAIN (COSTS off) SELECT * FROM item WHERE key ^@ '2aU';
+EXPLAIN (COSTS off) SELECT * FROM item
+    WHERE key BETWEEN base62_key_first('2aU') AND base62_key_last('2aU') ORDER BY key;
+EXPLAIN (COSTS off) SELECT * FROM item
+    WHERE u BETWEEN base62_decode_uuid(base62_key_first('2aU')) AND base62_decode_uuid(base62_key_last('2aU'));
+EXPLAIN (COSTS off) SELECT * FROM code WHERE code BETWEEN base62_key_first('0001', 11) AND base62_key_last('0001', 11);
+
+-- Partitions without such keys are left out.
+CREATE TABLE part (key base62_key PRIMARY KEY) PARTITION BY RANGE (key);
+CREATE TABLE part_0 PARTITION OF part FOR VALUES FROM (MINVALUE) TO ('2');
+CREATE TABLE part_2 PARTITION OF part FOR VALUES FROM ('2') TO (MAXVALUE);
+SET enable_indexscan = off;
+EXPLAIN (COSTS off) SELECT * FROM part WHERE key LIKE '2a%';
+EXPLAIN (COSTS off) SELECT * FROM part WHERE key BETWEEN base62_key_first('2a') AND base62_key_last('2a');
+RESET enable_indexscan;
+RESET enable_bitmapscan;
+CREATE PUBLICATION filtered FOR TABLE link WHERE (base62_encode(id) <> 'LZ');
+
+-- In parallel.
+SET parallel_setup_cost = 0;
+SET parallel_tuple_cost = 0;
+SET min_parallel_table_scan_size = 0;
+SET parallel_leader_participation = off;
+EXPLAIN (COSTS off) SELECT count(*) FROM item WHERE base62_decode_uuid(base62_encode_uuid(u)) = u
+    AND base62_encode_key_uuid(u) BETWEEN base62_key_first(left(key, 3)) AND base62_key_last(left(key, 3));
+SELECT count(*) FROM item WHERE base62_decode_uuid(base62_encode_uuid(u)) = u
+    AND base62_encode_key_uuid(u) BETWEEN base62_key_first(left(key, 3)) AND base62_key_last(left(key, 3));

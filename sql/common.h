@@ -23,8 +23,8 @@ typedef struct {
     char said[BASE62_MAX_FAULT_TEXT];
 } refusal;
 
-/* Those that answer bool write what they find and answer true, or write why not and answer false. Where the alphabet is
- * NULL, it is the standard one. */
+/* Those that answer bool write what they find and answer true, or write why not and answer false. If the alphabet is NULL,
+ * it is the standard one. */
 
 /* The alphabet of letters, which have to be ASCII: others would make texts that no database takes. */
 bool make_alphabet(const char *letters, size_t length, base62_alphabet *alphabet, refusal *why);
@@ -44,7 +44,7 @@ bool decode_over(const base62_alphabet *alphabet, const char *text, size_t lengt
 
 bool check_width(int64_t width, refusal *why);
 
-/* The numbers whose texts of the width begin with the prefix. Where there are none, *none is true. */
+/* The numbers whose texts of the width begin with the prefix. If there are none, *none is true. */
 bool range_of_prefix(const char *prefix, size_t length, size_t width, base62_range *range, bool *none, refusal *why);
 
 #endif

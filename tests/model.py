@@ -377,18 +377,19 @@ def prefixes() -> Iterator[tuple[int, bytes]]:
 def rows_of_alphabets() -> Iterator[Row]:
     for name, letters in LETTERS.items():
         yield "alphabet", name, letters, int(is_ascii(letters)), int(is_ascending(letters))
+
+
+def rows_of_repeats() -> Iterator[tuple[str, bytes, int, int]]:
+    """Letters of which one stands again at each index."""
+    chosen = [b"a" * 62, b"\0" * 62, bytes(range(31)) * 2, STANDARD[:-2] + b"zz"]
     for later in range(1, 62):
-        letters_again = bytearray(list(LETTERS.values())[later % len(LETTERS)])
-        letters_again[later] = letters_again[later * later % 62 % later]
-        yield from repeated(bytes(letters_again))
-    for letters in (b"a" * 62, b"\0" * 62, bytes(range(31)) * 2, STANDARD[:-2] + b"zz"):
-        yield from repeated(letters)
-
-
-def repeated(letters: bytes) -> Iterator[Row]:
-    found = first_repeat(letters)
-    assert found, letters
-    yield "repeated", letters, *found[1:]
+        letters = bytearray([*LETTERS.values()][later % len(LETTERS)])
+        letters[later] = letters[later * later % 62 % later]
+        chosen.append(bytes(letters))
+    for each in chosen:
+        found = first_repeat(each)
+        assert found, each
+        yield "repeated", each, int(found[1]), int(found[2])
 
 
 def rows_of_texts(alphabet: str, step: int) -> Iterator[Row]:
@@ -434,13 +435,15 @@ def rows_of_messages() -> Iterator[Row]:
     faults: list[Answer] = [fault for _, fault in KNOWN_MESSAGES]
     indices = [0, 7, *(10**power - low for power in range(1, 20) for low in (1, 0)), 2**32 - 1, 2**64 - 1]
     faults += [("byte", byte, indices[byte % len(indices)]) for byte in range(256)]
-    faults += [("repeated", byte, byte % 61 + 1) for byte in range(0, 256, 3)]
+    faults += [("repeated", byte, index) for _, _, byte, index in rows_of_repeats()]
+    faults += [("repeated", byte, byte % 61 + 1) for byte in range(0, 256, 8)]
     for fault in faults:
         yield "message", message(fault).encode(), *fault
 
 
 def rows() -> Iterator[Row]:
     yield from rows_of_alphabets()
+    yield from rows_of_repeats()
     for alphabet in LETTERS:
         step = {"standard": 1, "alternative": 2}.get(alphabet, 7)
         yield from rows_of_texts(alphabet, step)

@@ -44,7 +44,7 @@ typedef struct {
     base62_alphabet alphabet;
 } kept_alphabet;
 
-/* The alphabet of the letters at a place, or NULL where no argument is. It is kept for the next call of the same
+/* The alphabet of the letters at a place, or NULL if there is no argument. It is kept for the next call of the same
  * expression. Each call compares the letters: those in a variable of PL/pgSQL, which changes, pass for a constant. */
 static const base62_alphabet *alphabet_at(FunctionCallInfo fcinfo, int place) {
     FmgrInfo *function = fcinfo->flinfo;
@@ -72,7 +72,7 @@ static const base62_alphabet *alphabet_at(FunctionCallInfo fcinfo, int place) {
     return &kept->alphabet;
 }
 
-/* The width at a place, or that of a key where no argument is. */
+/* The width at a place, or that of a key if there is no argument. */
 static size_t width_at(FunctionCallInfo fcinfo, int place) {
     int32 width = place < PG_NARGS() ? PG_GETARG_INT32(place) : BASE62_KEY_LENGTH;
     refusal why;

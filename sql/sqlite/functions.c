@@ -22,7 +22,7 @@ static int refuse_memory(sqlite3_context *context) {
     return 0;
 }
 
-/* Arguments. Where one is refused, the context has been told, and the answer is 0. */
+/* Arguments. If one is refused, the context has been told, and the answer is 0. */
 
 static int any_null(int count, sqlite3_value **given) {
     for (int i = 0; i < count; i++)
@@ -58,8 +58,8 @@ static int text_of(sqlite3_context *context, sqlite3_value *given, const char **
     return 1;
 }
 
-/* Points to the alphabet of the letters at a place, or to NULL where no argument is. SQLite keeps it as long as the
- * statement runs, where the letters are constant, and may free it at once, where not. So this call has its own. */
+/* Points to the alphabet of the letters at a place, or to NULL if there is no argument. SQLite keeps it as long as the
+ * statement runs if the letters are constant, and else may free it at once. So this call has its own. */
 static int alphabet_at(sqlite3_context *context, int place, int count, sqlite3_value **given, base62_alphabet *own,
                        const base62_alphabet **alphabet) {
     const char *letters;
@@ -117,7 +117,7 @@ static void encode(sqlite3_context *context, int count, sqlite3_value **given) {
     sqlite3_result_text(context, text, (int)length, SQLITE_TRANSIENT);
 }
 
-/* Where a function has data, it decodes canonical texts alone. */
+/* A function that has data decodes canonical texts alone. */
 static int decoded(sqlite3_context *context, int count, sqlite3_value **given, base62_number *number) {
     const char *text;
     size_t length;
@@ -151,7 +151,7 @@ static void decode_blob(sqlite3_context *context, int count, sqlite3_value **giv
     sqlite3_result_blob(context, uuid, sizeof uuid, SQLITE_TRANSIENT);
 }
 
-/* Whether decoding accepts, to an integer where the function has data. It accepts no value but a text. */
+/* Whether decoding accepts, to an integer if the function has data. It accepts no value but a text. */
 static void accepts(sqlite3_context *context, int count, sqlite3_value **given) {
     const char *text;
     size_t length;
@@ -188,7 +188,7 @@ static void encode_fixed(sqlite3_context *context, int count, sqlite3_value **gi
         result_fixed(context, alphabet, number, width);
 }
 
-/* The last key where the function has data, and else the first one. */
+/* The last key if the function has data, and else the first one. */
 static void key_end(sqlite3_context *context, int count, sqlite3_value **given) {
     const char *prefix;
     size_t length, width = BASE62_KEY_LENGTH;

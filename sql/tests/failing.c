@@ -1,16 +1,19 @@
 /* Refuses each request of SQLite for memory in turn, in each of the queries below and as the module that is named is
- * loaded. A query has to do what stands beside it or to be out of memory, takes little, and leaves nothing behind. */
+ * loaded. A query has to do what stands beside it or to be out of memory, takes little, and leaves nothing behind. The
+ * last query asks for less memory than an alphabet for each of its rows would take. */
 #include <sqlite3.h>
 #include <stdio.h>
 #include <stdlib.h>
 #include <string.h>
 
 static sqlite3_mem_methods host;
-/* The requests that are granted before one is refused, or less than 0 where none is. */
+/* The requests that are granted before one is refused, or less than 0 if none is. */
 static long granted = -1;
 static int refused;
+static long asked;
 
 static int refuses(void) {
+    asked++;
     if (granted < 0 || granted-- > 0)
         return 0;
     refused = 1;
@@ -40,8 +43,8 @@ static void want(int holds, const char *what, const char *said) {
 /* More bytes than a query below takes at once. */
 #define LITTLE 10000
 
-/* A query and its answer, or NULL where it is an error. The database is in UTF-16, so a
- * text that is stored there has to be converted for them. */
+/* A query and its answer, or NULL if it is an error. The database is in UTF-16, so that a text that is stored there has
+ * to be converted for them. */
 static const struct {
     const char *query, *answer;
 } queries[] = {
@@ -119,6 +122,20 @@ static int refuse_loading(const char *module, long request) {
     return refused;
 }
 
+/* Letters that stay make one alphabet for all rows. */
+static void check_rows(sqlite3 *db) {
+    const char *query = "SELECT count(base62_is_text(n, " OWN ")) FROM many";
+    sqlite3_stmt *statement;
+    want(sqlite3_exec(db, "CREATE TABLE many AS WITH RECURSIVE rows (n) AS"
+                          "(SELECT 1 UNION ALL SELECT n + 1 FROM rows LIMIT 10000) SELECT n FROM rows", NULL, NULL,
+                      NULL) == SQLITE_OK, "the rows", sqlite3_errmsg(db));
+    want(sqlite3_prepare_v2(db, query, -1, &statement, NULL) == SQLITE_OK, query, "is not prepared");
+    asked = 0;
+    want(sqlite3_step(statement) == SQLITE_ROW && sqlite3_column_int(statement, 0) == 10000, query, "another answer");
+    want(asked < 100, query, "asks for memory in each row");
+    sqlite3_finalize(statement);
+}
+
 int main(int count, char **given) {
     long request, requests = 0;
     sqlite3 *db;
@@ -139,6 +156,7 @@ int main(int count, char **given) {
     for (size_t i = 0; i < sizeof queries / sizeof *queries; i++)
         for (request = 0; refuse_in(db, queries[i].query, queries[i].answer, request); request++)
             requests++;
+    check_rows(db);
     want(sqlite3_close(db) == SQLITE_OK, "a database", "is not closed");
     want(sqlite3_shutdown() == SQLITE_OK && sqlite3_memory_used() == 0, "memory", "is left behind");
     printf("%ld\n", requests);

@@ -1,15 +1,19 @@
-"""Tests of the functions of SQLite, of the module that BASE62_SQLITE names, by the values of values.py."""
+"""Tests of the functions of SQLite, of the module that BASE62_SQLITE names, by the values that all tests read."""
 
 from __future__ import annotations
 
 import os
+import re
 import sqlite3
+import sys
 import tempfile
 import unittest
+from pathlib import Path
 from typing import Any
+from urllib.parse import unquote_to_bytes
 
-from values import (ALTERNATIVE, BIGINT, KEY, OWN, STANDARD, TOO_WIDE, WIDEST, Fault, accepted, decoded,
-                    decoded_canonical, ends, fixed, fronts, numbers, text, texts, widths)
+if not hasattr(sqlite3.Connection, "enable_load_extension"):
+    sys.exit(f"{sys.executable} can't load extensions of SQLite. Set PYTHON to one that can, as Debian's /usr/bin/python3")
 
 MODULE = os.environ["BASE62_SQLITE"]
 LETTERS = "base62: an alphabet is 62 letters of ASCII"
@@ -19,7 +23,46 @@ TEXT = "base62: the argument is no text"
 WIDTH = "base62: a width is an integer from 1 to 1000"
 TOO_BIG = "string or blob too big"
 LARGE = "base62: the number is 2^63 or more, which base62_decode_blob takes"
+BIGINT = 2**63 - 1
+KEY = 22
+WIDEST = 1000
+
+# The file of values stands in the repository's tests, and beside this one in an archive of the functions.
+HERE = Path(__file__).resolve().parent
+FOLDERS = HERE, HERE.parents[1] / "tests"
+VALUES = next(folder / "values.tsv" for folder in FOLDERS if (folder / "values.tsv").exists())
+ROWS = [line.split("\t") for line in VALUES.read_text().split("\n") if line and not line.startswith("#")]
+
+
+def rows(kind: str) -> list[list[str]]:
+    return [row[1:] for row in ROWS if row[0] == kind]
+
+
+# Alphabets of ASCII letters other than a null byte.
+ALPHABETS = {
+    name: unquote_to_bytes(letters).decode()
+    for name, letters, ascii, _ in rows("alphabet")
+    if ascii == "1" and "%00" not in letters
+}
+STANDARD, ALTERNATIVE, OWN = (ALPHABETS[name] for name in ("standard", "alternative", "reversed"))
 REPEATED = "00" + STANDARD[1:61]
+# The message of each fault and of each byte. What follows is the index.
+MESSAGES = {tuple(row[1:3]): re.sub(r"\d+$", "", unquote_to_bytes(row[0]).decode()) for row in rows("message")}
+# Canonical standard texts by their numbers.
+TEXTS = {int(number): text for alphabet, number, text in rows("encode") if alphabet == "standard"}
+
+
+def text(number: int, letters: str = STANDARD) -> str:
+    """The canonical text of one of these numbers, in letters of ASCII."""
+    return TEXTS[number].translate(str.maketrans(STANDARD, letters))
+
+
+def said(fault: list[str]) -> str:
+    return "base62: " + MESSAGES[tuple(fault[:2])] + "".join(fault[2:])
+
+
+def blob(number: int) -> bytes:
+    return number.to_bytes(16, "big")
 
 
 def opened(place: str = ":memory:", before: str = "") -> sqlite3.Connection:
@@ -28,15 +71,6 @@ def opened(place: str = ":memory:", before: str = "") -> sqlite3.Connection:
     db.enable_load_extension(True)
     db.load_extension(MODULE)
     return db
-
-
-def said(wanted: Any) -> Any:
-    """What is said of the library's faults."""
-    return f"base62: {wanted}" if isinstance(wanted, Fault) else wanted
-
-
-def blob(number: int) -> bytes:
-    return number.to_bytes(16, "big")
 
 
 class Case(unittest.TestCase):
@@ -52,63 +86,100 @@ class Case(unittest.TestCase):
         try:
             return self.row(expression, *given)[0]
         except sqlite3.Error as error:
-            return Fault(error)
+            return str(error)
+
+    def over(self, alphabet: str, call: str, *given: Any) -> Any:
+        """The answer of a call over an alphabet. Without it the standard one has to give the same."""
+        answer = self.answer(call, *given, ALPHABETS[alphabet])
+        if alphabet == "standard":
+            self.assertEqual(self.answer(call.replace(", ?)", ")"), *given), answer)
+        return answer
+
+
+def as_text(field: str) -> Any:
+    """A text of the file as an argument that is cast to a text."""
+    text = unquote_to_bytes(field)
+    return text.decode() if text.isascii() and b"\0" not in text else text
 
 
 class Values(Case):
-    def test_numbers(self) -> None:
-        for number in numbers():
-            texts_of = text(number), text(number, ALTERNATIVE), text(number, OWN), fixed(number, KEY)
-            given: list[Any] = [blob(number)] + ([number] if number <= BIGINT else [])
-            for of in given:
-                calls = "base62_encode(?1), base62_encode(?1, ?2), base62_encode(?1, ?3), base62_encode_key(?1)"
-                self.assertEqual(self.row(calls, of, ALTERNATIVE, OWN), texts_of)
-            calls = ("base62_decode_blob(?1), base62_decode_blob('000' || ?1), base62_decode_blob(?2, ?3),"
-                     " base62_decode_blob_canonical(?1), base62_decode_blob_canonical(?2, ?3)")
-            self.assertEqual(self.row(calls, texts_of[0], texts_of[2], OWN), (blob(number),) * 5)
-            calls = "base62_is_text(?1), base62_is_text(?2, ?3), base62_is_integer(?1), base62_is_integer(?2, ?3)"
-            self.assertEqual(self.row(calls, texts_of[0], texts_of[2], OWN), (1, 1) + (int(number <= BIGINT),) * 2)
+    def test_rows(self) -> None:
+        self.assertEqual({*ALPHABETS}, {"standard", "alternative", "reversed", "readable"})
+        for kind in ("repeated", "encode", "zeros", "refused", "fixed", "narrow", "range", "uuid"):
+            self.assertGreater(len(rows(kind)), 50, kind)
+
+    def test_encode(self) -> None:
+        for alphabet, digits, encoded in (row for row in rows("encode") if row[0] in ALPHABETS):
+            number = int(digits)
+            self.assertEqual(self.over(alphabet, "base62_encode(?, ?)", blob(number)), encoded)
+            self.assertEqual(self.over(alphabet, "base62_decode_blob(?, ?)", encoded), blob(number))
+            self.assertEqual(self.over(alphabet, "base62_decode_blob_canonical(?, ?)", encoded), blob(number))
+            self.assertEqual(self.over(alphabet, "base62_is_text(?, ?)", encoded), 1)
+            self.assertEqual(self.over(alphabet, "base62_is_integer(?, ?)", encoded), number <= BIGINT)
+            wanted = number if number <= BIGINT else LARGE
+            self.assertEqual(self.over(alphabet, "base62_decode(?, ?)", encoded), wanted)
+            self.assertEqual(self.over(alphabet, "base62_decode_canonical(?, ?)", encoded), wanted)
             if number <= BIGINT:
-                calls = ("base62_decode(?1), base62_decode('000' || ?1), base62_decode(?2, ?3),"
-                         " base62_decode_canonical(?1), base62_decode_canonical(?2, ?3)")
-                self.assertEqual(self.row(calls, texts_of[0], texts_of[1], ALTERNATIVE), (number,) * 5)
-            else:
-                self.assertEqual(self.answer("base62_decode(?)", texts_of[0]), LARGE)
-                self.assertEqual(self.answer("base62_decode_canonical(?)", texts_of[0]), LARGE)
+                self.assertEqual(self.over(alphabet, "base62_encode(?, ?)", number), encoded)
 
-    def test_texts(self) -> None:
-        for given in texts():
-            for call, wanted in (("decode_blob", decoded(given)), ("decode_blob_canonical", decoded_canonical(given))):
-                got = self.answer(f"base62_{call}(?)", given)
-                self.assertEqual(got, said(wanted) if isinstance(wanted, Fault) else blob(wanted), given)
-            self.assertEqual(self.row("base62_is_text(?1), base62_is_integer(?1)", given), accepted(given), given)
-        self.assertEqual(self.answer("base62_decode_canonical('0LZ')"), said(decoded_canonical("0LZ")))
+    def test_zeros(self) -> None:
+        for alphabet, encoded, digits in (row for row in rows("zeros") if row[0] in ALPHABETS):
+            number = int(digits)
+            self.assertEqual(self.over(alphabet, "base62_decode_blob(?, ?)", encoded), blob(number))
+            wanted = number if number <= BIGINT else LARGE
+            self.assertEqual(self.over(alphabet, "base62_decode(?, ?)", encoded), wanted)
+            for call in ("base62_decode_canonical(?, ?)", "base62_decode_blob_canonical(?, ?)"):
+                self.assertEqual(self.over(alphabet, call, encoded), said(["zero"]))
+            self.assertEqual(self.over(alphabet, "base62_is_text(?, ?)", encoded), 1)
+            self.assertEqual(self.over(alphabet, "base62_is_integer(?, ?)", encoded), number <= BIGINT)
 
-    def test_bytes(self) -> None:
-        """Texts that are no UTF-8, or go on after a null byte."""
-        for given, byte in ((b"LZ\xff", "\\xff"), (b"LZ\0LZ", "\\x00")):
-            wanted = f"base62: Encoded input contains the invalid byte b'{byte}' at index 2"
-            self.assertEqual(self.answer("base62_decode(CAST(? AS TEXT))", given), wanted)
-            self.assertEqual(self.row("base62_is_text(CAST(? AS TEXT))", given), (0,))
+    def test_refused(self) -> None:
+        """Texts that are no UTF-8, or go on after a null byte, among them."""
+        for alphabet, field, *fault in (row for row in rows("refused") if row[0] in ALPHABETS):
+            given = as_text(field)
+            for name in ("decode", "decode_blob", "decode_canonical", "decode_blob_canonical"):
+                call = f"base62_{name}(CAST(? AS TEXT), ?)"
+                self.assertEqual(self.over(alphabet, call, given), said(fault), field)
+            self.assertEqual(self.over(alphabet, "base62_is_text(CAST(? AS TEXT), ?)", given), 0)
+            self.assertEqual(self.over(alphabet, "base62_is_integer(CAST(? AS TEXT), ?)", given), 0)
 
     def test_widths(self) -> None:
-        for number in numbers()[::3]:
-            for width in widths(number):
-                wanted = fixed(number, width) or said(Fault(TOO_WIDE))
-                self.assertEqual(self.answer("base62_encode_fixed(?, ?)", blob(number), width), wanted)
-                wanted = fixed(number, width, OWN) or said(Fault(TOO_WIDE))
-                self.assertEqual(self.answer("base62_encode_fixed(?, ?, ?)", blob(number), width, OWN), wanted)
-        self.assertEqual(self.row("base62_encode_fixed(1337, 7), base62_encode_fixed(0, 1)"), ("00000LZ", "0"))
+        for alphabet, digits, width, encoded in (row for row in rows("fixed") if row[0] in ALPHABETS):
+            number = int(digits)
+            for given in [blob(number)] + [number] * (number <= BIGINT):
+                self.assertEqual(self.over(alphabet, "base62_encode_fixed(?, ?, ?)", given, int(width)), encoded)
+                if (alphabet, width) == ("standard", "22"):
+                    self.assertEqual(self.answer("base62_encode_key(?)", given), encoded)
+            self.assertEqual(self.over(alphabet, "base62_decode_blob(?, ?)", encoded), blob(number))
+        for alphabet, digits, width in (row for row in rows("narrow") if row[0] in ALPHABETS):
+            call = "base62_encode_fixed(?, ?, ?)"
+            wanted = WIDTH if width == "0" else said(["narrow"])
+            self.assertEqual(self.over(alphabet, call, blob(int(digits)), int(width)), wanted)
 
-    def test_fronts(self) -> None:
-        for front, width in fronts():
-            wanted = ends(front, width)
-            first, last = (said(wanted),) * 2 if wanted is None or isinstance(wanted, Fault) else wanted
-            self.assertEqual(self.answer("base62_key_first(?, ?)", front, width), first, (front, width))
-            self.assertEqual(self.answer("base62_key_last(?, ?)", front, width), last, (front, width))
+    def test_prefixes(self) -> None:
+        for alphabet, width, prefix, *found in rows("range"):
+            if alphabet == "standard" and 0 < int(width) <= WIDEST:
+                self.check_prefix(int(width), as_text(prefix), found)
+
+    def check_prefix(self, width: int, prefix: Any, found: list[str]) -> None:
+        for name, place in (("base62_key_first", 1), ("base62_key_last", 2)):
+            wanted = said(found) if found[0] == "byte" else None
+            if found[0] == "numbers":
+                wanted = self.answer("base62_encode_fixed(?, ?)", blob(int(found[place])), width)
+            self.assertEqual(self.answer(f"{name}(CAST(? AS TEXT), ?)", prefix, width), wanted)
             if width == KEY:
-                self.assertEqual(self.answer("base62_key_first(?)", front), first)
-                self.assertEqual(self.answer("base62_key_last(?)", front), last)
+                self.assertEqual(self.answer(f"{name}(CAST(? AS TEXT))", prefix), wanted)
+
+    def test_uuids(self) -> None:
+        for _, name, encoded in rows("uuid"):
+            self.assertEqual(self.answer("base62_encode(?)", bytes.fromhex(name.replace("-", ""))), encoded)
+
+    def test_repeats(self) -> None:
+        for field, byte, index in rows("repeated"):
+            letters = unquote_to_bytes(field)
+            if letters.isascii() and b"\0" not in letters:
+                wanted = said(["repeated", byte, index])
+                self.assertEqual(self.answer("base62_encode(1, ?)", letters.decode()), wanted)
 
 
 # Each function with arguments that it takes.
@@ -207,7 +278,7 @@ class Arguments(Case):
             one = refused[letters] if letters in refused else text(1337, letters)
             self.assertEqual(self.answer("base62_encode(1337, ?)", letters), one)
         both = "base62_encode(62, ?1), base62_encode(62, ?2), base62_decode(?3, ?1), base62_encode_fixed(62, 3, ?2)"
-        wanted_both = text(62, OWN), text(62, ALTERNATIVE), 62, fixed(62, 3, ALTERNATIVE)
+        wanted_both = text(62, OWN), text(62, ALTERNATIVE), 62, text(62, ALTERNATIVE).rjust(3, "0")
         self.assertEqual(self.row(both, OWN, ALTERNATIVE, text(62, OWN)), wanted_both)
 
     def test_trigger(self) -> None:
@@ -236,7 +307,7 @@ class Arguments(Case):
                 " base62_key_last('2a', 4)",
                 (text(1337, OWN), OWN, OWN),
             ).fetchone()
-            self.assertEqual(said, ("LZ", 1337, 1337, fixed(1337, 3, OWN), "2azz"))
+            self.assertEqual(said, ("LZ", 1337, 1337, text(1337, OWN).rjust(3, OWN[0]), "2azz"))
             db.close()
 
 
@@ -246,7 +317,7 @@ CREATE TABLE item (u BLOB PRIMARY KEY, key TEXT AS (base62_encode_key(u)) STORED
     code TEXT AS (base62_encode_fixed(u, 23)) CHECK (base62_is_text(code) AND base62_decode_blob(code) = u));
 CREATE INDEX item_key ON item (key);
 CREATE INDEX item_text ON item (base62_encode(u));
-CREATE INDEX item_front ON item (u) WHERE key <= base62_key_last('3');
+CREATE INDEX item_prefix ON item (u) WHERE key <= base62_key_last('3');
 CREATE VIEW shown AS SELECT base62_encode(u) AS t, base62_decode('LZ') AS n, base62_key_first('2', 3) AS f FROM item;
 """
 PLANS = [
@@ -267,7 +338,7 @@ class Tables(Case):
         super().setUp()
         self.db.execute("PRAGMA trusted_schema = OFF")
         self.db.executescript(TABLES)
-        self.numbers = numbers()[::5]
+        self.numbers = sorted(TEXTS)
         self.db.executemany("INSERT INTO link VALUES (?)", [(n,) for n in self.numbers if n <= BIGINT])
         self.db.executemany("INSERT INTO item VALUES (?)", [(blob(n),) for n in self.numbers])
         self.db.commit()
@@ -282,15 +353,15 @@ class Tables(Case):
         self.assertEqual(keys, [(blob(n),) for n in self.numbers])
 
     def test_ranges(self) -> None:
-        for front in ("", "0", "2a", "7n", "00000000000000000000L"):
-            wanted = [(blob(n),) for n in self.numbers if (fixed(n, KEY) or "").startswith(front)]
+        for prefix in ("", "0", "2a", "7n", "00000000000000000000L"):
+            wanted = [(blob(n),) for n in self.numbers if text(n).rjust(KEY, "0").startswith(prefix)]
             for query in (
                 "SELECT u FROM item WHERE key BETWEEN base62_key_first(?1) AND base62_key_last(?1) ORDER BY key",
                 "SELECT u FROM item WHERE key GLOB ?1 || '*' ORDER BY key",
                 "SELECT u FROM item WHERE u BETWEEN base62_decode_blob(base62_key_first(?1))"
                 " AND base62_decode_blob(base62_key_last(?1)) ORDER BY u",
             ):
-                self.assertEqual(self.db.execute(query, (front,)).fetchall(), wanted)
+                self.assertEqual(self.db.execute(query, (prefix,)).fetchall(), wanted)
 
     def test_view(self) -> None:
         some = text(self.numbers[1])
@@ -306,7 +377,6 @@ class Tables(Case):
         for db in (self.db, again):
             self.assertEqual(db.execute("PRAGMA integrity_check").fetchall(), [("ok",)])
         again.close()
-
 
     def test_without(self) -> None:
         """What needs the extension, and what does not."""

@@ -232,6 +232,11 @@ KNOWN_RANGES: list[tuple[int, bytes, Answer]] = [
     (22, b"0-!", ("byte", 45, 1)),
     (22, b"7o!", ("byte", 33, 2)),
     (22, b"0" * 23 + b"!", ("byte", 33, 23)),
+    (22, b"z" * 22, ("none",)),
+    (22, b"zzzzzzzzzz!00000000000", ("byte", 33, 10)),
+    (22, b"zzzzzzzzzzzzzzzzzzzzz!", ("byte", 33, 21)),
+    (30, b"z" * 23, ("none",)),
+    (30, b"!" + b"z" * 22, ("byte", 33, 0)),
     (0, b"", ("none",)),
     (0, b"0", ("none",)),
     (0, b"!", ("byte", 33, 0)),
@@ -402,7 +407,8 @@ def rows_of_texts(alphabet: str, step: int) -> Iterator[Row]:
         yield "zeros", alphabet, letters[:1] * zeros + text_of(letters, number), number
     for text, number in KNOWN_ZEROS:
         yield "zeros", alphabet, over(letters, text), number
-    texts = [text for text, _ in KNOWN_REFUSED] + [*refused_texts()][::step]
+    # Each byte that is no letter stands in one of the first texts, so that built-in tables are read whole.
+    texts = [text for text, _ in KNOWN_REFUSED] + [*refused_texts()][:: 1 if step < 3 else step]
     for text in (over(letters, text) for text in texts):
         answer = decoded(letters, text)
         assert answer[0] != "number", text

@@ -23,8 +23,8 @@ typedef struct {
     char said[BASE62_MAX_FAULT_TEXT];
 } refusal;
 
-/* Those that answer bool write what they find and answer true, or write why not and answer false. If the alphabet is NULL,
- * it is the standard one. */
+/* Those that answer bool write what they find and answer true, or write why not and answer false. An alphabet that is
+ * NULL is the standard one. */
 
 /* The alphabet of letters, which have to be ASCII: others would make texts that no database takes. */
 bool make_alphabet(const char *letters, size_t length, base62_alphabet *alphabet, refusal *why);

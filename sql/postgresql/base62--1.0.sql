@@ -25,14 +25,14 @@ CREATE FUNCTION base62_encode_key(number bigint) RETURNS base62_key
     AS 'MODULE_PATHNAME', 'pg_base62_encode_key_int8' LANGUAGE c IMMUTABLE STRICT PARALLEL SAFE;
 CREATE FUNCTION base62_encode_key_uuid(id uuid) RETURNS base62_key
     AS 'MODULE_PATHNAME', 'pg_base62_encode_key_uuid' LANGUAGE c IMMUTABLE STRICT PARALLEL SAFE;
--- The alphabet is of the domain, as a front is below: an answer has the collation of its arguments.
+-- The alphabet is of the domain, as a prefix is below: an answer has the collation of its arguments.
 CREATE FUNCTION base62_encode_fixed(number bigint, width integer) RETURNS base62_key
     AS 'MODULE_PATHNAME', 'pg_base62_encode_fixed_int8' LANGUAGE c IMMUTABLE STRICT PARALLEL SAFE;
 CREATE FUNCTION base62_encode_fixed(number bigint, width integer, alphabet base62_key) RETURNS base62_key
     AS 'MODULE_PATHNAME', 'pg_base62_encode_fixed_int8' LANGUAGE c IMMUTABLE STRICT PARALLEL SAFE;
 
--- The keys that begin with a front are those from the first to the last, and both are null where there is none. If a
--- front were text, a column under the order of a language would silently be searched in that order.
+-- The keys with a prefix are those from the first to the last, and both are null if there is none. If a prefix were
+-- text, a column under the order of a language would silently be searched in that order.
 CREATE FUNCTION base62_key_first(front base62_key) RETURNS base62_key
     AS 'MODULE_PATHNAME', 'pg_base62_key_first' LANGUAGE c IMMUTABLE STRICT PARALLEL SAFE;
 CREATE FUNCTION base62_key_first(front base62_key, width integer) RETURNS base62_key

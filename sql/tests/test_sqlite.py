@@ -13,7 +13,7 @@ from typing import Any
 from urllib.parse import unquote_to_bytes
 
 if not hasattr(sqlite3.Connection, "enable_load_extension"):
-    sys.exit(f"{sys.executable} can't load extensions of SQLite. Set PYTHON to one that can, as Debian's /usr/bin/python3")
+    sys.exit(f"{sys.executable} can't load extensions of SQLite. Set PYTHON to one that can, such as Debian's.")
 
 MODULE = os.environ["BASE62_SQLITE"]
 LETTERS = "base62: an alphabet is 62 letters of ASCII"

@@ -10,5 +10,6 @@ TABLE shown;
 \c contrib_regression_restored
 TABLE shown;
 SELECT indexrelid::regclass, indisvalid FROM pg_index
-    WHERE indrelid IN ('link'::regclass, 'item'::regclass, 'code'::regclass) ORDER BY indexrelid::regclass::text COLLATE "C";
+    WHERE indrelid IN ('link'::regclass, 'item'::regclass, 'code'::regclass)
+    ORDER BY indexrelid::regclass::text COLLATE "C";
 SELECT id FROM link WHERE slug = base62_encode(461168601842738);

@@ -37,8 +37,9 @@ END $$;
 CREATE TABLE message AS SELECT f[3] fault, f[4] byte, max(regexp_replace(text_of(f[2]), '\d+$', '')) said
     FROM line WHERE f[1] = 'message' GROUP BY 1, 2;
 CREATE FUNCTION said(VARIADIC given text[]) RETURNS text LANGUAGE sql AS $$
-    SELECT CASE WHEN fault IN ('overflow', 'narrow') THEN '22003 ' WHEN fault = 'repeated' THEN '22023 ' ELSE '22P02 ' END
-        || said || coalesce(given[3], '') FROM message WHERE fault = given[1] AND byte IS NOT DISTINCT FROM given[2]
+    SELECT CASE WHEN fault IN ('overflow', 'narrow') THEN '22003' WHEN fault = 'repeated' THEN '22023' ELSE '22P02' END
+        || ' ' || said || coalesce(given[3], '')
+    FROM message WHERE fault = given[1] AND byte IS NOT DISTINCT FROM given[2]
 $$;
 
 -- Alphabets of ASCII letters.
@@ -128,4 +129,5 @@ SELECT * FROM prefix WHERE NOT has_range
     AND (answer('base62_key_first(%L, %s)', p, w::text) IS DISTINCT FROM said
         OR answer('base62_key_last(%L, %s)', p, w::text) IS DISTINCT FROM said);
 SELECT * FROM prefix WHERE NOT has_range AND w = 22
-    AND (answer('base62_key_first(%L)', p) IS DISTINCT FROM said OR answer('base62_key_last(%L)', p) IS DISTINCT FROM said);
+    AND (answer('base62_key_first(%L)', p) IS DISTINCT FROM said
+        OR answer('base62_key_last(%L)', p) IS DISTINCT FROM said);

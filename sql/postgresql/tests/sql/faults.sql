@@ -1,4 +1,7 @@
 -- What is refused, and how.
+\set ECHO none
+\pset format unaligned
+\pset tuples_only on
 CREATE FUNCTION refusal(expression text) RETURNS text LANGUAGE plpgsql AS $$
 DECLARE
     answer text;
@@ -17,8 +20,7 @@ CREATE FUNCTION repeated() RETURNS text IMMUTABLE LANGUAGE sql
 CREATE FUNCTION accented() RETURNS text IMMUTABLE LANGUAGE sql
     AS $$ SELECT 'é23456789ABCDEFGHIJKLMNOPQRSTUVWXYZabcdefghijklmnopqrstuvwxyz' $$;
 
-\pset format unaligned
-\pset tuples_only on
+\echo Numbers and widths
 SELECT call, refusal(call) FROM (VALUES
     ($$base62_encode(-1)$$),
     ($$base62_encode(-9223372036854775808, own())$$),
@@ -36,6 +38,7 @@ SELECT call, refusal(call) FROM (VALUES
     ($$base62_key_last('', -1)$$),
     ($$base62_key_last('', 1001)$$)
 ) calls (call);
+\echo Texts and prefixes
 SELECT call, refusal(call) FROM (VALUES
     ($$base62_decode('AzL8n0Y58m7')$$),
     ($$base62_decode('AzL8n0Y58m8')$$),
@@ -54,6 +57,7 @@ SELECT call, refusal(call) FROM (VALUES
     ($$base62_key_first('-')$$),
     ($$base62_key_last('0é', 1)$$)
 ) calls (call);
+\echo Alphabets, and arguments of other types
 SELECT call, refusal(call) FROM (VALUES
     ($$base62_encode(1, '01')$$),
     ($$base62_encode(1, '')$$),

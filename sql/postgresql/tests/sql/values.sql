@@ -1,9 +1,13 @@
--- The answers to the values that the tests of every language read. Where one differs, its row is shown.
+-- The answers to the values that the tests of every language read. Of these only the rows are shown that differ.
+\set ECHO none
+\pset format unaligned
+\pset tuples_only on
 CREATE EXTENSION base62;
 \set lines `cat "$BASE62_VALUES"`
 CREATE TABLE line AS SELECT string_to_array(line, E'\t') f
     FROM regexp_split_to_table(:'lines', '\n') line WHERE line NOT LIKE '#%';
-SELECT f[1] kind, count(*) > 50 enough FROM line WHERE f[1] <> 'alphabet' GROUP BY kind ORDER BY kind;
+\echo Whether there are enough of each kind
+SELECT f[1] kind, count(*) > 50 FROM line WHERE f[1] <> 'alphabet' GROUP BY kind ORDER BY kind;
 
 -- A text of the file, or null if it is no UTF-8 or has a null byte.
 CREATE FUNCTION text_of(field text) RETURNS text LANGUAGE plpgsql AS $$
@@ -47,13 +51,14 @@ CREATE TABLE alphabet AS SELECT f[2] name, text_of(f[3]) letters FROM line
     WHERE f[1] = 'alphabet' AND f[4] = '1' AND text_of(f[3]) IS NOT NULL;
 SELECT name FROM alphabet ORDER BY name;
 
+\echo UUIDs, and letters that are repeated
 SELECT f FROM line WHERE f[1] = 'uuid'
     AND (uuid_of(f[2]::numeric), base62_encode_uuid(f[3]::uuid), base62_decode_uuid(f[4]))
         IS DISTINCT FROM (f[3]::uuid, f[4], f[3]::uuid);
 SELECT f FROM line WHERE f[1] = 'repeated' AND octet_length(text_of(f[2])) = 62
     AND answer('base62_encode(1, %L)', text_of(f[2])) IS DISTINCT FROM said('repeated', f[3], f[4]);
 
--- Canonical texts: of bigints by all calls, and of all others by those of UUIDs.
+\echo Canonical texts
 CREATE TABLE encoded AS
     SELECT name, letters, bigint_of(f[3]::numeric) n, uuid_of(f[3]::numeric) u, text_of(f[4]) t
     FROM line JOIN alphabet ON name = f[2] WHERE f[1] = 'encode';
@@ -72,7 +77,7 @@ SELECT * FROM encoded WHERE n IS NULL AND name = 'standard'
     AND (answer('base62_decode(%L)', t), answer('base62_decode_canonical(%L)', t))
     IS DISTINCT FROM ('22003 bigint out of range', '22003 bigint out of range');
 
--- Texts with needless zeros.
+\echo Texts with needless zeros
 CREATE TABLE zeros AS
     SELECT name, letters, bigint_of(f[4]::numeric) n, uuid_of(f[4]::numeric) u, text_of(f[3]) t
     FROM line JOIN alphabet ON name = f[2] WHERE f[1] = 'zeros';
@@ -82,18 +87,18 @@ SELECT * FROM zeros WHERE (base62_decode_uuid(t, letters), base62_is_text(t, let
     OR answer('base62_decode_canonical(%L, %L)', t, letters) IS DISTINCT FROM said('zero')
     OR answer('base62_decode_uuid_canonical(%L, %L)', t, letters) IS DISTINCT FROM said('zero');
 
--- Texts that are refused.
+\echo Texts that are refused, and whether there are enough
 CREATE TABLE refused AS
     SELECT letters, text_of(f[3]) t, said(VARIADIC f[4:]) said FROM line JOIN alphabet ON name = f[2]
     WHERE f[1] = 'refused' AND text_of(f[3]) IS NOT NULL;
-SELECT count(*) > 300 enough FROM refused;
+SELECT count(*) > 300 FROM refused;
 SELECT * FROM refused WHERE answer('base62_decode(%L, %L)', t, letters) IS DISTINCT FROM said
     OR answer('base62_decode_uuid(%L, %L)', t, letters) IS DISTINCT FROM said
     OR answer('base62_decode_canonical(%L, %L)', t, letters) IS DISTINCT FROM said
     OR answer('base62_decode_uuid_canonical(%L, %L)', t, letters) IS DISTINCT FROM said
     OR (base62_is_text(t, letters), base62_is_bigint(t, letters)) IS DISTINCT FROM (false, false);
 
--- Texts of a width, and numbers that have none.
+\echo Texts of a width, and numbers that have none
 CREATE TABLE fixed AS
     SELECT name, letters, bigint_of(f[3]::numeric) n, uuid_of(f[3]::numeric) u, f[4]::integer w, text_of(f[5]) t
     FROM line JOIN alphabet ON name = f[2] WHERE f[1] = 'fixed';
@@ -110,14 +115,14 @@ SELECT f FROM line JOIN alphabet ON name = f[2] WHERE f[1] = 'narrow' AND f[4] <
 SELECT f FROM line WHERE f[1] = 'narrow' AND f[4] <> '0' AND f[2] = 'standard' AND bigint_of(f[3]::numeric) IS NOT NULL
     AND answer('base62_encode_fixed(%s, %s)', f[3], f[4]) IS DISTINCT FROM said('narrow');
 
--- The first and the last text with a prefix. They are the texts of the least and the greatest number.
+\echo The texts of the least and the greatest number of a prefix, and whether there are enough
 CREATE TABLE prefix AS
     SELECT f[3]::integer w, text_of(f[4]) p, said(VARIADIC f[5:]) said, f[5] = 'numbers' has_range,
         uuid_of(CASE WHEN f[5] = 'numbers' THEN f[6]::numeric END) least,
         uuid_of(CASE WHEN f[5] = 'numbers' THEN f[7]::numeric END) greatest
     FROM line WHERE f[1] = 'range' AND f[2] = 'standard' AND f[3]::bigint BETWEEN 1 AND 1000;
 UPDATE prefix SET said = NULL WHERE said = said('none');
-SELECT has_range, count(*) > 50 enough, count(*) FILTER (WHERE said IS NOT NULL) > 10 refused FROM prefix
+SELECT has_range, count(*) > 50, count(*) FILTER (WHERE said IS NOT NULL) > 10 FROM prefix
     GROUP BY has_range ORDER BY has_range;
 SELECT * FROM prefix WHERE has_range
     AND (base62_key_first(p, w) IS DISTINCT FROM base62_encode_fixed_uuid(least, w)

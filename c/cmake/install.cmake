@@ -1,0 +1,45 @@
+# What is installed: the libraries, the header, base62.pc, the CMake package and the pages. All may be moved together.
+include(CMakePackageConfigHelpers)
+
+install(TARGETS ${base62_targets} EXPORT base62-targets
+    RUNTIME DESTINATION "${CMAKE_INSTALL_BINDIR}"
+    LIBRARY DESTINATION "${CMAKE_INSTALL_LIBDIR}"
+    ARCHIVE DESTINATION "${CMAKE_INSTALL_LIBDIR}"
+    PUBLIC_HEADER DESTINATION "${CMAKE_INSTALL_INCLUDEDIR}")
+
+set(base62_package "${CMAKE_INSTALL_LIBDIR}/cmake/base62")
+install(EXPORT base62-targets NAMESPACE base62:: DESTINATION "${base62_package}")
+configure_package_config_file(cmake/base62-config.cmake.in "${CMAKE_CURRENT_BINARY_DIR}/base62-config.cmake"
+    INSTALL_DESTINATION "${base62_package}")
+write_basic_package_version_file("${CMAKE_CURRENT_BINARY_DIR}/base62-config-version.cmake"
+    COMPATIBILITY SameMajorVersion)
+install(FILES "${CMAKE_CURRENT_BINARY_DIR}/base62-config.cmake"
+    "${CMAKE_CURRENT_BINARY_DIR}/base62-config-version.cmake" DESTINATION "${base62_package}")
+
+# It names all places from where it lies.
+set(base62_pkgconfig "${CMAKE_INSTALL_FULL_LIBDIR}/pkgconfig")
+file(RELATIVE_PATH base62_to_prefix "${base62_pkgconfig}" "${CMAKE_INSTALL_PREFIX}")
+string(REGEX REPLACE "/$" "" base62_to_prefix "${base62_to_prefix}")
+file(RELATIVE_PATH base62_to_include "${base62_pkgconfig}" "${CMAKE_INSTALL_FULL_INCLUDEDIR}")
+configure_file(cmake/base62.pc.in "${CMAKE_CURRENT_BINARY_DIR}/base62.pc" @ONLY)
+install(FILES "${CMAKE_CURRENT_BINARY_DIR}/base62.pc" DESTINATION "${CMAKE_INSTALL_LIBDIR}/pkgconfig")
+
+# In the repository of the project, what is not here is one folder above.
+foreach(page IN ITEMS README.md LICENSE CHANGELOG.md)
+    set(base62_page "${CMAKE_CURRENT_SOURCE_DIR}/${page}")
+    if(NOT EXISTS "${base62_page}" AND EXISTS "${CMAKE_CURRENT_SOURCE_DIR}/../crates/base62_c")
+        set(base62_page "${CMAKE_CURRENT_SOURCE_DIR}/../${page}")
+    endif()
+    install(FILES "${base62_page}" DESTINATION "${CMAKE_INSTALL_DOCDIR}" OPTIONAL)
+endforeach()
+
+if(base62_is_top)
+    string(TOLOWER "${CMAKE_SYSTEM_NAME}-${CMAKE_SYSTEM_PROCESSOR}" base62_system)
+    set(CPACK_PACKAGE_FILE_NAME "base62-${PROJECT_VERSION}-${base62_system}")
+    set(CPACK_GENERATOR TGZ)
+    if(WIN32)
+        set(CPACK_GENERATOR ZIP)
+    endif()
+    set(CPACK_PACKAGE_VENDOR base62)
+    include(CPack)
+endif()

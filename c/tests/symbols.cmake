@@ -1,0 +1,57 @@
+# Which names the libraries of ELF have: cmake -DNM=.. -DHEADER=.. -DSTATIC=.. -DSHARED=.. -DMAJOR=.. -P symbols.cmake
+# SHARED may be empty. Some processors lack instructions for which the compiler calls its own library.
+set(of_compiler "__aeabi_[a-z]+|__[a-z]+di[0-9]|_GLOBAL_OFFSET_TABLE_|__x86.get_pc_thunk.[a-z]+")
+set(names_it_may_call "mem(cpy|move|set|cmp)|${of_compiler}")
+cmake_policy(SET CMP0057 NEW)
+
+# Sets found to the symbols that nm prints, each as TYPE NAME.
+function(find_symbols)
+    execute_process(COMMAND "${NM}" --format=posix ${ARGN} OUTPUT_VARIABLE text RESULT_VARIABLE status)
+    if(NOT status EQUAL 0)
+        message(FATAL_ERROR "nm ${ARGN}: ${status}")
+    endif()
+    string(REGEX MATCHALL "[^\n]+ [A-Za-z]( [0-9a-f]+)*" lines "${text}")
+    set(found)
+    foreach(line IN LISTS lines)
+        string(REGEX REPLACE "^([^ ]+) ([A-Za-z]).*" "\\2 \\1" symbol "${line}")
+        list(APPEND found "${symbol}")
+    endforeach()
+    set(found "${found}" PARENT_SCOPE)
+endfunction()
+
+function(expect_same what found wanted)
+    list(SORT found)
+    list(SORT wanted)
+    if(NOT "${found}" STREQUAL "${wanted}")
+        message(FATAL_ERROR "${what}:\n${found}\nand not\n${wanted}")
+    endif()
+endfunction()
+
+file(STRINGS "${HEADER}" lines REGEX "^[a-z0-9_]+ base62_[a-z0-9_]+\\(")
+string(REGEX MATCHALL "base62_[a-z0-9_]+\\(" functions "${lines}")
+string(REPLACE "(" "" functions "${functions}")
+if(NOT "base62_encode" IN_LIST functions)
+    message(FATAL_ERROR "the header declares no functions")
+endif()
+
+find_symbols(--extern-only --defined-only "${STATIC}")
+list(FILTER found EXCLUDE REGEX "^T (${of_compiler})$")
+string(REPLACE "T " "" found "${found}")
+expect_same("the static library defines" "${found}" "${functions}")
+
+find_symbols(--undefined-only "${STATIC}")
+list(FILTER found EXCLUDE REGEX "^U (${names_it_may_call})$")
+expect_same("the static library calls" "${found}" "")
+
+# Neither data that is written nor any that is common.
+find_symbols(--defined-only "${STATIC}")
+list(FILTER found INCLUDE REGEX "^[BbDdCcGgSs] ")
+expect_same("the static library has variables" "${found}" "")
+
+if(SHARED)
+    find_symbols(--dynamic --defined-only --with-symbol-versions "${SHARED}")
+    list(FILTER found EXCLUDE REGEX "^A BASE62_${MAJOR}(@@BASE62_${MAJOR})?$")
+    string(REGEX REPLACE "(^|;)T " "\\1" found "${found}")
+    list(TRANSFORM functions APPEND "@@BASE62_${MAJOR}")
+    expect_same("the shared library exports" "${found}" "${functions}")
+endif()

@@ -1,0 +1,482 @@
+/*
+ * Makes each call on the rows of the file that the command names, and compares all that it answers and writes. The file
+ * says at its top what its rows mean. What a call reads or writes begins, and then ends, at memory that can't be touched.
+ */
+#define _DEFAULT_SOURCE
+#include <base62.h>
+
+#include <string.h>
+
+#include "room.h"
+
+enum { LINE = 1024, MOST_FIELDS = 8, MOST_TEXT = 512, MOST_ALPHABETS = 8, AROUND = 128 };
+
+/* What stands at a byte and at a number that no call has written. */
+#define FILLER 0xa5
+#define UNWRITTEN UINT64_C(0xa5a5a5a5a5a5a5a5)
+#define UNWRITTEN_SIZE ((size_t)UNWRITTEN)
+
+/* The row, its fields, and whether what a call is given lies at the end of a room, or at its start. */
+static unsigned long row_number;
+static char row[LINE];
+static char *fields[MOST_FIELDS];
+static size_t field_count;
+static int at_end;
+
+static void expect_of_row(int holds, const char *what) {
+    if (!holds) {
+        fprintf(stderr, "row %lu, %s:", row_number, what);
+        for (size_t i = 0; i < field_count; i++)
+            fprintf(stderr, " %s", fields[i]);
+        expect(0, "");
+    }
+}
+
+static void split_row(void) {
+    row[strcspn(row, "\r\n")] = 0;
+    field_count = 0;
+    for (char *field = row; field != NULL && field_count < MOST_FIELDS; field_count++) {
+        fields[field_count] = field;
+        field = strchr(field, '\t');
+        if (field != NULL)
+            *field++ = 0;
+    }
+}
+
+static const char *field(size_t i) {
+    expect_of_row(i < field_count, "a field is missing");
+    return fields[i];
+}
+
+static base62_number number_field(size_t i) {
+    base62_number number = {0, 0};
+    for (const char *digit = field(i); *digit != 0; digit++) {
+        const uint64_t low = (number.low & 0xffffffff) * 10 + (uint64_t)(*digit - '0');
+        const uint64_t middle = (number.low >> 32) * 10 + (low >> 32);
+        number.high = number.high * 10 + (middle >> 32);
+        number.low = middle << 32 | (low & 0xffffffff);
+    }
+    return number;
+}
+
+/* Whether a field is an index or a width of this machine. */
+static int is_size(size_t i) {
+    const base62_number number = number_field(i);
+    return number.high == 0 && number.low <= SIZE_MAX;
+}
+
+static size_t size_field(size_t i) {
+    expect_of_row(is_size(i), "the number is too large");
+    return (size_t)number_field(i).low;
+}
+
+/* Writes the bytes of a text. Returns its length. */
+static size_t text_field(size_t i, char *text) {
+    size_t length = 0;
+    for (const char *c = field(i); *c != 0; length++) {
+        expect_of_row(length < MOST_TEXT, "the text is too long");
+        if (*c == '%') {
+            const char pair[3] = {c[1], c[2], 0};
+            text[length] = (char)strtoul(pair, NULL, 16);
+            c += 3;
+        } else {
+            text[length] = *c++;
+        }
+    }
+    return length;
+}
+
+/* Copies a text to where just its bytes can be read. */
+static const char *lend(const char *text, size_t length) {
+    static char *room = NULL;
+    if (room == NULL)
+        room = make_room();
+    return memcpy(place_in(room, at_end, length), text, length);
+}
+
+static char *written;
+
+/* A place for so many bytes. All bytes there and around have one value. */
+static char *fresh(size_t size) {
+    memset(place_in(written, at_end, size + AROUND), FILLER, size + AROUND);
+    return place_in(written, at_end, size);
+}
+
+/* The text stands at the start of the place, and no other byte is written. */
+static void expect_written(size_t size, const char *text, size_t length) {
+    const char *place = place_in(written, at_end, size);
+    const char *around = place_in(written, at_end, size + AROUND);
+    expect_of_row(memcmp(place, text, length) == 0, "the text");
+    for (size_t i = 0; i < size + AROUND; i++)
+        if (around + i < place || around + i >= place + length)
+            expect_of_row((unsigned char)around[i] == FILLER, "another byte is written");
+}
+
+static int same(base62_number a, base62_number b) {
+    return a.high == b.high && a.low == b.low;
+}
+
+/* What a call writes besides its status. */
+struct results {
+    base62_number number;
+    base62_range range;
+    base62_bad_byte bad;
+};
+
+static const struct results unwritten = {
+    {UNWRITTEN, UNWRITTEN}, {{UNWRITTEN, UNWRITTEN}, {UNWRITTEN, UNWRITTEN}}, {UNWRITTEN_SIZE, FILLER}};
+
+static void expect_results(struct results found, struct results wanted) {
+    expect_of_row(same(found.number, wanted.number), "the number");
+    expect_of_row(same(found.range.least, wanted.range.least), "the least number");
+    expect_of_row(same(found.range.greatest, wanted.range.greatest), "the greatest number");
+    expect_of_row(found.bad.byte == wanted.bad.byte && found.bad.index == wanted.bad.index, "the bad byte");
+}
+
+/* The status of a word and the two fields that follow it. Writes the byte and the index that it names. */
+static base62_status status_field(size_t i, base62_bad_byte *bad) {
+    static const struct {
+        const char *word;
+        base62_status status;
+        int has_byte;
+    } words[] = {
+        {"empty", BASE62_EMPTY_INPUT, 0},    {"overflow", BASE62_OVERFLOW, 0}, {"byte", BASE62_INVALID_BYTE, 1},
+        {"narrow", BASE62_BUFFER_TOO_SMALL, 0}, {"none", BASE62_NO_KEY, 0},       {"repeated", BASE62_REPEATED_LETTER, 1},
+        {"zero", BASE62_NOT_CANONICAL, 0},
+    };
+    for (size_t k = 0; k < sizeof words / sizeof *words; k++)
+        if (strcmp(field(i), words[k].word) == 0) {
+            if (words[k].has_byte) {
+                bad->byte = (unsigned char)size_field(i + 1);
+                bad->index = size_field(i + 2);
+            }
+            return words[k].status;
+        }
+    expect_of_row(0, "no such status");
+    return BASE62_OK;
+}
+
+/* The alphabets of the file, each at the start and at the end of a room that can't be written. */
+struct named {
+    char name[32];
+    const base62_alphabet *made[2];
+};
+
+static struct named alphabets[MOST_ALPHABETS];
+static size_t alphabet_count;
+
+static const struct named *alphabet_field(size_t i) {
+    for (size_t k = 0; k < alphabet_count; k++)
+        if (strcmp(alphabets[k].name, field(i)) == 0)
+            return &alphabets[k];
+    expect_of_row(0, "no such alphabet");
+    return NULL;
+}
+
+static int is_standard(const struct named *alphabet) {
+    return strcmp(alphabet->name, "standard") == 0;
+}
+
+static int is_alternative(const struct named *alphabet) {
+    return strcmp(alphabet->name, "alternative") == 0;
+}
+
+/* Makes an alphabet where all bytes had one value, and leaves what then stands there in made. */
+static base62_status make_over(const char *letters, int before, base62_alphabet *made, base62_bad_byte *bad) {
+    char *place = fresh(sizeof *made);
+    memset(place, before, sizeof *made);
+    const base62_status status = base62_make_alphabet(lend(letters, 62), (base62_alphabet *)place, bad);
+    memcpy(made, place, sizeof *made);
+    expect_written(sizeof *made, place, sizeof *made);
+    return status;
+}
+
+/* An alphabet is the same whatever stood in its place. What stood there stays if the letters are refused. */
+static base62_status check_making(const char *letters, base62_alphabet *made, base62_bad_byte *bad) {
+    base62_alphabet again;
+    base62_bad_byte bad_again = unwritten.bad;
+    *bad = unwritten.bad;
+    const base62_status status = make_over(letters, FILLER, made, bad);
+    expect_of_row(make_over(letters, 0, &again, &bad_again) == status, "the status over other bytes");
+    expect_of_row(bad_again.byte == bad->byte && bad_again.index == bad->index, "the bad byte over other bytes");
+    for (size_t i = 0; i < sizeof again; i++) {
+        const int is_kept = made->bytes[i] == FILLER && again.bytes[i] == 0;
+        expect_of_row(status == BASE62_OK ? made->bytes[i] == again.bytes[i] : is_kept, "the bytes of an alphabet");
+    }
+    return status;
+}
+
+static void check_alphabet(void) {
+    char letters[MOST_TEXT];
+    base62_alphabet made;
+    base62_bad_byte bad;
+    expect_of_row(text_field(2, letters) == BASE62_ALPHABET_LENGTH, "the count of letters");
+    expect_of_row(check_making(letters, &made, &bad) == BASE62_OK, "the status");
+    expect_of_row(bad.byte == FILLER && bad.index == UNWRITTEN_SIZE, "a bad byte is written");
+    expect_of_row(alphabet_count < MOST_ALPHABETS && strlen(field(1)) < sizeof alphabets->name, "the alphabets");
+    struct named *alphabet = &alphabets[alphabet_count];
+    char *room = make_room();
+    strcpy(alphabet->name, field(1));
+    alphabet->made[at_end] = memcpy(place_in(room, at_end, sizeof made), &made, sizeof made);
+    set_writable(room, 0);
+    alphabet_count += (size_t)at_end;
+}
+
+static void check_repeated(void) {
+    char letters[MOST_TEXT];
+    base62_alphabet made;
+    base62_bad_byte bad;
+    expect_of_row(text_field(1, letters) == BASE62_ALPHABET_LENGTH, "the count of letters");
+    expect_of_row(check_making(letters, &made, &bad) == BASE62_REPEATED_LETTER, "the status");
+    expect_of_row(bad.byte == size_field(2) && bad.index == size_field(3), "the repeated letter");
+}
+
+/* The built-in alphabets have calls of their own. These tell whether one is taken. */
+static int encode_built_in(const struct named *alphabet, base62_number number, char *buffer, size_t size, size_t *length) {
+    if (is_standard(alphabet))
+        *length = base62_encode(number, buffer, size);
+    else if (is_alternative(alphabet))
+        *length = base62_encode_alternative(number, buffer, size);
+    return is_standard(alphabet) || is_alternative(alphabet);
+}
+
+static int fix_built_in(const struct named *alphabet, base62_number number, char *places, size_t width, size_t *length) {
+    if (is_standard(alphabet))
+        *length = base62_encode_fixed(number, places, width);
+    else if (is_alternative(alphabet))
+        *length = base62_encode_alternative_fixed(number, places, width);
+    return is_standard(alphabet) || is_alternative(alphabet);
+}
+
+/* Both decodings of a text have to answer so. */
+static void expect_decoded(size_t alphabet_at, const char *text, size_t length, base62_status wanted,
+                           base62_status strictly_wanted, struct results results) {
+    const struct named *alphabet = alphabet_field(alphabet_at);
+    const base62_alphabet *own = alphabet->made[at_end];
+    const char *from = lend(text, length);
+    struct results strict_results = strictly_wanted == wanted ? results : unwritten;
+    struct results found = unwritten, strict = unwritten;
+    expect_of_row(base62_decode_with(own, from, length, &found.number, &found.bad) == wanted, "decode_with");
+    expect_results(found, results);
+    expect_of_row(base62_decode_canonical_with(own, from, length, &strict.number, &strict.bad) == strictly_wanted,
+                  "decode_canonical_with");
+    expect_results(strict, strict_results);
+    found = strict = unwritten;
+    if (is_standard(alphabet)) {
+        expect_of_row(base62_decode(from, length, &found.number, &found.bad) == wanted, "decode");
+        expect_of_row(base62_decode_canonical(from, length, &strict.number, &strict.bad) == strictly_wanted,
+                      "decode_canonical");
+    } else if (is_alternative(alphabet)) {
+        expect_of_row(base62_decode_alternative(from, length, &found.number, &found.bad) == wanted,
+                      "decode_alternative");
+        expect_of_row(base62_decode_alternative_canonical(from, length, &strict.number, &strict.bad) == strictly_wanted,
+                      "decode_alternative_canonical");
+    } else {
+        return;
+    }
+    expect_results(found, results);
+    expect_results(strict, strict_results);
+}
+
+static void expect_number(size_t alphabet_at, const char *text, size_t length, base62_status strictly_wanted,
+                          base62_number number) {
+    struct results wanted = unwritten;
+    wanted.number = number;
+    expect_decoded(alphabet_at, text, length, BASE62_OK, strictly_wanted, wanted);
+}
+
+/* What the header has inline. */
+static void check_inline(base62_number number) {
+    const base62_number short_one = base62_from_u64(number.low);
+    uint64_t value = UNWRITTEN;
+    expect_of_row(short_one.high == 0 && short_one.low == number.low, "from_u64");
+    expect_of_row(base62_to_u64(number, &value) == (number.high == 0), "to_u64");
+    expect_of_row(value == (number.high == 0 ? number.low : UNWRITTEN), "the value of to_u64");
+#ifdef __SIZEOF_INT128__
+    const base62_u128 wide = base62_to_u128(number);
+    expect_of_row((uint64_t)(wide >> 64) == number.high && (uint64_t)wide == number.low, "to_u128");
+    expect_of_row(same(base62_from_u128(wide), number), "from_u128");
+#endif
+}
+
+/* The lengths of the longest texts of the rows, which are those of the header. */
+static size_t most_digits, most_fault_text;
+
+/* The text in a buffer of each size, just too small ones too. */
+static void check_encode(void) {
+    char text[MOST_TEXT];
+    const struct named *alphabet = alphabet_field(1);
+    const base62_number number = number_field(2);
+    const size_t length = text_field(3, text);
+    most_digits = length > most_digits ? length : most_digits;
+    for (size_t size = 0; size <= BASE62_MAX_DIGITS + 2; size++) {
+        const size_t wanted = size < length ? 0 : length;
+        size_t told = 0;
+        expect_of_row(base62_encode_with(alphabet->made[at_end], number, fresh(size), size) == wanted, "encode_with");
+        expect_written(size, text, wanted);
+        if (encode_built_in(alphabet, number, fresh(size), size, &told)) {
+            expect_of_row(told == wanted, "encode");
+            expect_written(size, text, wanted);
+        }
+    }
+    expect_of_row(base62_digit_count(number) == length, "digit_count");
+    expect_number(1, text, length, BASE62_OK, number);
+    check_inline(number);
+}
+
+static void check_zeros(void) {
+    char text[MOST_TEXT];
+    const size_t length = text_field(2, text);
+    expect_number(1, text, length, BASE62_NOT_CANONICAL, number_field(3));
+}
+
+static void check_refused(void) {
+    char text[MOST_TEXT];
+    struct results wanted = unwritten;
+    const size_t length = text_field(2, text);
+    const base62_status status = status_field(3, &wanted.bad);
+    expect_decoded(1, text, length, status, status, wanted);
+}
+
+/* The number has this text of the width, or none if the length is 0. */
+static void expect_fixed(size_t width, const char *text, size_t length) {
+    const struct named *alphabet = alphabet_field(1);
+    const base62_number number = number_field(2);
+    size_t told = 0;
+    expect_of_row(base62_encode_fixed_with(alphabet->made[at_end], number, fresh(width), width) == length,
+                  "encode_fixed_with");
+    expect_written(width, text, length);
+    if (fix_built_in(alphabet, number, fresh(width), width, &told)) {
+        expect_of_row(told == length, "encode_fixed");
+        expect_written(width, text, length);
+    }
+}
+
+static void check_fixed(void) {
+    char text[MOST_TEXT];
+    const size_t width = size_field(3), length = text_field(4, text);
+    const base62_number number = number_field(2);
+    expect_of_row(length == width, "the length of the text");
+    expect_fixed(width, text, length);
+    if (is_standard(alphabet_field(1)) && width == BASE62_KEY_LENGTH) {
+        base62_encode_key(number, fresh(width));
+        expect_written(width, text, length);
+    }
+    const int is_canonical = base62_digit_count(number) == width;
+    expect_number(1, text, length, is_canonical ? BASE62_OK : BASE62_NOT_CANONICAL, number);
+}
+
+static void check_narrow(void) {
+    expect_fixed(size_field(3), "", 0);
+}
+
+static void check_range(void) {
+    char prefix[MOST_TEXT];
+    struct results found = unwritten, wanted = unwritten;
+    const struct named *alphabet = alphabet_field(1);
+    if (!is_size(2))
+        return;
+    const size_t width = size_field(2), length = text_field(3, prefix);
+    const char *from = lend(prefix, length);
+    base62_status status = BASE62_OK;
+    if (strcmp(field(4), "numbers") == 0) {
+        wanted.range.least = number_field(5);
+        wanted.range.greatest = number_field(6);
+    } else {
+        status = status_field(4, &wanted.bad);
+    }
+    expect_of_row(base62_fixed_range_with(alphabet->made[at_end], width, from, length, &found.range, &found.bad) ==
+                      status, "fixed_range_with");
+    expect_results(found, wanted);
+    if (!is_standard(alphabet))
+        return;
+    found = unwritten;
+    expect_of_row(base62_fixed_range(width, from, length, &found.range, &found.bad) == status, "fixed_range");
+    expect_results(found, wanted);
+    if (width != BASE62_KEY_LENGTH)
+        return;
+    found = unwritten;
+    expect_of_row(base62_key_range(from, length, &found.range, &found.bad) == status, "key_range");
+    expect_results(found, wanted);
+}
+
+static void check_uuid(void) {
+    const base62_number number = number_field(1);
+    char bytes[BASE62_UUID_LENGTH];
+    const char *c = field(2);
+    for (size_t i = 0; i < sizeof bytes; i++, c += 2) {
+        c += *c == '-';
+        const char pair[3] = {c[0], c[1], 0};
+        bytes[i] = (char)strtoul(pair, NULL, 16);
+    }
+    const unsigned char *from = (const unsigned char *)lend(bytes, sizeof bytes);
+    expect_of_row(same(base62_number_of_uuid(from), number), "number_of_uuid");
+    base62_uuid_of_number(number, (unsigned char *)fresh(sizeof bytes));
+    expect_written(sizeof bytes, bytes, sizeof bytes);
+}
+
+/* The text in a buffer of each size, just too small ones too. */
+static void check_message(void) {
+    char text[MOST_TEXT];
+    base62_bad_byte bad = unwritten.bad;
+    const size_t length = text_field(1, text);
+    if (field_count > 4 && !is_size(4))
+        return;
+    const base62_status status = status_field(2, &bad);
+    most_fault_text = length > most_fault_text ? length : most_fault_text;
+    for (size_t size = 0; size <= BASE62_MAX_FAULT_TEXT + 2; size++) {
+        const size_t wanted = size < length ? 0 : length;
+        expect_of_row(base62_fault_text(status, bad, fresh(size), size) == wanted, "fault_text");
+        expect_written(size, text, wanted);
+    }
+}
+
+static struct {
+    const char *name;
+    void (*check)(void);
+    unsigned long rows;
+} kinds[] = {
+    {"alphabet", check_alphabet, 0}, {"repeated", check_repeated, 0}, {"encode", check_encode, 0},
+    {"zeros", check_zeros, 0},       {"refused", check_refused, 0},   {"fixed", check_fixed, 0},
+    {"narrow", check_narrow, 0},     {"range", check_range, 0},       {"uuid", check_uuid, 0},
+    {"message", check_message, 0},
+};
+
+static const size_t kind_count = sizeof kinds / sizeof *kinds;
+
+static void check_row(void) {
+    size_t k = 0;
+    split_row();
+    while (k < kind_count && strcmp(field(0), kinds[k].name) != 0)
+        k++;
+    expect_of_row(k < kind_count, "no such kind");
+    for (at_end = 0; at_end < 2; at_end++)
+        kinds[k].check();
+    kinds[k].rows++;
+}
+
+/* What has no row: statuses without a text, and the constants of the header. */
+static void check_rest(void) {
+    const base62_status none[] = {BASE62_OK, (base62_status)8, (base62_status)-1};
+    for (size_t i = 0; i < sizeof none / sizeof *none; i++)
+        expect(base62_fault_text(none[i], unwritten.bad, fresh(100), 100) == 0, "the text of no status");
+    expect(base62_version_number() == BASE62_VERSION_NUMBER, "the version");
+    expect(most_digits == BASE62_MAX_DIGITS, "BASE62_MAX_DIGITS");
+    expect(sizeof(size_t) < 8 || most_fault_text == BASE62_MAX_FAULT_TEXT, "BASE62_MAX_FAULT_TEXT");
+    for (size_t k = 0; k < kind_count; k++)
+        expect(kinds[k].rows > 0, kinds[k].name);
+}
+
+int main(int count, char **words) {
+    FILE *file = fopen(count == 2 ? words[1] : "", "r");
+    expect(file != NULL, "usage: values FILE");
+    written = make_room();
+    while (fgets(row, sizeof row, file) != NULL) {
+        row_number++;
+        if (row[0] != '#')
+            check_row();
+    }
+    check_rest();
+    printf("%lu rows hold\n", row_number);
+    return 0;
+}

@@ -49,7 +49,7 @@ list(FILTER found INCLUDE REGEX "^[BbDdCcGgSs] ")
 expect_same("the static library has variables" "${found}" "")
 
 if(SHARED)
-    find_symbols(--dynamic --defined-only --with-symbol-versions "${SHARED}")
+    find_symbols(--dynamic --defined-only "${SHARED}")
     list(FILTER found EXCLUDE REGEX "^A BASE62_${MAJOR}(@@BASE62_${MAJOR})?$")
     string(REGEX REPLACE "(^|;)T " "\\1" found "${found}")
     list(TRANSFORM functions APPEND "@@BASE62_${MAJOR}")

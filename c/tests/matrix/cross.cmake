@@ -1,0 +1,37 @@
+# Other machines, by Debian's compilers and qemu, and Windows by mingw-w64 and wine.
+
+# NAME TRIPLE QEMU LEVEL.. Builds and tests for a machine by some optimizations.
+function(add_machine name triple qemu)
+    look_for(${name} ${triple}-gcc ${qemu})
+    if(NOT ${name})
+        return()
+    endif()
+    foreach(level IN ITEMS ${ARGN})
+        set(options -DCMAKE_SYSTEM_NAME=Linux -DCMAKE_SYSTEM_PROCESSOR=${name} -DCMAKE_C_COMPILER=${triple}-gcc
+            -DCMAKE_CROSSCOMPILING_EMULATOR=${qemu} -DBASE62_UNMADE=20)
+        if(NOT level STREQUAL "-O2")
+            list(APPEND options -DBUILD_SHARED_LIBS=OFF)
+        endif()
+        add_build(${name}${level} "${c}" ${level} ${options})
+        set_tests_properties(${name}${level} PROPERTIES ENVIRONMENT QEMU_LD_PREFIX=/usr/${triple})
+    endforeach()
+endfunction()
+
+# i686 and armhf have 32 bits, and s390x has the highest byte first.
+add_machine(i686 i686-linux-gnu qemu-i386 -O0 -O2 -O3)
+add_machine(armhf arm-linux-gnueabihf qemu-arm -O2)
+add_machine(aarch64 aarch64-linux-gnu qemu-aarch64 -O2)
+add_machine(riscv64 riscv64-linux-gnu qemu-riscv64 -O2)
+add_machine(s390x s390x-linux-gnu qemu-s390x -O0 -O2 -O3)
+
+look_for(windows x86_64-w64-mingw32-gcc x86_64-w64-mingw32-windres wine)
+if(windows)
+    # wine wants a home that exists.
+    set(home "${CMAKE_BINARY_DIR}/wine")
+    file(MAKE_DIRECTORY "${home}")
+    add_build(windows "${c}" -O2 -DBASE62_UNMADE=200 -DCMAKE_SYSTEM_NAME=Windows -DCMAKE_SYSTEM_PROCESSOR=AMD64
+        -DCMAKE_C_COMPILER=x86_64-w64-mingw32-gcc -DCMAKE_RC_COMPILER=x86_64-w64-mingw32-windres
+        -DCMAKE_CROSSCOMPILING_EMULATOR=wine)
+    set_tests_properties(windows PROPERTIES ENVIRONMENT
+        "HOME=${home};WINEPREFIX=${home}/prefix;WINEDEBUG=-all;DISPLAY=;XDG_RUNTIME_DIR=${home}")
+endif()

@@ -1,0 +1,54 @@
+# Builds and installs the library, moves what is installed to PREFIX, and compares the list of its files. It also packs
+# the library twice, which has to give the same bytes.
+#
+#     cmake -DBASE62=FOLDER -DPREFIX=FOLDER [-DOPTIONS=OPTION;..] -P install.cmake
+
+function(run)
+    execute_process(COMMAND ${ARGN} OUTPUT_QUIET COMMAND_ERROR_IS_FATAL ANY)
+endfunction()
+
+# Sets variable to the bytes of the archive of a new build.
+function(pack variable build)
+    file(REMOVE_RECURSE "${build}")
+    run("${CMAKE_COMMAND}" -S "${BASE62}" -B "${build}" -DBASE62_TEST=OFF ${OPTIONS})
+    run("${CMAKE_COMMAND}" --build "${build}")
+    run("${CMAKE_COMMAND}" -E env SOURCE_DATE_EPOCH=315532800 "${CMAKE_COMMAND}" --build "${build}" --target package)
+    file(GLOB archive "${build}/base62-*.tar.gz")
+    file(SHA256 "${archive}" sum)
+    set(${variable} "${sum}" PARENT_SCOPE)
+endfunction()
+
+pack(first "${PREFIX}-build")
+pack(second "${PREFIX}-build-again")
+if(NOT first STREQUAL second)
+    message(FATAL_ERROR "another build gives another archive")
+endif()
+
+file(REMOVE_RECURSE "${PREFIX}" "${PREFIX}-staged")
+run("${CMAKE_COMMAND}" -E env "DESTDIR=${PREFIX}-staged" "${CMAKE_COMMAND}" --install "${PREFIX}-build" --prefix /of/base62)
+file(RENAME "${PREFIX}-staged/of/base62" "${PREFIX}")
+
+file(STRINGS "${BASE62}/base62.h" line REGEX "^#define BASE62_VERSION \"")
+string(REGEX MATCH "([0-9]+)\\.[0-9]+\\.[0-9]+" version "${line}")
+set(major "${CMAKE_MATCH_1}")
+set(lib lib)
+if(OPTIONS MATCHES "LIBDIR=([^;]*)")
+    set(lib "${CMAKE_MATCH_1}")
+endif()
+set(wanted include/base62.h ${lib}/pkgconfig/base62.pc share/doc/base62/CHANGELOG.md share/doc/base62/LICENSE
+    share/doc/base62/README.md)
+foreach(file IN ITEMS config-version config targets-release targets)
+    list(APPEND wanted ${lib}/cmake/base62/base62-${file}.cmake)
+endforeach()
+if(NOT OPTIONS MATCHES "SHARED_LIBS=ON")
+    list(APPEND wanted ${lib}/libbase62.a)
+endif()
+if(NOT OPTIONS MATCHES "SHARED_LIBS=OFF")
+    list(APPEND wanted ${lib}/libbase62.so ${lib}/libbase62.so.${major} ${lib}/libbase62.so.${version})
+endif()
+file(GLOB_RECURSE found RELATIVE "${PREFIX}" "${PREFIX}/*")
+list(SORT found)
+list(SORT wanted)
+if(NOT "${found}" STREQUAL "${wanted}")
+    message(FATAL_ERROR "these are installed:\n${found}\nand not\n${wanted}")
+endif()

@@ -1,0 +1,34 @@
+# What is installed and packed, and programs that use it in each way. The installed files are moved before they are used.
+look_for(package cc)
+if(NOT package)
+    return()
+endif()
+
+# NAME KIND OPTION.. Installs with these options. KIND is the type of base62::base62.
+function(add_package name kind)
+    set(prefix "${CMAKE_BINARY_DIR}/installed-${name}")
+    add_test(NAME package-${name} COMMAND "${CMAKE_COMMAND}" -DBASE62=${c} -DPREFIX=${prefix}
+        "-DOPTIONS=${ARGN}" -P "${CMAKE_CURRENT_SOURCE_DIR}/install.cmake")
+    set_tests_properties(package-${name} PROPERTIES FIXTURES_SETUP ${name})
+    add_consumer(package-${name} package ${kind} -DCMAKE_PREFIX_PATH=${prefix})
+    set_tests_properties(package-${name}-consumer PROPERTIES FIXTURES_REQUIRED ${name})
+endfunction()
+
+# NAME WAY KIND OPTION..
+function(add_consumer name way kind)
+    add_build(${name}-consumer "${tests}/consumer" -O2 -DWAY=${way} -DKIND=${kind} ${ARGN})
+endfunction()
+
+add_package(both SHARED_LIBRARY)
+add_package(static INTERFACE_LIBRARY -DBUILD_SHARED_LIBS=OFF)
+add_package(shared SHARED_LIBRARY -DBUILD_SHARED_LIBS=ON -DCMAKE_INSTALL_LIBDIR=lib/x86_64-linux-gnu)
+look_for(pkg-config pkg-config)
+if(pkg-config)
+    add_consumer(pkg-config pkg-config INTERFACE_LIBRARY)
+    set_tests_properties(pkg-config-consumer PROPERTIES FIXTURES_REQUIRED both
+        ENVIRONMENT "PKG_CONFIG_LIBDIR=${CMAKE_BINARY_DIR}/installed-both/lib/pkgconfig")
+endif()
+foreach(way IN ITEMS subdirectory fetch)
+    add_consumer(${way} ${way} STATIC_LIBRARY -DBASE62=${c})
+    add_consumer(${way}-shared ${way} SHARED_LIBRARY -DBASE62=${c} -DBUILD_SHARED_LIBS=ON)
+endforeach()

@@ -24,7 +24,7 @@ add_machine(aarch64 aarch64-linux-gnu qemu-aarch64 -O2)
 add_machine(riscv64 riscv64-linux-gnu qemu-riscv64 -O2)
 add_machine(s390x s390x-linux-gnu qemu-s390x -O0 -O2 -O3)
 
-look_for(windows x86_64-w64-mingw32-gcc x86_64-w64-mingw32-windres wine)
+look_for(windows x86_64-w64-mingw32-gcc x86_64-w64-mingw32-windres wine wineserver)
 if(windows)
     # wine wants a home that exists.
     set(home "${CMAKE_BINARY_DIR}/wine")
@@ -32,6 +32,9 @@ if(windows)
     add_build(windows "${c}" -O2 -DBASE62_UNMADE=200 -DCMAKE_SYSTEM_NAME=Windows -DCMAKE_SYSTEM_PROCESSOR=AMD64
         -DCMAKE_C_COMPILER=x86_64-w64-mingw32-gcc -DCMAKE_RC_COMPILER=x86_64-w64-mingw32-windres
         -DCMAKE_CROSSCOMPILING_EMULATOR=wine)
-    set_tests_properties(windows PROPERTIES ENVIRONMENT
+    add_test(NAME windows-ends COMMAND wineserver -w)
+    set_tests_properties(windows PROPERTIES FIXTURES_REQUIRED wine)
+    set_tests_properties(windows-ends PROPERTIES FIXTURES_CLEANUP wine)
+    set_tests_properties(windows windows-ends PROPERTIES ENVIRONMENT
         "HOME=${home};WINEPREFIX=${home}/prefix;WINEDEBUG=-all;DISPLAY=;XDG_RUNTIME_DIR=${home}")
 endif()

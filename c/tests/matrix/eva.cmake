@@ -5,5 +5,7 @@ if(eva)
     foreach(function IN LISTS functions)
         string(REGEX REPLACE "^void ([a-z_]+).*" "\\1" function "${function}")
         add_test(NAME eva-${function} COMMAND "${PROGRAM_python3}" "${tests}/eva/test_eva.py" Eva.test_${function})
+        # These take longest, so they begin first.
+        set_tests_properties(eva-${function} PROPERTIES COST 100)
     endforeach()
 endif()

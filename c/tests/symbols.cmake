@@ -1,5 +1,10 @@
-# Which names the libraries of ELF have: cmake -DNM=.. -DHEADER=.. -DSTATIC=.. -DSHARED=.. -DMAJOR=.. -P symbols.cmake
-# SHARED may be empty. Some processors lack instructions for which the compiler calls its own library.
+# Which names the libraries have:
+#
+#     cmake -DNM=nm -DHEADER=FILE -DSTATIC=FILE [-DSHARED=FILE -DMAJOR=3] [-DIMPORT=FILE] -P symbols.cmake
+#
+# SHARED is a shared library of ELF, and IMPORT the import library of a DLL.
+
+# Some processors lack instructions for which the compiler calls its own library.
 set(of_compiler "__aeabi_[a-z]+|__[a-z]+di[0-9]|_GLOBAL_OFFSET_TABLE_|__x86.get_pc_thunk.[a-z]+")
 set(names_it_may_call "mem(cpy|move|set|cmp)|${of_compiler}")
 cmake_policy(SET CMP0057 NEW)
@@ -46,6 +51,7 @@ expect_same("the static library calls" "${found}" "")
 # Neither data that is written nor any that is common.
 find_symbols(--defined-only "${STATIC}")
 list(FILTER found INCLUDE REGEX "^[BbDdCcGgSs] ")
+list(FILTER found EXCLUDE REGEX "^[bd] \\.(bss|data)$")
 expect_same("the static library has variables" "${found}" "")
 
 if(SHARED)
@@ -54,4 +60,11 @@ if(SHARED)
     string(REGEX REPLACE "(^|;)T " "\\1" found "${found}")
     list(TRANSFORM functions APPEND "@@BASE62_${MAJOR}")
     expect_same("the shared library exports" "${found}" "${functions}")
+endif()
+
+if(IMPORT)
+    find_symbols(--extern-only --defined-only "${IMPORT}")
+    list(FILTER found INCLUDE REGEX "^T ")
+    string(REPLACE "T " "" found "${found}")
+    expect_same("the DLL exports" "${found}" "${functions}")
 endif()

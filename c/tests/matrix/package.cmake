@@ -8,7 +8,7 @@ endif()
 function(add_package name kind)
     set(prefix "${CMAKE_BINARY_DIR}/installed-${name}")
     add_test(NAME package-${name} COMMAND "${CMAKE_COMMAND}" -DBASE62=${c} -DPREFIX=${prefix}
-        "-DOPTIONS=${ARGN}" -P "${CMAKE_CURRENT_SOURCE_DIR}/install.cmake")
+        "-DOPTIONS=${ARGN}" -P "${CMAKE_CURRENT_SOURCE_DIR}/install_and_pack.cmake")
     set_tests_properties(package-${name} PROPERTIES FIXTURES_SETUP ${name})
     add_consumer(package-${name} package ${kind} -DCMAKE_PREFIX_PATH=${prefix})
     set_tests_properties(package-${name}-consumer PROPERTIES FIXTURES_REQUIRED ${name})

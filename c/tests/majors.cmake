@@ -1,15 +1,4 @@
-# What is tested on systems with ELF alone: the names in the libraries, and that two major versions stand in one program.
-set(shared "")
-if(TARGET base62_shared)
-    set(shared "$<TARGET_FILE:base62_shared>")
-endif()
-add_test(NAME symbols COMMAND "${CMAKE_COMMAND}" "-DNM=${CMAKE_NM}" "-DHEADER=${PROJECT_SOURCE_DIR}/base62.h"
-    "-DSTATIC=$<TARGET_FILE:base62_static>" "-DSHARED=${shared}" "-DMAJOR=${PROJECT_VERSION_MAJOR}"
-    -P "${CMAKE_CURRENT_SOURCE_DIR}/symbols.cmake")
-
-if(NOT TARGET base62_shared)
-    return()
-endif()
+# Two major versions of the shared library stand in one program, which ELF makes possible by versions of symbols.
 foreach(part IN ITEMS next over_next over_this)
     add_library(${part}_major SHARED majors.c)
     string(TOUPPER "${part}_major" definition)

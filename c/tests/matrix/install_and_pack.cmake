@@ -1,7 +1,7 @@
 # Builds and installs the library, moves what is installed to PREFIX, and compares the list of its files. It also packs
 # the library twice, which has to give the same bytes.
 #
-#     cmake -DBASE62=FOLDER -DPREFIX=FOLDER [-DOPTIONS=OPTION;..] -P install.cmake
+#     cmake -DBASE62=FOLDER -DPREFIX=FOLDER [-DOPTIONS=OPTION;..] -P install_and_pack.cmake
 
 function(run)
     execute_process(COMMAND ${ARGN} OUTPUT_QUIET COMMAND_ERROR_IS_FATAL ANY)

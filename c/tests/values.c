@@ -1,6 +1,7 @@
 /*
  * Makes each call on the rows of the file that the command names, and compares all that it answers and writes. The file
- * says at its top what its rows mean. What a call reads or writes begins, and then ends, at memory that can't be touched.
+ * says at its top what its rows mean. What a call reads or writes begins, and then ends, at memory that can't be
+ * touched.
  */
 #define _DEFAULT_SOURCE
 #include <base62.h>
@@ -140,8 +141,12 @@ static base62_status status_field(size_t i, base62_bad_byte *bad) {
         base62_status status;
         int has_byte;
     } words[] = {
-        {"empty", BASE62_EMPTY_INPUT, 0},    {"overflow", BASE62_OVERFLOW, 0}, {"byte", BASE62_INVALID_BYTE, 1},
-        {"narrow", BASE62_BUFFER_TOO_SMALL, 0}, {"none", BASE62_NO_KEY, 0},       {"repeated", BASE62_REPEATED_LETTER, 1},
+        {"empty", BASE62_EMPTY_INPUT, 0},
+        {"overflow", BASE62_OVERFLOW, 0},
+        {"byte", BASE62_INVALID_BYTE, 1},
+        {"narrow", BASE62_BUFFER_TOO_SMALL, 0},
+        {"none", BASE62_NO_KEY, 0},
+        {"repeated", BASE62_REPEATED_LETTER, 1},
         {"zero", BASE62_NOT_CANONICAL, 0},
     };
     for (size_t k = 0; k < sizeof words / sizeof *words; k++)
@@ -232,7 +237,8 @@ static void check_repeated(void) {
 }
 
 /* The built-in alphabets have calls of their own. These tell whether one is taken. */
-static int encode_built_in(const struct named *alphabet, base62_number number, char *buffer, size_t size, size_t *length) {
+static int encode_built_in(const struct named *alphabet, base62_number number, char *buffer, size_t size,
+                           size_t *length) {
     if (is_standard(alphabet))
         *length = base62_encode(number, buffer, size);
     else if (is_alternative(alphabet))
@@ -240,7 +246,8 @@ static int encode_built_in(const struct named *alphabet, base62_number number, c
     return is_standard(alphabet) || is_alternative(alphabet);
 }
 
-static int fix_built_in(const struct named *alphabet, base62_number number, char *places, size_t width, size_t *length) {
+static int fix_built_in(const struct named *alphabet, base62_number number, char *places, size_t width,
+                        size_t *length) {
     if (is_standard(alphabet))
         *length = base62_encode_fixed(number, places, width);
     else if (is_alternative(alphabet))

@@ -1,4 +1,4 @@
-/* For Frama-C's Eva, which goes through a function with all values at once. Each function without parameters is a test. */
+/* For Frama-C's Eva, which goes through a call with all values at once. Each function that is not static is a test. */
 #include <base62.h>
 
 #include <__fc_builtin.h>

@@ -25,7 +25,8 @@ if(NOT first STREQUAL second)
 endif()
 
 file(REMOVE_RECURSE "${PREFIX}" "${PREFIX}-staged")
-run("${CMAKE_COMMAND}" -E env "DESTDIR=${PREFIX}-staged" "${CMAKE_COMMAND}" --install "${PREFIX}-build" --prefix /of/base62)
+run("${CMAKE_COMMAND}" -E env "DESTDIR=${PREFIX}-staged"
+    "${CMAKE_COMMAND}" --install "${PREFIX}-build" --prefix /of/base62)
 file(RENAME "${PREFIX}-staged/of/base62" "${PREFIX}")
 
 file(STRINGS "${BASE62}/base62.h" line REGEX "^#define BASE62_VERSION \"")

@@ -1,4 +1,4 @@
-# What is installed and packed, and programs that use it in each way. The installed files are moved before they are used.
+# What is installed and packed, and programs that use it in each way. What is installed is moved before it is used.
 look_for(package cc)
 if(NOT package)
     return()

@@ -16,7 +16,7 @@ import unittest
 
 FOLDER = pathlib.Path(__file__).resolve().parent
 SOURCE = FOLDER.parents[1] / "base62.c"
-OPTIONS = "-machdep gcc_x86_64 -eva -eva-slevel 1000 -eva-auto-loop-unroll 64 -eva-split-return full"
+OPTIONS = "-machdep gcc_x86_64 -eva -eva-slevel 100 -eva-auto-loop-unroll 64 -eva-split-return full"
 # Eva knows no integers of 128 bits.
 PREPROCESSOR = f"-I{SOURCE.parent} -U__SIZEOF_INT128__"
 

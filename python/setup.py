@@ -1,62 +1,36 @@
-"""The extension, over the library that c/build has left in the folder BASE62_C, which is c/out where none is named."""
+"""The extension, over base62.c and base62.h, and what an archive of sources has of the repository."""
 
-import os
-import pathlib
-import re
-import subprocess
+from pathlib import Path
 
 from setuptools import Extension, setup
+from setuptools.command.sdist import sdist
 
-try:
-    from setuptools.command.bdist_wheel import bdist_wheel
-except ImportError:
-    from wheel.bdist_wheel import bdist_wheel
-
-here = pathlib.Path(__file__).parent
-library = pathlib.Path(os.environ.get("BASE62_C", here / "../c/out"))
-archive, header = library / "lib/libbase62.a", library / "include/base62.h"
+# They stand above this folder. An archive has them within.
+SHARED = ["VERSION", "CHANGELOG.md", "c/base62.c", "c/base62.h"]
+top = Path("." if Path("VERSION").exists() else "..")
 
 
-def beside(name):
-    """A file of the top. python/build lays it beside this one."""
-    return next(file for file in (here / name, here / ".." / name) if file.exists())
-
-
-version = beside("VERSION").read_text().strip()
-if not archive.exists() or f'#define BASE62_VERSION "{version}"' not in header.read_text():
-    raise SystemExit(f"{library} has no library of version {version}: run c/build, or name its folder in BASE62_C")
-
-
-class Wheel(bdist_wheel):
-    """A wheel for each system with glibc whose symbols have the versions that the extension takes."""
-
-    def get_tag(self):
-        python, abi, system = super().get_tag()
-        extension = self.get_finalized_command("build_ext").get_ext_fullpath("base62._base62")
-        told = subprocess.run(["readelf", "-dVW", extension], check=True, capture_output=True, text=True).stdout
-        libraries = re.findall(r"\(NEEDED\).*\[(.*)\]", told)
-        minors = [re.match(r"GLIBC_2\.(\d+)", name) for name in re.findall(r"Name: (\S+)", told)]
-        # On ARM the loader has what the compiler guards the stack by.
-        if set(libraries) <= {"libc.so.6", "ld-linux-aarch64.so.1"} and all(minors):
-            # manylinux_2_5 is the earliest.
-            system = system.replace("linux", f"manylinux_2_{max([5, *(int(minor[1]) for minor in minors)])}")
-        return python, abi, system
+class Archive(sdist):
+    def make_release_tree(self, base_dir, files):
+        super().make_release_tree(base_dir, [file for file in files if not file.startswith("..")])
+        for name in SHARED:
+            copy = Path(base_dir, name)
+            self.mkpath(str(copy.parent))
+            self.copy_file(str(top / name), str(copy))
 
 
 extension = Extension(
     "base62._base62",
-    ["base62/_base62.c"],
-    depends=[str(archive)],
-    include_dirs=[str(library / "include")],
-    extra_objects=[str(archive)],
-    # A libbase62.so beside it is not to be mixed up with what is linked in.
-    extra_link_args=["-Wl,--exclude-libs,ALL", "-Wl,--strip-debug"],
-    define_macros=[("PACKAGE_VERSION", f'"{version}"')],
+    ["base62/_base62.c", "base62/_library.c"],
+    include_dirs=[str(top / "c")],
+    depends=[str(top / "c/base62.c"), str(top / "c/base62.h")],
     py_limited_api=True,
 )
 setup(
-    version=version,
+    version=(top / "VERSION").read_text().strip(),
+    # As a field of pyproject.toml it has a form until setuptools 77, and another since.
+    license="MIT",
     ext_modules=[extension],
-    data_files=[("share/doc/base62-proved", [str(beside("CHANGELOG.md"))])],
-    cmdclass={"bdist_wheel": Wheel},
+    data_files=[("share/doc/base62-proved", [str(top / "CHANGELOG.md")])],
+    cmdclass={"sdist": Archive},
 )

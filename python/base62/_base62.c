@@ -699,7 +699,7 @@ static int execute(PyObject *module) {
     int ok = state != NULL && take_types(state->held) && take_is_ascii(state) && add_alphabet(module) &&
              add_built_in(module, STANDARD, "STANDARD", base62_encode) &&
              add_built_in(module, ALTERNATIVE, "ALTERNATIVE", base62_encode_alternative) && add_calls(module);
-    return ok ? PyModule_AddStringConstant(module, "__version__", PACKAGE_VERSION) : -1;
+    return ok ? PyModule_AddStringConstant(module, "__version__", BASE62_VERSION) : -1;
 }
 
 static int traverse(PyObject *module, visitproc visit, void *arg) {

@@ -175,7 +175,8 @@ static int hold(PyObject *bytes, struct text *text) {
     return -1;
 }
 
-/* Only a str in ASCII has its UTF-8 at hand. Another would keep for good what it is asked for. */
+/* A str in ASCII is its own UTF-8. Any other str makes a copy in UTF-8 when it is asked, and keeps that copy as long as
+   it lives. So its bytes are taken in another way. */
 static int text_of(struct state *state, PyObject *given, struct text *text) {
     if (!PyUnicode_Check(given))
         return hold(PyBytes_Check(given) ? shared(given) : converted(state, BYTES_OF, given), text);

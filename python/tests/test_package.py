@@ -28,6 +28,7 @@ EXPORTED = """
     decode decode_canonical decode_uuid decode_uuid_canonical digit_count encode encode_fixed encode_key encode_uuid
     fixed_range key_bounds key_range
 """.split()
+TOP = pathlib.Path(__file__).parents[2]
 OWN = "zyxwvutsrqponmlkjihgfedcbaZYXWVUTSRQPONMLKJIHGFEDCBA9876543210"
 
 
@@ -41,9 +42,22 @@ class Package(unittest.TestCase):
             self.assertEqual(getattr(names[name], "__module__"), "base62", name)
 
     def test_version(self) -> None:
-        file = pathlib.Path(__file__).parents[2] / "VERSION"
-        self.assertEqual(base62.__version__, file.read_text().strip())
+        self.assertEqual(base62.__version__, (TOP / "VERSION").read_text().strip())
         self.assertEqual(base62.__version__, importlib.metadata.version("base62-proved"))
+
+    def test_installed(self) -> None:
+        """The files and what they say of themselves: one wheel serves each Python from 3.11 on."""
+        package = importlib.metadata.distribution("base62-proved")
+        files = {file.name: file for file in package.files or () if file.suffix != ".pyc"}
+        extension = pathlib.Path(_base62.__file__).name
+        modules = [name for name, file in files.items() if file.parts[0] == "base62"]
+        self.assertEqual(sorted(modules), ["__init__.py", extension, "_base62.pyi", "_types.py", "py.typed"])
+        self.assertEqual(files["LICENSE"].read_text(), (TOP / "LICENSE").read_text())
+        self.assertEqual(files["CHANGELOG.md"].read_text(), (TOP / "CHANGELOG.md").read_text())
+        self.assertEqual(package.metadata["Description"].strip(), (TOP / "python/README.md").read_text().strip())
+        self.assertEqual(package.metadata["License"], "MIT")
+        self.assertEqual(package.metadata["Requires-Python"], ">=3.11")
+        self.assertRegex(package.read_text("WHEEL") or "", "(?m)^Tag: cp311-abi3-")
 
     def test_signatures(self) -> None:
         for name, names in (

@@ -1,0 +1,175 @@
+"""Tests of each call by the values of tests/values.tsv at the top, whose head tells what its rows are.
+
+The folder of that file has to be on the path, for its model.
+"""
+
+from __future__ import annotations
+
+import pathlib
+import random
+import sys
+import unittest
+import uuid
+from collections.abc import Callable
+from typing import Any
+from urllib.parse import unquote_to_bytes
+
+import base62
+import model
+from base62 import Alphabet
+
+VALUES = pathlib.Path(__file__).parents[2] / "tests/values.tsv"
+
+
+def rows(kind: str) -> list[list[str]]:
+    """The fields of each row of a kind, of which there are some."""
+    lines = [line.split("\t") for line in VALUES.read_text("ascii").splitlines()]
+    found = [fields for first, *fields in lines if first == kind]
+    assert found, kind
+    return found
+
+
+LETTERS = {name: unquote_to_bytes(letters) for name, letters, *_ in rows("alphabet")}
+OF_ASCII = {name for name, _, is_ascii, _ in rows("alphabet") if is_ascii == "1"}
+ALPHABETS = {name: Alphabet(letters) for name, letters in LETTERS.items()}
+MESSAGES = {tuple(told): unquote_to_bytes(text).decode() for text, *told in rows("message")}
+KINDS: dict[str, type[ValueError]] = {
+    "empty": base62.EmptyInputError,
+    "byte": base62.InvalidByteError,
+    "overflow": base62.TooLargeError,
+    "zero": base62.NotCanonicalError,
+    "repeated": base62.AlphabetError,
+}
+WORDS = {kind: word for word, kind in KINDS.items()}
+
+
+def forms_of_text(escaped: str) -> list[str | bytes]:
+    """The bytes of a text, and the str of which they are the UTF-8."""
+    text = unquote_to_bytes(escaped)
+    try:
+        return [text, text.decode()]
+    except UnicodeDecodeError:
+        return [text]
+
+
+def forms_of_alphabet(name: str) -> list[str | bytes]:
+    letters = LETTERS[name]
+    return [ALPHABETS[name], letters, *([letters.decode()] if name in OF_ASCII else [])]
+
+
+class Values(unittest.TestCase):
+    def raises(self, told: list[str], call: Callable[..., object], *given: object) -> None:
+        """A call tells exactly this fault, in these words if a row has them."""
+        with self.assertRaises(KINDS[told[0]]) as caught:
+            call(*given)
+        error: Any = caught.exception
+        self.assertIs(type(error), KINDS[told[0]])
+        self.assertEqual(vars(error), dict(zip(("byte", "index"), map(int, told[1:]))))
+        self.assertEqual(str(error), MESSAGES.get(tuple(told), str(error)))
+
+    def test_canonical_texts(self) -> None:
+        for name, number, escaped in rows("encode"):
+            texts = forms_of_text(escaped)
+            self.assertEqual(base62.digit_count(int(number)), len(texts[0]))
+            for alphabet in forms_of_alphabet(name):
+                for text in texts:
+                    self.assertEqual(base62.decode(text, alphabet), int(number))
+                    self.assertEqual(base62.decode_canonical(text, alphabet), int(number))
+                if name in OF_ASCII:
+                    self.assertEqual(base62.encode(int(number), alphabet), texts[1])
+
+    def test_zeros(self) -> None:
+        for name, escaped, number in rows("zeros"):
+            for text in forms_of_text(escaped):
+                self.assertEqual(base62.decode(text, ALPHABETS[name]), int(number))
+                self.raises(["zero"], base62.decode_canonical, text, ALPHABETS[name])
+
+    def test_refused(self) -> None:
+        for name, escaped, *told in rows("refused"):
+            for text in forms_of_text(escaped):
+                for call in (base62.decode, base62.decode_canonical):
+                    self.raises(told, call, text, ALPHABETS[name])
+
+    def test_fixed(self) -> None:
+        for name, number, width, escaped in rows("fixed"):
+            for text in forms_of_text(escaped):
+                self.assertEqual(base62.decode(text, ALPHABETS[name]), int(number))
+            if name in OF_ASCII:
+                self.assertEqual(base62.encode_fixed(int(number), int(width), ALPHABETS[name]), text)
+
+    def test_narrow(self) -> None:
+        for name, number, width in rows("narrow"):
+            if name in OF_ASCII:
+                with self.assertRaisesRegex(OverflowError, "^the number has more letters than the width$"):
+                    base62.encode_fixed(int(number), int(width), ALPHABETS[name])
+
+    def test_ranges(self) -> None:
+        for name, width, escaped, kind, *told in rows("range"):
+            if int(width) > sys.maxsize:
+                continue
+            for prefix in forms_of_text(escaped):
+                calls: list[Callable[..., object]] = [lambda of: base62.fixed_range(int(width), of, ALPHABETS[name])]
+                if (name, width) == ("standard", "22"):
+                    calls.append(base62.key_range)
+                for call in calls:
+                    if kind == "byte":
+                        self.raises([kind, *told], call, prefix)
+                    else:
+                        self.assertEqual(call(prefix), tuple(map(int, told)) or None)
+
+    def test_uuids(self) -> None:
+        for number, name, text in rows("uuid"):
+            self.assertEqual(base62.encode_uuid(uuid.UUID(name)), text)
+            self.assertEqual(base62.decode_uuid(text), uuid.UUID(name))
+            self.assertEqual(base62.decode_uuid_canonical(text), uuid.UUID(name))
+            self.assertEqual(base62.encode_fixed(uuid.UUID(name), 22), base62.encode_key(int(number)))
+
+    def test_repeated(self) -> None:
+        for letters, *told in rows("repeated"):
+            for call in (Alphabet, lambda own: base62.encode(1, own), lambda own: base62.decode("1", own)):
+                self.raises(["repeated", *told], call, unquote_to_bytes(letters))
+
+    def test_messages(self) -> None:
+        """Each bad byte and each repeated letter is named in the words of its row."""
+        for kind, byte, index in (told for told in MESSAGES if len(told) == 3):
+            bad = bytes([int(byte)])
+            if kind == "byte" and bad not in LETTERS["standard"] and int(index) < 10_000:
+                self.raises([kind, byte, index], base62.decode, b"0" * int(index) + bad)
+            if kind == "repeated" and 0 < int(index) < 62:
+                letters = bad + bytes(other for other in range(256) if other != bad[0])[: int(index) - 1] + bad
+                self.raises([kind, byte, index], Alphabet, letters + bytes(range(192, 192 + 62 - len(letters))))
+
+
+class Drawn(unittest.TestCase):
+    """Texts that each run draws anew, by the plain arithmetic of tests/model.py."""
+
+    def told(self, call: Callable[..., Any], *given: object) -> tuple[object, ...]:
+        """The answer or the fault of a call, in the words of the model."""
+        try:
+            answer = call(*given)
+        except ValueError as error:
+            return WORDS[type(error)], *vars(error).values()
+        if isinstance(answer, tuple):
+            return "numbers", *answer
+        return ("none",) if answer is None else ("number", answer)
+
+    def test_texts(self) -> None:
+        seed = random.randrange(2**32)
+        choice = random.Random(seed)
+        for _ in range(4000):
+            name = choice.choice([*LETTERS])
+            letters, alphabet = LETTERS[name], ALPHABETS[name]
+            text = letters[:1] * choice.choice([0, 0, 1, 30])
+            text += bytes(choice.choices(letters, k=choice.randrange(25)))
+            if choice.random() < 0.3:
+                place = choice.randrange(len(text) + 1)
+                text = text[:place] + choice.randbytes(1) + text[place:]
+            width = choice.choice([choice.randrange(30), len(text), len(text) + 1])
+            with self.subTest(seed=seed, alphabet=name, text=text, width=width):
+                self.assertEqual(self.told(base62.decode, text, alphabet), model.decoded(letters, text))
+                self.assertEqual(
+                    self.told(base62.decode_canonical, text, alphabet), model.decoded_canonical(letters, text)
+                )
+                self.assertEqual(
+                    self.told(base62.fixed_range, width, text, alphabet), model.range_of(letters, width, text)
+                )

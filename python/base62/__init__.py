@@ -5,7 +5,7 @@
 >>> decode("LZ")
 1337
 
-The package contains a proved C library, which writes the texts and reads the numbers.
+A C library writes the texts and reads the numbers. It is translated from source that is proved.
 """
 
 from __future__ import annotations

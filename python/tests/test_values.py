@@ -57,6 +57,13 @@ def forms_of_alphabet(name: str) -> list[str | bytes]:
     return [ALPHABETS[name], letters, *([letters.decode()] if name in OF_ASCII else [])]
 
 
+def numbers_of_bounds(prefix: str | bytes) -> tuple[int, int] | None:
+    """What key_range answers, by key_bounds."""
+    bounds = base62.key_bounds(prefix)
+    assert bounds is None or [*map(len, bounds)] == [22, 22]
+    return bounds and (base62.decode(bounds[0]), base62.decode(bounds[1]))
+
+
 class Values(unittest.TestCase):
     def raises(self, told: list[str], call: Callable[..., object], *given: object) -> None:
         """A call tells exactly this fault, in these words if a row has them."""
@@ -77,6 +84,9 @@ class Values(unittest.TestCase):
                     self.assertEqual(base62.decode_canonical(text, alphabet), int(number))
                 if name in OF_ASCII:
                     self.assertEqual(base62.encode(int(number), alphabet), texts[1])
+            if name == "standard":
+                self.assertEqual(base62.encode(int(number)), texts[1])
+                self.assertEqual((base62.decode(texts[1]), base62.decode_canonical(texts[1])), (int(number),) * 2)
 
     def test_zeros(self) -> None:
         for name, escaped, number in rows("zeros"):
@@ -96,6 +106,8 @@ class Values(unittest.TestCase):
                 self.assertEqual(base62.decode(text, ALPHABETS[name]), int(number))
             if name in OF_ASCII:
                 self.assertEqual(base62.encode_fixed(int(number), int(width), ALPHABETS[name]), text)
+            if (name, width) == ("standard", "22"):
+                self.assertEqual(base62.encode_key(int(number)), text)
 
     def test_narrow(self) -> None:
         for name, number, width in rows("narrow"):
@@ -110,7 +122,7 @@ class Values(unittest.TestCase):
             for prefix in forms_of_text(escaped):
                 calls: list[Callable[..., object]] = [lambda of: base62.fixed_range(int(width), of, ALPHABETS[name])]
                 if (name, width) == ("standard", "22"):
-                    calls.append(base62.key_range)
+                    calls += [base62.key_range, numbers_of_bounds]
                 for call in calls:
                     if kind == "byte":
                         self.raises([kind, *told], call, prefix)
@@ -141,7 +153,7 @@ class Values(unittest.TestCase):
 
 
 class Drawn(unittest.TestCase):
-    """Texts that each run draws anew, by the plain arithmetic of tests/model.py."""
+    """Numbers and texts that each run draws anew, by the plain arithmetic of tests/model.py."""
 
     def told(self, call: Callable[..., Any], *given: object) -> tuple[object, ...]:
         """The answer or the fault of a call, in the words of the model."""
@@ -152,6 +164,21 @@ class Drawn(unittest.TestCase):
         if isinstance(answer, tuple):
             return "numbers", *answer
         return ("none",) if answer is None else ("number", answer)
+
+    def test_numbers(self) -> None:
+        seed = random.randrange(2**32)
+        choice = random.Random(seed)
+        for _ in range(4000):
+            name = choice.choice(sorted(OF_ASCII))
+            letters, alphabet = LETTERS[name], ALPHABETS[name]
+            number, width = choice.getrandbits(choice.randint(1, 128)), choice.randrange(30)
+            with self.subTest(seed=seed, alphabet=name, number=number, width=width):
+                text = model.text_of(letters, number)
+                self.assertEqual(base62.encode(number, alphabet).encode(), text)
+                self.assertEqual(base62.decode(text, alphabet), number)
+                self.assertEqual(base62.digit_count(number), len(text))
+                if fixed := model.fixed_text(letters, number, width):
+                    self.assertEqual(base62.encode_fixed(number, width, alphabet).encode(), fixed)
 
     def test_texts(self) -> None:
         seed = random.randrange(2**32)

@@ -234,7 +234,7 @@ class Kept(unittest.TestCase):
     LETTERS = base62.Alphabet(OWN)
     REPEATED = "0" * 62
     # What calls borrow, besides what they are given.
-    SHARED: list[object] = [None, 0, 64, uuid.UUID, base62.Alphabet]
+    SHARED: list[object] = [None, False, True, 0, 64, uuid.UUID, base62.Alphabet]
     SHARED += [base62.Alphabet.STANDARD, base62.Alphabet.ALTERNATIVE]
     SHARED += [base62.AlphabetError, base62.EmptyInputError, base62.InvalidByteError, base62.TooLargeError]
     SHARED += [base62.NotCanonicalError]

@@ -1,5 +1,4 @@
-/* The library, within the extension alone: no other library of the process sees its calls, or has its own in their
-   place. */
+/* The library. Its calls are hidden: no other library of the process sees them, or puts its own in their place. */
 #ifdef __GNUC__
 #pragma GCC visibility push(hidden)
 #endif

@@ -1,13 +1,17 @@
+'use strict';
+// As index.cjs leaves it.
+const base62 = module.exports;
+
 // The fields of the page, each with the number of what is typed there and what it shows of a number.
 const fields = {
   number: { read: (typed) => digitsOf(typed, '', '0123456789'), show: (number) => `${number}` },
-  standard: { read: (typed) => decode(typed), show: (number) => encode(number) },
+  standard: { read: (typed) => base62.decode(typed), show: (number) => base62.encode(number) },
   alternative: {
-    read: (typed) => decode(typed, Alphabet.alternative),
-    show: (number) => encode(number, Alphabet.alternative),
+    read: (typed) => base62.decode(typed, base62.Alphabet.alternative),
+    show: (number) => base62.encode(number, base62.Alphabet.alternative),
   },
-  key: { read: readKey, show: encodeKey },
-  uuid: { read: (typed) => decode(encodeUuid(typed)), show: (number) => decodeUuid(encode(number)) },
+  key: { read: readKey, show: base62.encodeKey },
+  uuid: { read: (typed) => base62.decode(base62.encodeUuid(typed)), show: (number) => base62.decodeUuid(base62.encode(number)) },
   hexadecimal: {
     read: (typed) => digitsOf(typed, '0x', '0123456789abcdefABCDEF'),
     show: (number) => number.toString(16),
@@ -28,7 +32,7 @@ function digitsOf(typed, prefix, digits) {
   if (index >= 0) throw new Fault(`The character at index ${index} is no digit`, index);
   const number = BigInt(prefix + typed);
   try {
-    encode(number);
+    base62.encode(number);
   } catch {
     throw new Fault('The number is 2^128 or more');
   }
@@ -36,8 +40,8 @@ function digitsOf(typed, prefix, digits) {
 }
 
 function readKey(typed) {
-  const number = decode(typed);
-  if (encodeKey(number) !== typed) throw new Fault(`A key has 22 letters, not ${typed.length}`);
+  const number = base62.decode(typed);
+  if (base62.encodeKey(number) !== typed) throw new Fault(`A key has 22 letters, not ${typed.length}`);
   return number;
 }
 

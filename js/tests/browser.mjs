@@ -3,8 +3,8 @@ import * as base62 from 'base62-proved';
 import { testsOf } from './calls.mjs';
 
 // The tests that fail of those that there are.
-globalThis.run = (values) => {
-  const tests = testsOf(base62, values);
+globalThis.run = (file) => {
+  const tests = testsOf(base62, file);
   const failed = [];
   for (const [name, test] of tests) {
     try {

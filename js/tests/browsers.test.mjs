@@ -1,12 +1,18 @@
-// The tests of calls.mjs and the page, in each browser.
+// The tests of calls.mjs, bundled by esbuild, and the page, in each browser that BROWSERS names.
 import assert from 'node:assert/strict';
+import { execFileSync } from 'node:child_process';
 import { createHash } from 'node:crypto';
-import { readFileSync, writeFileSync } from 'node:fs';
+import { mkdtempSync, readFileSync, rmSync, writeFileSync } from 'node:fs';
+import { tmpdir } from 'node:os';
+import { join } from 'node:path';
 import { after, before, test } from 'node:test';
-import { pathToFileURL } from 'node:url';
+import { fileURLToPath, pathToFileURL } from 'node:url';
 import { chromium, firefox } from './browsers.mjs';
 
-const page = pathToFileURL(process.env.PAGE).href;
+const page = new URL('../page/index.html', import.meta.url).href;
+const values = readFileSync(new URL('../../tests/values.tsv', import.meta.url), 'utf8');
+const folder = mkdtempSync(join(tmpdir(), 'base62-'));
+after(() => rmSync(folder, { recursive: true }));
 const ids = ['number', 'standard', 'alternative', 'key', 'uuid', 'hexadecimal'];
 const known = {
   number: '113059749145936325402354257176981405696',
@@ -19,14 +25,15 @@ const known = {
 
 // The tests inside one page, whose policy allows this script alone, and WebAssembly.
 function testPage() {
-  const script = readFileSync(process.env.BUNDLE, 'utf8');
+  const main = fileURLToPath(new URL('browser.mjs', import.meta.url));
+  const script = execFileSync('esbuild', ['--bundle', '--log-level=warning', main], { encoding: 'utf8' });
   const hash = createHash('sha256').update(script).digest('base64');
   const policy = `default-src 'none'; script-src 'sha256-${hash}' 'wasm-unsafe-eval'; worker-src blob:`;
-  const file = `${process.env.BUNDLE}.html`;
+  const file = join(folder, 'test.html');
   writeFileSync(
     file,
     `<!doctype html><meta charset="utf-8"><meta http-equiv="Content-Security-Policy" content="${policy}">
-<script type="application/json">${readFileSync(process.env.VALUES)}</script><script>${script}</script>`,
+<script type="application/json">${JSON.stringify(values).replaceAll('<', '\\u003c')}</script><script>${script}</script>`,
   );
   return pathToFileURL(file).href;
 }
@@ -40,7 +47,11 @@ const inWorker = `new Promise((resolve, reject) => {
   worker.postMessage(JSON.parse(document.scripts[0].text));
 })`;
 
-for (const start of [chromium, firefox]) {
+const tests = testPage();
+const browsers = { chromium, 'firefox-esr': firefox };
+const names = process.env.BROWSERS?.split(' ') ?? Object.keys(browsers);
+
+for (const start of names.map((it) => browsers[it])) {
   let browser;
   before(async () => {
     browser = await start();
@@ -60,7 +71,7 @@ for (const start of [chromium, firefox]) {
 
   for (const [place, expression] of Object.entries({ page: onPage, worker: inWorker })) {
     test(`${start.name}: the calls, on a ${place}`, async () => {
-      await browser.open(testPage());
+      await browser.open(tests);
       const { count, failed } = await browser.compute(expression);
       assert.deepEqual(failed, []);
       assert.ok(count > 10);
@@ -157,7 +168,8 @@ const widths = `[
   ...[...document.querySelectorAll('input')].map((it) => it.scrollWidth - it.clientWidth),
 ]`;
 
-test('chromium: the page is read on a phone and in the dark, and asks for nothing', async () => {
+const onPhone = { skip: !names.includes('chromium') };
+test('chromium: the page is read on a phone and in the dark, and asks for its own files alone', onPhone, async () => {
   const browser = await chromium();
   try {
     await browser.open(page);
@@ -172,7 +184,8 @@ test('chromium: the page is read on a phone and in the dark, and asks for nothin
       await browser.type('LZ-');
       for (const ratio of await browser.compute(contrasts)) assert.ok(ratio >= 4.5, `${value}: ${ratio}`);
     }
-    assert.deepEqual(browser.requested(), [page]);
+    const files = ['index.html', 'page.css', '../index.cjs', 'page.js'].map((it) => new URL(it, page).href);
+    assert.deepEqual(browser.requested(), files);
   } finally {
     await browser.stop();
   }

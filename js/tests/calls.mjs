@@ -1,4 +1,5 @@
-// What each call gives and refuses, on any host. Expected values are those of values.py, or known otherwise.
+// What each call gives and refuses, on any host. Expected values are those of tests/values.tsv, or known otherwise.
+import { bytesOf, isAscii, readRows, textOf } from './values.mjs';
 
 function same(actual, wanted) {
   if (Object.is(actual, wanted)) return;
@@ -45,55 +46,108 @@ const trap = new Proxy(function () {}, {
   },
 });
 const convertible = { valueOf: trap, toString: trap, [Symbol.toPrimitive]: trap };
-const bytesOf = (text) => Uint8Array.from(text, (letter) => letter.charCodeAt(0));
 
-// What the tests share of a form of the package.
-function contextOf(base62, values) {
+// A text in the forms that calls take. A string is read as UTF-8, so bytes outside ASCII are no string.
+function formsOf(text) {
+  return isAscii(text) ? [text, bytesOf(text)] : [bytesOf(text)];
+}
+
+function uuidOf(number) {
+  return number.toString(16).padStart(32, '0').replace(/^(.{8})(.{4})(.{4})(.{4})/, '$1-$2-$3-$4-');
+}
+
+// The codes of 62 different letters, none of which has this one.
+function lettersWithout(code) {
+  return Array.from({ length: 63 }, (_, it) => it).filter((it) => it !== code).slice(0, 62);
+}
+
+// A call with the fault of a row. There is none for a long text, for a letter outside ASCII, or if no text has a prefix.
+function callWith(base62, [kind, byte, index]) {
+  const { Alphabet, decode, decodeCanonical, encodeFixed } = base62;
+  if (index > 10_000) return undefined;
+  if (kind === 'empty') return () => decode('');
+  if (kind === 'overflow') return () => decode('z'.repeat(22));
+  if (kind === 'zero') return () => decodeCanonical('00');
+  if (kind === 'narrow') return () => encodeFixed(62, 1);
+  const codes = lettersWithout(Number(byte));
+  if (kind === 'byte') {
+    const alphabet = new Alphabet(String.fromCharCode(...codes));
+    return () => decode(new Uint8Array(Number(index) + 1).fill(codes[0]).fill(byte, index), alphabet);
+  }
+  if (kind !== 'repeated' || byte > 127) return undefined;
+  codes[0] = codes[index] = byte;
+  return () => new Alphabet(String.fromCharCode(...codes));
+}
+
+// What the tests share of a form of the package. An alphabet of the rows whose letters are not ASCII is none here.
+function contextOf(base62, rows) {
   const { Alphabet } = base62;
-  const alphabets = values.letters.map((letters) => new Alphabet(letters));
-  const [standard, alternative, own] = values.letters;
+  const letters = Object.fromEntries(rows.alphabet.map(([name, field]) => [name, textOf(field)]));
+  const names = Object.keys(letters).filter((it) => isAscii(letters[it]));
+  const alphabets = Object.fromEntries(names.map((it) => [it, new Alphabet(letters[it])]));
+  const { standard, alternative, readable: own } = letters;
   const refused = (call, ...wanted) => refuses(base62, call, ...wanted);
-  return { base62, values, Alphabet, alphabets, alphabet: alphabets[2], standard, alternative, own, refused };
+  // The rows of a kind whose alphabet is one here.
+  const rowsOf = (kind) => rows[kind].filter(([name]) => name in alphabets);
+  const alphabet = alphabets.readable;
+  return { base62, rows, rowsOf, letters, Alphabet, alphabets, alphabet, standard, alternative, own, refused };
+}
+
+const faults = {
+  byte: 'INVALID_BYTE',
+  empty: 'EMPTY_INPUT',
+  overflow: 'OVERFLOW',
+  zero: 'NOT_CANONICAL',
+  narrow: 'BUFFER_TOO_SMALL',
+  repeated: 'REPEATED_LETTER',
+};
+
+// What refuses takes of a fault.
+function wantedOf([kind, ...numbers], message) {
+  return [faults[kind], message, ...numbers.map(Number)];
 }
 
 const tests = {
-  'each number has its text, and back'({ base62, values, alphabets }) {
-    for (const [digits, ...texts] of values.numbers) {
+  'each number has its text, and back'({ base62, rowsOf, alphabets }) {
+    for (const [name, digits, field] of rowsOf('encode')) {
       const number = BigInt(digits);
-      for (let i = 0; i < 3; i++) {
-        same(base62.encode(number, alphabets[i]), texts[i]);
-        same(base62.decode(texts[i], alphabets[i]), number);
-        same(base62.decodeCanonical(bytesOf(texts[i]), alphabets[i]), number);
-      }
-      same(base62.encode(number), texts[0]);
-      same(base62.decode(`00${texts[0]}`), number);
-      same(base62.digitCount(number), texts[0].length);
+      const text = textOf(field);
+      const alphabet = alphabets[name];
+      same(base62.encode(number, alphabet), text);
+      same(base62.decode(text, alphabet), number);
+      same(base62.decodeCanonical(bytesOf(text), alphabet), number);
+      same(base62.digitCount(number), text.length);
+      if (name !== 'standard') continue;
+      same(base62.encode(number), text);
+      same(base62.decode(text), number);
     }
   },
 
-  'a Number has the text of its BigInt'({ base62, values, refused }) {
-    for (const [digits, text] of values.numbers) {
+  'a Number has the text of its BigInt'({ base62, rowsOf, alphabets, refused }) {
+    for (const [name, digits, field] of rowsOf('encode')) {
       const number = Number(digits);
+      const text = textOf(field);
+      const alphabet = alphabets[name];
       if (Number.isSafeInteger(number)) {
-        same(base62.encode(number), text);
+        same(base62.encode(number, alphabet), text);
         same(base62.digitCount(number), text.length);
-        same(base62.decodeNumber(text), number);
-        same(base62.encodeKey(number), text.padStart(22, '0'));
+        same(base62.decodeNumber(text, alphabet), number);
       } else {
-        refused(() => base62.encode(number), 'OUT_OF_RANGE');
-        refused(() => base62.decodeNumber(text), 'UNSAFE_INTEGER');
+        refused(() => base62.encode(number, alphabet), 'OUT_OF_RANGE');
+        refused(() => base62.decodeNumber(text, alphabet), 'UNSAFE_INTEGER');
       }
     }
   },
 
-  'keys and texts of a width have zeros in front'({ base62, values, alphabet, refused, own }) {
-    for (const [digits, text, , last] of values.numbers) {
-      const number = BigInt(digits);
-      same(base62.encodeKey(number), text.padStart(22, '0'));
-      same(base62.encodeFixed(number, 22, alphabet), last.padStart(22, own[0]));
-      same(base62.encodeFixed(number, text.length), text);
-      const said = 'Buffer too small to encode the number';
-      refused(() => base62.encodeFixed(number, text.length - 1), 'BUFFER_TOO_SMALL', said);
+  'texts of a width and keys have zeros in front'({ base62, rowsOf, alphabets, alphabet, refused }) {
+    for (const [name, digits, width, field] of rowsOf('fixed')) {
+      const text = textOf(field);
+      same(base62.encodeFixed(BigInt(digits), Number(width), alphabets[name]), text);
+      same(base62.decode(text, alphabets[name]), BigInt(digits));
+      if (name === 'standard' && width === '22') same(base62.encodeKey(BigInt(digits)), text);
+    }
+    for (const [name, digits, width] of rowsOf('narrow')) {
+      refused(() => base62.encodeFixed(BigInt(digits), Number(width), alphabets[name]), 'BUFFER_TOO_SMALL');
     }
     for (const width of [22, 98, 99, 100, 101, 65000, 66000, 1e6]) {
       same(base62.encodeFixed(1337, width), 'LZ'.padStart(width, '0'));
@@ -101,30 +155,46 @@ const tests = {
     }
   },
 
-  'a UUID has the text of its number'({ base62, values, Alphabet }) {
-    for (const [digits, text, other, , uuid] of values.numbers) {
-      const bytes = Uint8Array.from(uuid.replaceAll('-', '').match(/../g), (it) => parseInt(it, 16));
-      same(base62.encodeUuid(uuid), text);
-      same(base62.encodeUuid(uuid.toUpperCase(), Alphabet.alternative), other);
-      same(base62.encodeUuid(bytes), text);
-      same(base62.decodeUuid(text), uuid);
-      same(base62.decodeUuid(other, Alphabet.alternative), uuid);
-      same(base62.decode(base62.encodeUuid(uuid)), BigInt(digits));
+  'zeros in front change no number, and are not canonical'({ base62, rowsOf, alphabets, refused }) {
+    for (const [name, field, digits] of rowsOf('zeros')) {
+      for (const text of formsOf(textOf(field))) {
+        same(base62.decode(text, alphabets[name]), BigInt(digits));
+        refused(() => base62.decodeCanonical(text, alphabets[name]), 'NOT_CANONICAL');
+      }
     }
   },
 
-  'a range has the numbers of a prefix'({ base62, values, alphabet, refused, Alphabet, standard, own }) {
-    for (const [width, front, range] of values.ranges) {
-      sameRange(base62.fixedRange(width, front), range);
-      sameRange(base62.fixedRange(width, bytesOf(front), Alphabet.standard), range);
-      const other = [...front].map((letter) => own[standard.indexOf(letter)]).join('');
-      sameRange(base62.fixedRange(width, other, alphabet), range);
-      if (width === 22) sameRange(base62.keyRange(front), range);
+  'a UUID has the text of its number'({ base62, rows, rowsOf, alphabets }) {
+    for (const [digits, uuid, text] of rows.uuid) {
+      const bytes = Uint8Array.from(uuid.replaceAll('-', '').match(/../g), (it) => parseInt(it, 16));
+      same(base62.encodeUuid(uuid), text);
+      same(base62.encodeUuid(uuid.toUpperCase()), text);
+      same(base62.encodeUuid(bytes), text);
+      same(base62.decodeUuid(text), uuid);
+      same(uuidOf(BigInt(digits)), uuid);
+    }
+    for (const [name, digits, field] of rowsOf('encode')) {
+      const uuid = uuidOf(BigInt(digits));
+      same(base62.encodeUuid(uuid, alphabets[name]), textOf(field));
+      same(base62.decodeUuid(textOf(field), alphabets[name]), uuid);
+    }
+  },
+
+  'a range has the numbers of a prefix'({ base62, rowsOf, alphabets, refused }) {
+    for (const [name, width, field, kind, ...numbers] of rowsOf('range')) {
+      for (const front of formsOf(textOf(field))) {
+        const calls = [() => base62.fixedRange(Number(width), front, alphabets[name])];
+        if (name === 'standard') calls.push(() => base62.fixedRange(Number(width), front));
+        if (name === 'standard' && width === '22') calls.push(() => base62.keyRange(front));
+        for (const call of calls) {
+          if (kind === 'byte') refused(call, ...wantedOf([kind, ...numbers]));
+          else sameRange(call(), kind === 'none' ? null : numbers);
+        }
+      }
     }
     for (const width of [2 ** 32, Number.MAX_SAFE_INTEGER]) {
       sameRange(base62.fixedRange(width, '0'), [0, 2n ** 128n - 1n]);
     }
-    refused(() => base62.keyRange('0-'), 'INVALID_BYTE', undefined, 45, 1);
   },
 
   'numbers that are none are refused'({ base62, refused }) {
@@ -155,30 +225,47 @@ const tests = {
     same(base62.fixedRange(0, ''), null);
   },
 
-  'faults of a text are named'({ base62, alphabet, refused }) {
+  'faults of a text are named'({ base62, rowsOf, alphabets, refused }) {
     const { decode, decodeCanonical, decodeNumber, decodeUuid } = base62;
     for (const call of [decode, decodeCanonical, decodeNumber, decodeUuid]) {
-      refused(() => call(''), 'EMPTY_INPUT', 'Encoded input is an empty string');
-      refused(() => call(new Uint8Array()), 'EMPTY_INPUT');
-      const said = "Encoded input contains the invalid byte b'-' at index 2";
-      refused(() => call('LZ-'), 'INVALID_BYTE', said, 45, 2);
-      refused(() => call(bytesOf('LZ-*')), 'INVALID_BYTE', said, 45, 2);
-      refused(() => call('P1', alphabet), 'INVALID_BYTE', undefined, 49, 1);
-      refused(() => call('7n42DGM5Tflk9n8mt7Fhc8'), 'OVERFLOW', 'Decoded number cannot fit into a `u128`');
-      refused(() => call('-'.repeat(23)), 'OVERFLOW');
+      for (const [name, field, ...fault] of rowsOf('refused')) {
+        for (const text of formsOf(textOf(field))) {
+          refused(() => call(text, alphabets[name]), ...wantedOf(fault));
+          if (name === 'standard') refused(() => call(text), ...wantedOf(fault));
+        }
+      }
       refused(() => call('0-'.padStart(40000, '0')), 'INVALID_BYTE', undefined, 45, 39999);
     }
-    refused(() => decodeCanonical('0LZ'), 'NOT_CANONICAL');
     refused(() => decodeNumber('fFgnDxSe8'), 'UNSAFE_INTEGER');
     same(decodeNumber('fFgnDxSe7'), 2 ** 53 - 1);
     refused(() => decodeNumber(base62.encode(2n ** 64n)), 'UNSAFE_INTEGER');
   },
 
-  'a string is read as UTF-8'({ base62, values, refused }) {
-    for (const [text, count, byte, index] of values.utf_8) {
-      if (count > 22) refused(() => base62.decode(text), 'OVERFLOW');
-      else refused(() => base62.decode(text), 'INVALID_BYTE', undefined, byte, index);
-      refused(() => base62.fixedRange(7, text), 'INVALID_BYTE', undefined, byte, index);
+  'each fault says what is wrong'({ base62, rows, refused }) {
+    const told = new Set();
+    for (const [field, ...fault] of rows.message) {
+      const call = callWith(base62, fault);
+      if (!call) continue;
+      refused(call, ...wantedOf(fault, textOf(field)));
+      told.add(fault[0]);
+    }
+    same([...told].sort().join(), Object.keys(faults).sort().join());
+  },
+
+  'a string is read as UTF-8'({ base62, refused }) {
+    // Each character with its first byte and the count of its bytes. A lone surrogate has three.
+    const narrow = [['\u00e9', 0xc3, 2], ['\u07ff', 0xdf, 2], ['\u0800', 0xe0, 3], ['\u20ac', 0xe2, 3]];
+    const wide = [['\ud800', 0xed, 3], ['\udfff', 0xed, 3], ['\uffff', 0xef, 3]];
+    const pairs = [['\u{10000}', 0xf0, 4], ['\u{10ffff}', 0xf4, 4]];
+    for (const [character, byte, size] of [...narrow, ...wide, ...pairs]) {
+      for (const [front, letters] of [['', 0], ['0', 0], ['000LZ', 2]]) {
+        for (let count = 1; count <= 12; count++) {
+          const text = front + character.repeat(count);
+          const found = ['INVALID_BYTE', undefined, byte, front.length];
+          refused(() => base62.decode(text), ...(letters + size * count > 22 ? ['OVERFLOW'] : found));
+          refused(() => base62.fixedRange(7, text), ...found);
+        }
+      }
     }
   },
 
@@ -213,19 +300,24 @@ const tests = {
     same(base62.encodeUuid(uuid), '2aUyqjCzEIiEcYMKj7TZtw');
   },
 
-  'an alphabet has its letters'({ base62, alphabet, refused, Alphabet, standard, alternative, own }) {
+  'an alphabet has its letters'({ base62, rows, letters, alphabets, refused, Alphabet, standard, alternative, own }) {
     same(Alphabet.standard.letters, standard);
     same(Alphabet.alternative.letters, alternative);
-    same(alphabet.letters, own);
+    for (const [name, it] of Object.entries(letters)) {
+      if (name in alphabets) same(alphabets[name].letters, it);
+      else refused(() => new Alphabet(it), 'INVALID_ALPHABET');
+    }
+    for (const [field, byte, index] of rows.repeated) {
+      const repeated = textOf(field);
+      const wanted = isAscii(repeated) ? wantedOf(['repeated', byte, index]) : ['INVALID_ALPHABET'];
+      refused(() => new Alphabet(repeated), ...wanted);
+    }
     const lengths = ['', standard.slice(1), `${standard}-`];
     const others = ['\u00e9', 'z\u00e9', '\u{1f600}'].map((it) => standard.slice(0, -2) + it);
     for (const wrong of [...lengths, ...others]) {
       refused(() => new Alphabet(wrong), 'INVALID_ALPHABET');
     }
-    const said = "Alphabet repeats the byte b'0' at index 1";
-    refused(() => new Alphabet('0'.repeat(62)), 'REPEATED_LETTER', said, 48, 1);
-    refused(() => new Alphabet(standard.replace('z', 'A')), 'REPEATED_LETTER', undefined, 65, 61);
-    same(base62.encode(1337, alphabet), 'Pd');
+    same(base62.encode(1337, alphabets.readable), 'Pd');
     same(base62.encode(1337), 'LZ');
     same(new Alphabet(own).letters, own);
     same(base62.encode(1337), 'LZ');
@@ -286,8 +378,8 @@ const tests = {
   },
 };
 
-// The tests by their names.
-export function testsOf(base62, values) {
-  const context = contextOf(base62, values);
+// The tests by their names, with the text of tests/values.tsv.
+export function testsOf(base62, file) {
+  const context = contextOf(base62, readRows(file));
   return Object.entries(tests).map(([name, test]) => [name, () => test(context)]);
 }

@@ -5,7 +5,7 @@ import { test } from 'node:test';
 import * as module from 'base62-proved';
 import { testsOf } from './calls.mjs';
 
-const values = JSON.parse(readFileSync(process.env.VALUES));
+const file = readFileSync(new URL('../../tests/values.tsv', import.meta.url), 'utf8');
 for (const [form, base62] of Object.entries({ module, CommonJS: createRequire(import.meta.url)('base62-proved') })) {
-  for (const [name, run] of testsOf(base62, values)) test(`${form}: ${name}`, run);
+  for (const [name, run] of testsOf(base62, file)) test(`${form}: ${name}`, run);
 }

@@ -1,8 +1,9 @@
 // What a program around the calls could disturb: memory, the stack, other copies and threads, and changed prototypes.
 import assert from 'node:assert/strict';
 import { spawnSync } from 'node:child_process';
+import { createRequire } from 'node:module';
 import { test } from 'node:test';
-import { fileURLToPath } from 'node:url';
+import { fileURLToPath, pathToFileURL } from 'node:url';
 import { runInNewContext } from 'node:vm';
 import { Worker } from 'node:worker_threads';
 import * as base62 from 'base62-proved';
@@ -10,6 +11,7 @@ import * as base62 from 'base62-proved';
 const { Alphabet, decode, encode } = base62;
 const own = '23456789ABCDEFGHJKLMNPQRSTUVWXYZabcdefghijkmnpqrstuvwxyz-_.~!*';
 const MEGABYTE = 2 ** 20;
+const commonJs = createRequire(import.meta.url).resolve('base62-proved');
 
 // Memory outside the heap is counted when it is freed too, which can take some rounds.
 function resident() {
@@ -65,30 +67,42 @@ test('a call keeps nothing in the heap', () => {
 
 test('calls go on after the stack has run out in one', () => {
   const results = new Set();
-  const dive = () => {
+  const calls = [
+    () => encode(1337),
+    () => encode(2n ** 127n),
+    () => encode(1337, new Alphabet(own)),
+    () => decode('7n42DGM5Tflk9n8mt7Fhc7'),
+    () => decode('LZ-'),
+  ];
+  let wrong;
+  const attempt = (call) => {
     try {
-      dive();
-    } catch {}
-    // Near the end of the stack some of these fail.
-    try {
-      results.add(encode(1337)).add(decode('LZ')).add(base62.digitCount(62));
+      results.add(call());
     } catch (fault) {
-      assert.ok(fault instanceof RangeError, fault);
-    }
-    try {
-      decode('LZ-');
-    } catch (fault) {
-      assert.ok(fault instanceof RangeError, fault);
+      if (fault instanceof base62.Base62Error) results.add(fault.message);
+      else if (!(fault instanceof RangeError)) wrong ??= fault;
     }
   };
-  for (let i = 0; i < 3; i++) dive();
-  assert.deepEqual(results, new Set(['LZ', 1337n, 2]));
-  assert.equal(encode(1337), 'LZ');
-  assert.equal(encode(1337, new Alphabet(own)), 'Pd');
+  let end = 0;
+  const dive = (depth) => {
+    try {
+      dive(depth + 1);
+    } catch {
+      end = depth;
+    }
+    // Near the end of the stack some of these fail.
+    if (depth > end - 30) for (const call of calls) attempt(call);
+  };
+  // Of compiled calls, some fail within the WebAssembly, if the stack begins at many places.
+  for (let i = 0; i < 20_000; i++) for (const call of calls) attempt(call);
+  for (let i = 0; i < 400; i++) Reflect.apply(() => dive(0), undefined, new Array(i % 100));
+  assert.equal(wrong, undefined);
+  const said = "Encoded input contains the invalid byte b'-' at index 2";
+  assert.deepEqual(results, new Set(['LZ', '3tX16dB2jpss4tZORYcqo4', 'Pd', 2n ** 128n - 1n, said]));
 });
 
 test('copies do not meet', async () => {
-  const other = await import(new URL('node_modules/base62-proved/index.js?copy', import.meta.url));
+  const other = await import(`${pathToFileURL(commonJs).href.replace(/cjs$/, 'js')}?copy`);
   const alphabet = new other.Alphabet(own);
   assert.notEqual(other.encode, encode);
   assert.throws(() => encode(1337, alphabet), TypeError);
@@ -107,7 +121,7 @@ test('threads do not meet', async () => {
     let isRight = true;
     for (let i = 0n; i < 100_000n; i++) isRight &&= decode(encode(i * i * i, alphabet), alphabet) === i * i * i;
     parentPort.postMessage(isRight);`;
-  const workerData = fileURLToPath(new URL('node_modules/base62-proved/index.cjs', import.meta.url));
+  const workerData = commonJs;
   const answerOf = (worker) =>
     new Promise((resolve, reject) => worker.on('message', resolve).on('error', reject));
   const answers = Array.from({ length: 4 }, () => answerOf(new Worker(work, { eval: true, workerData })));

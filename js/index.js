@@ -1,17 +1,33 @@
-// js/build puts constants before this, and the function wasm, which has the library in base64, behind it.
+// The calls of the package. They pass values to the WebAssembly of c/base62.c and back, and hold no rule of the texts.
+import {
+  ALPHABET_LENGTH,
+  ALPHABET_SIZE,
+  BUFFER_TOO_SMALL,
+  INVALID_BYTE,
+  KEY_LENGTH,
+  MAX_DIGITS,
+  MAX_FAULT_TEXT,
+  NO_KEY,
+  OK,
+  REPEATED_LETTER,
+  STATUSES,
+  UUID_LENGTH,
+  wasm,
+} from './wasm.js';
 
 // The host's functions are taken as the script loads, so a prototype that changes later changes no answer. No code of
 // the caller's runs within a call.
 const { BigUint64Array, RangeError, TypeError, Uint8Array, Uint32Array } = globalThis;
-const { Instance, Memory, Module } = WebAssembly;
+const { Global, Instance, Memory, Module } = WebAssembly;
 const { defineProperty, getOwnPropertyDescriptor, getPrototypeOf } = Object;
 const { MAX_SAFE_INTEGER } = Number;
 const { fromCharCode } = String;
-const { ceil, floor, max } = Math;
+const { ceil, floor, min } = Math;
 
 // Each of these takes its object as the first argument.
 const method = (call) => call.call.bind(call);
 const getter = (prototype, name) => method(getOwnPropertyDescriptor(prototype, name).get);
+const setter = (prototype, name) => method(getOwnPropertyDescriptor(prototype, name).set);
 const { prototype: anyArray } = getPrototypeOf(Uint8Array);
 const kindOf = getter(anyArray, Symbol.toStringTag);
 const lengthOf = getter(anyArray, 'length');
@@ -22,6 +38,7 @@ const match = method(/./.exec);
 const exportsOf = getter(Instance.prototype, 'exports');
 const grow = method(Memory.prototype.grow);
 const bufferOf = getter(Memory.prototype, 'buffer');
+const setValue = setter(Global.prototype, 'value');
 const recall = method(WeakMap.prototype.get);
 const remember = method(WeakMap.prototype.set);
 const decoder = new TextDecoder();
@@ -33,40 +50,46 @@ const UUID = /^[\da-f]{8}(-[\da-f]{4}){3}-[\da-f]{12}$/i;
 const HYPHEN = 45;
 const HEXADECIMAL = '0123456789abcdef';
 
-const code = new Module(Uint8Array.from(atob(wasm()), (byte) => byte.charCodeAt()));
-// What is lent to a call stands at these addresses, above what the library has for itself. A call takes an address or a
-// length as two words of 32 bits, the lower one first.
-const NUMBER = (Number(exportsOf(new Instance(code)).__heap_base.value) + 7) & ~7;
+const code = new Module(Uint8Array.from(atob(wasm), (byte) => byte.charCodeAt()));
+
+// An instance of the library, whose memory has so many pages more than at first.
+function open(pages) {
+  const calls = exportsOf(new Instance(code));
+  const { memory } = calls;
+  grow(memory, pages);
+  const buffer = bufferOf(memory);
+  return { calls, buffer, bytes: new Uint8Array(buffer), alphabet: undefined, size: 0, runs: false };
+}
+
+// All calls leave their numbers and bad bytes in this instance. Hosts read faster through constant views.
+const kept = open(0);
+const { buffer, bytes } = kept;
+const words = new Uint32Array(buffer);
+const halves = new BigUint64Array(buffer);
+const { __heap_base: base, __stack_pointer: stack } = kept.calls;
+const STACK = stack.value;
+// What is lent to a call stands at these addresses, above the library's own data.
+const NUMBER = (base.value + 7) & ~7;
 const GREATEST = NUMBER + 16;
 const BAD_BYTE = NUMBER + 32;
 const ALPHABET = NUMBER + 48;
-const TEXT = ALPHABET + BASE62_ALPHABET_SIZE;
+const TEXT = ALPHABET + ALPHABET_SIZE;
+const ROOM = lengthOf(bytes) - TEXT;
 
-// An instance of the library, with room for a text of a size.
-function open(size) {
-  const calls = exportsOf(new Instance(code));
-  const { memory } = calls;
-  grow(memory, max(0, ceil((TEXT + size - MEMORY) / PAGE)));
-  const buffer = bufferOf(memory);
-  const bytes = new Uint8Array(buffer);
-  const words = new Uint32Array(buffer);
-  const halves = new BigUint64Array(buffer);
-  return { calls, buffer, bytes, words, halves, alphabet: undefined, size, runs: false };
-}
-
-let kept = open(0);
-const ROOM = MEMORY - TEXT;
-
-// A longer text gets an instance of its own, whose memory goes with it. An instance that still runs was broken off by
-// the host, as for want of stack, and would refuse each further call.
+// A longer text gets an instance of its own, whose memory goes with it.
 function instanceFor(size) {
-  if (size > ROOM) return open(size);
-  if (kept.runs) kept = open(0);
-  return kept;
+  return size > ROOM ? open(ceil((size - ROOM) / PAGE)) : kept;
 }
 
-// A call is written ended(it, begun(it).NAME(..)).
+// Copies the numbers and the bad byte.
+function carry(from, to) {
+  if (from !== to) copy(to.bytes, new Uint8Array(from.buffer, NUMBER, ALPHABET - NUMBER), NUMBER);
+}
+
+// A call is written ended(it, begun(it).NAME(..)). A host can break one off, as for want of stack. The next call then
+// resets the stack pointer of the WebAssembly, which the broken one left where it was.
 function begun(it) {
+  if (it.runs) setValue(stack, STACK);
   it.runs = true;
   return it.calls;
 }
@@ -97,12 +120,11 @@ class Base62Error extends RangeError {
 }
 
 // STATUSES[status] has the name of each.
-function fault(it, status) {
-  const length = ended(it, begun(it).base62_fault_text(status, BAD_BYTE, 0, TEXT, 0, BASE62_MAX_FAULT_TEXT, 0));
-  const message = written(it, length);
-  const isNamed = status === BASE62_INVALID_BYTE || status === BASE62_REPEATED_LETTER;
-  const byte = isNamed ? it.bytes[BAD_BYTE + 8] : undefined;
-  return new Base62Error(message, STATUSES[status], byte, doubleWordAt(it, BAD_BYTE));
+function fault(status) {
+  const length = ended(kept, begun(kept).base62_fault_text(status, BAD_BYTE, TEXT, MAX_FAULT_TEXT));
+  const isNamed = status === INVALID_BYTE || status === REPEATED_LETTER;
+  const byte = isNamed ? bytes[BAD_BYTE + 4] : undefined;
+  return new Base62Error(written(kept, length), STATUSES[status], byte, words[BAD_BYTE / 4]);
 }
 
 // Arguments
@@ -111,7 +133,7 @@ function isWhole(number) {
   return number >= 0 && number <= MAX_SAFE_INTEGER && floor(number) === number;
 }
 
-function put({ words, halves }, number) {
+function put(number) {
   if (typeof number === 'number') {
     if (!isWhole(number)) throw outOfRange();
     halves[NUMBER / 8] = 0n;
@@ -154,13 +176,19 @@ function place(text) {
 // As UTF-8, which has at most three bytes for a unit outside ASCII.
 function placeString(text) {
   const { length } = text;
-  let most = length * 3;
-  if (most > ROOM) {
-    most = length;
-    for (let i = 0; i < length; i++) if (charCodeAt(text, i) > 127) most += 2;
+  if (length * 3 <= ROOM) {
+    kept.size = placeUnits(bytes, text);
+    return kept;
   }
+  let most = length;
+  for (let i = 0; i < length; i++) if (charCodeAt(text, i) > 127) most += 2;
   const it = instanceFor(most);
-  const { bytes } = it;
+  it.size = placeUnits(it.bytes, text);
+  return it;
+}
+
+function placeUnits(bytes, text) {
+  const { length } = text;
   let at = TEXT;
   for (let i = 0; i < length; i++) {
     const unit = charCodeAt(text, i);
@@ -172,8 +200,7 @@ function placeString(text) {
       if (point > 0xffff) i++;
     }
   }
-  it.size = at - TEXT;
-  return it;
+  return at - TEXT;
 }
 
 // The first byte begins with as many ones as there are bytes. A lone surrogate has three, as other points of its size.
@@ -197,14 +224,11 @@ function lend(it, alphabet = standard) {
 
 // Answers
 
-function doubleWordAt({ words }, address) {
-  return words[address / 4] + words[address / 4 + 1] * WORD;
-}
-
-function numberAt({ halves }, address) {
-  const upper = halves[address / 8];
+// A BigInt of 64 bits is made fast, and two of them are joined slowly.
+function numberAt(address) {
   const lower = halves[address / 8 + 1];
-  return upper === 0n ? lower : (upper << 64n) | lower;
+  if ((words[address / 4] | words[address / 4 + 1]) === 0) return lower;
+  return (halves[address / 8] << 64n) | lower;
 }
 
 // A long text by single letters would take much memory in between.
@@ -220,62 +244,65 @@ function written({ buffer, bytes }, length) {
 
 // Calls
 
-function encodePut(it, alphabet) {
-  lend(it, alphabet);
-  return written(it, ended(it, begun(it).base62_encode_with(ALPHABET, 0, NUMBER, 0, TEXT, 0, BASE62_MAX_DIGITS, 0)));
+function encodePut(alphabet) {
+  lend(kept, alphabet);
+  return written(kept, ended(kept, begun(kept).base62_encode_with(ALPHABET, NUMBER, TEXT, MAX_DIGITS)));
 }
 
 function encode(number, alphabet) {
-  const it = instanceFor(0);
-  put(it, number);
-  return encodePut(it, alphabet);
+  put(number);
+  return encodePut(alphabet);
 }
 
 function encodeFixed(number, width, alphabet) {
   checkWidth(width);
   const it = instanceFor(width);
-  put(it, number);
+  put(number);
+  carry(kept, it);
   lend(it, alphabet);
-  const filled = ended(it, begun(it).base62_encode_fixed_with(ALPHABET, 0, NUMBER, 0, TEXT, 0, width, width / WORD));
-  if (filled === 0) throw fault(it, BASE62_BUFFER_TOO_SMALL);
+  const filled = ended(it, begun(it).base62_encode_fixed_with(ALPHABET, NUMBER, TEXT, width));
+  if (filled === 0) throw fault(BUFFER_TOO_SMALL);
   return written(it, width);
 }
 
 function encodeKey(number) {
-  return encodeFixed(number, BASE62_KEY_LENGTH);
+  return encodeFixed(number, KEY_LENGTH);
 }
 
 function digitCount(number) {
-  const it = instanceFor(0);
-  put(it, number);
-  return ended(it, begun(it).base62_digit_count(NUMBER, 0));
+  put(number);
+  return ended(kept, begun(kept).base62_digit_count(NUMBER));
 }
 
-// The instance that has the number of a text.
+// Leaves the number of a text at its address.
 function read(text, alphabet, isCanonical) {
   const it = place(text);
   lend(it, alphabet);
   const { size } = it;
   const calls = begun(it);
   const status = isCanonical
-    ? calls.base62_decode_canonical_with(ALPHABET, 0, TEXT, 0, size, 0, NUMBER, 0, BAD_BYTE, 0)
-    : calls.base62_decode_with(ALPHABET, 0, TEXT, 0, size, 0, NUMBER, 0, BAD_BYTE, 0);
-  if (ended(it, status) !== BASE62_OK) throw fault(it, status);
-  return it;
+    ? calls.base62_decode_canonical_with(ALPHABET, TEXT, size, NUMBER, BAD_BYTE)
+    : calls.base62_decode_with(ALPHABET, TEXT, size, NUMBER, BAD_BYTE);
+  ended(it, status);
+  carry(it, kept);
+  if (status !== OK) throw fault(status);
 }
 
 function decode(text, alphabet) {
-  return numberAt(read(text, alphabet, false), NUMBER);
+  read(text, alphabet, false);
+  return numberAt(NUMBER);
 }
 
 function decodeCanonical(text, alphabet) {
-  return numberAt(read(text, alphabet, true), NUMBER);
+  read(text, alphabet, true);
+  return numberAt(NUMBER);
 }
 
 function decodeNumber(text, alphabet) {
-  const it = read(text, alphabet, false);
-  const number = doubleWordAt(it, NUMBER + 8);
-  if (doubleWordAt(it, NUMBER) || number > MAX_SAFE_INTEGER) {
+  read(text, alphabet, false);
+  const at = NUMBER / 4;
+  const number = words[at + 2] + words[at + 3] * WORD;
+  if (words[at] || words[at + 1] || number > MAX_SAFE_INTEGER) {
     throw new Base62Error('the number is above 2**53 - 1, so decode reads it', 'UNSAFE_INTEGER');
   }
   return number;
@@ -286,24 +313,23 @@ function fixedRange(width, front, alphabet) {
   const it = place(front);
   lend(it, alphabet);
   const { size } = it;
-  const high = width / WORD;
-  const calls = begun(it);
-  const status = calls.base62_fixed_range_with(ALPHABET, 0, width, high, TEXT, 0, size, 0, NUMBER, 0, BAD_BYTE, 0);
-  if (ended(it, status) === BASE62_NO_KEY) return null;
-  if (status !== BASE62_OK) throw fault(it, status);
-  return [numberAt(it, NUMBER), numberAt(it, GREATEST)];
+  // No text is so long that a greater width would have another answer.
+  const places = min(width, WORD - 1);
+  const status = ended(it, begun(it).base62_fixed_range_with(ALPHABET, places, TEXT, size, NUMBER, BAD_BYTE));
+  carry(it, kept);
+  if (status === NO_KEY) return null;
+  if (status !== OK) throw fault(status);
+  return [numberAt(NUMBER), numberAt(GREATEST)];
 }
 
 function keyRange(front) {
-  return fixedRange(BASE62_KEY_LENGTH, front);
+  return fixedRange(KEY_LENGTH, front);
 }
 
 // A UUID has the highest byte first, and each half of a number the lowest one.
 const uuidByte = (i) => NUMBER + (i ^ 7);
 
 function encodeUuid(uuid, alphabet) {
-  const it = instanceFor(0);
-  const { bytes } = it;
   if (typeof uuid === 'string' && match(UUID, uuid)) {
     for (let i = 0, digits = 0; i < 36; i++) {
       const unit = charCodeAt(uuid, i);
@@ -312,20 +338,20 @@ function encodeUuid(uuid, alphabet) {
       // The byte keeps the lower eight bits, which are the last two digits.
       bytes[at] = (bytes[at] << 4) | ((unit & 15) + (unit > 64 ? 9 : 0));
     }
-  } else if (isBytes(uuid) && lengthOf(uuid) === BASE62_UUID_LENGTH) {
-    for (let i = 0; i < BASE62_UUID_LENGTH; i++) bytes[uuidByte(i)] = uuid[i];
+  } else if (isBytes(uuid) && lengthOf(uuid) === UUID_LENGTH) {
+    for (let i = 0; i < UUID_LENGTH; i++) bytes[uuidByte(i)] = uuid[i];
   } else if (typeof uuid === 'string' || isBytes(uuid)) {
     throw new Base62Error('a UUID is 8-4-4-4-12 hexadecimal digits, or 16 bytes', 'INVALID_UUID');
   } else {
     throw new TypeError('a UUID is a string or a Uint8Array');
   }
-  return encodePut(it, alphabet);
+  return encodePut(alphabet);
 }
 
 function decodeUuid(text, alphabet) {
-  const { bytes } = read(text, alphabet, false);
+  read(text, alphabet, false);
   let uuid = '';
-  for (let i = 0; i < BASE62_UUID_LENGTH; i++) {
+  for (let i = 0; i < UUID_LENGTH; i++) {
     if (i === 4 || i === 6 || i === 8 || i === 10) uuid += '-';
     const byte = bytes[uuidByte(i)];
     uuid += HEXADECIMAL[byte >> 4] + HEXADECIMAL[byte & 15];
@@ -336,18 +362,19 @@ function decodeUuid(text, alphabet) {
 class Alphabet {
   constructor(letters) {
     if (typeof letters !== 'string') throw new TypeError('the letters of an alphabet are a string');
-    const count = BASE62_ALPHABET_LENGTH;
+    const count = ALPHABET_LENGTH;
     // A letter outside ASCII has more bytes than units.
     if (letters.length !== count || place(letters).size !== count) {
       throw new Base62Error('an alphabet is 62 letters of ASCII', 'INVALID_ALPHABET');
     }
-    const it = kept;
-    const status = ended(it, begun(it).base62_make_alphabet(TEXT, 0, ALPHABET, 0, BAD_BYTE, 0));
-    if (status !== BASE62_OK) throw fault(it, status);
-    const table = new Uint8Array(BASE62_ALPHABET_SIZE);
-    for (let i = 0; i < BASE62_ALPHABET_SIZE; i++) table[i] = it.bytes[ALPHABET + i];
+    // What follows can end early, and has to leave no other alphabet's letters behind.
+    kept.alphabet = undefined;
+    const status = ended(kept, begun(kept).base62_make_alphabet(TEXT, ALPHABET, BAD_BYTE));
+    if (status !== OK) throw fault(status);
+    const table = new Uint8Array(ALPHABET_SIZE);
+    for (let i = 0; i < ALPHABET_SIZE; i++) table[i] = bytes[ALPHABET + i];
     remember(tables, this, table);
-    it.alphabet = this;
+    kept.alphabet = this;
     hold(this, 'letters', letters);
   }
 
@@ -363,9 +390,9 @@ class Alphabet {
 // Each letter is the text of its digit.
 function builtIn(name) {
   let letters = '';
-  for (let digit = 0; digit < BASE62_ALPHABET_LENGTH; digit++) {
-    put(kept, digit);
-    letters += written(kept, kept.calls[name](NUMBER, 0, TEXT, 0, 1, 0));
+  for (let digit = 0; digit < ALPHABET_LENGTH; digit++) {
+    put(digit);
+    letters += written(kept, kept.calls[name](NUMBER, TEXT, 1));
   }
   return new Alphabet(letters);
 }

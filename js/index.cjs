@@ -288,9 +288,9 @@ function open(pages) {
 
 // All calls leave their numbers and bad bytes in this instance. Hosts read faster through constant views.
 const kept = open(0);
-const { buffer, bytes } = kept;
-const words = new Uint32Array(buffer);
-const halves = new BigUint64Array(buffer);
+const { bytes } = kept;
+const words = new Uint32Array(kept.buffer);
+const halves = new BigUint64Array(kept.buffer);
 const { __heap_base: base, __stack_pointer: stack } = kept.calls;
 const STACK = stack.value;
 // What is lent to a call stands at these addresses, above the library's own data.
@@ -400,11 +400,13 @@ function place(text) {
 
 // As UTF-8, which has at most three bytes for a unit outside ASCII.
 function placeString(text) {
+  if (text.length * 3 > ROOM) return placeLong(text);
+  kept.size = placeUnits(bytes, text);
+  return kept;
+}
+
+function placeLong(text) {
   const { length } = text;
-  if (length * 3 <= ROOM) {
-    kept.size = placeUnits(bytes, text);
-    return kept;
-  }
   let most = length;
   for (let i = 0; i < length; i++) if (charCodeAt(text, i) > 127) most += 2;
   const it = instanceFor(most);
@@ -412,16 +414,16 @@ function placeString(text) {
   return it;
 }
 
-function placeUnits(bytes, text) {
+function placeUnits(target, text) {
   const { length } = text;
   let at = TEXT;
   for (let i = 0; i < length; i++) {
     const unit = charCodeAt(text, i);
     if (unit < 128) {
-      bytes[at++] = unit;
+      target[at++] = unit;
     } else {
       const point = codePointAt(text, i);
-      at = placePoint(bytes, at, point);
+      at = placePoint(target, at, point);
       if (point > 0xffff) i++;
     }
   }
@@ -429,10 +431,10 @@ function placeUnits(bytes, text) {
 }
 
 // The first byte begins with as many ones as there are bytes. A lone surrogate has three, as other points of its size.
-function placePoint(bytes, at, point) {
+function placePoint(target, at, point) {
   let more = point < 0x800 ? 1 : point < 0x10000 ? 2 : 3;
-  bytes[at++] = (-128 >> more) | (point >> (6 * more));
-  while (more--) bytes[at++] = 128 | ((point >> (6 * more)) & 63);
+  target[at++] = (-128 >> more) | (point >> (6 * more));
+  while (more--) target[at++] = 128 | ((point >> (6 * more)) & 63);
   return at;
 }
 
@@ -457,13 +459,16 @@ function numberAt(address) {
 }
 
 // A long text by single letters would take much memory in between.
-function written({ buffer, bytes }, length) {
-  if (length > 99) return stringOf(decoder, new Uint8Array(buffer, TEXT, length));
+function written(it, length) {
+  if (length > 99) return stringOf(decoder, new Uint8Array(it.buffer, TEXT, length));
+  const letters = it.bytes;
   const end = TEXT + length;
   let text = '';
   let at = TEXT;
-  for (; at + 4 <= end; at += 4) text += fromCharCode(bytes[at], bytes[at + 1], bytes[at + 2], bytes[at + 3]);
-  for (; at < end; at++) text += fromCharCode(bytes[at]);
+  for (; at + 4 <= end; at += 4) {
+    text += fromCharCode(letters[at], letters[at + 1], letters[at + 2], letters[at + 3]);
+  }
+  for (; at < end; at++) text += fromCharCode(letters[at]);
   return text;
 }
 
@@ -533,9 +538,9 @@ function decodeNumber(text, alphabet) {
   return number;
 }
 
-function fixedRange(width, front, alphabet) {
+function fixedRange(width, prefix, alphabet) {
   checkWidth(width);
-  const it = place(front);
+  const it = place(prefix);
   lend(it, alphabet);
   const { size } = it;
   // No text is so long that a greater width would have another answer.
@@ -547,8 +552,8 @@ function fixedRange(width, front, alphabet) {
   return [numberAt(NUMBER), numberAt(GREATEST)];
 }
 
-function keyRange(front) {
-  return fixedRange(KEY_LENGTH, front);
+function keyRange(prefix) {
+  return fixedRange(KEY_LENGTH, prefix);
 }
 
 // A UUID has the highest byte first, and each half of a number the lowest one.

@@ -86,17 +86,17 @@ export function decodeCanonical(text: Text, alphabet?: Alphabet): bigint;
 export function decodeUuid(text: Text, alphabet?: Alphabet): string;
 
 /**
- * Returns the least and the greatest number whose texts of `width` letters begin with `front`, which may be empty. All
+ * Returns the least and the greatest number whose texts of `width` letters begin with `prefix`, which may be empty. All
  * numbers between them have such texts too, and no other has one. Returns null if no number has one.
  *
  * @example fixedRange(7, '00a') gives [531948096n, 546724431n]
  * @param width an integer from 0 on
  * @throws {Base62Error} `INVALID_BYTE` and, for a width, `OUT_OF_RANGE`
  */
-export function fixedRange(width: number, front: Text, alphabet?: Alphabet): [least: bigint, greatest: bigint] | null;
+export function fixedRange(width: number, prefix: Text, alphabet?: Alphabet): [least: bigint, greatest: bigint] | null;
 
 /** Returns the range of {@link fixedRange} for keys, which have 22 standard letters. */
-export function keyRange(front: Text): [least: bigint, greatest: bigint] | null;
+export function keyRange(prefix: Text): [least: bigint, greatest: bigint] | null;
 
 /** Letters for the digits from 0 to 61. */
 export class Alphabet {

@@ -11,7 +11,10 @@ const fields = {
     show: (number) => base62.encode(number, base62.Alphabet.alternative),
   },
   key: { read: readKey, show: base62.encodeKey },
-  uuid: { read: (typed) => base62.decode(base62.encodeUuid(typed)), show: (number) => base62.decodeUuid(base62.encode(number)) },
+  uuid: {
+    read: (typed) => base62.decode(base62.encodeUuid(typed)),
+    show: (number) => base62.decodeUuid(base62.encode(number)),
+  },
   hexadecimal: {
     read: (typed) => digitsOf(typed, '0x', '0123456789abcdefABCDEF'),
     show: (number) => number.toString(16),

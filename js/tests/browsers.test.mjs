@@ -30,10 +30,11 @@ function testPage() {
   const hash = createHash('sha256').update(script).digest('base64');
   const policy = `default-src 'none'; script-src 'sha256-${hash}' 'wasm-unsafe-eval'; worker-src blob:`;
   const file = join(folder, 'test.html');
+  const json = JSON.stringify(values).replaceAll('<', '\\u003c');
   writeFileSync(
     file,
     `<!doctype html><meta charset="utf-8"><meta http-equiv="Content-Security-Policy" content="${policy}">
-<script type="application/json">${JSON.stringify(values).replaceAll('<', '\\u003c')}</script><script>${script}</script>`,
+<script type="application/json">${json}</script><script>${script}</script>`,
   );
   return pathToFileURL(file).href;
 }

@@ -57,11 +57,11 @@ function uuidOf(number) {
 }
 
 // The codes of 62 different letters, none of which has this one.
-function lettersWithout(code) {
+function codesWithout(code) {
   return Array.from({ length: 63 }, (_, it) => it).filter((it) => it !== code).slice(0, 62);
 }
 
-// A call with the fault of a row. There is none for a long text, for a letter outside ASCII, or if no text has a prefix.
+// A call with the fault of a row. There is none here for a long text, a letter outside ASCII, or a prefix of no text.
 function callWith(base62, [kind, byte, index]) {
   const { Alphabet, decode, decodeCanonical, encodeFixed } = base62;
   if (index > 10_000) return undefined;
@@ -69,13 +69,14 @@ function callWith(base62, [kind, byte, index]) {
   if (kind === 'overflow') return () => decode('z'.repeat(22));
   if (kind === 'zero') return () => decodeCanonical('00');
   if (kind === 'narrow') return () => encodeFixed(62, 1);
-  const codes = lettersWithout(Number(byte));
+  const codes = codesWithout(Number(byte));
   if (kind === 'byte') {
     const alphabet = new Alphabet(String.fromCharCode(...codes));
     return () => decode(new Uint8Array(Number(index) + 1).fill(codes[0]).fill(byte, index), alphabet);
   }
   if (kind !== 'repeated' || byte > 127) return undefined;
-  codes[0] = codes[index] = byte;
+  codes[0] = byte;
+  codes[index] = byte;
   return () => new Alphabet(String.fromCharCode(...codes));
 }
 
@@ -182,10 +183,10 @@ const tests = {
 
   'a range has the numbers of a prefix'({ base62, rowsOf, alphabets, refused }) {
     for (const [name, width, field, kind, ...numbers] of rowsOf('range')) {
-      for (const front of formsOf(textOf(field))) {
-        const calls = [() => base62.fixedRange(Number(width), front, alphabets[name])];
-        if (name === 'standard') calls.push(() => base62.fixedRange(Number(width), front));
-        if (name === 'standard' && width === '22') calls.push(() => base62.keyRange(front));
+      for (const prefix of formsOf(textOf(field))) {
+        const calls = [() => base62.fixedRange(Number(width), prefix, alphabets[name])];
+        if (name === 'standard') calls.push(() => base62.fixedRange(Number(width), prefix));
+        if (name === 'standard' && width === '22') calls.push(() => base62.keyRange(prefix));
         for (const call of calls) {
           if (kind === 'byte') refused(call, ...wantedOf([kind, ...numbers]));
           else sameRange(call(), kind === 'none' ? null : numbers);
@@ -258,10 +259,10 @@ const tests = {
     const wide = [['\ud800', 0xed, 3], ['\udfff', 0xed, 3], ['\uffff', 0xef, 3]];
     const pairs = [['\u{10000}', 0xf0, 4], ['\u{10ffff}', 0xf4, 4]];
     for (const [character, byte, size] of [...narrow, ...wide, ...pairs]) {
-      for (const [front, letters] of [['', 0], ['0', 0], ['000LZ', 2]]) {
+      for (const [prefix, letters] of [['', 0], ['0', 0], ['000LZ', 2]]) {
         for (let count = 1; count <= 12; count++) {
-          const text = front + character.repeat(count);
-          const found = ['INVALID_BYTE', undefined, byte, front.length];
+          const text = prefix + character.repeat(count);
+          const found = ['INVALID_BYTE', undefined, byte, prefix.length];
           refused(() => base62.decode(text), ...(letters + size * count > 22 ? ['OVERFLOW'] : found));
           refused(() => base62.fixedRange(7, text), ...found);
         }

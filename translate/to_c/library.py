@@ -1,0 +1,228 @@
+"""All that is written: what the source says of it, and the names and types that it has in C."""
+import re
+
+from reader import plain, refuse, split_list
+from .crates import Definition
+from .syntax import Parser
+from .types import GHOST, INLINE_TEXT, INTS, STR, U8, U128, UNIT, WORK
+
+
+class Local:
+    """A variable or a parameter, its name in C, and that of the length of its slice. The type of one that a literal
+    begins may be learned from its use."""
+    pattern = opaque = None
+
+    def __init__(self, name, of, c=None, count=None):
+        self.name, self.type, self.c, self.count = name, of, c, count
+
+
+class Function:
+    """The parameters of a function, those that a run has, its result and its body."""
+    def __init__(self, library, definition):
+        parser, self.definition, definition.generics = definition.parser(), definition, {}
+        if parser.accept("<"):
+            definition.generics[str(parser.name())] = U128  # The only number that calls of C hand over.
+            parser.expect(":")
+            if getattr(definition.module.find(parser.path()), "name", "") != "Number" or not parser.accept(">"):
+                refuse(parser.peek(), "a bound that is not known, before")
+        parser.expect("(")
+        self.parameters = parser.many(")", lambda: self.read_parameter(library, parser))
+        self.kept = [p for p in self.parameters if p.type not in (GHOST, WORK)]
+        self.result = library.read(parser.type(), definition) if parser.accept("->") else UNIT
+        self.changes = any(p.type[0] == "ref" and p.type[2] for p in self.kept)
+        parser.end()
+        parser = Parser(definition.item.body)
+        self.body = parser.block()
+        parser.end()
+
+    def read_parameter(self, library, parser):
+        is_borrowed, is_mutable, name = parser.accept("&"), bool(parser.accept("mut")), str(parser.name())
+        if name == "self":
+            of = library.owner_type(self.definition)
+            return Local("self", ("ref", of, is_mutable) if is_borrowed else of)
+        parser.expect(":")
+        return Local(name, library.read(parser.type(), self.definition))
+
+
+class Header:
+    """What the header declares: the results, parameters and texts of functions, and the fields of structs."""
+    def __init__(self, text):
+        text = re.sub(r"/\*.*?\*/|(?m:^#[^\n]*$)", "", text, flags=re.S)
+        self.functions = {}
+        for back, name, raw in re.findall(r"(\w+)\s+(base62_\w+)\(([^()]*)\);", text):
+            raw = " ".join(raw.split())
+            parts = re.findall(r"([\w ]+[ *])(\w+)(\[\w+\])?(?:, |$)", raw)
+            self.functions[name] = back, [(of.strip() + " *" * bool(array), part) for of, part, array in parts], raw
+        self.structs = {name: [" ".join(field.split()) for field in fields.split(";") if field.strip()]
+                        for fields, name in re.findall(r"typedef struct \w+ \{([^}]*)\} (\w+);", text)}
+
+    def name(self, library, definition):
+        """The name of a struct that is declared here, such as base62_bad_byte of BadByte, or None."""
+        name = "base62_" + re.sub("(?<=[a-z])(?=[A-Z])", "_", definition.name).lower()
+        if definition.kind != "struct" or name not in self.structs:
+            return None
+        if self.structs[name][0].endswith("]"):
+            definition.opaque = name
+            return None
+        fields = [library.declared(of, field) for field, of in library.parts(definition).items()]
+        if [field.replace("unsigned char", "uint8_t") for field in self.structs[name]] != fields:
+            refuse(definition.token, "other fields than in the header")
+        definition.is_declared = True
+        return name
+
+
+class Library:
+    """The definitions that are needed."""
+    def __init__(self, crates, header):
+        self.crates, self.header = crates, header
+        self.functions, self.constants, self.held, self.notes, self.names, self.answers = {}, {}, {}, {}, {}, {}
+        self.lengths, self.learned, self.unknown = set(), 0, []
+
+    def function(self, definition):
+        if definition not in self.functions:
+            self.functions[definition] = Function(self, definition)
+        return self.functions[definition]
+
+    def owner_type(self, definition):
+        return self.read(definition.owner, definition)
+
+    def method(self, of, name, at):
+        """The function of a type in an `impl` of any module that has been read."""
+        modules = [module for crate in self.crates.values() for module in crate.below()]
+        found = [m for module in modules for m in module.methods if m.name == name and self.owner_type(m) == of]
+        return found[0] if len(found) == 1 else refuse(at, f"{len(found)} methods")
+
+    def read(self, node, by):
+        """A type that a definition writes."""
+        if node.kind == "ref":
+            return ("ref", self.read(node.inner, by), node.is_mutable)
+        if node.kind == "tuple":
+            return ("tuple", *(self.read(item, by) for item in node.items)) if node.items else UNIT
+        if node.kind == "list":
+            inner = self.read(node.inner, by)
+            return ("array", inner, self.number(node.count, by)) if node.count else ("slice", inner)
+        name, items = str(node.path[-1]), node.items
+        if name in ("Result", "Option") and len(items) == 2 - (name == "Option"):
+            return (name, *(self.read(item, by) for item in items))
+        if len(node.path) == 1 and not items and name in (*INTS, "bool", "str", "u16", "char", *by.generics):
+            return by.generics.get(name, (name,))
+        found = by.module.find(node.path)
+        if found == ["std", "fmt", "InlineText"] and len(items) == 1 and self.number(items[0], by) == INLINE_TEXT[1]:
+            return INLINE_TEXT
+        if isinstance(found, Definition) and found.kind in ("struct", "enum") and not items:
+            return GHOST if self.is_ghost(found) else ("defined", found)
+        refuse(node.token, "a type that is not known")
+
+    def number(self, node, by):
+        """The value of a constant."""
+        if node.kind == "number":
+            return node.number
+        found = by.module.find(node.path) if node.kind in ("path", "name") else None
+        if isinstance(found, Definition) and found.kind == "const":
+            return self.number(self.constant(found)[1], found)
+        refuse(node.token, "a constant that is not known")
+
+    def parts(self, definition):
+        """The types of the fields of a struct, or of what the variants of an enum hold, by their names."""
+        if definition not in self.held:
+            self.held[definition], self.notes[definition] = {}, {}
+            parser = definition.parser()
+            parser.expect("{")
+            parser.many("}", lambda: self.read_part(definition, parser))
+        return self.held[definition]
+
+    def read_part(self, definition, parser):
+        comments = parser.comments()
+        if parser.accept("pub") and parser.accept("("):
+            parser.next(), parser.expect(")")
+        name = str(parser.name())
+        self.notes[definition][name] = comments
+        if definition.kind == "struct":
+            parser.expect(":")
+            self.held[definition][name] = self.read(parser.type(), definition)
+        else:
+            held = parser.many(")", parser.type) if parser.accept("(") else []
+            self.held[definition][name] = ("held", *(self.read(of, definition) for of in held))
+
+    def is_ghost(self, definition):
+        """Whether it is a struct that holds nothing in a run."""
+        return definition.kind == "struct" and all(
+            re.fullmatch(r"(pub(\(.*\))? )?\w+: Snapshot<.*>", plain(part))
+            for part in split_list(definition.item.body[1:-1]))
+
+    def constant(self, definition):
+        """The type and the value of a constant or a static."""
+        if definition not in self.constants:
+            parser = definition.parser()
+            parser.expect(":")
+            of = self.read(parser.type(), definition)
+            parser.expect("=")
+            self.constants[definition] = of, parser.expression()
+            parser.expect(";")
+            parser.end()
+        return self.constants[definition]
+
+    # Names and types in C
+
+    def name(self, definition):
+        if definition not in self.names:
+            name = self.header.name(self, definition) or definition.name
+            if definition.owner:
+                of = self.owner_type(definition)
+                name = f"{self.short(of) if of[0] != 'array' else f'bytes_{of[2]}'}_{name}"
+            self.names[definition] = name
+        return self.names[definition]
+
+    def short(self, of):
+        """The name of a type as a part of names. Of a Result, an Option or a tuple it is that of a struct."""
+        if of[0] not in ("Result", "Option", "tuple"):
+            return self.name(of[1]) if of[0] == "defined" else "unit" if of == UNIT else of[0]
+        parts = [self.short(part) for part in of[1:]]
+        name = {"Result": "result_", "Option": "option_", "tuple": "pair_"}[of[0]]
+        name += parts[0] if of[0] == "Result" else "_".join(parts)
+        if self.answers.setdefault(name, of) != of:
+            name += "_" + parts[-1]
+            self.answers[name] = of
+        return name
+
+    def made(self, kind, of):
+        """The function that makes such a struct."""
+        return f"{kind.lower()}_{self.short(of).partition('_')[2]}"
+
+    def c_type(self, of):
+        if of[0] == "ref":
+            inner = of[1][1] if of[1][0] in ("slice", "array") else U8 if of[1] == STR else of[1]
+            return f"{'' if of[2] else 'const '}{self.c_type(inner)} *"
+        return INTS.get(of[0]) or ("void" if of == UNIT else self.short(of))
+
+    def declared(self, of, name):
+        if of[0] == "array":
+            return f"{self.c_type(of[1])} {name}[{of[2]}]"
+        of = self.c_type(of)
+        return f"{of}{name}" if of.endswith("*") else f"{of} {name}"
+
+    # Answers: the structs of a Result, an Option or a tuple
+
+    def answer(self, name):
+        """The definition of such a struct."""
+        of = self.answers[name]
+        if of[0] == "tuple":
+            parts = [self.declared(part, f"_{i}") for i, part in enumerate(of[1:])]
+        else:
+            flag = "is_ok" if of[0] == "Result" else "is_some"
+            named = [(of[1], flag[3:])] + [(part, "err") for part in of[2:]]
+            parts = [f"bool {flag}"] + [self.declared(part, field) for part, field in named if part != UNIT]
+        return [f"typedef struct {name} {{", *(f"    {part};" for part in parts), f"}} {name};"]
+
+    def makers(self, name):
+        """The functions that make such a struct: their name, result, parameters and value."""
+        of, short = self.answers[name], name.partition("_")[2]
+        if of[0] == "Option":
+            some = [self.declared(of[1], "some")]
+            return [(f"some_{short}", name, some, f"({name}){{.is_some = true, .some = some}}"),
+                    (f"none_{short}", name, [], f"({name}){{.is_some = false}}")]
+        if of[0] != "Result":
+            return []
+        ok, err = ([] if of[1] == UNIT else [self.declared(of[1], "ok")]), self.declared(of[2], "err")
+        return [(f"ok_{short}", name, ok, f"({name}){{.is_ok = true{', .ok = ok' * len(ok)}}}"),
+                (f"err_{short}", name, [err], f"({name}){{.is_ok = false, .err = err}}")]

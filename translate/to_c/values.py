@@ -1,0 +1,427 @@
+"""Writes expressions in C: of each form, its type and its text.
+
+What has to be done before a value is known stands in statements before it.
+"""
+import re
+from typing import NamedTuple
+
+from reader import refuse
+from .crates import Definition
+from .layout import wrapped
+from .library import Local
+from .types import (BITS, BOOL, HELD, INTS, STANDARD, STR, TEXT, U8, U32, U64, U128, UNIT, USIZE, WORK, behind,
+                    fits, is_slice)
+
+# How closely the operators of C bind.
+LEVEL = {"||": 4, "&&": 5, "|": 6, "^": 7, "&": 8, "==": 9, "!=": 9, "<": 10, ">": 10, "<=": 10, ">=": 10, "<<": 11,
+         ">>": 11, "+": 12, "-": 12, "*": 13, "/": 13, "%": 13}
+UNARY, POSTFIX = 14, 15
+U128_CALLS = {"+": "add", "-": "sub", "*": "mul", ">>": "shift_right", "<<": "shift_left", "|": "or", "&": "and",
+              "<": "less", "==": "equal"}
+CHANGING = ("fill", "copy_from_slice")
+
+
+class Value(NamedTuple):
+    """An expression in C, its type in the source, how closely it binds, and the length of a slice."""
+    text: str
+    type: tuple
+    level: int = POSTFIX
+    count: str = None
+
+    def closed(self, level):
+        """The text, in parentheses if it binds less closely."""
+        return self.text if self.level >= level else f"({self.text})"
+
+
+class Values:
+    """Writes the expressions of one definition, and the statements that they need before them."""
+    def __init__(self, library, definition):
+        self.library, self.definition, self.module = library, definition, definition.module
+        self.lines, self.depth, self.scopes, self.taken = [], 0, [{}], [set()]
+        self.types, self.uses, self.place = [], [], None  # Of which it speaks, and where an array goes.
+
+    def emit(self, line):
+        self.lines += wrapped("    " * self.depth + line)
+
+    def fresh(self, name):
+        """A name that no variable here has, nor what the function speaks of."""
+        base, count = name, 1
+        while any(name in taken for taken in self.taken):
+            count += 1
+            name = f"{base}_{count}"
+        self.taken[-1].add(name)
+        return name
+
+    def enter(self, steps=1):
+        self.depth += steps
+        self.scopes.append({})
+        self.taken.append(set())
+
+    def leave(self, steps=1):
+        self.depth -= steps
+        self.scopes.pop(), self.taken.pop()
+
+    def local(self, name):
+        return next((scope[name] for scope in reversed(self.scopes) if name in scope), None)
+
+    def bind(self, name, of, c=None):
+        self.scopes[-1][name] = local = Local(name, of, c or self.fresh(name))
+        return local
+
+    def use(self, definition):
+        self.uses.append(definition)
+        return self.library.name(definition)
+
+    def is_ghost(self, node):
+        """Whether the value is a counter of steps, which no run has."""
+        if node.kind == "borrow" and node.value.kind == "call" and node.value.callee.kind == "path":
+            found = self.module.find(node.value.callee.path)
+            return isinstance(found, tuple) and found[1] == "new" and self.library.is_ghost(found[0])
+        local = self.local(str(node.path[0])) if node.kind == "path" and len(node.path) == 1 else None
+        return bool(local) and local.type == WORK
+
+    def value(self, node, want=None):
+        known = getattr(self, "value_" + node.kind, None)
+        found = known(node, want) if known else refuse(node.token, "a form that is not known")
+        if want and not fits(found.type, want):
+            refuse(node.token, f"{found.type[0]} for {want[0]}")
+        self.types.append(found.type)
+        return found
+
+    def text(self, node, want=None, level=0):
+        return self.value(node, want).closed(level)
+
+    def alone(self, node, want=None, level=0):
+        """The text of an expression before which no statement can stand."""
+        lines = len(self.lines)
+        text = self.text(node, want, level)
+        return text if len(self.lines) == lines else refuse(node.token, "no place for a statement before")
+
+    def constant(self, of, name, text):
+        """Declares what does not change. A reference may be const already, of what it points to."""
+        self.emit(f"{'' if of[0] == 'ref' else 'const '}{self.library.declared(of, name)} = {text};")
+
+    def named(self, value, node, name, always=False):
+        """A place of the value, which gets a variable if it has none."""
+        is_place = node.kind in ("path", "dereference", "field") and not value.text.endswith(")")
+        if is_place and re.fullmatch(r"[*\w.]+|\w+->\w+", value.text) and not always:
+            return value.text
+        name = self.fresh(name)
+        self.constant(value.type, name, value.text)
+        return name
+
+    def value_try(self, node, want, name="answer"):
+        """The value before a ?, after the return of the other case."""
+        found, result = self.value(node.value), self.function.result
+        if found.type[0] not in ("Result", "Option") or found.type[0] != result[0] or found.type[2:] != result[2:]:
+            refuse(node.token, "a ? that is not known")
+        name = self.named(found, node.value, name, True)
+        if found.type[0] == "Result":
+            self.emit(f"if (!{name}.is_ok) return {self.library.made('err', result)}({name}.err);")
+            return Value(f"{name}.ok", found.type[1])
+        self.emit(f"if (!{name}.is_some) return {self.library.made('none', result)}();")
+        return Value(f"{name}.some", found.type[1])
+
+    def copy(self, to, node, of):
+        """Writes an array to its place."""
+        is_call = node.kind in ("call", "method")
+        self.place = to if is_call else None
+        text = self.text(node, of)
+        self.emit(f"{text};" if is_call else f"memcpy({to}, {text}, {of[2]});")
+
+    # C does not say in which order it evaluates operands, so at most one may change what no other reads.
+
+    def changes(self, node):
+        return any(n.kind in ("try", "return") or n.function and n.function.changes or n.call in CHANGING
+                   for n in node.walk())
+
+    def in_any_order(self, nodes):
+        changing = [n for n in nodes if self.changes(n)]
+        if len(changing) > 1:
+            refuse(changing[1].token, "an order that matters")
+        for node in changing:
+            lent = {n.local for n in node.walk() if n.local and n.local.type[0] == "ref" and n.local.type[2]}
+            lent |= {m.local for n in node.walk() if n.kind == "borrow" and n.is_mutable for m in n.walk() if m.local}
+            for other in nodes:
+                lengths = [n.value for n in other.walk() if n.kind == "method" and n.name == "len"]
+                if other is not node and any(n.local in lent and n not in lengths for n in other.walk() if n.local):
+                    refuse(other.token, "an order that matters")
+
+    # Literals, names and places
+
+    def value_number(self, node, want):
+        of = (node.suffix,) if node.suffix else want or ("?",)
+        if node.token.kind == "char":
+            return Value("'" + node.token[2:-1].replace('\\"', '"') + "'", of)
+        if of[0] not in INTS or node.number >> BITS[of[0]]:
+            refuse(node.token, "a number of no type that is known to hold it")
+        text = f"{node.number:#x}" if node.token.startswith("0x") else str(node.number)
+        text = f"UINT{64 if BITS[of[0]] > 32 else 32}_C({text})" if node.number >> 31 else text
+        return Value(f"u128_of({text})" if of == U128 else text, of)
+
+    def value_string(self, node, want):
+        if node.token[0] == "b":
+            refuse(node.token, "bytes as a value")
+        return Value(f"(const uint8_t *){node.token}", TEXT, UNARY, f"sizeof({node.token}) - 1")
+
+    def value_path(self, node, want):
+        name = str(node.path[-1])
+        if len(node.path) == 1 and (local := self.local(name)):
+            node.local = local
+            if local.type is None:
+                self.learn(local, want or refuse(node.token, "a variable of no type that is known"))
+            return Value(local.c, local.type, UNARY if local.c[0] == "(" else POSTFIX, local.count)
+        if node.path == ["None"] and want:
+            return Value(f"{self.library.made('none', want)}()", want)
+        found = self.module.find(node.path)
+        is_variant = isinstance(found, tuple) and found[0].kind == "enum"
+        if is_variant and self.library.parts(found[0]).get(found[1]) == ("held",):
+            return Value(f"{self.use(found[0])}_{found[1]}()", ("defined", found[0]))
+        if isinstance(found, Definition) and found.kind in ("const", "static"):
+            return Value(self.use(found), self.library.constant(found)[0])
+        refuse(node.token, "a name that is not known")
+
+    def learn(self, local, of):
+        """The type of a variable that a literal begins, for the next time that the function is written."""
+        local.type = local.pattern.learned = of
+        self.library.learned += 1
+
+    def value_tuple(self, node, want):
+        self.expect(node, want, "tuple")
+        items = [self.text(item, of) for item, of in zip(node.items, want[1:])]
+        self.in_any_order(node.items)
+        return Value(f"({self.library.short(want)}){{{', '.join(items)}}}", want)
+
+    def expect(self, node, want, kind):
+        if not want or want[0] != kind:
+            refuse(node.token, f"a {kind} where none is known")
+
+    def value_not(self, node, want):
+        return Value(f"!{self.text(node.value, BOOL, UNARY)}", BOOL, UNARY)
+
+    def value_dereference(self, node, want):
+        if node.value.kind == "method" and node.value.name == "get_unchecked":
+            return self.element(node.value.value, node.value.args[0])
+        found = self.value(node.value)
+        if found.type[0] != "ref":
+            refuse(node.token, "no reference")
+        inner = found.type[1]
+        return Value(found.text, inner) if inner[0] == "array" else Value(f"*{found.closed(UNARY)}", inner, UNARY)
+
+    def value_borrow(self, node, want):
+        found = self.value(node.value)
+        of = ("ref", found.type, node.is_mutable)
+        if found.type[0] in ("array", "slice"):
+            return Value(found.text, of, found.level, found.count)
+        return Value(f"&{found.closed(UNARY)}", of, UNARY)
+
+    def value_field(self, node, want):
+        found = self.value(node.value)
+        of = behind(found.type)
+        fields = self.library.parts(of[1]) if of[0] == "defined" and of[1].kind == "struct" else {}
+        part = fields.get(node.name) or refuse(node.token, "a field that is not known")
+        return Value(f"{found.closed(POSTFIX)}{'->' if found.type[0] == 'ref' else '.'}{node.name}", part)
+
+    def value_index(self, node, want):
+        return self.range(node) if node.index.kind == "range" else self.element(node.value, node.index)
+
+    def element(self, node, index):
+        found = self.value(node)
+        if behind(found.type)[0] not in ("array", "slice"):
+            refuse(node.token, "an index of neither an array nor a slice")
+        text = self.text(index, USIZE)
+        self.in_any_order([node, index])
+        # An index of C has any type of integers.
+        text = re.sub(r"^\(size_t\)(\w+|\*\w+)$", r"\1", text)
+        return Value(f"{found.closed(POSTFIX)}[{text}]", behind(found.type)[1])
+
+    def range(self, node):
+        found, low, high = self.value(node.value), node.index.low, node.index.high
+        of = ("slice", behind(found.type)[1])
+        if low is None:
+            return Value(found.text, of, found.level, self.text(high, USIZE))
+        start, end = self.text(low, USIZE, UNARY), self.text(high, USIZE, LEVEL["-"]) if high else self.count(found)
+        return Value(f"{found.text} + {start}", of, LEVEL["+"], f"{end} - {start}")
+
+    def count(self, value):
+        """The length of a slice or an array."""
+        return value.count or str(behind(value.type)[2])
+
+    def value_array(self, node, want):
+        items = ", ".join(self.text(item, U8) for item in node.items)
+        self.in_any_order(node.items)
+        return Value(f"(const uint8_t[]){{{items}}}", ("array", U8, len(node.items)))
+
+    def value_struct(self, node, want):
+        found = self.module.find(node.path)
+        if not isinstance(found, Definition) or found.kind != "struct":
+            refuse(node.token, "no struct that is known")
+        of, fields = ("defined", found), self.library.parts(found)
+        if any(part[0] == "array" or part[0] == "defined" and not part[1].is_declared for part in fields.values()):
+            name = self.fresh("made")
+            self.emit(f"{self.library.declared(of, name)};")
+            self.fill(name, node, fields)
+            return Value(name, of)
+        values = ", ".join(f".{field.name} = {self.text(field.value, fields[field.name])}" for field in node.fields)
+        self.in_any_order([field.value for field in node.fields])
+        return Value(f"({self.use(found)}){{{values}}}", of)
+
+    def fill(self, place, node, fields):
+        """Writes the fields of a struct that holds arrays, which are no values in C."""
+        for field in node.fields:
+            of, to = fields[field.name], f"{place}.{field.name}"
+            if field.value.kind == "struct":
+                self.fill(to, field.value, self.library.parts(of[1]))
+            elif of[0] == "array":
+                self.copy(to, field.value, of)
+            else:
+                refuse(field.token, "a field that is not known")
+
+    # Operators. C computes below `int` in `int`, which holds each value of a u8, so those are cast back.
+
+    def value_binary(self, node, want):
+        op, level = node.op, LEVEL[node.op]
+        if op in ("&&", "||"):
+            inner = LEVEL["<"] if op == "&&" else LEVEL["|"]
+            text = f"{self.text(node.left, BOOL, inner)} {op} {self.alone(node.right, BOOL, inner)}"
+            if self.changes(node.right):
+                refuse(node.token, "an order that matters")
+            return Value(text, BOOL, level)
+        is_comparison, is_shift = LEVEL["=="] <= level <= LEVEL["<"], op in ("<<", ">>")
+        left = self.value(node.left, None if is_comparison else want)
+        right = self.value(node.right, U32 if is_shift else left.type)
+        self.in_any_order([node.left, node.right])
+        if left.type[0] not in INTS or node.left.kind == "number" and (op == "<<" or node.right.kind == "number"):
+            refuse(node.token, "an operator that is not known")
+        of = BOOL if is_comparison else left.type
+        if left.type == U128:
+            return self.wide(op, left.text, right.text, of, node)
+        inner = UNARY if is_shift or op in ("|", "^", "&") else level
+        text = f"{left.closed(inner)} {op} {right.closed(max(inner, level + 1))}"
+        return Value(f"(uint8_t)({text})", U8, UNARY) if of == U8 else Value(text, of, level)
+
+    def wide(self, op, left, right, of, node):
+        """An operator of u128."""
+        if op in (">", "<="):
+            op, left, right = {">": "<", "<=": ">="}[op], right, left
+        if op in (">=", "!="):
+            return Value(f"!u128_{'less' if op == '>=' else 'equal'}({left}, {right})", of, UNARY)
+        if op not in U128_CALLS:
+            refuse(node.token, "an operator of u128 that is not known")
+        return Value(f"u128_{U128_CALLS[op]}({left}, {right})", of)
+
+    def value_cast(self, node, want):
+        return self.converted(node.value, self.library.read(node.to, self.definition))
+
+    def converted(self, node, to):
+        found = self.value(node)
+        of = found.type
+        if to == of:
+            return found
+        if to[0] not in INTS or of[0] not in INTS or to == USIZE and of not in (U8, U32):
+            refuse(node.token, "a cast that is not known, of")
+        if to == U128:
+            return Value(f"u128_of({found.text})", to)
+        if of == U128:
+            low = f"u128_low({found.text})"
+            return Value(low, to) if to == U64 else Value(f"({INTS[to[0]]}){low}", to, UNARY)
+        return Value(f"({INTS[to[0]]}){found.closed(UNARY)}", to, UNARY)
+
+    # Calls
+
+    def value_call(self, node, want):
+        path, args = node.callee.path if node.callee.kind == "path" else refuse(node.token, "no name"), node.args
+        name = str(path[-1])
+        if len(path) == 1 and name in HELD:
+            self.expect(node, want, HELD[name][0])
+            of = want[HELD[name][1]]
+            value = [self.text(args[0], of)] if of != UNIT else []
+            return Value(f"{self.library.made(name, want)}({', '.join(value)})", want)
+        if name == "from" and len(path) == 2 and str(path[0]) in INTS:
+            return self.converted(args[0], (str(path[0]),))
+        found = self.module.find(path)
+        if found == ["std", "str", "from_utf8_unchecked"]:
+            return self.value(args[0])._replace(type=TEXT)
+        if isinstance(found, list) and "_".join(found[-2:]) in STANDARD:
+            return self.standard(node, "_".join(found[-2:]), [])
+        if isinstance(found, Definition) and found.kind == "fn":
+            return self.own(node, found, args)
+        if isinstance(found, tuple) and found[0].kind == "enum" and found[1] in self.library.parts(found[0]):
+            held = [self.text(arg, of) for arg, of in zip(args, self.library.parts(found[0])[found[1]][1:])]
+            self.in_any_order(args)
+            return Value(f"{self.use(found[0])}_{found[1]}({', '.join(held)})", ("defined", found[0]))
+        if isinstance(found, tuple) and found[0].kind == "struct":
+            return self.own(node, self.library.method(("defined", found[0]), found[1], node.token), args)
+        if isinstance(found, tuple) and found[0].kind == "trait":
+            receiver = self.value(args[0])
+            return self.own(node, self.library.method(receiver.type, found[1], node.token), args, receiver)
+        refuse(node.token, "a call that is not known")
+
+    def value_method(self, node, want):
+        receiver, name, node.call = self.value(node.value), node.name, node.name
+        of = behind(receiver.type)
+        if name in ("len", "is_empty") and of[0] in ("array", "slice", "str"):
+            count = self.count(receiver)
+            count = Value(count, USIZE, POSTFIX if re.fullmatch(r"\w+", count) else LEVEL["-"])
+            return count if name == "len" else Value(f"{count.text} == 0", BOOL, LEVEL["=="])
+        if name == "as_bytes" and of == STR:
+            return receiver._replace(type=("ref", ("slice", U8), False))
+        if name == "as_str" and of[0] == "InlineText":
+            place = self.named(receiver, node.value, "text")
+            return Value(f"{place}.bytes", TEXT, POSTFIX, f"{place}.length")
+        if name in CHANGING and of[0] == "slice":
+            arg = self.value(node.args[0], U8 if name == "fill" else ("ref", of, False))
+            call = "fill_bytes" if name == "fill" else "copy_bytes"
+            return Value(f"{call}({receiver.text}, {arg.text}, {receiver.count})", UNIT)
+        if name == "unwrap_or" and of[0] == "Result":
+            place = self.named(receiver, node.value, "answer")
+            return Value(f"{place}.is_ok ? {place}.ok : {self.alone(node.args[0], of[1])}", of[1], 0)
+        if name == "ok_or" and of[0] == "Option":
+            self.expect(node, want, "Result")
+            place, fault = self.named(receiver, node.value, "answer"), self.alone(node.args[0], want[2])
+            ok, err = self.library.made("ok", want), self.library.made("err", want)
+            return Value(f"{place}.is_some ? {ok}({place}.some) : {err}({fault})", want, 0)
+        if f"{of[0]}_{name}" in STANDARD:
+            return self.standard(node, f"{of[0]}_{name}", [receiver.text])
+        return self.own(node, self.library.method(of, name, node.token), [node.value] + node.args, receiver)
+
+    def standard(self, node, name, texts):
+        """A call of the prelude. Where `and_str` cuts is not handed over: the contracts say that the parts fit."""
+        parameters, result = STANDARD[name]
+        for arg, of in zip(node.args, parameters[:1]):
+            found = self.value(arg, of)
+            texts += self.slice_args(arg, found) if is_slice(of) else [found.text]
+        self.in_any_order([node.value] * (node.kind == "method") + node.args)
+        return Value(f"{name}({', '.join(texts + self.out(node, result))})", result)
+
+    def out(self, node, result):
+        """The place that an array is written to, as an argument."""
+        if result[0] != "array":
+            return []
+        place, self.place = self.place or refuse(node.token, "a list as a value"), None
+        return [place]
+
+    def own(self, node, definition, args, receiver=None):
+        """A call of a function of the source. What no run needs is not handed over."""
+        node.function, texts, kept = self.library.function(definition), [], []
+        out = self.out(node, node.function.result)
+        for arg, parameter in zip(args, node.function.parameters):
+            if parameter not in node.function.kept:
+                self.is_ghost(arg) or refuse(arg.token, "not known to be of size 0")
+                continue
+            kept.append(arg)
+            found = receiver if receiver and arg is args[0] else self.value(arg, parameter.type)
+            if is_slice(parameter.type):
+                texts += self.slice_args(arg, found, (definition, parameter.name) in self.library.lengths)
+            elif parameter.type[0] == "ref" and found.type[0] != "ref":
+                texts.append(f"&{self.named(found, arg, 'value')}")
+            else:
+                texts.append(found.text)
+        self.in_any_order(kept)
+        return Value(f"{self.use(definition)}({', '.join(texts + out)})", node.function.result)
+
+    def slice_args(self, node, found, with_length=True):
+        """A slice as arguments: its start, and its length if the function reads it."""
+        if node.kind == "string" and with_length:
+            return [f"TEXT({node.token})"]
+        return [found.text] + [self.count(found)] * with_length

@@ -1,0 +1,376 @@
+"""Writes a function in C: its head, its statements and its patterns."""
+import re
+
+from reader import refuse
+from .crates import Definition
+from .layout import WIDTH, comment_of, wrapped
+from .types import HELD, INTS, U8, U32, U64, UNIT, USIZE, WORK, behind, is_slice
+from .values import UNARY, Values
+
+STORAGE = {"#[cold]": "COLD ", "#[inline]": "inline ", "#[inline(always)]": "ALWAYS_INLINE ",
+           "#[inline(never)]": "NEVER_INLINE "}
+# A length, a power or a name in a contract.
+WORD = re.compile(r"length (\w+)\.(?:now|old)|(\d+) \^ (\d+)|[A-Za-z_]\w*")
+
+
+class Writer(Values):
+    """Writes the lines of one function."""
+    def __init__(self, library, definition):
+        super().__init__(library, definition)
+        self.function, self.is_exported = library.function(definition), definition.item.is_exported
+        self.cast, self.out_name, self.optional = "", None, []
+
+    def write(self, uses):
+        """Writes all of the function, which speaks of these."""
+        self.taken[0] = {self.library.name(definition) for definition in uses}
+        self.head = self.exported_head() if self.is_exported else self.own_head()
+        self.types += [p.type for p in self.function.kept] + [self.function.result]
+        self.emit(self.head + " {")
+        begin = len(self.lines)
+        self.block(self.function.body, "return")
+        self.emit("}")
+        self.leave_out()
+        text = "\n".join(self.lines[begin:])
+        for local in [] if self.is_exported else self.function.kept:
+            if local.count and re.search(rf"\b{local.count}\b", text):
+                self.library.lengths.add((self.definition, local.name))
+            if not re.search(rf"\b{local.c}\b", text):
+                self.lines.insert(begin, f"    (void){local.c};")
+        required = self.requirement()
+        self.lines[begin:begin] = wrapped(f"    //@ assert requires: {required};") if required else []
+
+    def requirement(self):
+        """The clauses that compare sums of numbers, constants, parameters and lengths, as ACSL. Others are left out."""
+        def term(match):
+            length, base, exponent = match.groups()
+            local = self.scopes[0].get(length or match[0])
+            if base:
+                return str(int(base) ** int(exponent))
+            if length:
+                return local.count if local and (self.definition, length) in self.library.lengths else "?"
+            if local:
+                return local.c if local.type in (U8, U32, U64, USIZE) else "?"
+            # A contract knows constants of the whole crate, by ghost names.
+            modules = self.library.crates[self.module.path[0]].below()
+            constants = [m.definitions[match[0]] for m in modules if match[0] in m.definitions]
+            is_constant = len(constants) == 1 and constants[0].kind == "const"
+            return str(self.library.constant(constants[0])[1].number) if is_constant else "?"
+
+        said = []
+        for clause in self.definition.item.requires:
+            text = WORD.sub(term, " ".join(clause.stated).replace(" . ", ".")).replace("≤", "<=").replace("≡", "==")
+            is_small = all(int(number) >> 64 == 0 for number in re.findall(r"\b\d+", text))
+            said += [text] if is_small and re.fullmatch(r"[\w ()+*-]+(<|<=|==)[\w ()+*-]+", text) else []
+        return " && ".join(said)
+
+    def leave_out(self):
+        """Leaves out what nothing reads: lengths and starts of parts of slices."""
+        for line, name in reversed(self.optional):
+            if len(re.findall(rf"\b{name}\b", "\n".join(self.lines))) == 1:
+                self.lines.remove(line)
+
+    def own_head(self):
+        library, result = self.library, self.function.result
+        parts = [part for local in self.function.parameters for part in self.parameter(local)]
+        if result[0] == "array":
+            self.out_name = self.fresh("result")
+            parts.append(library.declared(result, self.out_name))
+        storage = "static "
+        for known in self.definition.item.attributes:
+            if known not in STORAGE and not known.startswith("#[tactic("):
+                refuse(self.definition.token, f"an attribute that is not known, {known}, of")
+            storage += STORAGE.get(known, "")
+        head = f"{library.name(self.definition)}({', '.join(parts) or 'void'})"
+        return storage + library.declared(UNIT if self.out_name else result, head)
+
+    def parameter(self, local):
+        of, library, self.scopes[0][local.name] = local.type, self.library, local
+        if local not in self.function.kept:
+            return []
+        local.c = self.fresh(local.name)
+        if is_slice(of):
+            local.count = self.fresh(local.c + "_length")
+            is_read = (self.definition, local.name) in library.lengths
+            return [library.c_type(of) + "restrict " * of[2] + local.c] + [f"size_t {local.count}"] * is_read
+        return ["const " * (of[0] == "array") + library.declared(of, local.c)]
+
+    def exported_head(self):
+        """The declaration of the header, which has to fit to that of the source."""
+        library, definition, result = self.library, self.definition, self.function.result
+        back, parts, written = library.header.functions[definition.name]
+        parts = iter(parts)
+        for local in self.function.kept:
+            self.exported_parameter(local, parts)
+        self.cast = "(base62_status)" if back == "base62_status" else ""
+        if next(parts, None) or back != ("base62_status" if self.cast and result == U32 else library.c_type(result)):
+            refuse(definition.token, "another result or more parameters in the header")
+        return f"{back} {definition.name}({written})"
+
+    def exported_parameter(self, local, parts):
+        """Gives a parameter its name in the header. One of another type there is cast where it is read."""
+        library, of, self.scopes[0][local.name] = self.library, local.type, local
+        (kind, name), inner, own = next(parts, ("", "")), of[1] if of[0] == "ref" else UNIT, library.c_type(of)
+        const = "const " * (of[0] == "ref" and not of[2])
+        fits, local.c = [own] + ["base62_status"] * (of == U32), name
+        if is_slice(of) or inner[0] == "array":
+            fits = [f"{const}char *", f"{const}unsigned char *"]
+        elif inner[0] == "defined" and inner[1].opaque:
+            fits, local.opaque = [f"{const}{inner[1].opaque} *"], name
+        if is_slice(of):
+            size, local.count = next(parts, ("", ""))
+            fits = fits if size == "size_t" else []
+        if kind not in fits:
+            refuse(self.definition.token, f"{kind or 'nothing'} in the header for {name or local.name} of")
+        if kind.replace("unsigned char", "uint8_t") != own:
+            local.c = f"({own}){name}"
+        self.taken[-1] |= {name, local.count}
+
+    # Blocks. Their value goes "into" the function's result ("return") or nowhere (None).
+
+    def comment(self, comments):
+        for comment in comments:
+            self.emit(comment_of(comment))
+
+    def block(self, node, into):
+        self.enter()
+        if node.kind == "block":
+            for statement in node.statements:
+                self.comment(statement.comments)
+                self.put(statement, None)
+            self.comment(node.tail_comments)
+            if node.tail:
+                self.put(node.tail, into)
+            self.comment(node.last)
+        else:
+            self.put(node, into)
+        self.leave()
+
+    def put(self, node, into):
+        """Writes what the expression does, and where its value goes."""
+        result = self.function.result
+        if hasattr(self, "write_" + node.kind):
+            getattr(self, "write_" + node.kind)(node, into)
+        elif node.kind == "do":
+            self.put(node.value, None)
+        elif node.kind == "return":
+            self.put(node.value, "return")
+        elif node.kind == "break":
+            self.emit("break;")
+        elif node.kind == "tuple" and not node.items or node.kind == "method" and self.is_ghost(node.value):
+            pass
+        elif into == "return" and self.out_name:
+            self.copy(self.out_name, node, result)
+        elif into == "return" and result != UNIT:
+            self.emit(f"return {self.cast}{self.text(node, result, UNARY if self.cast else 0)};")
+        elif node.kind == "try":
+            self.value(node)
+        elif node.kind in ("call", "method"):
+            self.emit(f"{self.text(node, UNIT)};")
+        else:
+            refuse(node.token, "a statement that is not known")
+
+    def write_if(self, node, into, lead=""):
+        self.emit(f"{lead}if ({self.alone(node.condition) if lead else self.text(node.condition)}) {{")
+        self.block(node.then, into)
+        if node.other and node.other.kind == "if":
+            return self.write_if(node.other, into, "} else ")
+        if node.other:
+            self.emit("} else {")
+            self.block(node.other, into)
+        self.emit("}")
+
+    def write_while(self, node, into):
+        self.emit(f"while ({self.alone(node.condition)}) {{")
+        self.block(node.body, None)
+        self.emit("}")
+
+    def write_for(self, node, into):
+        over, pattern, names = node.value, node.pattern, []
+        self.enter(0)
+        while over.kind == "method" and not over.args and len(names) < 2:
+            names, over = names + [over.name], over.value
+        is_range = over.kind == "range" and over.low and over.low.token == "0" and over.high.kind == "number"
+        if is_range and pattern.kind == "binding":
+            index, end = self.bind(pattern.name, USIZE), over.high.number
+            if end <= 8:
+                self.emit(f"UNROLL({end})")
+        elif names == ["enumerate", "iter"] and [p.kind for p in pattern.items] == ["binding", "binding"]:
+            found = self.value(over)
+            index, end = self.bind(pattern.items[0].name, USIZE), self.count(found)
+            item = self.bind(pattern.items[1].name, ("ref", behind(found.type)[1], False))
+        else:
+            refuse(node.token, "a loop that is not known")
+        self.emit(f"for (size_t {index.c} = 0; {index.c} < {end}; {index.c}++) {{")
+        if names:
+            self.emit(f"    {self.library.declared(item.type, item.c)} = {found.text} + {index.c};")
+        self.block(node.body, None)
+        self.emit("}")
+        self.leave(0)
+
+    def write_assign(self, node, into):
+        place, local = node.place, self.local(str(node.place.path[0])) if node.place.kind == "path" else None
+        if local and local.type is None and node.value.kind == "number":
+            return  # It tells no type. The function is written again when there is one.
+        if local and local.type is None:
+            self.learn(local, self.value(node.value).type)
+        found = self.value(place)
+        of = found.type
+        if of[0] == "array":
+            self.copy(found.text, node.value, of)
+        elif of[0] == "defined" and of[1].opaque:
+            if place.kind != "dereference" or not (place.value.local and place.value.local.opaque):
+                refuse(place.token, "a place that is not known")
+            # What the header declares as bytes is no object of this type.
+            value = self.named(self.value(node.value, of), node.value, "made")
+            self.emit(f"memcpy({place.value.local.opaque}, &{value}, sizeof({self.library.c_type(of)}));")
+        elif node.op == "=" or of in (U32, U64, USIZE):
+            value = self.text(node.value, of)
+            self.in_any_order([place, node.value])
+            self.emit(f"{found.text} {node.op} {value};")
+        else:
+            refuse(node.token, "an assignment that is not known")
+
+    # Variables
+
+    def write_let(self, node, into):
+        pattern, value = node.pattern, node.value
+        if self.is_ghost(value):
+            self.bind(pattern.name, WORK)
+        elif pattern.kind == "binding":
+            self.write_variable(node, pattern, value)
+        elif pattern.kind == "tuple" and value.kind == "method" and value.name in ("split_at", "split_at_mut"):
+            self.write_split(pattern, value)
+        else:
+            names = "_".join(p.name for p in pattern.items if p.kind == "binding")
+            found = self.value(value)
+            name = self.named(found, value, names or "answer", bool(node.other))
+            conditions, bound = self.fit(pattern, name, found.type)
+            if not node.other and not conditions:
+                return self.bind_all(bound)
+            if not node.other or len(conditions) != 1 or len(bound) != 1:
+                refuse(node.token, "a pattern that may not fit")
+            self.emit(f"if (!{conditions[0]}) {{")
+            self.block(node.other, None)
+            self.emit("}")
+            self.bind(bound[0][0].name, bound[0][2], bound[0][1])
+
+    def write_variable(self, node, pattern, value):
+        want = self.library.read(node.written, self.definition) if node.written else None
+        if value.kind == "try" and not pattern.is_mutable:
+            found = self.value_try(value, None, pattern.name)
+            self.bind(pattern.name, found.type, found.text)
+        elif value.kind in ("array", "repeat"):
+            self.write_array(pattern, value)
+        elif value.kind == "number" and not value.suffix and not want:
+            # Its type is learned from what is done with it.
+            of = getattr(pattern, "learned", None)
+            self.library.unknown += [] if of else [value.token]
+            local = self.bind(pattern.name, of)
+            local.pattern = pattern
+            self.emit(f"{self.library.declared(of or USIZE, local.c)} = {self.text(value, of or USIZE)};")
+        else:
+            found = self.value(value, want)
+            local = self.bind(pattern.name, found.type)
+            if pattern.is_mutable:
+                self.emit(f"{self.library.declared(found.type, local.c)} = {found.text};")
+            else:
+                self.constant(found.type, local.c, found.text)
+
+    def write_array(self, pattern, value):
+        """Bytes that are written out, or the same byte everywhere."""
+        if value.kind == "array":
+            items = [self.text(item, U8) for item in value.items]
+            self.in_any_order(value.items)
+            local = self.bind(pattern.name, ("array", U8, len(items)))
+            return self.constant(local.type, local.c, f"{{{', '.join(items)}}}")
+        byte = self.text(value.value, U8) if value.value.kind == "number" else refuse(value.token, "no list of bytes")
+        local = self.bind(pattern.name, ("array", U8, self.library.number(value.count, self.definition)))
+        self.emit(f"{self.library.declared(local.type, local.c)}{' = {0}' if byte == '0' else ''};")
+        if byte != "0":
+            self.emit(f"memset({local.c}, {byte}, sizeof {local.c});")
+
+    def write_split(self, pattern, value):
+        """The start and the length of each part of a slice. They are kept if something reads them."""
+        found = self.value(value.value)
+        end, start = self.alone(value.args[0], USIZE), self.alone(value.args[0], USIZE, UNARY)
+        ends = ((found.text, end), (f"{found.text} + {start}", f"{self.count(found)} - {start}"))
+        for part, (begin, length) in zip(pattern.items, ends):
+            if part.kind != "binding":
+                continue
+            local = self.bind(part.name, ("ref", ("slice", found.type[1][1]), value.name == "split_at_mut"))
+            local.count = self.fresh(local.c + "_length")
+            self.emit(f"{self.library.declared(local.type, local.c)} = {begin};")
+            self.optional.append((self.lines[-1], local.c))
+            self.emit(f"const size_t {local.count} = {length};")
+            self.optional.append((self.lines[-1], local.count))
+
+    # Match. Each arm returns, so that what follows an arm is its else.
+
+    def write_match(self, node, into):
+        found = self.value(node.value)
+        name, arms = self.named(found, node.value, "answer"), node.arms
+        if into != "return" or self.function.result == UNIT or self.out_name:
+            refuse(node.token, "a match that does not return")
+        for arm in arms:
+            at, is_last = len(self.lines), arm is arms[-1]
+            conditions, bound = self.fit(arm.pattern, name, found.type)
+            self.enter(0)
+            # Rust has checked that one of the patterns fits, so the last one does if none before it did.
+            if not is_last:
+                self.emit(f"if ({' && '.join(conditions) or refuse(arm.token, 'no condition')}) {{")
+            self.depth += not is_last
+            self.comment(arm.comments)
+            self.bind_all(bound)
+            self.depth -= 1
+            self.block(arm.body, "return")
+            self.depth += is_last
+            self.leave(0)
+            if len(self.lines) == at + 2 and len(self.lines[at] + self.lines[at + 1].strip()) < WIDTH and not is_last:
+                self.lines[at:] = [self.lines[at][:-1] + self.lines[at + 1].strip()]
+            elif not is_last:
+                self.emit("}")
+
+    def bind_all(self, bound):
+        """The variables of a pattern. Numbers of one type stand in one line."""
+        locals_ = [(self.bind(pattern.name, of).c, text, of) for pattern, text, of in bound]
+        types = {self.library.c_type(of) for _, _, of in locals_}
+        if len(types) == 1 and bound[0][2][0] in INTS:
+            self.emit(f"const {types.pop()} {', '.join(f'{c} = {text}' for c, text, _ in locals_)};")
+            return
+        for c, text, of in locals_:
+            self.constant(of, c, text)
+
+    def fit(self, pattern, text, of):
+        """What has to hold for a pattern to fit, and what it binds: the names, their places and types."""
+        pointer = re.fullmatch(r"\(?\*(\w+)\)?", text)
+        dot = f"{pointer[1]}->" if pointer else f"{text}."
+        if pattern.kind == "binding":
+            return [], [(pattern, text, of)]
+        if pattern.kind == "values":
+            low, high = self.text(pattern.low, of), self.text(pattern.high, of)
+            return [f"{text} == {low}"] if low == high else [f"{text} >= {low}", f"{text} <= {high}"], []
+        conditions, bound, held = [], [], [(f"{dot}_{i}", part) for i, part in enumerate(of[1:])]
+        if pattern.kind == "variant":
+            conditions, held = self.fit_variant(pattern, text, dot, of)
+        if len(held) != len(pattern.items) and pattern.kind != "wild":
+            refuse(pattern.token, "a pattern that is not known")
+        for item, (part, to) in zip(pattern.items, held):
+            inner = self.fit(item, part, to)
+            conditions, bound = conditions + inner[0], bound + inner[1]
+        return conditions, bound
+
+    def fit_variant(self, pattern, text, dot, of):
+        """What has to hold for a variant or a constant, and the places and types of what it holds."""
+        name = str(pattern.path[-1])
+        if len(pattern.path) == 1 and HELD.get(name, ("", 0))[0] == of[0]:
+            flag = "is_ok" if of[0] == "Result" else "is_some"
+            held = [(dot + name.lower(), part) for part in of[HELD[name][1]:][:1]]
+            return [f"{'!' if name in ('Err', 'None') else ''}{dot}{flag}"], held if name != "None" else []
+        found = self.module.find(pattern.path)
+        if isinstance(found, Definition) and found.kind == "const":
+            return [f"{text} == {self.use(found)}"], []
+        if not isinstance(found, tuple) or of != ("defined", found[0]) or name not in self.library.parts(found[0]):
+            refuse(pattern.token, "a pattern that is not known")
+        variants = self.library.parts(found[0])
+        held = [(f"{dot}{name}._{i}", part) for i, part in enumerate(variants[name][1:])]
+        return [f"{dot}tag == {self.library.name(found[0])}_{name}_tag"] if len(variants) > 1 else [], held

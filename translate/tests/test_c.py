@@ -1,0 +1,242 @@
+"""Tests translate/c: what it refuses, and that the tests of the library for C find mistakes in it.
+
+The library that it writes is compiled with c/tests/values.c and run on tests/values.tsv.
+"""
+import concurrent.futures
+import os
+import pathlib
+import re
+import shutil
+import subprocess
+import sys
+import tempfile
+import unittest
+
+ROOT = pathlib.Path(__file__).resolve().parents[2]
+sys.path.insert(0, str(ROOT / "translate"))
+
+from to_c.file import written  # noqa: E402: it is found by the line before
+
+HEADER = next(path for path in (ROOT / "c" / "base62.h", ROOT / "include" / "base62.h") if path.exists())
+FLAGS = ["-std=c99", "-O1", "-w", f"-I{HEADER.parent}"]
+# By what they show: how the library is compiled, and how its tests are.
+COMPILERS = {
+    "gcc": (["gcc"], ["gcc"]),
+    "a struct for u128": (["gcc", "-DBASE62_NO_INT128"], ["gcc"]),
+    "32 bits": (["i686-linux-gnu-gcc"], ["i686-linux-gnu-gcc", "-static"]),
+    "C without extensions": (["gcc", "-U__GNUC__"], ["gcc"]),
+}
+RUNNERS = {"32 bits": ["qemu-i386"]}
+PACKAGES = {"gcc": "gcc", "i686-linux-gnu-gcc": "gcc-i686-linux-gnu", "qemu-i386": "qemu-user"}
+
+DECODER, ENCODER, FAULT, FIXED = "codec/decoder.rt", "codec/encoder.rt", "fault.rt", "fixed.rt"
+# A form that is not known, the file of the source, what stands there, and what takes its place.
+REFUSALS = [
+    ("a loop without a condition", DECODER, "    let mut done = 0;", "    let mut done = 0;\n    loop { break; }"),
+    ("a label", DECODER, "    for i in 0..5 {", "    'digits: for i in 0..5 {"),
+    ("a closure", DECODER, "    let mut done = 0;", "    let mut done = (|x| x)(0);"),
+    ("another method of std", DECODER, "total * 62 + digit as u64", "total.wrapping_mul(62) + digit as u64"),
+    ("a signed type", DECODER, "    let mut done = 0;", "    let mut done = 0i32;"),
+    ("a cast to a signed type", DECODER, "digit as u32)", "digit as i32)"),
+    ("a cast that 32 bits may not hold", DECODER, "i == part.len()", "i == number as usize"),
+    ("a variable of no type", DECODER, "    let mut done = 0;", "    let mut done = 0;\n    let mut other = 0;"),
+    ("two ? in one value", DECODER, "high as u64 * POWER_5 + low as u64",
+     "read_5(tables, part, start, work)? as u64 * POWER_5 + read_5(tables, part, start + 5, work)? as u64"),
+    ("a ? after &&", "canonical.rt", "tables.is_zero(input[0])", "decode_over(tables, input, &mut Work::new())? == 0"),
+    ("if let", "canonical.rt", "if has_needless_zero(tables, input) {", "if let Some(x) = Some(number) {"),
+    ("while let", "canonical.rt", "if has_needless_zero(tables, input) {", "while let Some(x) = Some(number) {"),
+    ("a macro", "canonical.rt", "    if has_needless", "    assert!(number > 0);\n    if has_needless"),
+    ("an attribute", DECODER, "#[inline(always)]\nfn read_5", "#[target_feature(enable = \"avx2\")]\nfn read_5"),
+    ("a comment in a value", DECODER, ".checked_mul(weight)", "\n// Here.\n.checked_mul(weight)"),
+    ("a bound", FIXED, "<T: Number>", "<T: Display>"),
+    ("a division of u128", ENCODER, "(n >> 96) as u64", "(n / 7) as u64"),
+    ("a shift of a literal", ENCODER, "(n >> 96) as u64", "(1 << 96) as u64"),
+    ("a number that its type does not hold", ENCODER, "places > 4", "places > 4294967296"),
+    ("a guard", FAULT, "        32..=126 =>", "        x if x > 31 =>"),
+    ("an escape of a byte", FAULT, r"b'\\' =>", r"b'\x41' =>"),
+    ("an escape in a text", FAULT, "Encoded input is an empty", "Encoded \\x69nput is an empty"),
+    ("a letter that is not ASCII", FAULT, "Encoded input is an empty", "Encoded ínput is an empty"),
+    ("a trigraph", FAULT, "Encoded input is an empty", "Encoded??/ input is an empty"),
+    ("an exponent", "powers.rt", "838", "8e3"),
+    ("a floating type", "powers.rt", "POWER_3: u32", "POWER_3: f32"),
+    ("a loop with another end", DECODER, "for i in 0..5", "for i in 0..part.len()"),
+    ("a loop over a slice alone", DECODER, "for (i, byte) in input.iter().enumerate()", "for byte in input"),
+    ("a reference in a pattern", DECODER, "for (i, byte) in", "for (i, &byte) in"),
+    ("a match that does not return", ENCODER, "    if count < 10 {",
+     "    match n { 0 => write_5(tables, 0, buf, work), _ => () }\n    if count < 10 {"),
+    ("the base of a struct", "alphabet.rt", "Tables { letters, digits }", "Tables { letters, ..*standard_tables() }"),
+    ("an array of numbers", ENCODER, "    let upper = (n >> 96) as u64;", "    let upper = [1u64, 2, 3];"),
+    ("a lifetime", DECODER, "fn read_10(", "fn read_10<'a>("),
+    ("an impl of many types", "alphabet.rt", "impl Alphabet {", "impl<T> Alphabet {"),
+    ("another result in the header", "base62.h", "size_t base62_digit_count(", "int base62_digit_count("),
+    ("another parameter in the header", "base62.h", "char *buffer, size_t size)", "char *buffer, int size)"),
+    ("a parameter less in the header", "base62.h", ", base62_range *range, base62_bad_byte *bad);",
+     ", base62_range *range);"),
+    ("a constant buffer in the header", "base62.h", "base62_encode(base62_number number, char *",
+     "base62_encode(base62_number number, const char *"),
+    ("other fields in the header", "base62.h", "    uint64_t high;\n    uint64_t low;",
+     "    uint64_t low;\n    uint64_t high;"),
+    ("a call more in the header", "base62.h", "uint32_t base62_version_number(void);",
+     "uint32_t base62_version_number(void);\nuint32_t base62_other(void);"),
+]
+
+# A mistake, the compiler that shows it, the file of translate/to_c, what stands there, and what takes its place.
+MISTAKES = [
+    ("the operands of u128 are exchanged", "gcc", "values.py", "({left}, {right})\", of)", "({right}, {left})\", of)"),
+    ("<= of u128 is taken for <", "gcc", "values.py", '{">": "<", "<=": ">="}', '{">": "<", "<=": "<"}'),
+    (">= of u128 is not negated", "gcc", "values.py", "f\"!u128_{'less'", "f\"u128_{'less'"),
+    ("shifts of u128 go the other way", "gcc", "values.py", '">>": "shift_right", "<<": "shift_left"',
+     '">>": "shift_left", "<<": "shift_right"'),
+    ("a cast of u128 takes the high half", "gcc", "values.py", 'low = f"u128_low({', 'low = f"u128_high({'),
+    ("parentheses are left out", "gcc", "values.py", "return self.text if self.level >= level else f\"({self.text})\"",
+     "return self.text"),
+    ("a negation is left out", "gcc", "values.py", "f\"!{self.text(node.value, BOOL, UNARY)}\"",
+     "f\"{self.text(node.value, BOOL, UNARY)}\""),
+    ("an index is one more", "gcc", "values.py", "[{text}]\", behind", "[{text} + 1]\", behind"),
+    ("a range begins one late", "gcc", "values.py", "f\"{found.text} + {start}\", of",
+     "f\"{found.text} + {start} + 1\", of"),
+    ("a range keeps the length of the whole", "gcc", "values.py", "f\"{end} - {start}\"", "end"),
+    ("a slice is handed over without its length", "gcc", "values.py",
+     "[found.text] + [self.count(found)] * with_length", "[found.text] + [\"0\"] * with_length"),
+    ("a ? of a Result goes on", "gcc", "values.py", "self.emit(f\"if (!{name}.is_ok) return",
+     "(f\"if (!{name}.is_ok) return"),
+    ("a ? of an Option goes on", "gcc", "values.py", "self.emit(f\"if (!{name}.is_some) return",
+     "(f\"if (!{name}.is_some) return"),
+    ("a ? ends in the other case", "gcc", "values.py", "if (!{name}.is_ok) return", "if ({name}.is_ok) return"),
+    ("unwrap_or exchanges its cases", "gcc", "values.py", ".is_ok ? {place}.ok : {self.alone(node.args[0], of[1])}",
+     ".is_ok ? {self.alone(node.args[0], of[1])} : {place}.ok"),
+    ("ok_or never fails", "gcc", "values.py", "{place}.is_some ? {ok}", "true ? {ok}"),
+    ("an array is copied without its last byte", "gcc", "values.py", "memcpy({to}, {text}, {of[2]})",
+     "memcpy({to}, {text}, {of[2] - 1})"),
+    ("a large number loses its high half", "gcc", "file.py", "f\"U128({high:#x}, {low:#x})\"",
+     "f\"U128(0x0, {low:#x})\""),
+    ("the branches of an if are exchanged", "gcc", "writer.py",
+     "if ({self.alone(node.condition) if lead else self.text(node.condition)})",
+     "if (!({self.alone(node.condition) if lead else self.text(node.condition)}))"),
+    ("an else is done after the if", "gcc", "writer.py", "self.emit(\"} else {\")", "self.emit(\"} {\")"),
+    ("one of several conditions is enough", "gcc", "writer.py", "' && '.join(conditions)", "' || '.join(conditions)"),
+    ("the first arm of a match is passed over", "gcc", "writer.py", "\"answer\"), node.arms",
+     "\"answer\"), node.arms[len(node.arms) > 2:]"),
+    ("what a variant holds is bound in reverse", "gcc", "writer.py", "f\"{dot}{name}._{i}\"",
+     "f\"{dot}{name}._{1 - i}\""),
+    ("a range of values leaves out its end", "gcc", "writer.py", "{text} <= {high}", "{text} < {high}"),
+    ("a loop goes on by one", "gcc", "writer.py", "{index.c} < {end}", "{index.c} <= {end}"),
+    ("a loop begins at 1", "gcc", "writer.py", "for (size_t {index.c} = 0;", "for (size_t {index.c} = 1;"),
+    ("a buffer does not begin with its byte", "gcc", "writer.py", "memset({local.c}, {byte},", "memset({local.c}, 0,"),
+    ("the second part of a split keeps the whole length", "gcc", "writer.py", "f\"{self.count(found)} - {start}\"",
+     "self.count(found)"),
+    ("the parts of a split begin alike", "gcc", "writer.py", "f\"{found.text} + {start}\"", "found.text"),
+    ("a compound assignment is a plain one", "gcc", "writer.py", "{found.text} {node.op} {value}",
+     "{found.text} = {value}"),
+    ("all operators bind alike", "gcc", "syntax.py", '"*": 9, "/": 9, "%": 9', '"*": 8, "/": 8, "%": 8'),
+    ("a variable of 64 bits is as wide as an address", "32 bits", "values.py", "declared(of, name)} = {text};\")",
+     "declared(of, name)} = {text};\".replace(\"uint64_t\", \"size_t\"))"),
+    ("saturating_add wraps", "gcc", "prelude.c", "u128_less(sum, a) ? u128_sub(u128_of(0), u128_of(1)) : sum", "sum"),
+    ("checked_mul passes over the high half of a product", "gcc", "prelude.c", "u128_high(cross) == 0 && ", ""),
+    ("checked_mul passes over the carry", "gcc", "prelude.c", " && u128_high(product) >= u128_high(low)", ""),
+    ("checked_add never overflows", "gcc", "prelude.c", ".is_some = !u128_less(sum, a)", ".is_some = true"),
+    ("the bytes of a number begin with the lowest", "gcc", "prelude.c", "120 - 8 * i", "8 * i"),
+    ("a text does not grow", "gcc", "prelude.c", "text.length += part_length;", "text.length += 0;"),
+    ("the lesser of two is the greater", "gcc", "prelude.c", "return a < b ? a : b;", "return a < b ? b : a;"),
+    ("the sum of structs has no carry", "a struct for u128", "prelude.c", "a.high + b.high + (low < a.low)",
+     "a.high + b.high"),
+    ("the difference of structs has no borrow", "a struct for u128", "prelude.c", "a.high - b.high - (a.low < b.low)",
+     "a.high - b.high"),
+    ("the product of structs has no carry in the middle", "a struct for u128", "prelude.c", " + (other >> 32)", ""),
+    ("structs are compared by their high halves", "a struct for u128", "prelude.c",
+     " || (a.high == b.high && a.low < b.low)", ""),
+    ("a struct is shifted without its other half", "a struct for u128", "prelude.c", " | a.high << (64 - bits)", ""),
+    ("the highest bit is found by half", "C without extensions", "prelude.c", "bits += step;", "bits += step / 2;"),
+]
+
+
+def missing(compiler):
+    """Whether a tool is not here. With the environment variable CI it has to be."""
+    tools = [COMPILERS[compiler][0][0], *RUNNERS.get(compiler, [])]
+    found = [tool for tool in tools if not shutil.which(tool)]
+    for tool in found:
+        print(f"left out: mistakes in {compiler}: install {PACKAGES[tool]}", file=sys.stderr)
+    if found and "CI" in os.environ:
+        raise AssertionError(f"not here: {', '.join(found)}")
+    return bool(found)
+
+
+def library_of(folder):
+    """The library that the translator in a folder writes."""
+    code = "import pathlib, sys; from to_c.file import written; sys.stdout.write(written(pathlib.Path(sys.argv[1])))"
+    done = subprocess.run([sys.executable, "-c", code, ROOT], cwd=folder, capture_output=True, text=True,
+                          env={**os.environ, "PYTHONPATH": str(folder), "PYTHONDONTWRITEBYTECODE": "1"})
+    if done.returncode:
+        raise AssertionError(f"it writes nothing: {done.stderr.strip()[-300:]}")
+    return done.stdout
+
+
+def holds(compiler, tests, file=None, old="", new=""):
+    """Whether the library does what the file of values says, if a text of the translator is another one."""
+    with tempfile.TemporaryDirectory() as name:
+        folder = pathlib.Path(name)
+        shutil.copy(ROOT / "translate" / "reader.py", folder)
+        shutil.copytree(ROOT / "translate" / "to_c", folder / "to_c", ignore=shutil.ignore_patterns("__pycache__"))
+        if file:
+            text = (folder / "to_c" / file).read_text()
+            if text.count(old) != 1:
+                raise AssertionError(f"{file} has {text.count(old)} times: {old}")
+            (folder / "to_c" / file).write_text(text.replace(old, new))
+        (folder / "base62.c").write_text(library_of(folder))
+        library, linked = COMPILERS[compiler]
+        subprocess.run([*library, *FLAGS, "-c", "base62.c"], cwd=folder, check=True)
+        subprocess.run([*linked, tests, "base62.o", "-o", "values"], cwd=folder, check=True)
+        run = [*RUNNERS.get(compiler, []), folder / "values", ROOT / "tests" / "values.tsv"]
+        try:
+            return subprocess.run(run, capture_output=True, timeout=60).returncode == 0
+        except subprocess.TimeoutExpired:
+            return False
+
+
+class Refusals(unittest.TestCase):
+    def test_committed(self):
+        self.assertTrue((ROOT / "c" / "base62.c").read_text() == written(ROOT), "run translate/c, and commit base62.c")
+
+    def test_forms(self):
+        with tempfile.TemporaryDirectory() as name:
+            folder = pathlib.Path(name)
+            for crate in ("base62", "base62_c"):
+                shutil.copytree(ROOT / "crates" / crate / "src", folder / "crates" / crate / "src")
+            (folder / "c").mkdir()
+            shutil.copy(HEADER, folder / "c")
+            self.assertTrue(written(folder) == written(ROOT), "a copy of the source gives another library")
+            for what, file, old, new in REFUSALS:
+                with self.subTest(what):
+                    self.check_form(folder, file, old, new)
+
+    def check_form(self, folder, file, old, new):
+        path = folder / "c" / file if file == "base62.h" else folder / "crates" / "base62" / "src" / file
+        text = path.read_text()
+        self.assertIn(old, text)
+        path.write_text(text.replace(old, new))
+        try:
+            with self.assertRaises(SystemExit) as ended:
+                written(folder)
+        finally:
+            path.write_text(text)
+        self.assertRegex(str(ended.exception), r"\.rt:\d+: |^base62\.h: ")
+
+
+class Mistakes(unittest.TestCase):
+    def test_mistakes(self):
+        """The tests of the library find each, and hold without it."""
+        here = [compiler for compiler in COMPILERS if not missing(compiler)]
+        cases = [("no mistake", compiler) for compiler in here] + [m for m in MISTAKES if m[1] in here]
+        with tempfile.TemporaryDirectory() as name, concurrent.futures.ThreadPoolExecutor(os.cpu_count()) as pool:
+            tests = {compiler: pathlib.Path(name, f"{at}.o") for at, compiler in enumerate(here)}
+            for compiler, built in tests.items():
+                source = ROOT / "c" / "tests" / "values.c"
+                subprocess.run([COMPILERS[compiler][1][0], *FLAGS, "-c", source, "-o", built], check=True)
+            started = [(case, pool.submit(holds, case[1], tests[case[1]], *case[2:])) for case in cases]
+            for (what, compiler, *_), result in started:
+                with self.subTest(what, compiler=compiler):
+                    self.assertEqual(result.result(), what == "no mistake")
+
+
+if __name__ == "__main__":
+    unittest.main()

@@ -547,7 +547,7 @@ static ALWAYS_INLINE size_t digit_count(u128 n) {
     return letter_count(n);
 }
 
-// The count alone. The clauses of the public call follow from it.
+// The count of a number of 64 bits, or of more.
 static ALWAYS_INLINE size_t letter_count(u128 n) {
     if (!u128_less(u128_of(UINT64_C(0xffffffffffffffff)), n)) {
         return narrow_count(u128_low(n));
@@ -732,15 +732,15 @@ static ALWAYS_INLINE result_u64 read_up_to_10(const Tables *tables, const uint8_
     uint64_t number = 0;
     size_t done = 0;
     if (part_length >= 5) {
-        const uint8_t *front = part;
-        const result_u32 answer = read_5(tables, front, start);
+        const uint8_t *first = part;
+        const result_u32 answer = read_5(tables, first, start);
         if (!answer.is_ok) return err_u64(answer.err);
         number = (uint64_t)answer.ok;
         done = 5;
     }
-    const uint8_t *tail = part + done;
-    const size_t tail_length = part_length - done;
-    return read_on(tables, number, tail, tail_length, start + done);
+    const uint8_t *later = part + done;
+    const size_t later_length = part_length - done;
+    return read_on(tables, number, later, later_length, start + done);
 }
 
 // At most five bytes more, after a number that has been read.
@@ -762,11 +762,11 @@ static ALWAYS_INLINE result_u64 read_on(const Tables *tables, uint64_t number, c
 
 // A part of ten bytes, as two numbers of five digits.
 static ALWAYS_INLINE result_u64 read_10(const Tables *tables, const uint8_t *part, size_t start) {
-    const uint8_t *front = part;
-    const uint8_t *back = part + 5;
-    const result_u32 high = read_5(tables, front, start);
+    const uint8_t *first = part;
+    const uint8_t *later = part + 5;
+    const result_u32 high = read_5(tables, first, start);
     if (!high.is_ok) return err_u64(high.err);
-    const result_u32 low = read_5(tables, back, start + 5);
+    const result_u32 low = read_5(tables, later, start + 5);
     if (!low.is_ok) return err_u64(low.err);
     return ok_u64((uint64_t)high.ok * POWER_5 + (uint64_t)low.ok);
 }
@@ -1251,12 +1251,12 @@ static ALWAYS_INLINE result_unit_DecodeError err_unit_DecodeError(DecodeError er
 static result_unit fill_places(const Tables *tables, u128 n, uint8_t *restrict places, size_t places_length);
 static void write_padded(const Tables *tables, u128 n, size_t count, uint8_t *restrict places,
     size_t places_length);
-static result_option_pair_u128_u128 range_over(const Tables *tables, size_t width, const uint8_t *front,
-    size_t front_length);
-static result_option_pair_u128_u128 range_found(const Tables *tables, size_t width, const uint8_t *front,
-    size_t front_length);
+static result_option_pair_u128_u128 range_over(const Tables *tables, size_t width, const uint8_t *prefix,
+    size_t prefix_length);
+static result_option_pair_u128_u128 range_found(const Tables *tables, size_t width, const uint8_t *prefix,
+    size_t prefix_length);
 static option_pair_u128_u128 ends_of(u128 number, size_t width, size_t len);
-static result_unit_DecodeError check_letters(const Tables *tables, const uint8_t *front, size_t front_length);
+static result_unit_DecodeError check_letters(const Tables *tables, const uint8_t *prefix, size_t prefix_length);
 
 // Fills `places` with the standard text of `num`, with zeros in front.
 //
@@ -1303,49 +1303,49 @@ static void write_padded(const Tables *tables, u128 n, size_t count, uint8_t *re
 }
 
 // The least and the greatest number below 2^128 whose standard text of `width` letters begins with
-// `front`.
+// `prefix`.
 //
-// A front is a prefix: the letters that texts begin with. If one of its bytes is no standard
-// letter, `Err(InvalidBase62Byte(byte, index))` names the first, and there is no other refusal.
-// `Ok(None)` says that `front` is letters, but no text of `width` letters of a number below 2^128
-// begins with them, for example if they are more than `width`, or `width` is 0. Any other
-// front, of k letters and value v, has the ends `v * 62^(width-k)` and the lesser of
-// `(v+1) * 62^(width-k) - 1` and 2^128 - 1. The numbers from one end to the other are exactly
-// those whose texts begin with the front. The call takes no memory.
-static result_option_pair_u128_u128 fixed_range(size_t width, const uint8_t *front, size_t front_length) {
-    return range_over(standard_tables(), width, front, front_length);
+// If a byte of the prefix is no standard letter, `Err(InvalidBase62Byte(byte, index))` names the
+// first such byte, and there is no other refusal. `Ok(None)` says that the prefix is letters, but no
+// text of `width` letters of a number below 2^128 begins with them, for example if they are more
+// than `width`, or `width` is 0. Any other prefix, of k letters and value v, has the ends
+// `v * 62^(width-k)` and the lesser of `(v+1) * 62^(width-k) - 1` and 2^128 - 1. The numbers from
+// one end to the other are exactly those whose texts begin with the prefix. The call takes no
+// memory.
+static result_option_pair_u128_u128 fixed_range(size_t width, const uint8_t *prefix, size_t prefix_length) {
+    return range_over(standard_tables(), width, prefix, prefix_length);
 }
 
 // As `fixed_range`, over an alphabet of the caller's.
 //
 // There is no twin over the alternative alphabet. Its letters do not ascend, so a scan from the
 // text of the one end to the text of the other can miss texts.
-static result_option_pair_u128_u128 fixed_range_with(const Alphabet *alphabet, size_t width, const uint8_t *front,
-    size_t front_length) {
-    return range_over(Alphabet_as_tables(alphabet), width, front, front_length);
+static result_option_pair_u128_u128 fixed_range_with(const Alphabet *alphabet, size_t width,
+    const uint8_t *prefix, size_t prefix_length) {
+    return range_over(Alphabet_as_tables(alphabet), width, prefix, prefix_length);
 }
 
 // The range over the alphabet of the tables.
-static result_option_pair_u128_u128 range_over(const Tables *tables, size_t width, const uint8_t *front,
-    size_t front_length) {
-    return range_found(tables, width, front, front_length);
+static result_option_pair_u128_u128 range_over(const Tables *tables, size_t width, const uint8_t *prefix,
+    size_t prefix_length) {
+    return range_found(tables, width, prefix, prefix_length);
 }
 
-// The range alone. All else that is promised of it follows.
-static result_option_pair_u128_u128 range_found(const Tables *tables, size_t width, const uint8_t *front,
-    size_t front_length) {
-    const result_u128 answer = decode_over(tables, front, front_length);
+// The range, by what decoding the prefix gives.
+static result_option_pair_u128_u128 range_found(const Tables *tables, size_t width, const uint8_t *prefix,
+    size_t prefix_length) {
+    const result_u128 answer = decode_over(tables, prefix, prefix_length);
     if (answer.is_ok) {
         const u128 number = answer.ok;
-        return ok_option_pair_u128_u128(ends_of(number, width, front_length));
+        return ok_option_pair_u128_u128(ends_of(number, width, prefix_length));
     }
     if (!answer.is_ok && answer.err.tag == DecodeError_EmptyInput_tag) {
-        // All texts begin with the empty front.
+        // All texts begin with the empty prefix.
         return ok_option_pair_u128_u128(ends_of(u128_of(0), width, 0));
     }
     if (!answer.is_ok && answer.err.tag == DecodeError_ArithmeticOverflow_tag) {
-        // A bad byte of the front comes before its overflow.
-        const result_unit_DecodeError answer_2 = check_letters(tables, front, front_length);
+        // A bad byte of the prefix comes before its overflow.
+        const result_unit_DecodeError answer_2 = check_letters(tables, prefix, prefix_length);
         if (!answer_2.is_ok) return err_option_pair_u128_u128(answer_2.err);
         return ok_option_pair_u128_u128(none_pair_u128_u128());
     }
@@ -1353,7 +1353,7 @@ static result_option_pair_u128_u128 range_found(const Tables *tables, size_t wid
     return err_option_pair_u128_u128(fault);
 }
 
-// The ends of the interval of a front of this value and length, if it has any.
+// The ends of the interval of a prefix of this value and length, if it has any.
 static option_pair_u128_u128 ends_of(u128 number, size_t width, size_t len) {
     if (width == 0 || len > width) {
         return none_pair_u128_u128();
@@ -1362,7 +1362,7 @@ static option_pair_u128_u128 ends_of(u128 number, size_t width, size_t len) {
     if (u128_equal(number, u128_of(0))) {
         return some_pair_u128_u128((pair_u128_u128){u128_of(0), last});
     }
-    // Where the span is 2^128 or more, so is the product.
+    // If the span is 2^128 or more, so is the product.
     const option_u128 span = u128_checked_add(last, u128_of(1));
     if (!span.is_some) return none_pair_u128_u128();
     const option_u128 least = u128_checked_mul(number, span.some);
@@ -1371,10 +1371,10 @@ static option_pair_u128_u128 ends_of(u128 number, size_t width, size_t len) {
     return some_pair_u128_u128((pair_u128_u128){least.some, u128_saturating_add(least.some, last)});
 }
 
-// Refuses a front with a byte that is no letter, and names the first.
-static result_unit_DecodeError check_letters(const Tables *tables, const uint8_t *front, size_t front_length) {
-    for (size_t index = 0; index < front_length; index++) {
-        const uint8_t *byte = front + index;
+// Refuses a prefix with a byte that is no letter, and names the first.
+static result_unit_DecodeError check_letters(const Tables *tables, const uint8_t *prefix, size_t prefix_length) {
+    for (size_t index = 0; index < prefix_length; index++) {
+        const uint8_t *byte = prefix + index;
         if (Tables_digit(tables, *byte) > 61) {
             return err_unit_DecodeError(DecodeError_InvalidBase62Byte(*byte, index));
         }
@@ -1401,16 +1401,16 @@ static void encode_key(u128 num, uint8_t result[22]) {
     memcpy(result, key, 22);
 }
 
-// The least and the greatest number below 2^128 whose key begins with `front`.
+// The least and the greatest number below 2^128 whose key begins with `prefix`.
 //
-// A front is a prefix: the letters that keys begin with. If one of its bytes is no standard
-// letter, `Err(InvalidBase62Byte(byte, index))` names the first, and there is no other refusal.
-// `Ok(None)` says that `front` is letters, but no key of a number below 2^128 begins with them,
-// for example if they are more than 22. Any other front, of k letters and value v, has the ends
-// `v * 62^(22-k)` and the lesser of `(v+1) * 62^(22-k) - 1` and 2^128 - 1. The numbers from one
-// end to the other are exactly those whose keys begin with the front. The call takes no memory.
-static result_option_pair_u128_u128 key_range(const uint8_t *front, size_t front_length) {
-    return fixed_range(KEY_LEN, front, front_length);
+// If a byte of the prefix is no standard letter, `Err(InvalidBase62Byte(byte, index))` names the
+// first such byte, and there is no other refusal. `Ok(None)` says that the prefix is letters, but
+// no key of a number below 2^128 begins with them, for example if they are more than 22. Any other
+// prefix, of k letters and value v, has the ends `v * 62^(22-k)` and the lesser of
+// `(v+1) * 62^(22-k) - 1` and 2^128 - 1. The numbers from one end to the other are exactly those
+// whose keys begin with the prefix. The call takes no memory.
+static result_option_pair_u128_u128 key_range(const uint8_t *prefix, size_t prefix_length) {
+    return fixed_range(KEY_LEN, prefix, prefix_length);
 }
 
 
@@ -1443,7 +1443,7 @@ static base62_number halves(u128 n) {
 
 static uint32_t tell_fault(DecodeError fault, base62_bad_byte *bad);
 
-// The count of the places, or 0 where they are too few.
+// The count of the places, or 0 if they are too few.
 static size_t count_filled(result_unit answer, size_t places) {
     if (answer.is_ok) return places;
     return 0;
@@ -1500,7 +1500,8 @@ static uint32_t tell_repeat(AlphabetError fault, base62_bad_byte *bad) {
 }
 
 static size_t tell_text(const uint8_t *text, size_t text_length, uint8_t *restrict buf, size_t buf_length) {
-    if (buf_length < text_length) {
+    // No byte is copied if there is none, and then `buf` may be empty too.
+    if (text_length == 0 || buf_length < text_length) {
         return 0;
     }
     copy_bytes(buf, text, text_length);

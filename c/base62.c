@@ -1318,8 +1318,8 @@ static result_option_pair_u128_u128 fixed_range(size_t width, const uint8_t *pre
 
 // As `fixed_range`, over an alphabet of the caller's.
 //
-// There is no twin over the alternative alphabet. Its letters do not ascend, so a scan from the
-// text of the one end to the text of the other can miss texts.
+// There is no such call over the alternative alphabet. Its letters do not ascend, so a scan from
+// the text of the one end to the text of the other can miss texts.
 static result_option_pair_u128_u128 fixed_range_with(const Alphabet *alphabet, size_t width,
     const uint8_t *prefix, size_t prefix_length) {
     return range_over(Alphabet_as_tables(alphabet), width, prefix, prefix_length);

@@ -1,3 +1,0 @@
-fn main() {
-    println!("{}", shop::link(1337));
-}

@@ -1,0 +1,187 @@
+"""Tests of translate/rust: what it writes, what it refuses, and that a mistake in it is found by what is tested."""
+import os
+import shutil
+import subprocess
+import sys
+import tempfile
+import unittest
+from concurrent.futures import ThreadPoolExecutor
+from pathlib import Path
+
+TOP = Path(__file__).resolve().parents[2]
+
+# Edits of the source: a file of crates, what stands there, and what comes in its place. Each is refused.
+REFUSED = [
+    ("base62/src/codec/encoder.rt", "    let high = n / POWER_5;", "    proof { x }\n    let high = n / POWER_5;"),
+    ("base62/src/codec/encoder.rt", "    let high = n / POWER_5;", "    prove!(n < 5);\n    let high = n / POWER_5;"),
+    ("base62/src/codec/encoder.rt", "    let high = n / POWER_5;", "    let high = n.wrapping_div(POWER_5);"),
+    ("base62/src/codec/encoder.rt", "    let high = n / POWER_5;", "    ghost let x = { n };"),
+    ("base62/src/codec/encoder.rt", "    let high = n / POWER_5;", "    let high = unsafe { n };"),
+    ("base62/src/codec/encoder.rt", "write_5(tables, high as u32, buf", "write_5(tables, high as i32, buf"),
+    ("base62/src/codec/encoder.rt", "    requires fits { x < 62 ^ 2 }", "    decreases { x }"),
+    ("base62/src/codec/encoder.rt", "fn write_2(", "#[cycle(a)]\nfn write_2("),
+    ("base62/src/codec/decoder.rt", "            return i;", "            continue;"),
+    ("base62/src/codec/decoder.rt", "    for i in 0..5 {", "    'digits: for i in 0..5 {"),
+    ("base62/src/codec/decoder.rt", "    let mut total = number;", "    let mut total ≔ number;"),
+    ("base62/src/codec/decoder.rt", "    for i in 0..5 {", "    for i in 0..5 invariant { total } {"),
+    ("base62/src/fault.rt", "use std::fmt::InlineText;", "use std::collections::HashMap;"),
+    ("base62/src/fault.rt", "#[derive(Clone, Copy,", "#[derive(Clone, Copy, Default,"),
+    ("base62/src/fault.rt", "impl error::Error for DecodeError {}", "trait Shown {}"),
+    ("base62/src/fault.rt", "impl error::Error for DecodeError {}", "macro_rules! a { () => {} }"),
+    ("base62/src/fault.rt", "    while left >= 10 {", "    loop {"),
+    ("base62/src/alphabet.rt", "    tables: Tables,\n}", "    tables: Tables,\n    ghost letters: List,\n}"),
+    ("base62/src/alphabet.rt", "    ghost Value = { List ℕ };", "    fn value(&self) {}"),
+    ("base62/src/alphabet.rt", "    ghost eq = { pointwise nat_eq };", "    ghost fn eq() { }"),
+    ("base62/src/alphabet.rt", "prove!(size_of::<Alphabet>", "prove!(align_of::<Alphabet>"),
+    ("base62/src/target.rt", "    buf.reserve(letters.len())?;", "    buf.try_reserve(letters.len())?;"),
+    ("base62/src/target.rt", "    Ok(())\n", "    buf.push(1)\n"),
+    ("base62/src/target.rt", 'assert_eq!(rt; text.as_str(), "1LY7VK");', "rt.run();"),
+    ("base62/src/codec.rt", "encode_bytes_counted(num, buf, &mut", "encode_bytes_counted(buf, num, &mut"),
+    ("base62/src/codec.rt", "    ensures { EncodesInto", "    requires { 5 ≤ num }\n    ensures { EncodesInto"),
+    ("base62/src/codec.rt", "decode_over(standard_tables(), input, w", "decode_over(input, input, w"),
+    ("base62/src/text.rt", "use std::str;", "use std::snapshot::Snapshot;"),
+    ("base62/src/show.rt", "fmt<W: fmt::Write>", "fmt<V: fmt::Write>"),
+    ("base62/src/powers.rt", "    POWER_10,\n];", "    Natural::of(1),\n];"),
+    ("base62_cli/src/main.rt", "&mut rt.stdin()", "&mut rt.arguments()"),
+    ("base62_cli/src/reply.rt", "use std::str;", "use std::env;"),
+]
+
+# Mistakes: what stands in translate/rust or in reader.py, and what comes in its place.
+ANOTHER_RULE = r'(r"\(alloc, ", "(")'
+MISTAKES = {
+    "an attribute of the prover stays": (r'text = re.sub(rf"\n? *({GHOST_ATTRIBUTE})(?=\n)", "", text)', "pass"),
+    "a clause stays": ('{back}".rstrip()', '{back} requires {{}}".rstrip()'),
+    "a module is skipped": ('{"laws", "model", "number", "work"}, ', '{"laws", "model", "number", "work", "show"}, '),
+    "a function is skipped": ('"letters_are_distinct", "of"}', '"letters_are_distinct", "of", "greatest"}'),
+    "the members of impls are lost": ('if body.strip() else " {}"', 'if 0 else " {}"'),
+    "a call is dropped": (r"base62::laws::\w+)\(\w*\)", r"base62::laws::\w+|write_2)\([^;]*\)"),
+    "what is appended is dropped": (r'(r"(\.push_str\(\w+\))\.unwrap\(\);", r"\1;")', r'(r"\w+\.push_str.*", "")'),
+    "a test of an alphabet is dropped": ('return ["crate::contract::assert_ascii(alphabet);"] if', "return [] if"),
+    "the place of a panic is lost": ('["#[track_caller]"] if item.requires', "[] if 1"),
+    "parameters are exchanged": ("({', '.join(kept)})", "({', '.join(kept[::-1])})"),
+    "two twins have one body": ("self.counted.get(call[1])", 'self.counted.get(call[1].replace("alternative_", ""))'),
+    "a cast is narrowed": (ANOTHER_RULE, ANOTHER_RULE + ', ("as u32", "as u8 as u32")'),
+    "a cast is widened": (ANOTHER_RULE, ANOTHER_RULE + ', ("n as u64", "n")'),
+    "a comparison is another": (ANOTHER_RULE, ANOTHER_RULE + ', (" > 4 ", " > 5 ")'),
+    "a remainder is a quotient": (ANOTHER_RULE, ANOTHER_RULE + ', (" % 10", " / 10")'),
+    "a power is another": (ANOTHER_RULE, ANOTHER_RULE + ', ("POWER_4", "POWER_3")'),
+    "an error is another": (ANOTHER_RULE, ANOTHER_RULE + ', ("EmptyInput", "ArithmeticOverflow")'),
+    "an index is one too great": (r"proved!(\1[\2])", r"proved!(\1[\2 + 1])"),
+    "a text loses its first byte": (r"proved!(\1(\2))", r"proved!(\1(&\2[1..]))"),
+    "an input loses its first byte": ("{name}.as_ref()", "{name}.as_ref().split_at(1).1"),
+    "a range loses its end": (r'r"Some(\1..=\2)")]' + "\n# Where", r'r"Some(\1..=\1)")]' + "\n# Where"),
+    "a number is another": ('"num.into()")', '"(num.into() ^ 1)")'),
+    "texts are exchanged": ("kept.pop(0)", "kept.pop()"),
+    "a power in a clause is too small": (r".pow(\2)", r".pow(\2 - 1)"),
+    "a length in a clause is too small": (r'r"\1.len()"', r'r"(\1.len() - 1)"'),
+    "a clause is too strong": ('("≤", "<=")', '("≤", "<")'),
+    "a writer has to have a size": (r'("W: Write", r"\g<0> + ?Sized"),', ""),
+    "a feature is wanted nowhere": ("""['#[cfg(feature = "std")]'] if""", "[] if"),
+    "a fault goes to standard output": ("writeln!(io::stderr(), ", "writeln!(io::stdout(), "),
+}
+
+
+def copy(folder):
+    """A tree of its own, with what the translator reads and writes, and the tests."""
+    for name in ("translate", "rust", "crates/base62/src", "crates/base62_cli/src", "tests"):
+        shutil.copytree(TOP / name, folder / name, ignore=shutil.ignore_patterns("target", "__pycache__"))
+    return folder
+
+
+def translate(folder, *arguments):
+    command = [sys.executable, folder / "translate/rust", *arguments]
+    return subprocess.run(command, capture_output=True, text=True)
+
+
+def modules(folder):
+    return {file.relative_to(folder): file.read_text() for file in sorted((folder / "rust/src").rglob("*.rs"))}
+
+
+def edit(file, old, new):
+    text = file.read_text()
+    assert old in text, f"{file} has no {old}"
+    file.write_text(text.replace(old, new, 1))
+
+
+class Tree(unittest.TestCase):
+    def setUp(self):
+        folder = tempfile.TemporaryDirectory()
+        self.addCleanup(folder.cleanup)
+        self.folder = copy(Path(folder.name))
+
+
+class Writes(Tree):
+    def test_what_is_committed(self):
+        self.assertEqual((translate(self.folder, "--check").returncode, translate(TOP, "--check").stderr), (0, ""))
+
+    def test_the_same_bytes_and_nothing_stale(self):
+        written = modules(self.folder)
+        stale = self.folder / "rust/src/codec/older.rs"
+        shutil.copy(self.folder / "rust/src/codec/encoder.rs", stale)
+        (self.folder / "rust/src/count.rs").unlink()
+        (self.folder / "rust/src/key.rs").write_text("edited")
+        checked = translate(self.folder, "--check")
+        self.assertEqual(checked.returncode, 1)
+        self.assertEqual([line.split(":")[0] for line in checked.stderr.splitlines()],
+                         [f"rust/src/{name}.rs" for name in ("count", "key", "codec/older")])
+        self.assertEqual(translate(self.folder).returncode, 0)
+        self.assertEqual(modules(self.folder), written)
+
+    def test_arguments(self):
+        self.assertIn("translate/rust --check", translate(self.folder, "--nope").stderr)
+
+    def test_the_version_of_the_crate(self):
+        version = (TOP / "VERSION").read_text().strip()
+        self.assertIn(f'\nversion = "{version}"\n', (TOP / "rust/Cargo.toml").read_text())
+
+
+class Refuses(Tree):
+    def test_forms_that_are_not_known(self):
+        written = modules(self.folder)
+        for name, old, new in REFUSED:
+            with self.subTest(f"{name}: {new}"):
+                file = self.folder / "crates" / name
+                text = file.read_text()
+                edit(file, old, new)
+                refused = translate(self.folder)
+                self.assertEqual(refused.returncode, 1)
+                self.assertRegex(refused.stderr, rf"^crates/{name}:\d+: [^\n]*\n$")
+                self.assertEqual(modules(self.folder), written)
+                file.write_text(text)
+
+
+class FindsMistakes(unittest.TestCase):
+    """With each of them the translator refuses, or what it writes does not pass a compiler or a test."""
+
+    def is_found(self, mistake):
+        with tempfile.TemporaryDirectory() as name:
+            folder = copy(Path(name))
+            file = folder / "translate/rust"
+            if mistake[0] not in file.read_text():
+                file = folder / "translate/reader.py"
+            edit(file, *mistake)
+            written = modules(folder)
+            translated = translate(folder)
+            assert "Traceback" not in translated.stderr, translated.stderr
+            if translated.returncode:
+                return True
+            if modules(folder) == written:
+                return False
+            cargo = {**os.environ, "CARGO_NET_OFFLINE": "true", "CARGO_TARGET_DIR": str(folder / "target"),
+                     "CARGO_PROFILE_DEV_DEBUG": "0", "CARGO_INCREMENTAL": "0", "CARGO_BUILD_JOBS": "2"}
+            tests = [part for test in ("values", "show", "panics", "program") for part in ("--test", test)]
+            commands = ["cargo", "build"], ["cargo", "test", "--features=std", *tests]
+            return any(subprocess.run(command, cwd=folder / "rust", env=cargo, capture_output=True).returncode
+                       for command in commands)
+
+    def test_mistakes(self):
+        # What is no mistake is found by nothing.
+        self.assertFalse(self.is_found(("Edit that one.", "Edit that file.")))
+        with ThreadPoolExecutor(2) as pool:
+            for name, found in zip(MISTAKES, pool.map(self.is_found, MISTAKES.values())):
+                with self.subTest(name):
+                    self.assertTrue(found)
+
+
+if __name__ == "__main__":
+    unittest.main()

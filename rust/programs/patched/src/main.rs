@@ -1,0 +1,3 @@
+fn main() {
+    println!("{}", shop::link(1337));
+}

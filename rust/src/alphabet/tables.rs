@@ -1,0 +1,99 @@
+// translate/rust has written this file from crates/base62/src/alphabet/tables.rt. Edit that one.
+// Its functions are proved there. This translation of them is tested, not proved.
+
+//! The letters and the digits of an alphabet, and their readers.
+
+// The letters of an alphabet by their digits, and the digit of each byte, 255 if it has none.
+#[repr(C)]
+#[derive(Clone, Copy)]
+pub(crate) struct Tables {
+    pub(super) letters: [u8; 62],
+    pub(super) digits: [u8; 256],
+}
+
+impl Tables {
+    // The digit of a byte, or 255 if it has none.
+    #[inline]
+    pub(crate) fn digit(&self, byte: u8) -> u8 {
+        self.digits[byte as usize]
+    }
+
+    // Whether a byte is the zero letter.
+    #[inline]
+    pub(crate) fn is_zero(&self, byte: u8) -> bool {
+        byte == self.letters[0]
+    }
+
+    // The letters of a number's two digits.
+    #[inline(always)]
+    pub(crate) fn pair(&self, number: u32) -> (u8, u8) {
+        requires!(number < 3844);
+        // The quotient by 62, since the number is small.
+        let quotient = (number * 4229) >> 18;
+        let remainder = number - quotient * 62;
+        // SAFETY: both are below 62, since the number is below 62^2.
+        let first = proved!(self.letters[quotient as usize]);
+        let second = proved!(self.letters[remainder as usize]);
+        (first, second)
+    }
+
+    // The letter of a digit.
+    #[inline(always)]
+    pub(crate) fn letter(&self, digit: u32) -> u8 {
+        requires!(digit < 62);
+        // SAFETY: a digit is below 62.
+        proved!(self.letters[digit as usize])
+    }
+}
+
+static STANDARD: Tables = Tables {
+    letters: *b"0123456789ABCDEFGHIJKLMNOPQRSTUVWXYZabcdefghijklmnopqrstuvwxyz",
+    digits: [
+        255, 255, 255, 255, 255, 255, 255, 255, 255, 255, 255, 255, 255, 255, 255, 255, 255, 255,
+        255, 255, 255, 255, 255, 255, 255, 255, 255, 255, 255, 255, 255, 255, 255, 255, 255, 255,
+        255, 255, 255, 255, 255, 255, 255, 255, 255, 255, 255, 255, 0, 1, 2, 3, 4, 5, 6, 7, 8, 9,
+        255, 255, 255, 255, 255, 255, 255, 10, 11, 12, 13, 14, 15, 16, 17, 18, 19, 20, 21, 22, 23,
+        24, 25, 26, 27, 28, 29, 30, 31, 32, 33, 34, 35, 255, 255, 255, 255, 255, 255, 36, 37, 38,
+        39, 40, 41, 42, 43, 44, 45, 46, 47, 48, 49, 50, 51, 52, 53, 54, 55, 56, 57, 58, 59, 60, 61,
+        255, 255, 255, 255, 255, 255, 255, 255, 255, 255, 255, 255, 255, 255, 255, 255, 255, 255,
+        255, 255, 255, 255, 255, 255, 255, 255, 255, 255, 255, 255, 255, 255, 255, 255, 255, 255,
+        255, 255, 255, 255, 255, 255, 255, 255, 255, 255, 255, 255, 255, 255, 255, 255, 255, 255,
+        255, 255, 255, 255, 255, 255, 255, 255, 255, 255, 255, 255, 255, 255, 255, 255, 255, 255,
+        255, 255, 255, 255, 255, 255, 255, 255, 255, 255, 255, 255, 255, 255, 255, 255, 255, 255,
+        255, 255, 255, 255, 255, 255, 255, 255, 255, 255, 255, 255, 255, 255, 255, 255, 255, 255,
+        255, 255, 255, 255, 255, 255, 255, 255, 255, 255, 255, 255, 255, 255, 255, 255, 255, 255,
+        255, 255, 255, 255, 255, 255, 255,
+    ],
+};
+
+static ALTERNATIVE: Tables = Tables {
+    letters: *b"0123456789abcdefghijklmnopqrstuvwxyzABCDEFGHIJKLMNOPQRSTUVWXYZ",
+    digits: [
+        255, 255, 255, 255, 255, 255, 255, 255, 255, 255, 255, 255, 255, 255, 255, 255, 255, 255,
+        255, 255, 255, 255, 255, 255, 255, 255, 255, 255, 255, 255, 255, 255, 255, 255, 255, 255,
+        255, 255, 255, 255, 255, 255, 255, 255, 255, 255, 255, 255, 0, 1, 2, 3, 4, 5, 6, 7, 8, 9,
+        255, 255, 255, 255, 255, 255, 255, 36, 37, 38, 39, 40, 41, 42, 43, 44, 45, 46, 47, 48, 49,
+        50, 51, 52, 53, 54, 55, 56, 57, 58, 59, 60, 61, 255, 255, 255, 255, 255, 255, 10, 11, 12,
+        13, 14, 15, 16, 17, 18, 19, 20, 21, 22, 23, 24, 25, 26, 27, 28, 29, 30, 31, 32, 33, 34, 35,
+        255, 255, 255, 255, 255, 255, 255, 255, 255, 255, 255, 255, 255, 255, 255, 255, 255, 255,
+        255, 255, 255, 255, 255, 255, 255, 255, 255, 255, 255, 255, 255, 255, 255, 255, 255, 255,
+        255, 255, 255, 255, 255, 255, 255, 255, 255, 255, 255, 255, 255, 255, 255, 255, 255, 255,
+        255, 255, 255, 255, 255, 255, 255, 255, 255, 255, 255, 255, 255, 255, 255, 255, 255, 255,
+        255, 255, 255, 255, 255, 255, 255, 255, 255, 255, 255, 255, 255, 255, 255, 255, 255, 255,
+        255, 255, 255, 255, 255, 255, 255, 255, 255, 255, 255, 255, 255, 255, 255, 255, 255, 255,
+        255, 255, 255, 255, 255, 255, 255, 255, 255, 255, 255, 255, 255, 255, 255, 255, 255, 255,
+        255, 255, 255, 255, 255, 255, 255,
+    ],
+};
+
+// The tables of the standard alphabet.
+#[inline(always)]
+pub(crate) fn standard_tables() -> &'static Tables {
+    &STANDARD
+}
+
+// The tables of the alternative alphabet.
+#[inline(always)]
+pub(crate) fn alternative_tables() -> &'static Tables {
+    &ALTERNATIVE
+}

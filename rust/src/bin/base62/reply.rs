@@ -1,0 +1,107 @@
+// translate/rust has written this file from crates/base62_cli/src/reply.rt. Edit that one.
+// Its functions are proved there. This translation of them is tested, not proved.
+
+//! The reply to one line.
+
+use crate::memory::Bytes;
+use base62::DecodeError;
+use std::io::{self, Write};
+use std::str;
+
+const TEN_TO_19: u128 = 10_000_000_000_000_000_000;
+
+// 2^127 / 10^19, rounded down.
+const INVERSE: u128 = 17_014_118_346_046_923_173;
+
+// The built-in alphabet of a command.
+#[derive(Clone, Copy)]
+pub(crate) enum BuiltIn {
+    Standard,
+    Alternative,
+}
+
+/// Appends the reply to `line`, and `\n`. `Err` says that there was no memory; a part of
+/// them may have been appended.
+pub fn push_reply(line: &[u8], out: &mut Bytes) -> io::Result<()> {
+    if let Some(text) = line.strip_prefix(b"enc ") {
+        push_encoded(BuiltIn::Standard, text, out)
+    } else if let Some(text) = line.strip_prefix(b"alt ") {
+        push_encoded(BuiltIn::Alternative, text, out)
+    } else if let Some(text) = line.strip_prefix(b"dec ") {
+        push_decoded(BuiltIn::Standard, text, out)
+    } else if let Some(text) = line.strip_prefix(b"adc ") {
+        push_decoded(BuiltIn::Alternative, text, out)
+    } else {
+        out.write_all(b"fault: unknown command\n")
+    }
+}
+
+fn push_encoded(alphabet: BuiltIn, text: &[u8], out: &mut Bytes) -> io::Result<()> {
+    let Some(number) = number_of(text) else {
+        return out.write_all(b"fault: not a number\n");
+    };
+    // The text has 22 letters at most.
+    let mut buf = [0u8; 23];
+    let len = encode(alphabet, number, &mut buf);
+    buf[len] = b'\n';
+    out.write_all(&buf[..=len])
+}
+
+fn encode(alphabet: BuiltIn, number: u128, buf: &mut [u8; 23]) -> usize {
+    match alphabet {
+        BuiltIn::Standard => base62::encode_bytes(number, buf).unwrap(),
+        BuiltIn::Alternative => base62::encode_alternative_bytes(number, buf).unwrap(),
+    }
+}
+
+fn push_decoded(alphabet: BuiltIn, text: &[u8], out: &mut Bytes) -> io::Result<()> {
+    match decode(alphabet, text) {
+        Ok(number) => push_number(number, out),
+        Err(fault) => writeln!(out, "fault: {fault}"),
+    }
+}
+
+// Appends the number in decimal, and `\n`. A number above 64 bits goes in two parts, since each of
+// its digits would take a division of 128 bits. A digit of a part within 64 bits takes one of 64.
+fn push_number(number: u128, out: &mut Bytes) -> io::Result<()> {
+    if number <= u128::from(u64::MAX) {
+        return writeln!(out, "{number}");
+    }
+    let (high, low) = cut_by_19(number);
+    writeln!(out, "{high}{low:019}")
+}
+
+// The quotient and the remainder by 10^19. The quotient is estimated from the upper half, and a
+// quotient of 64 bits adds what is missing: the language's `/` of 128 bits calls the C runtime.
+fn cut_by_19(number: u128) -> (u128, u128) {
+    let estimate = ((number >> 64) * INVERSE) >> 63;
+    let remainder = number - estimate * TEN_TO_19;
+    // The remainder is below 5 * 10^19, and 4 divides both.
+    let more = u128::from((remainder >> 2) as u64 / (TEN_TO_19 >> 2) as u64);
+    (estimate + more, remainder - more * TEN_TO_19)
+}
+
+fn decode(alphabet: BuiltIn, text: &[u8]) -> Result<u128, DecodeError> {
+    match alphabet {
+        BuiltIn::Standard => base62::decode(text),
+        BuiltIn::Alternative => base62::decode_alternative(text),
+    }
+}
+
+// The number that decimal digits denote, if it is below 2^128.
+fn number_of(text: &[u8]) -> Option<u128> {
+    // `parse` takes a plus sign.
+    if text.starts_with(b"+") {
+        return None;
+    }
+    let Ok(digits) = str::from_utf8(text) else {
+        return None;
+    };
+    // A `u64` has twenty digits at most, and is read without products of 128 bits.
+    if text.len() <= 20 {
+        if let Ok(number) = digits.parse::<u64>() {
+            return Some(u128::from(number));
+        }
+    }
+    digits.parse::<u128>().ok()
+}

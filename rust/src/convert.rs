@@ -1,0 +1,19 @@
+//! What Rust has, and the source has not.
+
+use crate::{Alphabet, AlphabetError};
+use core::hash::{Hash, Hasher};
+
+impl Hash for Alphabet {
+    fn hash<H: Hasher>(&self, state: &mut H) {
+        self.letters().hash(state);
+    }
+}
+
+/// As [`Alphabet::new`].
+impl TryFrom<[u8; 62]> for Alphabet {
+    type Error = AlphabetError;
+
+    fn try_from(letters: [u8; 62]) -> Result<Self, AlphabetError> {
+        Alphabet::new(letters)
+    }
+}

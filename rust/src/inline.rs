@@ -1,0 +1,28 @@
+//! A text of at most `N` bytes, without an allocator: what `InlineText` of Rattle's `std` is where no part is cut.
+
+#[derive(Clone, Copy)]
+pub(crate) struct InlineText<const N: usize> {
+    bytes: [u8; N],
+    len: usize,
+}
+
+impl<const N: usize> InlineText<N> {
+    pub(crate) fn new() -> InlineText<N> {
+        InlineText {
+            bytes: [0; N],
+            len: 0,
+        }
+    }
+
+    /// Appends a part. All that this crate appends fits, as is proved.
+    pub(crate) fn and_str(mut self, part: &str, _max_len: usize) -> InlineText<N> {
+        let end = self.len + part.len();
+        self.bytes[self.len..end].copy_from_slice(part.as_bytes());
+        self.len = end;
+        self
+    }
+
+    pub(crate) fn as_str(&self) -> &str {
+        core::str::from_utf8(&self.bytes[..self.len]).unwrap()
+    }
+}

@@ -1,0 +1,113 @@
+//! Values from outside this code, and texts by plain division.
+#![allow(dead_code)]
+
+use base62::{Alphabet, DecodeError};
+use std::collections::HashMap;
+use std::path::Path;
+use std::sync::OnceLock;
+
+pub const STANDARD: &[u8; 62] = b"0123456789ABCDEFGHIJKLMNOPQRSTUVWXYZabcdefghijklmnopqrstuvwxyz";
+pub const ALTERNATIVE: &[u8; 62] =
+    b"0123456789abcdefghijklmnopqrstuvwxyzABCDEFGHIJKLMNOPQRSTUVWXYZ";
+
+/// Letters that ascend and are no ASCII.
+pub fn high_letters() -> [u8; 62] {
+    std::array::from_fn(|digit| 194 + digit as u8)
+}
+
+/// Letters of ASCII that do not ascend.
+pub fn reversed_letters() -> [u8; 62] {
+    let mut letters = *STANDARD;
+    letters.reverse();
+    letters
+}
+
+/// The values that the tests of all packages share. What cargo packs has its own copy.
+fn values() -> &'static str {
+    static VALUES: OnceLock<String> = OnceLock::new();
+    let read = |file| std::fs::read_to_string(Path::new(env!("CARGO_MANIFEST_DIR")).join(file));
+    VALUES.get_or_init(|| {
+        read("../tests/values.tsv").unwrap_or_else(|_| read("tests/values.tsv").unwrap())
+    })
+}
+
+/// The rows of a kind in tests/values.tsv, whose head tells of them, without the kind.
+pub fn rows(kind: &str) -> Vec<Vec<&'static str>> {
+    let lines = values().lines();
+    let all = lines.map(|line| line.split('\t').collect::<Vec<_>>());
+    let found: Vec<_> = all
+        .filter(|row| row[0] == kind)
+        .map(|row| row[1..].to_vec())
+        .collect();
+    assert!(!found.is_empty(), "no row of {kind}");
+    found
+}
+
+/// The bytes of a text there.
+pub fn bytes(text: &str) -> Vec<u8> {
+    let mut parts = text.split('%');
+    let mut found = parts.next().unwrap().as_bytes().to_vec();
+    for part in parts {
+        found.push(u8::from_str_radix(&part[..2], 16).unwrap());
+        found.extend(part[2..].bytes());
+    }
+    found
+}
+
+/// The alphabets there, by their names.
+pub fn alphabets() -> HashMap<&'static str, Alphabet> {
+    let of = |row: Vec<&'static str>| {
+        let letters = bytes(row[1]).try_into().unwrap();
+        (row[0], Alphabet::new(letters).unwrap())
+    };
+    rows("alphabet").into_iter().map(of).collect()
+}
+
+/// The fault that the last fields of a row name. None if this machine has no such index.
+pub fn decode_error(fields: &[&str]) -> Option<DecodeError> {
+    match fields {
+        ["empty"] => Some(DecodeError::EmptyInput),
+        ["overflow"] => Some(DecodeError::ArithmeticOverflow),
+        ["byte", byte, index] => {
+            let byte = byte.parse().unwrap();
+            index
+                .parse()
+                .ok()
+                .map(|index| DecodeError::InvalidBase62Byte(byte, index))
+        }
+        _ => panic!("no fault of decoding: {fields:?}"),
+    }
+}
+
+/// The numbers about the borders of each length, of 64 bits and of 128.
+pub fn borders() -> Vec<u128> {
+    let powers = (0..22).map(|places| 62_u128.pow(places));
+    let mut all: Vec<u128> = powers
+        .flat_map(|power| [power - 1, power, power + 1])
+        .collect();
+    all.extend([
+        u128::from(u64::MAX),
+        1 << 64,
+        (1 << 64) + 1,
+        u128::MAX - 1,
+        u128::MAX,
+    ]);
+    all
+}
+
+/// The text of a number, by division.
+pub fn digits(letters: &[u8; 62], mut number: u128) -> Vec<u8> {
+    let mut text = vec![letters[(number % 62) as usize]];
+    while number >= 62 {
+        number /= 62;
+        text.insert(0, letters[(number % 62) as usize]);
+    }
+    text
+}
+
+/// That text with zeros in front, or none where it is longer or there are no letters.
+pub fn fixed(letters: &[u8; 62], number: u128, width: usize) -> Option<Vec<u8>> {
+    let text = digits(letters, number);
+    let zeros = width.checked_sub(text.len())?;
+    Some([vec![letters[0]; zeros], text].concat())
+}

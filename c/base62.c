@@ -1622,18 +1622,18 @@ base62_status base62_decode_canonical_with(const base62_alphabet *alphabet, cons
         length), number, bad);
 }
 
-base62_status base62_key_range(const char *front, size_t length, base62_range *range, base62_bad_byte *bad) {
-    return (base62_status)tell_range(key_range((const uint8_t *)front, length), range, bad);
+base62_status base62_key_range(const char *prefix, size_t length, base62_range *range, base62_bad_byte *bad) {
+    return (base62_status)tell_range(key_range((const uint8_t *)prefix, length), range, bad);
 }
 
-base62_status base62_fixed_range(size_t width, const char *front, size_t length, base62_range *range,
+base62_status base62_fixed_range(size_t width, const char *prefix, size_t length, base62_range *range,
     base62_bad_byte *bad) {
-    return (base62_status)tell_range(fixed_range(width, (const uint8_t *)front, length), range, bad);
+    return (base62_status)tell_range(fixed_range(width, (const uint8_t *)prefix, length), range, bad);
 }
 
-base62_status base62_fixed_range_with(const base62_alphabet *alphabet, size_t width, const char *front,
+base62_status base62_fixed_range_with(const base62_alphabet *alphabet, size_t width, const char *prefix,
     size_t length, base62_range *range, base62_bad_byte *bad) {
-    return (base62_status)tell_range(fixed_range_with((const Alphabet *)alphabet, width, (const uint8_t *)front,
+    return (base62_status)tell_range(fixed_range_with((const Alphabet *)alphabet, width, (const uint8_t *)prefix,
         length), range, bad);
 }
 
@@ -1665,5 +1665,5 @@ size_t base62_fault_text(base62_status status, base62_bad_byte bad, char *buffer
 }
 
 uint32_t base62_version_number(void) {
-    return 30000;
+    return 30100;
 }

@@ -253,7 +253,7 @@ pub extern "C" fn base62_fault_text(status: u32, bad: BadByte, buf: &mut [u8]) -
 
 #[unsafe(no_mangle)]
 pub extern "C" fn base62_version_number() -> u32
-    ensures { result ≡ 30000 }
+    ensures { result ≡ 30100 }
 {
-    30000
+    30100
 }

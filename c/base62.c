@@ -1549,7 +1549,7 @@ static InlineText whole(const uint8_t *text, size_t text_length) {
 
 /* -------------------- base62_c: lib -------------------- */
 
-// The calls of `base62` for C: `include/base62.h` declares them and says what they do.
+// The calls of `base62` for C: `c/base62.h` declares them and says what they do.
 //
 // In C a `&[u8]` is a pointer and then a length. Any other reference is a pointer, and a struct is
 // a value.

@@ -227,6 +227,8 @@ KNOWN_RANGES: list[tuple[int, bytes, Answer]] = [
     (22, b"7n", ("numbers", 340236514539200045093703517809706795008, LARGEST)),
     (22, b"7o", ("none",)),
     (22, b"8", ("none",)),
+    # Both factors of its least number are 2^64 or more.
+    (22, b"LygHa16AHYG", ("none",)),
     (22, b"7n42DGM5Tflk9n8mt7Fhc8", ("none",)),
     (22, b"0" * 23, ("none",)),
     (22, b"0-!", ("byte", 45, 1)),

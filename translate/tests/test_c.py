@@ -133,6 +133,7 @@ MISTAKES = [
      "declared(of, name)} = {text};\".replace(\"uint64_t\", \"size_t\"))"),
     ("saturating_add wraps", "gcc", "prelude.c", "u128_less(sum, a) ? u128_sub(u128_of(0), u128_of(1)) : sum", "sum"),
     ("checked_mul passes over the high half of a product", "gcc", "prelude.c", "u128_high(cross) == 0 && ", ""),
+    ("checked_mul passes over the products of high halves", "gcc", "prelude.c", "(a_high == 0 || b_high == 0) && ", ""),
     ("checked_mul passes over the carry", "gcc", "prelude.c", " && u128_high(product) >= u128_high(low)", ""),
     ("checked_add never overflows", "gcc", "prelude.c", ".is_some = !u128_less(sum, a)", ".is_some = true"),
     ("the bytes of a number begin with the lowest", "gcc", "prelude.c", "120 - 8 * i", "8 * i"),

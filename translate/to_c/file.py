@@ -179,7 +179,7 @@ def written(root):
     crates = {}
     for name in ("base62", "base62_c"):
         crates[name] = Module(crates, [name], root / "crates" / name / "src" / "lib.rt")
-    header = Header(next(p for p in (root / "c/base62.h", root / "include/base62.h") if p.exists()).read_text())
+    header = Header((root / "c/base62.h").read_text())
     exported = [d for d in crates["base62_c"].definitions.values() if d.kind == "fn" and d.item.is_exported]
     if alone := set(header.functions) ^ {definition.name for definition in exported}:
         raise Refusal(f"base62.h: in the header or in the source alone: {', '.join(sorted(alone))}")

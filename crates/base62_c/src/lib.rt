@@ -1,4 +1,4 @@
-//! The calls of `base62` for C: `include/base62.h` declares them and says what they do.
+//! The calls of `base62` for C: `c/base62.h` declares them and says what they do.
 //!
 //! In C a `&[u8]` is a pointer and then a length. Any other reference is a pointer, and a struct is
 //! a value.

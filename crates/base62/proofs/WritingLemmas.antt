@@ -66,15 +66,21 @@ module _ (B : List ℕ) (v w t n q m : ℕ) (both : v + w ≡ t) (quotient : q �
         let others : drop t mid ≡ drop t old = rw (← both) behind in
         front_first same (written_front B v q old mid front) others
 
--- the back first, where the code cuts n by 62^w
+  -- the back first
+  pub back_on : (old part new : List ℕ) → t ≤ length old
+      → WritesFixed B w m (places_from v old) part
+      → WritesFixed B v q (put_from v old part) new → WritesFixed B t n old new
+  back_on old part new room back front =
+      let size : length (take v old) ≡ v = length-take-le v old (omega (arith, room, both)) in
+      let written = part_written B v w m old part (omega (arith, room, both)) back in
+      let behind : drop v (put_from v old part) ≡ fixed B w m ++ drop (v + w) old = ap (drop v) written ∙ drop_at (take v old) _ v size in
+      front ∙ rw behind (joined old)
+
+-- the same, where the code cuts n by 62^w
 pub back_first : (B : List ℕ) (v w t n : ℕ) → v + w ≡ t → (old part new : List ℕ) → t ≤ length old
     → WritesFixed B w (n - n / 62 ^ w * 62 ^ w) (places_from v old) part
     → WritesFixed B v (n / 62 ^ w) (put_from v old part) new → WritesFixed B t n old new
-back_first B v w t n both old part new room back front =
-    let size : length (take v old) ≡ v = length-take-le v old (omega (arith, room, both)) in
-    let written = part_written B v w _ old part (omega (arith, room, both)) back in
-    let behind : drop v (put_from v old part) ≡ fixed B w (n - n / 62 ^ w * 62 ^ w) ++ drop (v + w) old = ap (drop v) written ∙ drop_at (take v old) _ v size in
-    front ∙ rw behind (joined B v w t n (n / 62 ^ w) _ both refl (remainder_is n (62 ^ w)) old)
+back_first B v w t n both = back_on B v w t n (n / 62 ^ w) _ both refl (remainder_is n (62 ^ w))
 
 -- a letter
 pub letter_written : (B old : List ℕ) (x letter : ℕ) → 1 ≤ length old → x < 62
@@ -93,7 +99,7 @@ letter_front B old (suc zero) x letter room few small is =
 letter_front B old (suc (suc v)) x letter room few small is = absurd (omega arith)
 
 -- two letters
-pair_written : (B old : List ℕ) (x first second : ℕ) → 2 ≤ length old → x < 62 ^ 2
+pub pair_written : (B old : List ℕ) (x first second : ℕ) → 2 ≤ length old → x < 62 ^ 2
     → first ≡ get_or B (x / 62) 0 → second ≡ get_or B (x % 62) 0
     → WritesFixed B 2 x old (set (set old 0 first) 1 second)
 unfolding fixed

@@ -42,13 +42,29 @@ impl Tables {
         ensures second { result.1 ≡ slice_index self.now.letters (number % 62) }
         ensures step { work.new ≡ work.old + 1 }
     {
-        work.tick();
         // The quotient by 62, since the number is small.
         let quotient = (number * 4229) >> 18;
-        let remainder = number - quotient * 62;
-        // SAFETY: both are below 62, since the number is below 62^2.
-        let first = unsafe { *self.letters.get_unchecked(quotient as usize) };
-        let second = unsafe { *self.letters.get_unchecked(remainder as usize) };
+        self.pair_of_digits(quotient, number - quotient * 62, work)
+    }
+
+    // The letters of two digits at once.
+    #[inline(always)]
+    pub(crate) fn pair_of_digits(
+        &self,
+        first_digit: u32,
+        second_digit: u32,
+        work: &mut Work,
+    ) -> (u8, u8)
+        requires first { first_digit < 62 }
+        requires second { second_digit < 62 }
+        ensures first { result.0 ≡ slice_index self.now.letters first_digit }
+        ensures second { result.1 ≡ slice_index self.now.letters second_digit }
+        ensures step { work.new ≡ work.old + 1 }
+    {
+        work.tick();
+        // SAFETY: a digit is below 62.
+        let first = unsafe { *self.letters.get_unchecked(first_digit as usize) };
+        let second = unsafe { *self.letters.get_unchecked(second_digit as usize) };
         (first, second)
     }
 

@@ -66,7 +66,12 @@ fn write_narrow(tables: &Tables, n: u64, count: usize, buf: &mut [u8], work: &mu
         // Of ten letters, the first is written over this one.
         buf[0] = tables.letter(quotient as u32, work);
         let remainder = n - quotient * POWER_10;
-        write_10(tables, remainder, &mut buf[count - 10..], work);
+        write_10(
+            tables,
+            fraction_of(remainder) as u64,
+            &mut buf[count - 10..],
+            work,
+        );
     }
 }
 
@@ -80,77 +85,64 @@ fn write_wide(tables: &Tables, n: u128, count: usize, buf: &mut [u8], work: &mut
     ensures steps { work.new ≡ work.old + encoding_steps count }
 {
     if count > 20 {
-        let (top, remainder) = cut_by_20(n);
-        let (middle, low) = cut_by_10(remainder);
+        let (top, high, low) = cut_by_20(n);
         write_1_or_2(tables, top, count - 20, buf, work);
-        write_20(tables, middle, low, &mut buf[count - 20..], work);
+        write_20(tables, high, low, &mut buf[count - 20..], work);
     } else if count == 20 {
         let (high, low) = cut_by_10(n);
-        write_20(tables, high, low, buf, work);
+        write_20(tables, fraction_of(high) as u64, low, buf, work);
     } else {
         let (high, low) = cut_by_10(n);
-        write_up_to_9(tables, high, count - 10, buf, work);
         write_10(tables, low, &mut buf[count - 10..], work);
+        write_up_to_9(tables, high, count - 10, buf, work);
     }
 }
 
-// Divides by 62^20. The upper bits times 2^136 / 62^20 give the quotient, or one less.
+// Divides by 62^20, and cuts the remainder into two fractions of ten letters. The upper bits times
+// 2^136 / 62^20 give the quotient, or one less: then the first fraction is one whole too large.
 #[inline(always)]
-fn cut_by_20(n: u128) -> (u32, u128)
+fn cut_by_20(n: u128) -> (u32, u64, u64)
     ensures quotient { result.0 ≡ n / 62 ^ 20 }
-    ensures remainder { result.1 ≡ n % 62 ^ 20 }
+    ensures remainder { result.1 * 62 ^ 10 / 2 ^ 64 * 62 ^ 10 + result.2 * 62 ^ 10 / 2 ^ 64 ≡ n % 62 ^ 20 }
 {
     let upper = (n >> 96) as u64;
     let estimate = ((upper * 123664) >> 40) as u32;
     let remainder = n - estimate as u128 * POWER_20;
-    if remainder < POWER_20 {
-        (estimate, remainder)
-    } else {
-        one_more_20(estimate, remainder)
-    }
+    let (high, low) = cut_by_10(remainder);
+    let fraction = fraction_of(high);
+    let quotient = estimate + (fraction >> 64) as u32;
+    (quotient, (fraction & 0xffffffff_ffffffff) as u64, low)
 }
 
-#[cold]
-#[inline(never)]
-fn one_more_20(estimate: u32, remainder: u128) -> (u32, u128)
-    requires few { estimate ≤ 483 }
-    requires some { 62 ^ 20 ≤ remainder }
-    ensures quotient { result.0 ≡ estimate + 1 }
-    ensures remainder { result.1 ≡ remainder - 62 ^ 20 }
-{
-    (estimate + 1, remainder - POWER_20)
-}
-
-// Divides by 62^10. The upper bits times 2^123 / 62^10 give the quotient, or one less.
+// Divides by 62^10, and gives the remainder as a fraction. The upper bits times 2^120 / 62^10 give
+// the quotient, or one less: then the fraction is one whole too large.
 #[inline(always)]
 fn cut_by_10(n: u128) -> (u64, u64)
-    requires { n < 62 ^ 20 }
+    requires { n < 2 ^ 60 * 62 ^ 10 }
     ensures quotient { result.0 ≡ n / 62 ^ 10 }
-    ensures remainder { result.1 ≡ n % 62 ^ 10 }
+    ensures remainder { result.1 * 62 ^ 10 / 2 ^ 64 ≡ n % 62 ^ 10 }
 {
     let upper = (n >> 56) as u64;
-    let estimate = ((upper as u128 * 12669882045338564946) >> 67) as u64;
+    let estimate = ((upper as u128 * 1583735255667320618) >> 64) as u64;
     let remainder = (n - estimate as u128 * POWER_10 as u128) as u64;
-    if remainder < POWER_10 {
-        (estimate, remainder)
-    } else {
-        one_more_10(estimate, remainder)
-    }
+    let fraction = fraction_of(remainder);
+    let quotient = estimate + (fraction >> 64) as u64;
+    (quotient, (fraction & 0xffffffff_ffffffff) as u64)
 }
 
-#[cold]
-#[inline(never)]
-fn one_more_10(estimate: u64, remainder: u64) -> (u64, u64)
-    requires few { estimate < 62 ^ 10 }
-    requires some { 62 ^ 10 ≤ remainder }
-    ensures quotient { result.0 ≡ estimate + 1 }
-    ensures remainder { result.1 ≡ remainder - 62 ^ 10 }
+// The fraction of a number for its last ten letters, in parts of 2^64, and a whole for each 62^10.
+// A number has 21 fractions or more. The product with 2^64 / 62^10 is no more than two below this
+// one.
+#[inline(always)]
+fn fraction_of(n: u64) -> u128
+    requires { n < 2 ^ 60 }
+    ensures number { result * 62 ^ 10 / 2 ^ 64 ≡ n }
 {
-    (estimate + 1, remainder - POWER_10)
+    let whole = n * 16;
+    whole as u128 + ((whole as u128 * 6893020016967578278) >> 64) + 1
 }
 
 // One to nine letters. Where there are more than four, the last four are written first.
-#[inline(always)]
 fn write_up_to_9(tables: &Tables, n: u64, places: usize, buf: &mut [u8], work: &mut Work)
     requires fits { n < 62 ^ places }
     requires least { 1 ≤ places }
@@ -232,41 +224,75 @@ fn write_4(tables: &Tables, x: u32, buf: &mut [u8], work: &mut Work)
     write_2(tables, quotient, buf, work);
 }
 
-// Five letters.
-fn write_5(tables: &Tables, x: u32, buf: &mut [u8], work: &mut Work)
-    requires fits { x < 62 ^ 5 }
-    requires room { 5 ≤ length buf.old }
-    ensures written { WritesFixed tables.now.letters 5 x buf.old buf.new }
-    ensures steps { work.new ≡ work.old + 3 }
-{
-    let quotient = x / POWER_2;
-    let top = quotient / POWER_2;
-    write_2(tables, x - quotient * POWER_2, &mut buf[3..], work);
-    write_2(tables, quotient - top * POWER_2, &mut buf[1..], work);
-    buf[0] = tables.letter(top, work);
-}
-
-// Ten letters.
-fn write_10(tables: &Tables, n: u64, buf: &mut [u8], work: &mut Work)
-    requires fits { n < 62 ^ 10 }
-    requires room { 10 ≤ length buf.old }
-    ensures written { WritesFixed tables.now.letters 10 n buf.old buf.new }
-    ensures steps { work.new ≡ work.old + 6 }
-{
-    let high = n / POWER_5;
-    write_5(tables, high as u32, buf, work);
-    write_5(tables, (n - high * POWER_5) as u32, &mut buf[5..], work);
-}
-
-// Twenty letters of a number, which is given by its quotient and its remainder by 62^10.
-#[inline(always)]
+// Twenty letters of two fractions. The last ten are known first.
 fn write_20(tables: &Tables, high: u64, low: u64, buf: &mut [u8], work: &mut Work)
-    requires high { high < 62 ^ 10 }
-    requires low { low < 62 ^ 10 }
     requires room { 20 ≤ length buf.old }
-    ensures written { WritesFixed tables.now.letters 20 (high * 62 ^ 10 + low) buf.old buf.new }
+    ensures written { let number = high * 62 ^ 10 / 2 ^ 64 * 62 ^ 10 + low * 62 ^ 10 / 2 ^ 64 in
+        WritesFixed tables.now.letters 20 number buf.old buf.new }
     ensures steps { work.new ≡ work.old + 12 }
 {
-    write_10(tables, high, buf, work);
     write_10(tables, low, &mut buf[10..], work);
+    write_10(tables, high, buf, work);
+}
+
+// Ten letters of a fraction, the last five by a product of their own.
+#[inline(always)]
+fn write_10(tables: &Tables, fraction: u64, buf: &mut [u8], work: &mut Work)
+    requires room { 10 ≤ length buf.old }
+    ensures written { WritesFixed tables.now.letters 10 (fraction * 62 ^ 10 / 2 ^ 64) buf.old buf.new }
+    ensures steps { work.new ≡ work.old + 6 }
+{
+    write_5(tables, fraction, buf, work);
+    write_5(tables, after_5(fraction), &mut buf[5..], work);
+}
+
+// Five letters of a fraction.
+#[inline(always)]
+fn write_5(tables: &Tables, fraction: u64, buf: &mut [u8], work: &mut Work)
+    requires room { 5 ≤ length buf.old }
+    ensures written { WritesFixed tables.now.letters 5 (fraction * 62 ^ 5 / 2 ^ 64) buf.old buf.new }
+    ensures steps { work.new ≡ work.old + 3 }
+{
+    let (digit, after_1) = next_digit(fraction);
+    buf[0] = tables.letter(digit, work);
+    let after_3 = write_next_2(tables, after_1, &mut buf[1..], work);
+    write_next_2(tables, after_3, &mut buf[3..], work);
+}
+
+// The first two letters of a fraction, as a pair. The answer is the fraction of those after them.
+#[inline(always)]
+fn write_next_2(tables: &Tables, fraction: u64, buf: &mut [u8], work: &mut Work) -> u64
+    requires room { 2 ≤ length buf.old }
+    ensures written { WritesFixed tables.now.letters 2 (fraction * 62 ^ 2 / 2 ^ 64) buf.old buf.new }
+    ensures after { result ≡ fraction * 62 ^ 2 % 2 ^ 64 }
+    ensures steps { work.new ≡ work.old + 1 }
+{
+    let (first_digit, after_1) = next_digit(fraction);
+    let (second_digit, after_2) = next_digit(after_1);
+    let (first, second) = tables.pair_of_digits(first_digit, second_digit, work);
+    buf[0] = first;
+    buf[1] = second;
+    after_2
+}
+
+// The first digit of a fraction, and the fraction of those after it.
+#[inline(always)]
+fn next_digit(fraction: u64) -> (u32, u64)
+    ensures digit { result.0 ≡ fraction * 62 / 2 ^ 64 }
+    ensures after { result.1 ≡ fraction * 62 % 2 ^ 64 }
+{
+    let product = fraction as u128 * 62;
+    (
+        (product >> 64) as u32,
+        (product & 0xffffffff_ffffffff) as u64,
+    )
+}
+
+// The fraction of the digits after the first five.
+#[inline(always)]
+fn after_5(fraction: u64) -> u64
+    ensures { result ≡ fraction * 62 ^ 5 % 2 ^ 64 }
+{
+    let product = fraction as u128 * POWER_5 as u128;
+    (product & 0xffffffff_ffffffff) as u64
 }

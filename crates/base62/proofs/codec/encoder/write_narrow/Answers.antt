@@ -26,4 +26,5 @@ returns-else-count-lt10-clause-written c =
     let front = letter_front B old (count - 10) q letter (omega (arith, c.requires.room)) one small c.letter.ensures.letter in
     let others = drop-set-lt count old 0 letter (omega arith) in
     let join = front_first B (count - 10) 10 count n q _ (omega arith) refl (remainder_is n (62 ^ 10)) in
-    join old (set old 0 letter) c.write_10.new.buf c.requires.room c.write_10.ensures.written (length-set old 0 letter) front others
+    let last = rw c.fraction_of.ensures.number at c.write_10.ensures.written in
+    join old (set old 0 letter) c.write_10.new.buf c.requires.room last (length-set old 0 letter) front others

@@ -1,6 +1,6 @@
-use Rattle.std.proofs.Common.{◌≡◌, ◌+◌, ◌-◌, ◌*◌, ◌%◌, ◌^◌, arith}
+use Rattle.std.proofs.Common.{◌≡◌, ◌+◌, ◌-◌, ◌*◌, ◌/◌, ◌%◌, ◌^◌, ◌<◌, sym, arith}
 use Rattle.base62.proofs.PowerLemmas.{fits_more, quotient_fits}
-use Rattle.base62.proofs.WritingLemmas.{written_on}
+use Rattle.base62.proofs.WritingLemmas.{written_on, back_on}
 use Rattle.base62.proofs.StepsLemmas.{ten_steps, steps_of_20, twenty_steps}
 use Rattle.base62.proofs.codec.encoder.write_wide.Goals as goal
 
@@ -9,7 +9,7 @@ write_1_or_2-requires-clause-fits c =
     rw c.cut_by_20-top.ensures.quotient (quotient_fits c.args.n (c.args.count - 20) 20 c.args.count (omega arith) c.requires.fits)
 
 pub cut_by_10-high-requires-else-count-eq20 : goal.cut_by_10-high-requires-else-count-eq20
-cut_by_10-high-requires-else-count-eq20 c = fits_more c.args.n c.args.count 20 c.requires.fits (omega arith)
+cut_by_10-high-requires-else-count-eq20 c = omega (arith, fits_more c.args.n c.args.count 20 c.requires.fits (omega arith))
 
 pub write_up_to_9-requires-clause-fits : goal.write_up_to_9-requires-clause-fits
 write_up_to_9-requires-clause-fits c =
@@ -17,12 +17,9 @@ write_up_to_9-requires-clause-fits c =
 
 pub returns-then-count-gt20-clause-written : goal.returns-then-count-gt20-clause-written
 returns-then-count-gt20-clause-written c =
-    let n = c.args.n in
     let count = c.args.count in
-    let middle = c.cut_by_10-middle in
-    let remainder : middle.result.0 * 62 ^ 10 + middle.result.1 ≡ n % 62 ^ 20 =
-    omega (arith, c.cut_by_20-top.ensures.remainder, middle.ensures.quotient, middle.ensures.remainder) in
-    let join = written_on c.args.tables.now.letters (count - 20) 20 count n _ _ (omega arith) c.cut_by_20-top.ensures.quotient remainder in
+    let cut = c.cut_by_20-top.ensures in
+    let join = written_on c.args.tables.now.letters (count - 20) 20 count c.args.n _ _ (omega arith) cut.quotient cut.remainder in
     join c.args.buf.now c.write_1_or_2.new.buf _ c.requires.room c.write_20.ensures.written c.write_1_or_2.ensures.written
 
 pub returns-then-count-gt20-clause-steps : goal.returns-then-count-gt20-clause-steps
@@ -36,8 +33,8 @@ pub returns-else-count-eq20-clause-written : goal.returns-else-count-eq20-clause
 returns-else-count-eq20-clause-written c =
     let count = c.args.count in
     let cut = c.cut_by_10-high-else-count-eq20.ensures in
-    let join = written_on c.args.tables.now.letters (count - 10) 10 count c.args.n _ _ (omega (arith, c.requires.least)) cut.quotient cut.remainder in
-    join c.args.buf.now c.write_up_to_9.new.buf c.write_10.new.buf c.requires.room c.write_10.ensures.written c.write_up_to_9.ensures.written
+    let join = back_on c.args.tables.now.letters (count - 10) 10 count c.args.n _ _ (omega (arith, c.requires.least)) cut.quotient cut.remainder in
+    join c.args.buf.now c.write_10.new.buf c.write_up_to_9.new.buf c.requires.room c.write_10.ensures.written c.write_up_to_9.ensures.written
 
 pub returns-else-count-eq20-clause-steps : goal.returns-else-count-eq20-clause-steps
 returns-else-count-eq20-clause-steps c = rw (ten_steps c.args.count c.requires.least (omega arith)) (omega (arith, c.write_up_to_9.ensures.steps, c.write_10.ensures.steps))

@@ -253,26 +253,28 @@ fn write_5(tables: &Tables, fraction: u64, buf: &mut [u8], work: &mut Work)
     ensures written { WritesFixed tables.now.letters 5 (fraction * 62 ^ 5 / 2 ^ 64) buf.old buf.new }
     ensures steps { work.new ≡ work.old + 3 }
 {
-    let (digit, after_1) = next_digit(fraction);
-    buf[0] = tables.letter(digit, work);
-    let after_3 = write_next_2(tables, after_1, &mut buf[1..], work);
-    write_next_2(tables, after_3, &mut buf[3..], work);
+    let (first, after_1) = next_digit(fraction);
+    let (second, after_2) = next_digit(after_1);
+    let (third, after_3) = next_digit(after_2);
+    let (fourth, after_4) = next_digit(after_3);
+    let fifth = last_digit(after_4);
+    buf[0] = tables.letter(first, work);
+    write_pair(tables, second, third, &mut buf[1..], work);
+    write_pair(tables, fourth, fifth, &mut buf[3..], work);
 }
 
-// The first two letters of a fraction, as a pair. The answer is the fraction of those after them.
+// The letters of two digits.
 #[inline(always)]
-fn write_next_2(tables: &Tables, fraction: u64, buf: &mut [u8], work: &mut Work) -> u64
+fn write_pair(tables: &Tables, first: u32, second: u32, buf: &mut [u8], work: &mut Work)
+    requires first { first < 62 }
+    requires second { second < 62 }
     requires room { 2 ≤ length buf.old }
-    ensures written { WritesFixed tables.now.letters 2 (fraction * 62 ^ 2 / 2 ^ 64) buf.old buf.new }
-    ensures after { result ≡ fraction * 62 ^ 2 % 2 ^ 64 }
+    ensures written { WritesFixed tables.now.letters 2 (first * 62 + second) buf.old buf.new }
     ensures steps { work.new ≡ work.old + 1 }
 {
-    let (first_digit, after_1) = next_digit(fraction);
-    let (second_digit, after_2) = next_digit(after_1);
-    let (first, second) = tables.pair_of_digits(first_digit, second_digit, work);
-    buf[0] = first;
-    buf[1] = second;
-    after_2
+    let (first_letter, second_letter) = tables.pair_of_digits(first, second, work);
+    buf[0] = first_letter;
+    buf[1] = second_letter;
 }
 
 // The first digit of a fraction, and the fraction of those after it.
@@ -286,6 +288,14 @@ fn next_digit(fraction: u64) -> (u32, u64)
         (product >> 64) as u32,
         (product & 0xffffffff_ffffffff) as u64,
     )
+}
+
+// The digit of a fraction after which none is wanted.
+#[inline(always)]
+fn last_digit(fraction: u64) -> u32
+    ensures { result ≡ fraction * 62 / 2 ^ 64 }
+{
+    ((fraction as u128 * 62) >> 64) as u32
 }
 
 // The fraction of the digits after the first five.

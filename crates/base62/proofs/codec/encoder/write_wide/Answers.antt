@@ -1,4 +1,4 @@
-use Rattle.std.proofs.Common.{◌≡◌, ◌+◌, ◌-◌, ◌*◌, ◌/◌, ◌%◌, ◌^◌, ◌<◌, sym, arith}
+use Rattle.std.proofs.Common.{◌-◌, arith}
 use Rattle.base62.proofs.PowerLemmas.{fits_more, quotient_fits}
 use Rattle.base62.proofs.WritingLemmas.{written_on, back_on}
 use Rattle.base62.proofs.StepsLemmas.{ten_steps, steps_of_20, twenty_steps}

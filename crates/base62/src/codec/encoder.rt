@@ -254,13 +254,12 @@ fn write_5(tables: &Tables, fraction: u64, buf: &mut [u8], work: &mut Work)
     ensures steps { work.new ≡ work.old + 3 }
 {
     let (first, after_1) = next_digit(fraction);
+    buf[0] = tables.letter(first, work);
     let (second, after_2) = next_digit(after_1);
     let (third, after_3) = next_digit(after_2);
-    let (fourth, after_4) = next_digit(after_3);
-    let fifth = last_digit(after_4);
-    buf[0] = tables.letter(first, work);
     write_pair(tables, second, third, &mut buf[1..], work);
-    write_pair(tables, fourth, fifth, &mut buf[3..], work);
+    let (fourth, after_4) = next_digit(after_3);
+    write_pair(tables, fourth, last_digit(after_4), &mut buf[3..], work);
 }
 
 // The letters of two digits.

@@ -143,6 +143,7 @@ fn fraction_of(n: u64) -> u128
 }
 
 // One to nine letters. Where there are more than four, the last four are written first.
+#[inline(always)]
 fn write_up_to_9(tables: &Tables, n: u64, places: usize, buf: &mut [u8], work: &mut Work)
     requires fits { n < 62 ^ places }
     requires least { 1 ≤ places }
@@ -225,6 +226,7 @@ fn write_4(tables: &Tables, x: u32, buf: &mut [u8], work: &mut Work)
 }
 
 // Twenty letters of two fractions. The last ten are known first.
+#[inline(always)]
 fn write_20(tables: &Tables, high: u64, low: u64, buf: &mut [u8], work: &mut Work)
     requires room { 20 ≤ length buf.old }
     ensures written { let number = high * 62 ^ 10 / 2 ^ 64 * 62 ^ 10 + low * 62 ^ 10 / 2 ^ 64 in

@@ -191,7 +191,6 @@ static inline InlineText InlineText_and_str(InlineText text, const uint8_t *part
     return text;
 }
 
-
 /* -------------------- base62: alphabet::tables -------------------- */
 
 // The letters and the digits of an alphabet, and their readers.
@@ -203,47 +202,48 @@ typedef struct Tables {
 } Tables;
 
 static const Tables STANDARD = {
-    .letters = {'0', '1', '2', '3', '4', '5', '6', '7', '8', '9', 'A', 'B', 'C', 'D', 'E', 'F', 'G', 'H', 'I',
-        'J', 'K', 'L', 'M', 'N', 'O', 'P', 'Q', 'R', 'S', 'T', 'U', 'V', 'W', 'X', 'Y', 'Z', 'a', 'b', 'c', 'd',
-        'e', 'f', 'g', 'h', 'i', 'j', 'k', 'l', 'm', 'n', 'o', 'p', 'q', 'r', 's', 't', 'u', 'v', 'w', 'x', 'y',
-        'z'},
+    .letters = {'0', '1', '2', '3', '4', '5', '6', '7', '8', '9', 'A', 'B', 'C', 'D', 'E', 'F', 'G', 'H', 'I', 'J',
+        'K', 'L', 'M', 'N', 'O', 'P', 'Q', 'R', 'S', 'T', 'U', 'V', 'W', 'X', 'Y', 'Z', 'a', 'b', 'c', 'd', 'e',
+        'f', 'g', 'h', 'i', 'j', 'k', 'l', 'm', 'n', 'o', 'p', 'q', 'r', 's', 't', 'u', 'v', 'w', 'x', 'y', 'z'},
     .digits = {255, 255, 255, 255, 255, 255, 255, 255, 255, 255, 255, 255, 255, 255, 255, 255, 255, 255, 255, 255,
         255, 255, 255, 255, 255, 255, 255, 255, 255, 255, 255, 255, 255, 255, 255, 255, 255, 255, 255, 255, 255,
-        255, 255, 255, 255, 255, 255, 255, 0, 1, 2, 3, 4, 5, 6, 7, 8, 9, 255, 255, 255, 255, 255, 255, 255, 10,
-        11, 12, 13, 14, 15, 16, 17, 18, 19, 20, 21, 22, 23, 24, 25, 26, 27, 28, 29, 30, 31, 32, 33, 34, 35, 255,
-        255, 255, 255, 255, 255, 36, 37, 38, 39, 40, 41, 42, 43, 44, 45, 46, 47, 48, 49, 50, 51, 52, 53, 54, 55,
-        56, 57, 58, 59, 60, 61, 255, 255, 255, 255, 255, 255, 255, 255, 255, 255, 255, 255, 255, 255, 255, 255,
+        255, 255, 255, 255, 255, 255, 255, 0, 1, 2, 3, 4, 5, 6, 7, 8, 9, 255, 255, 255, 255, 255, 255, 255, 10, 11,
+        12, 13, 14, 15, 16, 17, 18, 19, 20, 21, 22, 23, 24, 25, 26, 27, 28, 29, 30, 31, 32, 33, 34, 35, 255, 255,
+        255, 255, 255, 255, 36, 37, 38, 39, 40, 41, 42, 43, 44, 45, 46, 47, 48, 49, 50, 51, 52, 53, 54, 55, 56, 57,
+        58, 59, 60, 61, 255, 255, 255, 255, 255, 255, 255, 255, 255, 255, 255, 255, 255, 255, 255, 255, 255, 255,
         255, 255, 255, 255, 255, 255, 255, 255, 255, 255, 255, 255, 255, 255, 255, 255, 255, 255, 255, 255, 255,
         255, 255, 255, 255, 255, 255, 255, 255, 255, 255, 255, 255, 255, 255, 255, 255, 255, 255, 255, 255, 255,
         255, 255, 255, 255, 255, 255, 255, 255, 255, 255, 255, 255, 255, 255, 255, 255, 255, 255, 255, 255, 255,
         255, 255, 255, 255, 255, 255, 255, 255, 255, 255, 255, 255, 255, 255, 255, 255, 255, 255, 255, 255, 255,
         255, 255, 255, 255, 255, 255, 255, 255, 255, 255, 255, 255, 255, 255, 255, 255, 255, 255, 255, 255, 255,
-        255, 255, 255, 255, 255, 255, 255, 255, 255, 255, 255, 255},
+        255, 255, 255, 255, 255, 255, 255, 255, 255, 255},
 };
 
 static const Tables ALTERNATIVE = {
-    .letters = {'0', '1', '2', '3', '4', '5', '6', '7', '8', '9', 'a', 'b', 'c', 'd', 'e', 'f', 'g', 'h', 'i',
-        'j', 'k', 'l', 'm', 'n', 'o', 'p', 'q', 'r', 's', 't', 'u', 'v', 'w', 'x', 'y', 'z', 'A', 'B', 'C', 'D',
-        'E', 'F', 'G', 'H', 'I', 'J', 'K', 'L', 'M', 'N', 'O', 'P', 'Q', 'R', 'S', 'T', 'U', 'V', 'W', 'X', 'Y',
-        'Z'},
+    .letters = {'0', '1', '2', '3', '4', '5', '6', '7', '8', '9', 'a', 'b', 'c', 'd', 'e', 'f', 'g', 'h', 'i', 'j',
+        'k', 'l', 'm', 'n', 'o', 'p', 'q', 'r', 's', 't', 'u', 'v', 'w', 'x', 'y', 'z', 'A', 'B', 'C', 'D', 'E',
+        'F', 'G', 'H', 'I', 'J', 'K', 'L', 'M', 'N', 'O', 'P', 'Q', 'R', 'S', 'T', 'U', 'V', 'W', 'X', 'Y', 'Z'},
     .digits = {255, 255, 255, 255, 255, 255, 255, 255, 255, 255, 255, 255, 255, 255, 255, 255, 255, 255, 255, 255,
         255, 255, 255, 255, 255, 255, 255, 255, 255, 255, 255, 255, 255, 255, 255, 255, 255, 255, 255, 255, 255,
-        255, 255, 255, 255, 255, 255, 255, 0, 1, 2, 3, 4, 5, 6, 7, 8, 9, 255, 255, 255, 255, 255, 255, 255, 36,
-        37, 38, 39, 40, 41, 42, 43, 44, 45, 46, 47, 48, 49, 50, 51, 52, 53, 54, 55, 56, 57, 58, 59, 60, 61, 255,
-        255, 255, 255, 255, 255, 10, 11, 12, 13, 14, 15, 16, 17, 18, 19, 20, 21, 22, 23, 24, 25, 26, 27, 28, 29,
-        30, 31, 32, 33, 34, 35, 255, 255, 255, 255, 255, 255, 255, 255, 255, 255, 255, 255, 255, 255, 255, 255,
+        255, 255, 255, 255, 255, 255, 255, 0, 1, 2, 3, 4, 5, 6, 7, 8, 9, 255, 255, 255, 255, 255, 255, 255, 36, 37,
+        38, 39, 40, 41, 42, 43, 44, 45, 46, 47, 48, 49, 50, 51, 52, 53, 54, 55, 56, 57, 58, 59, 60, 61, 255, 255,
+        255, 255, 255, 255, 10, 11, 12, 13, 14, 15, 16, 17, 18, 19, 20, 21, 22, 23, 24, 25, 26, 27, 28, 29, 30, 31,
+        32, 33, 34, 35, 255, 255, 255, 255, 255, 255, 255, 255, 255, 255, 255, 255, 255, 255, 255, 255, 255, 255,
         255, 255, 255, 255, 255, 255, 255, 255, 255, 255, 255, 255, 255, 255, 255, 255, 255, 255, 255, 255, 255,
         255, 255, 255, 255, 255, 255, 255, 255, 255, 255, 255, 255, 255, 255, 255, 255, 255, 255, 255, 255, 255,
         255, 255, 255, 255, 255, 255, 255, 255, 255, 255, 255, 255, 255, 255, 255, 255, 255, 255, 255, 255, 255,
         255, 255, 255, 255, 255, 255, 255, 255, 255, 255, 255, 255, 255, 255, 255, 255, 255, 255, 255, 255, 255,
         255, 255, 255, 255, 255, 255, 255, 255, 255, 255, 255, 255, 255, 255, 255, 255, 255, 255, 255, 255, 255,
-        255, 255, 255, 255, 255, 255, 255, 255, 255, 255, 255, 255},
+        255, 255, 255, 255, 255, 255, 255, 255, 255, 255},
 };
 
 typedef struct pair_u8_u8 {
     uint8_t _0;
     uint8_t _1;
 } pair_u8_u8;
+
+static ALWAYS_INLINE pair_u8_u8 Tables_pair_of_digits(const Tables *self, uint32_t first_digit,
+    uint32_t second_digit);
 
 // The digit of a byte, or 255 if it has none.
 static inline uint8_t Tables_digit(const Tables *self, uint8_t byte) {
@@ -260,10 +260,16 @@ static ALWAYS_INLINE pair_u8_u8 Tables_pair(const Tables *self, uint32_t number)
     //@ assert requires: number < 3844;
     // The quotient by 62, since the number is small.
     const uint32_t quotient = (number * 4229) >> 18;
-    const uint32_t remainder = number - quotient * 62;
-    // SAFETY: both are below 62, since the number is below 62^2.
-    const uint8_t first = self->letters[quotient];
-    const uint8_t second = self->letters[remainder];
+    return Tables_pair_of_digits(self, quotient, number - quotient * 62);
+}
+
+// The letters of two digits at once.
+static ALWAYS_INLINE pair_u8_u8 Tables_pair_of_digits(const Tables *self, uint32_t first_digit,
+    uint32_t second_digit) {
+    //@ assert requires: first_digit < 62 && second_digit < 62;
+    // SAFETY: a digit is below 62.
+    const uint8_t first = self->letters[first_digit];
+    const uint8_t second = self->letters[second_digit];
     return (pair_u8_u8){first, second};
 }
 
@@ -283,7 +289,6 @@ static ALWAYS_INLINE const Tables *standard_tables(void) {
 static ALWAYS_INLINE const Tables *alternative_tables(void) {
     return &ALTERNATIVE;
 }
-
 
 /* -------------------- base62: fault -------------------- */
 
@@ -428,7 +433,6 @@ static InlineText append(InlineText text, const uint8_t *part, size_t part_lengt
     return InlineText_and_str(text, part, part_length);
 }
 
-
 /* -------------------- base62: alphabet -------------------- */
 
 // Alphabets: their letters, and the digits of bytes.
@@ -484,7 +488,6 @@ static ALWAYS_INLINE const Tables *Alphabet_as_tables(const Alphabet *self) {
     return &self->tables;
 }
 
-
 /* -------------------- base62: powers -------------------- */
 
 // Powers of 62.
@@ -497,19 +500,17 @@ static ALWAYS_INLINE const Tables *Alphabet_as_tables(const Alphabet *self) {
 static const u128 POWER_20 = U128(0x87aac19e40aafc, 0xe20c98f58100000);
 
 static const uint64_t POWERS[11] = {1, 62, (uint64_t)POWER_2, (uint64_t)POWER_3, (uint64_t)POWER_4, POWER_5,
-    UINT64_C(56800235584), UINT64_C(3521614606208), UINT64_C(218340105584896), UINT64_C(13537086546263552),
-    POWER_10};
+    UINT64_C(56800235584), UINT64_C(3521614606208), UINT64_C(218340105584896), UINT64_C(13537086546263552), POWER_10};
 
 // The greatest number of k letters at place k, below 2^128.
 static const u128 GREATEST[23] = {U128(0, 0), U128(0, 61), U128(0, 3843), U128(0, 238327), U128(0, 14776335),
     U128(0, 916132831), U128(0, UINT64_C(56800235583)), U128(0, UINT64_C(3521614606207)),
-    U128(0, UINT64_C(218340105584895)), U128(0, UINT64_C(13537086546263551)),
-    U128(0, UINT64_C(839299365868340223)), U128(0x2, 0xd227003d8d2af7ff), U128(0xae, 0xe5720ee830680fff),
-    U128(0x2a5b, 0x919f9c3bb933dfff), U128(0xa422d, 0x44a7d676da903fff), U128(0x27c06f6, 0xa0a5f0c8eeef7fff),
-    U128(0x9a09afba, 0xe83050a9de00ffff), U128(0x254e588f44, 0x3bb38923c43dffff),
-    U128(0x908f972b286, 0x757b36a98703ffff), U128(0x2302c69c73c90, 0x73d73d0eb2f7ffff),
-    U128(0x87aac19e40aafc, 0xe20c98f580fffff), U128(0x20db5ae453a9690b, 0x6bf0d0b753dfffff),
-    U128(0xffffffffffffffff, 0xffffffffffffffff)};
+    U128(0, UINT64_C(218340105584895)), U128(0, UINT64_C(13537086546263551)), U128(0, UINT64_C(839299365868340223)),
+    U128(0x2, 0xd227003d8d2af7ff), U128(0xae, 0xe5720ee830680fff), U128(0x2a5b, 0x919f9c3bb933dfff),
+    U128(0xa422d, 0x44a7d676da903fff), U128(0x27c06f6, 0xa0a5f0c8eeef7fff), U128(0x9a09afba, 0xe83050a9de00ffff),
+    U128(0x254e588f44, 0x3bb38923c43dffff), U128(0x908f972b286, 0x757b36a98703ffff),
+    U128(0x2302c69c73c90, 0x73d73d0eb2f7ffff), U128(0x87aac19e40aafc, 0xe20c98f580fffff),
+    U128(0x20db5ae453a9690b, 0x6bf0d0b753dfffff), U128(0xffffffffffffffff, 0xffffffffffffffff)};
 
 // The same below 2^64.
 static const uint64_t GREATEST_NARROW[12] = {0, 61, 3843, 238327, 14776335, 916132831, UINT64_C(56800235583),
@@ -526,7 +527,6 @@ static ALWAYS_INLINE uint64_t power(size_t k) {
 static u128 greatest(size_t k) {
     return GREATEST[usize_min(k, 22)];
 }
-
 
 /* -------------------- base62: count -------------------- */
 
@@ -579,7 +579,6 @@ static ALWAYS_INLINE size_t wide_count(u128 n) {
         return estimate;
     }
 }
-
 
 /* -------------------- base62: codec::decoder -------------------- */
 
@@ -795,7 +794,6 @@ static ALWAYS_INLINE result_u32 read_digit(const Tables *tables, const uint8_t *
     return ok_u32((uint32_t)digit);
 }
 
-
 /* -------------------- base62: canonical -------------------- */
 
 // Decoding of canonical texts alone.
@@ -833,8 +831,7 @@ static result_option_u128 decode_alternative_canonical(const uint8_t *input, siz
 }
 
 // As `decode_canonical`, over an alphabet of the caller's.
-static result_option_u128 decode_canonical_with(const Alphabet *alphabet, const uint8_t *input,
-    size_t input_length) {
+static result_option_u128 decode_canonical_with(const Alphabet *alphabet, const uint8_t *input, size_t input_length) {
     return read_canonical(Alphabet_as_tables(alphabet), input, input_length);
 }
 
@@ -852,7 +849,6 @@ static result_option_u128 read_canonical(const Tables *tables, const uint8_t *in
 static bool has_needless_zero(const Tables *tables, const uint8_t *input, size_t input_length) {
     return input_length > 1 && Tables_is_zero(tables, input[0]);
 }
-
 
 /* -------------------- base62: codec::encoder -------------------- */
 
@@ -875,30 +871,40 @@ static ALWAYS_INLINE result_usize err_usize(EncodeError err) {
     return (result_usize){.is_ok = false, .err = err};
 }
 
-typedef struct pair_u32_u128 {
+typedef struct pair_u32_u64_u64 {
     uint32_t _0;
-    u128 _1;
-} pair_u32_u128;
+    uint64_t _1;
+    uint64_t _2;
+} pair_u32_u64_u64;
 
 typedef struct pair_u64_u64 {
     uint64_t _0;
     uint64_t _1;
 } pair_u64_u64;
 
+typedef struct pair_u32_u64 {
+    uint32_t _0;
+    uint64_t _1;
+} pair_u32_u64;
+
 static ALWAYS_INLINE void write_text(const Tables *tables, u128 n, size_t count, uint8_t *restrict buf);
 static void write_narrow(const Tables *tables, uint64_t n, size_t count, uint8_t *restrict buf);
 static void write_wide(const Tables *tables, u128 n, size_t count, uint8_t *restrict buf);
-static ALWAYS_INLINE pair_u32_u128 cut_by_20(u128 n);
-static COLD NEVER_INLINE pair_u32_u128 one_more_20(uint32_t estimate, u128 remainder);
+static ALWAYS_INLINE pair_u32_u64_u64 cut_by_20(u128 n);
 static ALWAYS_INLINE pair_u64_u64 cut_by_10(u128 n);
-static COLD NEVER_INLINE pair_u64_u64 one_more_10(uint64_t estimate, uint64_t remainder);
+static ALWAYS_INLINE u128 fraction_of(uint64_t n);
 static ALWAYS_INLINE void write_up_to_9(const Tables *tables, uint64_t n, size_t places, uint8_t *restrict buf);
 static ALWAYS_INLINE void write_up_to_5(const Tables *tables, uint32_t n, size_t places, uint8_t *restrict buf);
 static ALWAYS_INLINE void write_1_or_2(const Tables *tables, uint32_t x, size_t places, uint8_t *restrict buf);
 static ALWAYS_INLINE void write_2(const Tables *tables, uint32_t x, uint8_t *restrict buf);
 static ALWAYS_INLINE void write_4(const Tables *tables, uint32_t x, uint8_t *restrict buf);
-static void write_10(const Tables *tables, uint64_t n, uint8_t *restrict buf);
 static ALWAYS_INLINE void write_20(const Tables *tables, uint64_t high, uint64_t low, uint8_t *restrict buf);
+static ALWAYS_INLINE void write_10(const Tables *tables, uint64_t fraction, uint8_t *restrict buf);
+static ALWAYS_INLINE void write_5(const Tables *tables, uint64_t fraction, uint8_t *restrict buf);
+static ALWAYS_INLINE void write_pair(const Tables *tables, uint32_t first, uint32_t second, uint8_t *restrict buf);
+static ALWAYS_INLINE pair_u32_u64 next_digit(uint64_t fraction);
+static ALWAYS_INLINE uint32_t last_digit(uint64_t fraction);
+static ALWAYS_INLINE uint64_t after_5(uint64_t fraction);
 
 // The encoder over any alphabet.
 static ALWAYS_INLINE result_usize encode_over(const Tables *tables, u128 n, uint8_t *restrict buf,
@@ -930,7 +936,7 @@ static void write_narrow(const Tables *tables, uint64_t n, size_t count, uint8_t
         // Of ten letters, the first is written over this one.
         buf[0] = Tables_letter(tables, (uint32_t)quotient);
         const uint64_t remainder = n - quotient * POWER_10;
-        write_10(tables, remainder, buf + (count - 10));
+        write_10(tables, u128_low(fraction_of(remainder)), buf + (count - 10));
     }
 }
 
@@ -938,58 +944,57 @@ static void write_narrow(const Tables *tables, uint64_t n, size_t count, uint8_t
 static void write_wide(const Tables *tables, u128 n, size_t count, uint8_t *restrict buf) {
     //@ assert requires: 11 <= count && count <= 22;
     if (count > 20) {
-        const pair_u32_u128 top_remainder = cut_by_20(n);
-        const uint32_t top = top_remainder._0;
-        const u128 remainder = top_remainder._1;
-        const pair_u64_u64 middle_low = cut_by_10(remainder);
-        const uint64_t middle = middle_low._0, low = middle_low._1;
+        const pair_u32_u64_u64 top_high_low = cut_by_20(n);
+        const uint32_t top = top_high_low._0;
+        const uint64_t high = top_high_low._1;
+        const uint64_t low = top_high_low._2;
         write_1_or_2(tables, top, count - 20, buf);
-        write_20(tables, middle, low, buf + (count - 20));
+        write_20(tables, high, low, buf + (count - 20));
     } else if (count == 20) {
         const pair_u64_u64 high_low = cut_by_10(n);
         const uint64_t high = high_low._0, low = high_low._1;
-        write_20(tables, high, low, buf);
+        write_20(tables, u128_low(fraction_of(high)), low, buf);
     } else {
         const pair_u64_u64 high_low = cut_by_10(n);
         const uint64_t high = high_low._0, low = high_low._1;
-        write_up_to_9(tables, high, count - 10, buf);
         write_10(tables, low, buf + (count - 10));
+        write_up_to_9(tables, high, count - 10, buf);
     }
 }
 
-// Divides by 62^20. The upper bits times 2^136 / 62^20 give the quotient, or one less.
-static ALWAYS_INLINE pair_u32_u128 cut_by_20(u128 n) {
+// Divides by 62^20, and cuts the remainder into two fractions of ten letters. The upper bits times
+// 2^136 / 62^20 give the quotient, or one less: then the first fraction is one whole too large.
+static ALWAYS_INLINE pair_u32_u64_u64 cut_by_20(u128 n) {
     const uint64_t upper = u128_low(u128_shift_right(n, 96));
     const uint32_t estimate = (uint32_t)((upper * 123664) >> 40);
     const u128 remainder = u128_sub(n, u128_mul(u128_of(estimate), POWER_20));
-    if (u128_less(remainder, POWER_20)) {
-        return (pair_u32_u128){estimate, remainder};
-    } else {
-        return one_more_20(estimate, remainder);
-    }
+    const pair_u64_u64 high_low = cut_by_10(remainder);
+    const uint64_t high = high_low._0, low = high_low._1;
+    const u128 fraction = fraction_of(high);
+    const uint32_t quotient = estimate + (uint32_t)u128_low(u128_shift_right(fraction, 64));
+    return (pair_u32_u64_u64){quotient, u128_low(u128_and(fraction, u128_of(UINT64_C(0xffffffffffffffff)))), low};
 }
 
-static COLD NEVER_INLINE pair_u32_u128 one_more_20(uint32_t estimate, u128 remainder) {
-    //@ assert requires: estimate <= 483;
-    return (pair_u32_u128){estimate + 1, u128_sub(remainder, POWER_20)};
-}
-
-// Divides by 62^10. The upper bits times 2^123 / 62^10 give the quotient, or one less.
+// Divides by 62^10, and gives the remainder as a fraction. The upper bits times 2^120 / 62^10 give
+// the quotient, or one less: then the fraction is one whole too large.
 static ALWAYS_INLINE pair_u64_u64 cut_by_10(u128 n) {
     const uint64_t upper = u128_low(u128_shift_right(n, 56));
     const uint64_t estimate = u128_low(u128_shift_right(u128_mul(u128_of(upper),
-        u128_of(UINT64_C(12669882045338564946))), 67));
+        u128_of(UINT64_C(1583735255667320618))), 64));
     const uint64_t remainder = u128_low(u128_sub(n, u128_mul(u128_of(estimate), u128_of(POWER_10))));
-    if (remainder < POWER_10) {
-        return (pair_u64_u64){estimate, remainder};
-    } else {
-        return one_more_10(estimate, remainder);
-    }
+    const u128 fraction = fraction_of(remainder);
+    const uint64_t quotient = estimate + u128_low(u128_shift_right(fraction, 64));
+    return (pair_u64_u64){quotient, u128_low(u128_and(fraction, u128_of(UINT64_C(0xffffffffffffffff))))};
 }
 
-static COLD NEVER_INLINE pair_u64_u64 one_more_10(uint64_t estimate, uint64_t remainder) {
-    //@ assert requires: estimate < 839299365868340224 && 839299365868340224 <= remainder;
-    return (pair_u64_u64){estimate + 1, remainder - POWER_10};
+// The fraction of a number for its last ten letters, in parts of 2^64, and a whole for each 62^10.
+// A number has 21 fractions or more. The product with 2^64 / 62^10 is no more than two below this
+// one.
+static ALWAYS_INLINE u128 fraction_of(uint64_t n) {
+    //@ assert requires: n < 1152921504606846976;
+    const uint64_t whole = n * 16;
+    return u128_add(u128_add(u128_of(whole),
+        u128_shift_right(u128_mul(u128_of(whole), u128_of(UINT64_C(6893020016967578278))), 64)), u128_of(1));
 }
 
 // One to nine letters. Where there are more than four, the last four are written first.
@@ -1045,31 +1050,63 @@ static ALWAYS_INLINE void write_4(const Tables *tables, uint32_t x, uint8_t *res
     write_2(tables, quotient, buf);
 }
 
-// Five letters.
-static void write_5(const Tables *tables, uint32_t x, uint8_t *restrict buf) {
-    //@ assert requires: x < 916132832;
-    const uint32_t quotient = x / POWER_2;
-    const uint32_t top = quotient / POWER_2;
-    write_2(tables, x - quotient * POWER_2, buf + 3);
-    write_2(tables, quotient - top * POWER_2, buf + 1);
-    buf[0] = Tables_letter(tables, top);
-}
-
-// Ten letters.
-static void write_10(const Tables *tables, uint64_t n, uint8_t *restrict buf) {
-    //@ assert requires: n < 839299365868340224;
-    const uint64_t high = n / POWER_5;
-    write_5(tables, (uint32_t)high, buf);
-    write_5(tables, (uint32_t)(n - high * POWER_5), buf + 5);
-}
-
-// Twenty letters of a number, which is given by its quotient and its remainder by 62^10.
+// Twenty letters of two fractions. The last ten are known first.
 static ALWAYS_INLINE void write_20(const Tables *tables, uint64_t high, uint64_t low, uint8_t *restrict buf) {
-    //@ assert requires: high < 839299365868340224 && low < 839299365868340224;
-    write_10(tables, high, buf);
     write_10(tables, low, buf + 10);
+    write_10(tables, high, buf);
 }
 
+// Ten letters of a fraction, the last five by a product of their own.
+static ALWAYS_INLINE void write_10(const Tables *tables, uint64_t fraction, uint8_t *restrict buf) {
+    write_5(tables, fraction, buf);
+    write_5(tables, after_5(fraction), buf + 5);
+}
+
+// Five letters of a fraction.
+static ALWAYS_INLINE void write_5(const Tables *tables, uint64_t fraction, uint8_t *restrict buf) {
+    const pair_u32_u64 first_after_1 = next_digit(fraction);
+    const uint32_t first = first_after_1._0;
+    const uint64_t after_1 = first_after_1._1;
+    buf[0] = Tables_letter(tables, first);
+    const pair_u32_u64 second_after_2 = next_digit(after_1);
+    const uint32_t second = second_after_2._0;
+    const uint64_t after_2 = second_after_2._1;
+    const pair_u32_u64 third_after_3 = next_digit(after_2);
+    const uint32_t third = third_after_3._0;
+    const uint64_t after_3 = third_after_3._1;
+    write_pair(tables, second, third, buf + 1);
+    const pair_u32_u64 fourth_after_4 = next_digit(after_3);
+    const uint32_t fourth = fourth_after_4._0;
+    const uint64_t after_4 = fourth_after_4._1;
+    write_pair(tables, fourth, last_digit(after_4), buf + 3);
+}
+
+// The letters of two digits.
+static ALWAYS_INLINE void write_pair(const Tables *tables, uint32_t first, uint32_t second, uint8_t *restrict buf) {
+    //@ assert requires: first < 62 && second < 62;
+    const pair_u8_u8 first_letter_second_letter = Tables_pair_of_digits(tables, first, second);
+    const uint8_t first_letter = first_letter_second_letter._0, second_letter = first_letter_second_letter._1;
+    buf[0] = first_letter;
+    buf[1] = second_letter;
+}
+
+// The first digit of a fraction, and the fraction of those after it.
+static ALWAYS_INLINE pair_u32_u64 next_digit(uint64_t fraction) {
+    const u128 product = u128_mul(u128_of(fraction), u128_of(62));
+    return (pair_u32_u64){(uint32_t)u128_low(u128_shift_right(product, 64)),
+        u128_low(u128_and(product, u128_of(UINT64_C(0xffffffffffffffff))))};
+}
+
+// The digit of a fraction after which none is wanted.
+static ALWAYS_INLINE uint32_t last_digit(uint64_t fraction) {
+    return (uint32_t)u128_low(u128_shift_right(u128_mul(u128_of(fraction), u128_of(62)), 64));
+}
+
+// The fraction of the digits after the first five.
+static ALWAYS_INLINE uint64_t after_5(uint64_t fraction) {
+    const u128 product = u128_mul(u128_of(fraction), u128_of(POWER_5));
+    return u128_low(u128_and(product, u128_of(UINT64_C(0xffffffffffffffff))));
+}
 
 /* -------------------- base62: number -------------------- */
 
@@ -1082,7 +1119,6 @@ static inline u128 u128_number(u128 self) {
 static inline u128 bytes_16_number(const uint8_t self[16]) {
     return u128_from_be_bytes(self);
 }
-
 
 /* -------------------- base62: codec -------------------- */
 
@@ -1112,8 +1148,7 @@ static result_usize encode_alternative_bytes(u128 num, uint8_t *restrict buf, si
 }
 
 // As `encode_bytes`, over an alphabet of the caller's. Its first letter takes the place of `0`.
-static result_usize encode_bytes_with(const Alphabet *alphabet, u128 num, uint8_t *restrict buf,
-    size_t buf_length) {
+static result_usize encode_bytes_with(const Alphabet *alphabet, u128 num, uint8_t *restrict buf, size_t buf_length) {
     return encode_bytes_with_counted(alphabet, num, buf, buf_length);
 }
 
@@ -1185,7 +1220,6 @@ static result_u128 decode_with_counted(const Alphabet *alphabet, const uint8_t *
     return decode_over(Alphabet_as_tables(alphabet), input, input_length);
 }
 
-
 /* -------------------- base62: fixed -------------------- */
 
 // Texts of a fixed width, with zeros in front, and the range of the texts that share a prefix.
@@ -1249,8 +1283,7 @@ static ALWAYS_INLINE result_unit_DecodeError err_unit_DecodeError(DecodeError er
 }
 
 static result_unit fill_places(const Tables *tables, u128 n, uint8_t *restrict places, size_t places_length);
-static void write_padded(const Tables *tables, u128 n, size_t count, uint8_t *restrict places,
-    size_t places_length);
+static void write_padded(const Tables *tables, u128 n, size_t count, uint8_t *restrict places, size_t places_length);
 static result_option_pair_u128_u128 range_over(const Tables *tables, size_t width, const uint8_t *prefix,
     size_t prefix_length);
 static result_option_pair_u128_u128 range_found(const Tables *tables, size_t width, const uint8_t *prefix,
@@ -1292,8 +1325,7 @@ static result_unit fill_places(const Tables *tables, u128 n, uint8_t *restrict p
 }
 
 // The text of a number, whose count of letters is given, with zeros in front.
-static void write_padded(const Tables *tables, u128 n, size_t count, uint8_t *restrict places,
-    size_t places_length) {
+static void write_padded(const Tables *tables, u128 n, size_t count, uint8_t *restrict places, size_t places_length) {
     //@ assert requires: count <= places_length;
     uint8_t *zeros = places;
     const size_t zeros_length = places_length - count;
@@ -1320,8 +1352,8 @@ static result_option_pair_u128_u128 fixed_range(size_t width, const uint8_t *pre
 //
 // There is no such call over the alternative alphabet. Its letters do not ascend, so a scan from
 // the text of the one end to the text of the other can miss texts.
-static result_option_pair_u128_u128 fixed_range_with(const Alphabet *alphabet, size_t width,
-    const uint8_t *prefix, size_t prefix_length) {
+static result_option_pair_u128_u128 fixed_range_with(const Alphabet *alphabet, size_t width, const uint8_t *prefix,
+    size_t prefix_length) {
     return range_over(Alphabet_as_tables(alphabet), width, prefix, prefix_length);
 }
 
@@ -1382,7 +1414,6 @@ static result_unit_DecodeError check_letters(const Tables *tables, const uint8_t
     return ok_unit_DecodeError();
 }
 
-
 /* -------------------- base62: key -------------------- */
 
 // Keys of 22 letters, which sort as their numbers, and the range of the keys that share a prefix.
@@ -1413,7 +1444,6 @@ static result_option_pair_u128_u128 key_range(const uint8_t *prefix, size_t pref
     return fixed_range(KEY_LEN, prefix, prefix_length);
 }
 
-
 /* -------------------- base62_c: number -------------------- */
 
 // Numbers in two halves of 64 bits.
@@ -1426,7 +1456,6 @@ static base62_number halves(u128 n) {
     return (base62_number){.high = u128_low(u128_shift_right(n, 64)),
         .low = u128_low(u128_and(n, u128_of(UINT64_C(0xffffffffffffffff))))};
 }
-
 
 /* -------------------- base62_c: answer -------------------- */
 
@@ -1508,7 +1537,6 @@ static size_t tell_text(const uint8_t *text, size_t text_length, uint8_t *restri
     return text_length;
 }
 
-
 /* -------------------- base62_c: fault -------------------- */
 
 // The texts of faults.
@@ -1545,7 +1573,6 @@ static InlineText whole(const uint8_t *text, size_t text_length) {
     //@ assert requires: text_length <= 77;
     return InlineText_and_str(InlineText_new(), text, text_length);
 }
-
 
 /* -------------------- base62_c: lib -------------------- */
 
@@ -1606,8 +1633,7 @@ base62_status base62_decode_with(const base62_alphabet *alphabet, const char *te
         number, bad);
 }
 
-base62_status base62_decode_canonical(const char *text, size_t length, base62_number *number,
-    base62_bad_byte *bad) {
+base62_status base62_decode_canonical(const char *text, size_t length, base62_number *number, base62_bad_byte *bad) {
     return (base62_status)tell_canonical(decode_canonical((const uint8_t *)text, length), number, bad);
 }
 

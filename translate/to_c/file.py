@@ -93,7 +93,7 @@ class File:
 
     def module(self, module):
         name = "::".join(module.path[1:]) or "lib"
-        self.out += ["", "", "/* " + "-" * 20 + f" {module.path[0]}: {name} " + "-" * 20 + " */", ""]
+        self.out += ["", "/* " + "-" * 20 + f" {module.path[0]}: {name} " + "-" * 20 + " */", ""]
         self.out += documentation(module.head)
         own = sorted((d for d in self.writers if d.module is module), key=lambda d: d.token.line)
         functions, writers = [d for d in own if d.kind == "fn"], self.writers

@@ -3,7 +3,7 @@ import re
 
 from reader import refuse
 
-WIDTH = 116
+WIDTH = 118
 
 
 def wrapped(line):

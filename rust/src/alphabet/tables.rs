@@ -30,10 +30,17 @@ impl Tables {
         requires!(number < 3844);
         // The quotient by 62, since the number is small.
         let quotient = (number * 4229) >> 18;
-        let remainder = number - quotient * 62;
-        // SAFETY: both are below 62, since the number is below 62^2.
-        let first = proved!(self.letters[quotient as usize]);
-        let second = proved!(self.letters[remainder as usize]);
+        self.pair_of_digits(quotient, number - quotient * 62)
+    }
+
+    // The letters of two digits at once.
+    #[inline(always)]
+    pub(crate) fn pair_of_digits(&self, first_digit: u32, second_digit: u32) -> (u8, u8) {
+        requires!(first_digit < 62);
+        requires!(second_digit < 62);
+        // SAFETY: a digit is below 62.
+        let first = proved!(self.letters[first_digit as usize]);
+        let second = proved!(self.letters[second_digit as usize]);
         (first, second)
     }
 

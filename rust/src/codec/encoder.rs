@@ -45,7 +45,11 @@ fn write_narrow(tables: &Tables, n: u64, count: usize, buf: &mut [u8]) {
         // Of ten letters, the first is written over this one.
         buf[0] = tables.letter(quotient as u32);
         let remainder = n - quotient * POWER_10;
-        write_10(tables, remainder, &mut buf[count - 10..]);
+        write_10(
+            tables,
+            fraction_of(remainder) as u64,
+            &mut buf[count - 10..],
+        );
     }
 }
 
@@ -55,61 +59,52 @@ fn write_wide(tables: &Tables, n: u128, count: usize, buf: &mut [u8]) {
     requires!(count <= crate::MAX_DIGITS);
     requires!(count <= buf.len());
     if count > 20 {
-        let (top, remainder) = cut_by_20(n);
-        let (middle, low) = cut_by_10(remainder);
+        let (top, high, low) = cut_by_20(n);
         write_1_or_2(tables, top, count - 20, buf);
-        write_20(tables, middle, low, &mut buf[count - 20..]);
+        write_20(tables, high, low, &mut buf[count - 20..]);
     } else if count == 20 {
         let (high, low) = cut_by_10(n);
-        write_20(tables, high, low, buf);
+        write_20(tables, fraction_of(high) as u64, low, buf);
     } else {
         let (high, low) = cut_by_10(n);
-        write_up_to_9(tables, high, count - 10, buf);
         write_10(tables, low, &mut buf[count - 10..]);
+        write_up_to_9(tables, high, count - 10, buf);
     }
 }
 
-// Divides by 62^20. The upper bits times 2^136 / 62^20 give the quotient, or one less.
+// Divides by 62^20, and cuts the remainder into two fractions of ten letters. The upper bits times
+// 2^136 / 62^20 give the quotient, or one less: then the first fraction is one whole too large.
 #[inline(always)]
-fn cut_by_20(n: u128) -> (u32, u128) {
+fn cut_by_20(n: u128) -> (u32, u64, u64) {
     let upper = (n >> 96) as u64;
     let estimate = ((upper * 123664) >> 40) as u32;
     let remainder = n - estimate as u128 * POWER_20;
-    if remainder < POWER_20 {
-        (estimate, remainder)
-    } else {
-        one_more_20(estimate, remainder)
-    }
+    let (high, low) = cut_by_10(remainder);
+    let fraction = fraction_of(high);
+    let quotient = estimate + (fraction >> 64) as u32;
+    (quotient, (fraction & 0xffffffff_ffffffff) as u64, low)
 }
 
-#[cold]
-#[inline(never)]
-fn one_more_20(estimate: u32, remainder: u128) -> (u32, u128) {
-    requires!(estimate <= 483);
-    requires!(62_u128.pow(20) <= remainder);
-    (estimate + 1, remainder - POWER_20)
-}
-
-// Divides by 62^10. The upper bits times 2^123 / 62^10 give the quotient, or one less.
+// Divides by 62^10, and gives the remainder as a fraction. The upper bits times 2^120 / 62^10 give
+// the quotient, or one less: then the fraction is one whole too large.
 #[inline(always)]
 fn cut_by_10(n: u128) -> (u64, u64) {
-    requires!(n < 62_u128.pow(20));
     let upper = (n >> 56) as u64;
-    let estimate = ((upper as u128 * 12669882045338564946) >> 67) as u64;
+    let estimate = ((upper as u128 * 1583735255667320618) >> 64) as u64;
     let remainder = (n - estimate as u128 * POWER_10 as u128) as u64;
-    if remainder < POWER_10 {
-        (estimate, remainder)
-    } else {
-        one_more_10(estimate, remainder)
-    }
+    let fraction = fraction_of(remainder);
+    let quotient = estimate + (fraction >> 64) as u64;
+    (quotient, (fraction & 0xffffffff_ffffffff) as u64)
 }
 
-#[cold]
-#[inline(never)]
-fn one_more_10(estimate: u64, remainder: u64) -> (u64, u64) {
-    requires!(estimate < 62_u64.pow(10));
-    requires!(62_u64.pow(10) <= remainder);
-    (estimate + 1, remainder - POWER_10)
+// The fraction of a number for its last ten letters, in parts of 2^64, and a whole for each 62^10.
+// A number has 21 fractions or more. The product with 2^64 / 62^10 is no more than two below this
+// one.
+#[inline(always)]
+fn fraction_of(n: u64) -> u128 {
+    requires!(n < 2_u64.pow(60));
+    let whole = n * 16;
+    whole as u128 + ((whole as u128 * 6893020016967578278) >> 64) + 1
 }
 
 // One to nine letters. Where there are more than four, the last four are written first.
@@ -177,32 +172,65 @@ fn write_4(tables: &Tables, x: u32, buf: &mut [u8]) {
     write_2(tables, quotient, buf);
 }
 
-// Five letters.
-fn write_5(tables: &Tables, x: u32, buf: &mut [u8]) {
-    requires!(x < 62_u32.pow(5));
-    requires!(5 <= buf.len());
-    let quotient = x / POWER_2;
-    let top = quotient / POWER_2;
-    write_2(tables, x - quotient * POWER_2, &mut buf[3..]);
-    write_2(tables, quotient - top * POWER_2, &mut buf[1..]);
-    buf[0] = tables.letter(top);
-}
-
-// Ten letters.
-fn write_10(tables: &Tables, n: u64, buf: &mut [u8]) {
-    requires!(n < 62_u64.pow(10));
-    requires!(10 <= buf.len());
-    let high = n / POWER_5;
-    write_5(tables, high as u32, buf);
-    write_5(tables, (n - high * POWER_5) as u32, &mut buf[5..]);
-}
-
-// Twenty letters of a number, which is given by its quotient and its remainder by 62^10.
+// Twenty letters of two fractions. The last ten are known first.
 #[inline(always)]
 fn write_20(tables: &Tables, high: u64, low: u64, buf: &mut [u8]) {
-    requires!(high < 62_u64.pow(10));
-    requires!(low < 62_u64.pow(10));
     requires!(20 <= buf.len());
-    write_10(tables, high, buf);
     write_10(tables, low, &mut buf[10..]);
+    write_10(tables, high, buf);
+}
+
+// Ten letters of a fraction, the last five by a product of their own.
+#[inline(always)]
+fn write_10(tables: &Tables, fraction: u64, buf: &mut [u8]) {
+    requires!(10 <= buf.len());
+    write_5(tables, fraction, buf);
+    write_5(tables, after_5(fraction), &mut buf[5..]);
+}
+
+// Five letters of a fraction.
+#[inline(always)]
+fn write_5(tables: &Tables, fraction: u64, buf: &mut [u8]) {
+    requires!(5 <= buf.len());
+    let (first, after_1) = next_digit(fraction);
+    buf[0] = tables.letter(first);
+    let (second, after_2) = next_digit(after_1);
+    let (third, after_3) = next_digit(after_2);
+    write_pair(tables, second, third, &mut buf[1..]);
+    let (fourth, after_4) = next_digit(after_3);
+    write_pair(tables, fourth, last_digit(after_4), &mut buf[3..]);
+}
+
+// The letters of two digits.
+#[inline(always)]
+fn write_pair(tables: &Tables, first: u32, second: u32, buf: &mut [u8]) {
+    requires!(first < 62);
+    requires!(second < 62);
+    requires!(2 <= buf.len());
+    let (first_letter, second_letter) = tables.pair_of_digits(first, second);
+    buf[0] = first_letter;
+    buf[1] = second_letter;
+}
+
+// The first digit of a fraction, and the fraction of those after it.
+#[inline(always)]
+fn next_digit(fraction: u64) -> (u32, u64) {
+    let product = fraction as u128 * 62;
+    (
+        (product >> 64) as u32,
+        (product & 0xffffffff_ffffffff) as u64,
+    )
+}
+
+// The digit of a fraction after which none is wanted.
+#[inline(always)]
+fn last_digit(fraction: u64) -> u32 {
+    ((fraction as u128 * 62) >> 64) as u32
+}
+
+// The fraction of the digits after the first five.
+#[inline(always)]
+fn after_5(fraction: u64) -> u64 {
+    let product = fraction as u128 * POWER_5 as u128;
+    (product & 0xffffffff_ffffffff) as u64
 }

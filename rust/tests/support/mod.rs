@@ -22,13 +22,11 @@ pub fn reversed_letters() -> [u8; 62] {
     letters
 }
 
-/// The values that the tests of all packages share. What cargo packs has its own copy.
+/// The values that the tests of all packages share.
 fn values() -> &'static str {
     static VALUES: OnceLock<String> = OnceLock::new();
-    let read = |file| std::fs::read_to_string(Path::new(env!("CARGO_MANIFEST_DIR")).join(file));
-    VALUES.get_or_init(|| {
-        read("../tests/values.tsv").unwrap_or_else(|_| read("tests/values.tsv").unwrap())
-    })
+    let file = Path::new(env!("CARGO_MANIFEST_DIR")).join("../tests/values.tsv");
+    VALUES.get_or_init(|| std::fs::read_to_string(file).unwrap())
 }
 
 /// The rows of a kind in tests/values.tsv, whose head tells of them, without the kind.

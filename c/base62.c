@@ -856,6 +856,10 @@ static bool has_needless_zero(const Tables *tables, const uint8_t *input, size_t
 //
 // Each piece writes a text of a given width to the start of a buffer. Quotients and remainders by
 // powers of 62 cut a number into parts.
+//
+// Ten letters come from a fraction f, in units of 1 / 2^64. They are the letters of the number
+// f * 62^10 / 2^64. The upper half of f * 62 is the first digit, and the lower half is the fraction
+// of the digits after it.
 
 typedef struct result_usize {
     bool is_ok;
@@ -871,16 +875,16 @@ static ALWAYS_INLINE result_usize err_usize(EncodeError err) {
     return (result_usize){.is_ok = false, .err = err};
 }
 
+typedef struct pair_u64_u64 {
+    uint64_t _0;
+    uint64_t _1;
+} pair_u64_u64;
+
 typedef struct pair_u32_u64_u64 {
     uint32_t _0;
     uint64_t _1;
     uint64_t _2;
 } pair_u32_u64_u64;
-
-typedef struct pair_u64_u64 {
-    uint64_t _0;
-    uint64_t _1;
-} pair_u64_u64;
 
 typedef struct pair_u32_u64 {
     uint32_t _0;
@@ -893,6 +897,7 @@ static void write_wide(const Tables *tables, u128 n, size_t count, uint8_t *rest
 static ALWAYS_INLINE pair_u32_u64_u64 cut_by_20(u128 n);
 static ALWAYS_INLINE pair_u64_u64 cut_by_10(u128 n);
 static ALWAYS_INLINE u128 fraction_of(uint64_t n);
+static ALWAYS_INLINE pair_u64_u64 cut_narrow_by_10(uint64_t n);
 static ALWAYS_INLINE void write_up_to_9(const Tables *tables, uint64_t n, size_t places, uint8_t *restrict buf);
 static ALWAYS_INLINE void write_up_to_5(const Tables *tables, uint32_t n, size_t places, uint8_t *restrict buf);
 static ALWAYS_INLINE void write_1_or_2(const Tables *tables, uint32_t x, size_t places, uint8_t *restrict buf);
@@ -903,8 +908,9 @@ static ALWAYS_INLINE void write_10(const Tables *tables, uint64_t fraction, uint
 static ALWAYS_INLINE void write_5(const Tables *tables, uint64_t fraction, uint8_t *restrict buf);
 static ALWAYS_INLINE void write_pair(const Tables *tables, uint32_t first, uint32_t second, uint8_t *restrict buf);
 static ALWAYS_INLINE pair_u32_u64 next_digit(uint64_t fraction);
-static ALWAYS_INLINE uint32_t last_digit(uint64_t fraction);
+static ALWAYS_INLINE uint32_t first_digit(uint64_t fraction);
 static ALWAYS_INLINE uint64_t after_5(uint64_t fraction);
+static ALWAYS_INLINE pair_u64_u64 whole_and_fraction(u128 n);
 
 // The encoder over any alphabet.
 static ALWAYS_INLINE result_usize encode_over(const Tables *tables, u128 n, uint8_t *restrict buf,
@@ -932,11 +938,11 @@ static void write_narrow(const Tables *tables, uint64_t n, size_t count, uint8_t
     if (count < 10) {
         write_up_to_9(tables, n, count, buf);
     } else {
-        const uint64_t quotient = n / POWER_10;
+        const pair_u64_u64 first_fraction = cut_narrow_by_10(n);
+        const uint64_t first = first_fraction._0, fraction = first_fraction._1;
         // Of ten letters, the first is written over this one.
-        buf[0] = Tables_letter(tables, (uint32_t)quotient);
-        const uint64_t remainder = n - quotient * POWER_10;
-        write_10(tables, u128_low(fraction_of(remainder)), buf + (count - 10));
+        buf[0] = Tables_letter(tables, (uint32_t)first);
+        write_10(tables, fraction, buf + (count - 10));
     }
 }
 
@@ -962,39 +968,46 @@ static void write_wide(const Tables *tables, u128 n, size_t count, uint8_t *rest
     }
 }
 
-// Divides by 62^20, and cuts the remainder into two fractions of ten letters. The upper bits times
-// 2^136 / 62^20 give the quotient, or one less: then the first fraction is one whole too large.
+// Divides by 62^20, and gives the remainder as two fractions. The upper bits times 2^136 / 62^20 give
+// the quotient, or one less: then the first fraction has a whole too many.
 static ALWAYS_INLINE pair_u32_u64_u64 cut_by_20(u128 n) {
     const uint64_t upper = u128_low(u128_shift_right(n, 96));
     const uint32_t estimate = (uint32_t)((upper * 123664) >> 40);
     const u128 remainder = u128_sub(n, u128_mul(u128_of(estimate), POWER_20));
     const pair_u64_u64 high_low = cut_by_10(remainder);
     const uint64_t high = high_low._0, low = high_low._1;
-    const u128 fraction = fraction_of(high);
-    const uint32_t quotient = estimate + (uint32_t)u128_low(u128_shift_right(fraction, 64));
-    return (pair_u32_u64_u64){quotient, u128_low(u128_and(fraction, u128_of(UINT64_C(0xffffffffffffffff)))), low};
+    const pair_u64_u64 whole_fraction = whole_and_fraction(fraction_of(high));
+    const uint64_t whole = whole_fraction._0, fraction = whole_fraction._1;
+    return (pair_u32_u64_u64){estimate + (uint32_t)whole, fraction, low};
 }
 
 // Divides by 62^10, and gives the remainder as a fraction. The upper bits times 2^120 / 62^10 give
-// the quotient, or one less: then the fraction is one whole too large.
+// the quotient, or one less: then the fraction has a whole too many.
 static ALWAYS_INLINE pair_u64_u64 cut_by_10(u128 n) {
     const uint64_t upper = u128_low(u128_shift_right(n, 56));
     const uint64_t estimate = u128_low(u128_shift_right(u128_mul(u128_of(upper),
         u128_of(UINT64_C(1583735255667320618))), 64));
     const uint64_t remainder = u128_low(u128_sub(n, u128_mul(u128_of(estimate), u128_of(POWER_10))));
-    const u128 fraction = fraction_of(remainder);
-    const uint64_t quotient = estimate + u128_low(u128_shift_right(fraction, 64));
-    return (pair_u64_u64){quotient, u128_low(u128_and(fraction, u128_of(UINT64_C(0xffffffffffffffff))))};
+    const pair_u64_u64 whole_fraction = whole_and_fraction(fraction_of(remainder));
+    const uint64_t whole = whole_fraction._0, fraction = whole_fraction._1;
+    return (pair_u64_u64){estimate + whole, fraction};
 }
 
-// The fraction of a number for its last ten letters, in parts of 2^64, and a whole for each 62^10.
-// A number has 21 fractions or more. The product with 2^64 / 62^10 is no more than two below this
-// one.
+// A fraction of a number, and a whole for each 62^10. The fractions of a number are 21 or more, from
+// the number times 2^64 / 62^10 on. This one is at most two above that product. The factor is
+// 2^124 / 62^10 - 2^64, rounded up.
 static ALWAYS_INLINE u128 fraction_of(uint64_t n) {
     //@ assert requires: n < 1152921504606846976;
-    const uint64_t whole = n * 16;
-    return u128_add(u128_add(u128_of(whole),
-        u128_shift_right(u128_mul(u128_of(whole), u128_of(UINT64_C(6893020016967578278))), 64)), u128_of(1));
+    const uint64_t scaled = n * 16;
+    return u128_add(u128_add(u128_of(scaled),
+        u128_shift_right(u128_mul(u128_of(scaled), u128_of(UINT64_C(6893020016967578278))), 64)), u128_of(1));
+}
+
+// Divides a number below 2^64 by 62^10, and gives the remainder as a fraction: at most five above the
+// product, as in `fraction_of`. The factor is 2^123 / 62^10, rounded up.
+static ALWAYS_INLINE pair_u64_u64 cut_narrow_by_10(uint64_t n) {
+    return whole_and_fraction(u128_add(u128_shift_right(u128_mul(u128_of(n),
+        u128_of(UINT64_C(12669882045338564947))), 59), u128_of(1)));
 }
 
 // One to nine letters. Where there are more than four, the last four are written first.
@@ -1050,13 +1063,13 @@ static ALWAYS_INLINE void write_4(const Tables *tables, uint32_t x, uint8_t *res
     write_2(tables, quotient, buf);
 }
 
-// Twenty letters of two fractions. The last ten are known first.
+// Twenty letters of two fractions. The last ten come first, since their fraction is known first.
 static ALWAYS_INLINE void write_20(const Tables *tables, uint64_t high, uint64_t low, uint8_t *restrict buf) {
     write_10(tables, low, buf + 10);
     write_10(tables, high, buf);
 }
 
-// Ten letters of a fraction, the last five by a product of their own.
+// Ten letters of a fraction. The last five do not wait for the first five.
 static ALWAYS_INLINE void write_10(const Tables *tables, uint64_t fraction, uint8_t *restrict buf) {
     write_5(tables, fraction, buf);
     write_5(tables, after_5(fraction), buf + 5);
@@ -1078,7 +1091,7 @@ static ALWAYS_INLINE void write_5(const Tables *tables, uint64_t fraction, uint8
     const pair_u32_u64 fourth_after_4 = next_digit(after_3);
     const uint32_t fourth = fourth_after_4._0;
     const uint64_t after_4 = fourth_after_4._1;
-    write_pair(tables, fourth, last_digit(after_4), buf + 3);
+    write_pair(tables, fourth, first_digit(after_4), buf + 3);
 }
 
 // The letters of two digits.
@@ -1092,13 +1105,13 @@ static ALWAYS_INLINE void write_pair(const Tables *tables, uint32_t first, uint3
 
 // The first digit of a fraction, and the fraction of those after it.
 static ALWAYS_INLINE pair_u32_u64 next_digit(uint64_t fraction) {
-    const u128 product = u128_mul(u128_of(fraction), u128_of(62));
-    return (pair_u32_u64){(uint32_t)u128_low(u128_shift_right(product, 64)),
-        u128_low(u128_and(product, u128_of(UINT64_C(0xffffffffffffffff))))};
+    const pair_u64_u64 digit_after = whole_and_fraction(u128_mul(u128_of(fraction), u128_of(62)));
+    const uint64_t digit = digit_after._0, after = digit_after._1;
+    return (pair_u32_u64){(uint32_t)digit, after};
 }
 
-// The digit of a fraction after which none is wanted.
-static ALWAYS_INLINE uint32_t last_digit(uint64_t fraction) {
+// The first digit of a fraction alone.
+static ALWAYS_INLINE uint32_t first_digit(uint64_t fraction) {
     return (uint32_t)u128_low(u128_shift_right(u128_mul(u128_of(fraction), u128_of(62)), 64));
 }
 
@@ -1106,6 +1119,12 @@ static ALWAYS_INLINE uint32_t last_digit(uint64_t fraction) {
 static ALWAYS_INLINE uint64_t after_5(uint64_t fraction) {
     const u128 product = u128_mul(u128_of(fraction), u128_of(POWER_5));
     return u128_low(u128_and(product, u128_of(UINT64_C(0xffffffffffffffff))));
+}
+
+// The whole part of a number in units of 1 / 2^64, and its fraction.
+static ALWAYS_INLINE pair_u64_u64 whole_and_fraction(u128 n) {
+    return (pair_u64_u64){u128_low(u128_shift_right(n, 64)),
+        u128_low(u128_and(n, u128_of(UINT64_C(0xffffffffffffffff))))};
 }
 
 /* -------------------- base62: number -------------------- */

@@ -12,13 +12,7 @@ pub struct Fmt {
     text: Text,
 }
 
-/// Writes the text, padded to the formatter's width.
-///
-/// A width counts characters. If it is not greater than the text's length, nothing is added. The
-/// fill is a space if none is stated. A text with no stated alignment is left-aligned. A centred
-/// text has half of the padding in front, rounded down. What a stated precision leaves of the text
-/// is not specified. `Err` is the error of the underlying writer. The call takes no memory of its
-/// own.
+/// Writes the text, padded as [`encode_fmt`] says.
 impl fmt::Display for Fmt {
     fn fmt(&self, f: &mut fmt::Formatter<'_>) -> fmt::Result {
         pad(&self.text, f)
@@ -58,7 +52,11 @@ fn pad(text: &Text, f: &mut fmt::Formatter<'_>) -> fmt::Result {
 
 /// A value that displays as the standard text of `num`, which has 1 to 22 letters.
 ///
-/// It takes no memory and refuses nothing. A display pads the text to a width as `Fmt` says.
+/// A display pads the text to the formatter's width, which counts characters. If it is not greater
+/// than the text's length, nothing is added. The fill is a space if none is stated. A text with no
+/// stated alignment is left-aligned. A centred text has half of the padding in front, rounded down.
+/// What a stated precision leaves of the text is not specified. The error of a display is that of
+/// the underlying writer. Neither call takes memory of its own, and this one refuses nothing.
 ///
 /// ```rust
 /// println!("{}", base62::encode_fmt(1337_u64));     // LZ

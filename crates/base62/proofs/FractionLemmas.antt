@@ -20,7 +20,8 @@ module _ (x s p : ℕ) (some : 0 < s) (any : 0 < p) where
   product_cut : x * p / s ≡ x / s * p + behind
   product_cut =
       let whole = sym (div-add-mod' x s) in
-      ap (λ n. n * p / s) whole ∙ ap (λ n. n / s) (cut (x / s) (x % s) s p) ∙ mul-add-div_right some (x / s * p) (x % s * p)
+      let parts = cut (x / s) (x % s) s p in
+      ap (λ n. n * p / s) whole ∙ ap (λ n. n / s) parts ∙ mul-add-div_right some (x / s * p) (x % s * p)
 
   product_quotient : x / s ≡ x * p / s / p
   product_quotient = rw product_cut (sym (div-mul-add (x / s) p behind behind_fits))

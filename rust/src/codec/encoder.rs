@@ -5,6 +5,10 @@
 //!
 //! Each piece writes a text of a given width to the start of a buffer. Quotients and remainders by
 //! powers of 62 cut a number into parts.
+//!
+//! Ten letters come from a fraction f, in units of 1 / 2^64. They are the letters of the number
+//! f * 62^10 / 2^64. The upper half of f * 62 is the first digit, and the lower half is the fraction
+//! of the digits after it.
 
 use crate::alphabet::Tables;
 use crate::count::digit_count;
@@ -41,15 +45,10 @@ fn write_narrow(tables: &Tables, n: u64, count: usize, buf: &mut [u8]) {
     if count < 10 {
         write_up_to_9(tables, n, count, buf);
     } else {
-        let quotient = n / POWER_10;
+        let (first, fraction) = cut_narrow_by_10(n);
         // Of ten letters, the first is written over this one.
-        buf[0] = tables.letter(quotient as u32);
-        let remainder = n - quotient * POWER_10;
-        write_10(
-            tables,
-            fraction_of(remainder) as u64,
-            &mut buf[count - 10..],
-        );
+        buf[0] = tables.letter(first as u32);
+        write_10(tables, fraction, &mut buf[count - 10..]);
     }
 }
 
@@ -72,39 +71,44 @@ fn write_wide(tables: &Tables, n: u128, count: usize, buf: &mut [u8]) {
     }
 }
 
-// Divides by 62^20, and cuts the remainder into two fractions of ten letters. The upper bits times
-// 2^136 / 62^20 give the quotient, or one less: then the first fraction is one whole too large.
+// Divides by 62^20, and gives the remainder as two fractions. The upper bits times 2^136 / 62^20 give
+// the quotient, or one less: then the first fraction has a whole too many.
 #[inline(always)]
 fn cut_by_20(n: u128) -> (u32, u64, u64) {
     let upper = (n >> 96) as u64;
     let estimate = ((upper * 123664) >> 40) as u32;
     let remainder = n - estimate as u128 * POWER_20;
     let (high, low) = cut_by_10(remainder);
-    let fraction = fraction_of(high);
-    let quotient = estimate + (fraction >> 64) as u32;
-    (quotient, (fraction & 0xffffffff_ffffffff) as u64, low)
+    let (whole, fraction) = whole_and_fraction(fraction_of(high));
+    (estimate + whole as u32, fraction, low)
 }
 
 // Divides by 62^10, and gives the remainder as a fraction. The upper bits times 2^120 / 62^10 give
-// the quotient, or one less: then the fraction is one whole too large.
+// the quotient, or one less: then the fraction has a whole too many.
 #[inline(always)]
 fn cut_by_10(n: u128) -> (u64, u64) {
     let upper = (n >> 56) as u64;
     let estimate = ((upper as u128 * 1583735255667320618) >> 64) as u64;
     let remainder = (n - estimate as u128 * POWER_10 as u128) as u64;
-    let fraction = fraction_of(remainder);
-    let quotient = estimate + (fraction >> 64) as u64;
-    (quotient, (fraction & 0xffffffff_ffffffff) as u64)
+    let (whole, fraction) = whole_and_fraction(fraction_of(remainder));
+    (estimate + whole, fraction)
 }
 
-// The fraction of a number for its last ten letters, in parts of 2^64, and a whole for each 62^10.
-// A number has 21 fractions or more. The product with 2^64 / 62^10 is no more than two below this
-// one.
+// A fraction of a number, and a whole for each 62^10. The fractions of a number are 21 or more, from
+// the number times 2^64 / 62^10 on. This one is at most two above that product. The factor is
+// 2^124 / 62^10 - 2^64, rounded up.
 #[inline(always)]
 fn fraction_of(n: u64) -> u128 {
     requires!(n < 2_u64.pow(60));
-    let whole = n * 16;
-    whole as u128 + ((whole as u128 * 6893020016967578278) >> 64) + 1
+    let scaled = n * 16;
+    scaled as u128 + ((scaled as u128 * 6893020016967578278) >> 64) + 1
+}
+
+// Divides a number below 2^64 by 62^10, and gives the remainder as a fraction: at most five above the
+// product, as in `fraction_of`. The factor is 2^123 / 62^10, rounded up.
+#[inline(always)]
+fn cut_narrow_by_10(n: u64) -> (u64, u64) {
+    whole_and_fraction(((n as u128 * 12669882045338564947) >> 59) + 1)
 }
 
 // One to nine letters. Where there are more than four, the last four are written first.
@@ -172,7 +176,7 @@ fn write_4(tables: &Tables, x: u32, buf: &mut [u8]) {
     write_2(tables, quotient, buf);
 }
 
-// Twenty letters of two fractions. The last ten are known first.
+// Twenty letters of two fractions. The last ten come first, since their fraction is known first.
 #[inline(always)]
 fn write_20(tables: &Tables, high: u64, low: u64, buf: &mut [u8]) {
     requires!(20 <= buf.len());
@@ -180,7 +184,7 @@ fn write_20(tables: &Tables, high: u64, low: u64, buf: &mut [u8]) {
     write_10(tables, high, buf);
 }
 
-// Ten letters of a fraction, the last five by a product of their own.
+// Ten letters of a fraction. The last five do not wait for the first five.
 #[inline(always)]
 fn write_10(tables: &Tables, fraction: u64, buf: &mut [u8]) {
     requires!(10 <= buf.len());
@@ -198,7 +202,7 @@ fn write_5(tables: &Tables, fraction: u64, buf: &mut [u8]) {
     let (third, after_3) = next_digit(after_2);
     write_pair(tables, second, third, &mut buf[1..]);
     let (fourth, after_4) = next_digit(after_3);
-    write_pair(tables, fourth, last_digit(after_4), &mut buf[3..]);
+    write_pair(tables, fourth, first_digit(after_4), &mut buf[3..]);
 }
 
 // The letters of two digits.
@@ -215,16 +219,13 @@ fn write_pair(tables: &Tables, first: u32, second: u32, buf: &mut [u8]) {
 // The first digit of a fraction, and the fraction of those after it.
 #[inline(always)]
 fn next_digit(fraction: u64) -> (u32, u64) {
-    let product = fraction as u128 * 62;
-    (
-        (product >> 64) as u32,
-        (product & 0xffffffff_ffffffff) as u64,
-    )
+    let (digit, after) = whole_and_fraction(fraction as u128 * 62);
+    (digit as u32, after)
 }
 
-// The digit of a fraction after which none is wanted.
+// The first digit of a fraction alone.
 #[inline(always)]
-fn last_digit(fraction: u64) -> u32 {
+fn first_digit(fraction: u64) -> u32 {
     ((fraction as u128 * 62) >> 64) as u32
 }
 
@@ -233,4 +234,10 @@ fn last_digit(fraction: u64) -> u32 {
 fn after_5(fraction: u64) -> u64 {
     let product = fraction as u128 * POWER_5 as u128;
     (product & 0xffffffff_ffffffff) as u64
+}
+
+// The whole part of a number in units of 1 / 2^64, and its fraction.
+#[inline(always)]
+fn whole_and_fraction(n: u128) -> (u64, u64) {
+    ((n >> 64) as u64, (n & 0xffffffff_ffffffff) as u64)
 }

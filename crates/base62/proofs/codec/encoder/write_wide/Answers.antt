@@ -1,4 +1,4 @@
-use Rattle.std.proofs.Common.{◌-◌, arith}
+use Rattle.std.proofs.Common.{◌+◌, ◌-◌, ◌≡◌, arith}
 use Rattle.base62.proofs.PowerLemmas.{fits_more, quotient_fits}
 use Rattle.base62.proofs.WritingLemmas.{written_on, back_on}
 use Rattle.base62.proofs.StepsLemmas.{ten_steps, steps_of_20, twenty_steps}
@@ -6,25 +6,32 @@ use Rattle.base62.proofs.codec.encoder.write_wide.Goals as goal
 
 pub write_1_or_2-requires-clause-fits : goal.write_1_or_2-requires-clause-fits
 write_1_or_2-requires-clause-fits c =
-    rw c.cut_by_20-top.ensures.quotient (quotient_fits c.args.n (c.args.count - 20) 20 c.args.count (omega arith) c.requires.fits)
+    let fits = quotient_fits c.args.n (c.args.count - 20) 20 c.args.count (omega arith) c.requires.fits in
+    rw c.cut_by_20-top.ensures.quotient fits
 
 pub cut_by_10-high-requires-else-count-eq20 : goal.cut_by_10-high-requires-else-count-eq20
-cut_by_10-high-requires-else-count-eq20 c = omega (arith, fits_more c.args.n c.args.count 20 c.requires.fits (omega arith))
+cut_by_10-high-requires-else-count-eq20 c =
+    omega (arith, fits_more c.args.n c.args.count 20 c.requires.fits (omega arith))
 
 pub write_up_to_9-requires-clause-fits : goal.write_up_to_9-requires-clause-fits
 write_up_to_9-requires-clause-fits c =
-    rw c.cut_by_10-high-else-count-eq20.ensures.quotient (quotient_fits c.args.n (c.args.count - 10) 10 c.args.count (omega (arith, c.requires.least)) c.requires.fits)
+    let both : c.args.count - 10 + 10 ≡ c.args.count = omega (arith, c.requires.least) in
+    let fits = quotient_fits c.args.n (c.args.count - 10) 10 c.args.count both c.requires.fits in
+    rw c.cut_by_10-high-else-count-eq20.ensures.quotient fits
 
 pub returns-then-count-gt20-clause-written : goal.returns-then-count-gt20-clause-written
 returns-then-count-gt20-clause-written c =
     let count = c.args.count in
     let cut = c.cut_by_20-top.ensures in
-    let join = written_on c.args.tables.now.letters (count - 20) 20 count c.args.n _ _ (omega arith) cut.quotient cut.remainder in
-    join c.args.buf.now c.write_1_or_2.new.buf _ c.requires.room c.write_20.ensures.written c.write_1_or_2.ensures.written
+    let B = c.args.tables.now.letters in
+    let join = written_on B (count - 20) 20 count c.args.n _ _ (omega arith) cut.quotient cut.remainder in
+    let top = c.write_1_or_2 in
+    join c.args.buf.now top.new.buf _ c.requires.room c.write_20.ensures.written top.ensures.written
 
 pub returns-then-count-gt20-clause-steps : goal.returns-then-count-gt20-clause-steps
 returns-then-count-gt20-clause-steps c =
-    rw (twenty_steps c.args.count (omega arith) c.requires.most) (omega (arith, c.write_1_or_2.ensures.steps, c.write_20.ensures.steps))
+    let steps = twenty_steps c.args.count (omega arith) c.requires.most in
+    rw steps (omega (arith, c.write_1_or_2.ensures.steps, c.write_20.ensures.steps))
 
 pub returns-then-count-eq20-clause-steps : goal.returns-then-count-eq20-clause-steps
 returns-then-count-eq20-clause-steps c = rw (c.if-count-eq20.true, steps_of_20) c.write_20-then-count-eq20.ensures.steps
@@ -33,8 +40,14 @@ pub returns-else-count-eq20-clause-written : goal.returns-else-count-eq20-clause
 returns-else-count-eq20-clause-written c =
     let count = c.args.count in
     let cut = c.cut_by_10-high-else-count-eq20.ensures in
-    let join = back_on c.args.tables.now.letters (count - 10) 10 count c.args.n _ _ (omega (arith, c.requires.least)) cut.quotient cut.remainder in
-    join c.args.buf.now c.write_10.new.buf c.write_up_to_9.new.buf c.requires.room c.write_10.ensures.written c.write_up_to_9.ensures.written
+    let B = c.args.tables.now.letters in
+    let both : count - 10 + 10 ≡ count = omega (arith, c.requires.least) in
+    let back = c.write_10 in
+    let front = c.write_up_to_9 in
+    let join = back_on B (count - 10) 10 count c.args.n _ _ both cut.quotient cut.remainder in
+    join c.args.buf.now back.new.buf front.new.buf c.requires.room back.ensures.written front.ensures.written
 
 pub returns-else-count-eq20-clause-steps : goal.returns-else-count-eq20-clause-steps
-returns-else-count-eq20-clause-steps c = rw (ten_steps c.args.count c.requires.least (omega arith)) (omega (arith, c.write_up_to_9.ensures.steps, c.write_10.ensures.steps))
+returns-else-count-eq20-clause-steps c =
+    let steps = ten_steps c.args.count c.requires.least (omega arith) in
+    rw steps (omega (arith, c.write_up_to_9.ensures.steps, c.write_10.ensures.steps))

@@ -191,6 +191,7 @@ static inline InlineText InlineText_and_str(InlineText text, const uint8_t *part
     return text;
 }
 
+
 /* -------------------- base62: alphabet::tables -------------------- */
 
 // The letters and the digits of an alphabet, and their readers.
@@ -202,45 +203,44 @@ typedef struct Tables {
 } Tables;
 
 static const Tables STANDARD = {
-    .letters = {'0', '1', '2', '3', '4', '5', '6', '7', '8', '9', 'A', 'B', 'C', 'D', 'E', 'F', 'G', 'H', 'I', 'J',
-        'K', 'L', 'M', 'N', 'O', 'P', 'Q', 'R', 'S', 'T', 'U', 'V', 'W', 'X', 'Y', 'Z', 'a', 'b', 'c', 'd', 'e',
-        'f', 'g', 'h', 'i', 'j', 'k', 'l', 'm', 'n', 'o', 'p', 'q', 'r', 's', 't', 'u', 'v', 'w', 'x', 'y', 'z'},
+    .letters = {'0', '1', '2', '3', '4', '5', '6', '7', '8', '9', 'A', 'B', 'C', 'D', 'E', 'F', 'G', 'H', 'I',
+        'J', 'K', 'L', 'M', 'N', 'O', 'P', 'Q', 'R', 'S', 'T', 'U', 'V', 'W', 'X', 'Y', 'Z', 'a', 'b', 'c', 'd',
+        'e', 'f', 'g', 'h', 'i', 'j', 'k', 'l', 'm', 'n', 'o', 'p', 'q', 'r', 's', 't', 'u', 'v', 'w', 'x', 'y',
+        'z'},
     .digits = {255, 255, 255, 255, 255, 255, 255, 255, 255, 255, 255, 255, 255, 255, 255, 255, 255, 255, 255, 255,
         255, 255, 255, 255, 255, 255, 255, 255, 255, 255, 255, 255, 255, 255, 255, 255, 255, 255, 255, 255, 255,
-        255, 255, 255, 255, 255, 255, 255, 0, 1, 2, 3, 4, 5, 6, 7, 8, 9, 255, 255, 255, 255, 255, 255, 255, 10, 11,
-        12, 13, 14, 15, 16, 17, 18, 19, 20, 21, 22, 23, 24, 25, 26, 27, 28, 29, 30, 31, 32, 33, 34, 35, 255, 255,
-        255, 255, 255, 255, 36, 37, 38, 39, 40, 41, 42, 43, 44, 45, 46, 47, 48, 49, 50, 51, 52, 53, 54, 55, 56, 57,
-        58, 59, 60, 61, 255, 255, 255, 255, 255, 255, 255, 255, 255, 255, 255, 255, 255, 255, 255, 255, 255, 255,
+        255, 255, 255, 255, 255, 255, 255, 0, 1, 2, 3, 4, 5, 6, 7, 8, 9, 255, 255, 255, 255, 255, 255, 255, 10,
+        11, 12, 13, 14, 15, 16, 17, 18, 19, 20, 21, 22, 23, 24, 25, 26, 27, 28, 29, 30, 31, 32, 33, 34, 35, 255,
+        255, 255, 255, 255, 255, 36, 37, 38, 39, 40, 41, 42, 43, 44, 45, 46, 47, 48, 49, 50, 51, 52, 53, 54, 55,
+        56, 57, 58, 59, 60, 61, 255, 255, 255, 255, 255, 255, 255, 255, 255, 255, 255, 255, 255, 255, 255, 255,
         255, 255, 255, 255, 255, 255, 255, 255, 255, 255, 255, 255, 255, 255, 255, 255, 255, 255, 255, 255, 255,
         255, 255, 255, 255, 255, 255, 255, 255, 255, 255, 255, 255, 255, 255, 255, 255, 255, 255, 255, 255, 255,
         255, 255, 255, 255, 255, 255, 255, 255, 255, 255, 255, 255, 255, 255, 255, 255, 255, 255, 255, 255, 255,
         255, 255, 255, 255, 255, 255, 255, 255, 255, 255, 255, 255, 255, 255, 255, 255, 255, 255, 255, 255, 255,
         255, 255, 255, 255, 255, 255, 255, 255, 255, 255, 255, 255, 255, 255, 255, 255, 255, 255, 255, 255, 255,
-        255, 255, 255, 255, 255, 255, 255, 255, 255, 255},
+        255, 255, 255, 255, 255, 255, 255, 255, 255, 255, 255, 255},
 };
 
 static const Tables ALTERNATIVE = {
-    .letters = {'0', '1', '2', '3', '4', '5', '6', '7', '8', '9', 'a', 'b', 'c', 'd', 'e', 'f', 'g', 'h', 'i', 'j',
-        'k', 'l', 'm', 'n', 'o', 'p', 'q', 'r', 's', 't', 'u', 'v', 'w', 'x', 'y', 'z', 'A', 'B', 'C', 'D', 'E',
-        'F', 'G', 'H', 'I', 'J', 'K', 'L', 'M', 'N', 'O', 'P', 'Q', 'R', 'S', 'T', 'U', 'V', 'W', 'X', 'Y', 'Z'},
+    .letters = {'0', '1', '2', '3', '4', '5', '6', '7', '8', '9', 'a', 'b', 'c', 'd', 'e', 'f', 'g', 'h', 'i',
+        'j', 'k', 'l', 'm', 'n', 'o', 'p', 'q', 'r', 's', 't', 'u', 'v', 'w', 'x', 'y', 'z', 'A', 'B', 'C', 'D',
+        'E', 'F', 'G', 'H', 'I', 'J', 'K', 'L', 'M', 'N', 'O', 'P', 'Q', 'R', 'S', 'T', 'U', 'V', 'W', 'X', 'Y',
+        'Z'},
     .digits = {255, 255, 255, 255, 255, 255, 255, 255, 255, 255, 255, 255, 255, 255, 255, 255, 255, 255, 255, 255,
         255, 255, 255, 255, 255, 255, 255, 255, 255, 255, 255, 255, 255, 255, 255, 255, 255, 255, 255, 255, 255,
-        255, 255, 255, 255, 255, 255, 255, 0, 1, 2, 3, 4, 5, 6, 7, 8, 9, 255, 255, 255, 255, 255, 255, 255, 36, 37,
-        38, 39, 40, 41, 42, 43, 44, 45, 46, 47, 48, 49, 50, 51, 52, 53, 54, 55, 56, 57, 58, 59, 60, 61, 255, 255,
-        255, 255, 255, 255, 10, 11, 12, 13, 14, 15, 16, 17, 18, 19, 20, 21, 22, 23, 24, 25, 26, 27, 28, 29, 30, 31,
-        32, 33, 34, 35, 255, 255, 255, 255, 255, 255, 255, 255, 255, 255, 255, 255, 255, 255, 255, 255, 255, 255,
+        255, 255, 255, 255, 255, 255, 255, 0, 1, 2, 3, 4, 5, 6, 7, 8, 9, 255, 255, 255, 255, 255, 255, 255, 36,
+        37, 38, 39, 40, 41, 42, 43, 44, 45, 46, 47, 48, 49, 50, 51, 52, 53, 54, 55, 56, 57, 58, 59, 60, 61, 255,
+        255, 255, 255, 255, 255, 10, 11, 12, 13, 14, 15, 16, 17, 18, 19, 20, 21, 22, 23, 24, 25, 26, 27, 28, 29,
+        30, 31, 32, 33, 34, 35, 255, 255, 255, 255, 255, 255, 255, 255, 255, 255, 255, 255, 255, 255, 255, 255,
         255, 255, 255, 255, 255, 255, 255, 255, 255, 255, 255, 255, 255, 255, 255, 255, 255, 255, 255, 255, 255,
         255, 255, 255, 255, 255, 255, 255, 255, 255, 255, 255, 255, 255, 255, 255, 255, 255, 255, 255, 255, 255,
         255, 255, 255, 255, 255, 255, 255, 255, 255, 255, 255, 255, 255, 255, 255, 255, 255, 255, 255, 255, 255,
         255, 255, 255, 255, 255, 255, 255, 255, 255, 255, 255, 255, 255, 255, 255, 255, 255, 255, 255, 255, 255,
         255, 255, 255, 255, 255, 255, 255, 255, 255, 255, 255, 255, 255, 255, 255, 255, 255, 255, 255, 255, 255,
-        255, 255, 255, 255, 255, 255, 255, 255, 255, 255},
+        255, 255, 255, 255, 255, 255, 255, 255, 255, 255, 255, 255},
 };
 
-typedef struct pair_u8_u8 {
-    uint8_t _0;
-    uint8_t _1;
-} pair_u8_u8;
+typedef struct pair_u8_u8 { uint8_t _0; uint8_t _1; } pair_u8_u8;
 
 static ALWAYS_INLINE pair_u8_u8 Tables_pair_of_digits(const Tables *self, uint32_t first_digit,
     uint32_t second_digit);
@@ -289,6 +289,7 @@ static ALWAYS_INLINE const Tables *standard_tables(void) {
 static ALWAYS_INLINE const Tables *alternative_tables(void) {
     return &ALTERNATIVE;
 }
+
 
 /* -------------------- base62: fault -------------------- */
 
@@ -433,6 +434,7 @@ static InlineText append(InlineText text, const uint8_t *part, size_t part_lengt
     return InlineText_and_str(text, part, part_length);
 }
 
+
 /* -------------------- base62: alphabet -------------------- */
 
 // Alphabets: their letters, and the digits of bytes.
@@ -449,11 +451,7 @@ typedef struct Alphabet {
 } Alphabet;
 typedef char Alphabet_is_base62_alphabet[sizeof(Alphabet) == sizeof(base62_alphabet) ? 1 : -1];
 
-typedef struct result_Alphabet {
-    bool is_ok;
-    Alphabet ok;
-    AlphabetError err;
-} result_Alphabet;
+typedef struct result_Alphabet { bool is_ok; Alphabet ok; AlphabetError err; } result_Alphabet;
 
 static ALWAYS_INLINE result_Alphabet ok_Alphabet(Alphabet ok) {
     return (result_Alphabet){.is_ok = true, .ok = ok};
@@ -488,6 +486,7 @@ static ALWAYS_INLINE const Tables *Alphabet_as_tables(const Alphabet *self) {
     return &self->tables;
 }
 
+
 /* -------------------- base62: powers -------------------- */
 
 // Powers of 62.
@@ -500,17 +499,19 @@ static ALWAYS_INLINE const Tables *Alphabet_as_tables(const Alphabet *self) {
 static const u128 POWER_20 = U128(0x87aac19e40aafc, 0xe20c98f58100000);
 
 static const uint64_t POWERS[11] = {1, 62, (uint64_t)POWER_2, (uint64_t)POWER_3, (uint64_t)POWER_4, POWER_5,
-    UINT64_C(56800235584), UINT64_C(3521614606208), UINT64_C(218340105584896), UINT64_C(13537086546263552), POWER_10};
+    UINT64_C(56800235584), UINT64_C(3521614606208), UINT64_C(218340105584896), UINT64_C(13537086546263552),
+    POWER_10};
 
 // The greatest number of k letters at place k, below 2^128.
 static const u128 GREATEST[23] = {U128(0, 0), U128(0, 61), U128(0, 3843), U128(0, 238327), U128(0, 14776335),
     U128(0, 916132831), U128(0, UINT64_C(56800235583)), U128(0, UINT64_C(3521614606207)),
-    U128(0, UINT64_C(218340105584895)), U128(0, UINT64_C(13537086546263551)), U128(0, UINT64_C(839299365868340223)),
-    U128(0x2, 0xd227003d8d2af7ff), U128(0xae, 0xe5720ee830680fff), U128(0x2a5b, 0x919f9c3bb933dfff),
-    U128(0xa422d, 0x44a7d676da903fff), U128(0x27c06f6, 0xa0a5f0c8eeef7fff), U128(0x9a09afba, 0xe83050a9de00ffff),
-    U128(0x254e588f44, 0x3bb38923c43dffff), U128(0x908f972b286, 0x757b36a98703ffff),
-    U128(0x2302c69c73c90, 0x73d73d0eb2f7ffff), U128(0x87aac19e40aafc, 0xe20c98f580fffff),
-    U128(0x20db5ae453a9690b, 0x6bf0d0b753dfffff), U128(0xffffffffffffffff, 0xffffffffffffffff)};
+    U128(0, UINT64_C(218340105584895)), U128(0, UINT64_C(13537086546263551)),
+    U128(0, UINT64_C(839299365868340223)), U128(0x2, 0xd227003d8d2af7ff), U128(0xae, 0xe5720ee830680fff),
+    U128(0x2a5b, 0x919f9c3bb933dfff), U128(0xa422d, 0x44a7d676da903fff), U128(0x27c06f6, 0xa0a5f0c8eeef7fff),
+    U128(0x9a09afba, 0xe83050a9de00ffff), U128(0x254e588f44, 0x3bb38923c43dffff),
+    U128(0x908f972b286, 0x757b36a98703ffff), U128(0x2302c69c73c90, 0x73d73d0eb2f7ffff),
+    U128(0x87aac19e40aafc, 0xe20c98f580fffff), U128(0x20db5ae453a9690b, 0x6bf0d0b753dfffff),
+    U128(0xffffffffffffffff, 0xffffffffffffffff)};
 
 // The same below 2^64.
 static const uint64_t GREATEST_NARROW[12] = {0, 61, 3843, 238327, 14776335, 916132831, UINT64_C(56800235583),
@@ -527,6 +528,7 @@ static ALWAYS_INLINE uint64_t power(size_t k) {
 static u128 greatest(size_t k) {
     return GREATEST[usize_min(k, 22)];
 }
+
 
 /* -------------------- base62: count -------------------- */
 
@@ -580,15 +582,12 @@ static ALWAYS_INLINE size_t wide_count(u128 n) {
     }
 }
 
+
 /* -------------------- base62: codec::decoder -------------------- */
 
 // The decoder, over the tables of any alphabet.
 
-typedef struct result_u128 {
-    bool is_ok;
-    u128 ok;
-    DecodeError err;
-} result_u128;
+typedef struct result_u128 { bool is_ok; u128 ok; DecodeError err; } result_u128;
 
 static ALWAYS_INLINE result_u128 ok_u128(u128 ok) {
     return (result_u128){.is_ok = true, .ok = ok};
@@ -598,11 +597,7 @@ static ALWAYS_INLINE result_u128 err_u128(DecodeError err) {
     return (result_u128){.is_ok = false, .err = err};
 }
 
-typedef struct result_u64 {
-    bool is_ok;
-    uint64_t ok;
-    DecodeError err;
-} result_u64;
+typedef struct result_u64 { bool is_ok; uint64_t ok; DecodeError err; } result_u64;
 
 static ALWAYS_INLINE result_u64 ok_u64(uint64_t ok) {
     return (result_u64){.is_ok = true, .ok = ok};
@@ -620,11 +615,7 @@ static ALWAYS_INLINE option_u128 none_u128(void) {
     return (option_u128){.is_some = false};
 }
 
-typedef struct result_u32 {
-    bool is_ok;
-    uint32_t ok;
-    DecodeError err;
-} result_u32;
+typedef struct result_u32 { bool is_ok; uint32_t ok; DecodeError err; } result_u32;
 
 static ALWAYS_INLINE result_u32 ok_u32(uint32_t ok) {
     return (result_u32){.is_ok = true, .ok = ok};
@@ -794,15 +785,12 @@ static ALWAYS_INLINE result_u32 read_digit(const Tables *tables, const uint8_t *
     return ok_u32((uint32_t)digit);
 }
 
+
 /* -------------------- base62: canonical -------------------- */
 
 // Decoding of canonical texts alone.
 
-typedef struct result_option_u128 {
-    bool is_ok;
-    option_u128 ok;
-    DecodeError err;
-} result_option_u128;
+typedef struct result_option_u128 { bool is_ok; option_u128 ok; DecodeError err; } result_option_u128;
 
 static ALWAYS_INLINE result_option_u128 ok_option_u128(option_u128 ok) {
     return (result_option_u128){.is_ok = true, .ok = ok};
@@ -831,7 +819,8 @@ static result_option_u128 decode_alternative_canonical(const uint8_t *input, siz
 }
 
 // As `decode_canonical`, over an alphabet of the caller's.
-static result_option_u128 decode_canonical_with(const Alphabet *alphabet, const uint8_t *input, size_t input_length) {
+static result_option_u128 decode_canonical_with(const Alphabet *alphabet, const uint8_t *input,
+    size_t input_length) {
     return read_canonical(Alphabet_as_tables(alphabet), input, input_length);
 }
 
@@ -850,6 +839,7 @@ static bool has_needless_zero(const Tables *tables, const uint8_t *input, size_t
     return input_length > 1 && Tables_is_zero(tables, input[0]);
 }
 
+
 /* -------------------- base62: codec::encoder -------------------- */
 
 // The encoder, over the tables of any alphabet.
@@ -861,11 +851,7 @@ static bool has_needless_zero(const Tables *tables, const uint8_t *input, size_t
 // f * 62^10 / 2^64. The upper half of f * 62 is the first digit, and the lower half is the fraction
 // of the digits after it.
 
-typedef struct result_usize {
-    bool is_ok;
-    size_t ok;
-    EncodeError err;
-} result_usize;
+typedef struct result_usize { bool is_ok; size_t ok; EncodeError err; } result_usize;
 
 static ALWAYS_INLINE result_usize ok_usize(size_t ok) {
     return (result_usize){.is_ok = true, .ok = ok};
@@ -875,21 +861,11 @@ static ALWAYS_INLINE result_usize err_usize(EncodeError err) {
     return (result_usize){.is_ok = false, .err = err};
 }
 
-typedef struct pair_u64_u64 {
-    uint64_t _0;
-    uint64_t _1;
-} pair_u64_u64;
+typedef struct pair_u64_u64 { uint64_t _0; uint64_t _1; } pair_u64_u64;
 
-typedef struct pair_u32_u64_u64 {
-    uint32_t _0;
-    uint64_t _1;
-    uint64_t _2;
-} pair_u32_u64_u64;
+typedef struct pair_u32_u64_u64 { uint32_t _0; uint64_t _1; uint64_t _2; } pair_u32_u64_u64;
 
-typedef struct pair_u32_u64 {
-    uint32_t _0;
-    uint64_t _1;
-} pair_u32_u64;
+typedef struct pair_u32_u64 { uint32_t _0; uint64_t _1; } pair_u32_u64;
 
 static ALWAYS_INLINE void write_text(const Tables *tables, u128 n, size_t count, uint8_t *restrict buf);
 static void write_narrow(const Tables *tables, uint64_t n, size_t count, uint8_t *restrict buf);
@@ -1127,6 +1103,7 @@ static ALWAYS_INLINE pair_u64_u64 whole_and_fraction(u128 n) {
         u128_low(u128_and(n, u128_of(UINT64_C(0xffffffffffffffff))))};
 }
 
+
 /* -------------------- base62: number -------------------- */
 
 // Numbers that can be encoded.
@@ -1138,6 +1115,7 @@ static inline u128 u128_number(u128 self) {
 static inline u128 bytes_16_number(const uint8_t self[16]) {
     return u128_from_be_bytes(self);
 }
+
 
 /* -------------------- base62: codec -------------------- */
 
@@ -1167,7 +1145,8 @@ static result_usize encode_alternative_bytes(u128 num, uint8_t *restrict buf, si
 }
 
 // As `encode_bytes`, over an alphabet of the caller's. Its first letter takes the place of `0`.
-static result_usize encode_bytes_with(const Alphabet *alphabet, u128 num, uint8_t *restrict buf, size_t buf_length) {
+static result_usize encode_bytes_with(const Alphabet *alphabet, u128 num, uint8_t *restrict buf,
+    size_t buf_length) {
     return encode_bytes_with_counted(alphabet, num, buf, buf_length);
 }
 
@@ -1239,14 +1218,12 @@ static result_u128 decode_with_counted(const Alphabet *alphabet, const uint8_t *
     return decode_over(Alphabet_as_tables(alphabet), input, input_length);
 }
 
+
 /* -------------------- base62: fixed -------------------- */
 
 // Texts of a fixed width, with zeros in front, and the range of the texts that share a prefix.
 
-typedef struct result_unit {
-    bool is_ok;
-    EncodeError err;
-} result_unit;
+typedef struct result_unit { bool is_ok; EncodeError err; } result_unit;
 
 static ALWAYS_INLINE result_unit ok_unit(void) {
     return (result_unit){.is_ok = true};
@@ -1256,15 +1233,9 @@ static ALWAYS_INLINE result_unit err_unit(EncodeError err) {
     return (result_unit){.is_ok = false, .err = err};
 }
 
-typedef struct pair_u128_u128 {
-    u128 _0;
-    u128 _1;
-} pair_u128_u128;
+typedef struct pair_u128_u128 { u128 _0; u128 _1; } pair_u128_u128;
 
-typedef struct option_pair_u128_u128 {
-    bool is_some;
-    pair_u128_u128 some;
-} option_pair_u128_u128;
+typedef struct option_pair_u128_u128 { bool is_some; pair_u128_u128 some; } option_pair_u128_u128;
 
 static ALWAYS_INLINE option_pair_u128_u128 some_pair_u128_u128(pair_u128_u128 some) {
     return (option_pair_u128_u128){.is_some = true, .some = some};
@@ -1274,11 +1245,8 @@ static ALWAYS_INLINE option_pair_u128_u128 none_pair_u128_u128(void) {
     return (option_pair_u128_u128){.is_some = false};
 }
 
-typedef struct result_option_pair_u128_u128 {
-    bool is_ok;
-    option_pair_u128_u128 ok;
-    DecodeError err;
-} result_option_pair_u128_u128;
+typedef struct result_option_pair_u128_u128 { bool is_ok; option_pair_u128_u128 ok; DecodeError err;
+    } result_option_pair_u128_u128;
 
 static ALWAYS_INLINE result_option_pair_u128_u128 ok_option_pair_u128_u128(option_pair_u128_u128 ok) {
     return (result_option_pair_u128_u128){.is_ok = true, .ok = ok};
@@ -1288,10 +1256,7 @@ static ALWAYS_INLINE result_option_pair_u128_u128 err_option_pair_u128_u128(Deco
     return (result_option_pair_u128_u128){.is_ok = false, .err = err};
 }
 
-typedef struct result_unit_DecodeError {
-    bool is_ok;
-    DecodeError err;
-} result_unit_DecodeError;
+typedef struct result_unit_DecodeError { bool is_ok; DecodeError err; } result_unit_DecodeError;
 
 static ALWAYS_INLINE result_unit_DecodeError ok_unit_DecodeError(void) {
     return (result_unit_DecodeError){.is_ok = true};
@@ -1302,7 +1267,8 @@ static ALWAYS_INLINE result_unit_DecodeError err_unit_DecodeError(DecodeError er
 }
 
 static result_unit fill_places(const Tables *tables, u128 n, uint8_t *restrict places, size_t places_length);
-static void write_padded(const Tables *tables, u128 n, size_t count, uint8_t *restrict places, size_t places_length);
+static void write_padded(const Tables *tables, u128 n, size_t count, uint8_t *restrict places,
+    size_t places_length);
 static result_option_pair_u128_u128 range_over(const Tables *tables, size_t width, const uint8_t *prefix,
     size_t prefix_length);
 static result_option_pair_u128_u128 range_found(const Tables *tables, size_t width, const uint8_t *prefix,
@@ -1344,7 +1310,8 @@ static result_unit fill_places(const Tables *tables, u128 n, uint8_t *restrict p
 }
 
 // The text of a number, whose count of letters is given, with zeros in front.
-static void write_padded(const Tables *tables, u128 n, size_t count, uint8_t *restrict places, size_t places_length) {
+static void write_padded(const Tables *tables, u128 n, size_t count, uint8_t *restrict places,
+    size_t places_length) {
     //@ assert requires: count <= places_length;
     uint8_t *zeros = places;
     const size_t zeros_length = places_length - count;
@@ -1371,8 +1338,8 @@ static result_option_pair_u128_u128 fixed_range(size_t width, const uint8_t *pre
 //
 // There is no such call over the alternative alphabet. Its letters do not ascend, so a scan from
 // the text of the one end to the text of the other can miss texts.
-static result_option_pair_u128_u128 fixed_range_with(const Alphabet *alphabet, size_t width, const uint8_t *prefix,
-    size_t prefix_length) {
+static result_option_pair_u128_u128 fixed_range_with(const Alphabet *alphabet, size_t width,
+    const uint8_t *prefix, size_t prefix_length) {
     return range_over(Alphabet_as_tables(alphabet), width, prefix, prefix_length);
 }
 
@@ -1433,6 +1400,7 @@ static result_unit_DecodeError check_letters(const Tables *tables, const uint8_t
     return ok_unit_DecodeError();
 }
 
+
 /* -------------------- base62: key -------------------- */
 
 // Keys of 22 letters, which sort as their numbers, and the range of the keys that share a prefix.
@@ -1463,6 +1431,7 @@ static result_option_pair_u128_u128 key_range(const uint8_t *prefix, size_t pref
     return fixed_range(KEY_LEN, prefix, prefix_length);
 }
 
+
 /* -------------------- base62_c: number -------------------- */
 
 // Numbers in two halves of 64 bits.
@@ -1475,6 +1444,7 @@ static base62_number halves(u128 n) {
     return (base62_number){.high = u128_low(u128_shift_right(n, 64)),
         .low = u128_low(u128_and(n, u128_of(UINT64_C(0xffffffffffffffff))))};
 }
+
 
 /* -------------------- base62_c: answer -------------------- */
 
@@ -1556,6 +1526,7 @@ static size_t tell_text(const uint8_t *text, size_t text_length, uint8_t *restri
     return text_length;
 }
 
+
 /* -------------------- base62_c: fault -------------------- */
 
 // The texts of faults.
@@ -1592,6 +1563,7 @@ static InlineText whole(const uint8_t *text, size_t text_length) {
     //@ assert requires: text_length <= 77;
     return InlineText_and_str(InlineText_new(), text, text_length);
 }
+
 
 /* -------------------- base62_c: lib -------------------- */
 
@@ -1652,7 +1624,8 @@ base62_status base62_decode_with(const base62_alphabet *alphabet, const char *te
         number, bad);
 }
 
-base62_status base62_decode_canonical(const char *text, size_t length, base62_number *number, base62_bad_byte *bad) {
+base62_status base62_decode_canonical(const char *text, size_t length, base62_number *number,
+    base62_bad_byte *bad) {
     return (base62_status)tell_canonical(decode_canonical((const uint8_t *)text, length), number, bad);
 }
 

@@ -93,7 +93,7 @@ class File:
 
     def module(self, module):
         name = "::".join(module.path[1:]) or "lib"
-        self.out += ["", "/* " + "-" * 20 + f" {module.path[0]}: {name} " + "-" * 20 + " */", ""]
+        self.out += ["", "", "/* " + "-" * 20 + f" {module.path[0]}: {name} " + "-" * 20 + " */", ""]
         self.out += documentation(module.head)
         own = sorted((d for d in self.writers if d.module is module), key=lambda d: d.token.line)
         functions, writers = [d for d in own if d.kind == "fn"], self.writers
@@ -130,7 +130,7 @@ class File:
                 self.add(part[1])
             elif part[0] in ("Result", "Option", "tuple"):
                 name = self.library.short(part)
-                self.out += [] if name in self.done else ["", *self.library.answer(name)]
+                self.out += [] if name in self.done else ["", *wrapped(self.library.answer(name))]
                 self.done.add(name)
                 for maker in self.library.makers(name):
                     self.maker(*maker)

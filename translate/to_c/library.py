@@ -212,7 +212,7 @@ class Library:
             flag = "is_ok" if of[0] == "Result" else "is_some"
             named = [(of[1], flag[3:])] + [(part, "err") for part in of[2:]]
             parts = [f"bool {flag}"] + [self.declared(part, field) for part, field in named if part != UNIT]
-        return [f"typedef struct {name} {{", *(f"    {part};" for part in parts), f"}} {name};"]
+        return f"typedef struct {name} {{ {'; '.join(parts)}; }} {name};"
 
     def makers(self, name):
         """The functions that make such a struct: their name, result, parameters and value."""

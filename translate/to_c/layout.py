@@ -7,7 +7,7 @@ WIDTH = 116
 
 
 def wrapped(line):
-    """The line, or several: cut after commas and semicolons where the fewest parentheses are open, or before && and ||."""
+    """The line, or several: cut after commas and semicolons in the fewest parentheses, or before && and ||."""
     lines, indent = [], re.match(" *", line)[0]
     while len(line) > WIDTH and not re.match(" *//[^@]", line):
         code = re.sub(r'"(\\.|[^"\\])*"', lambda text: "x" * len(text[0]), line)

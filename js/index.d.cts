@@ -1,7 +1,7 @@
 /**
  * Whole numbers below 2**128 and UUIDs as short texts in base 62, and back.
  *
- * An argument of another type than is declared throws a TypeError. All other faults are a {@link Base62Error}.
+ * An argument of a wrong type throws a TypeError. Any other error is a {@link Base62Error}.
  */
 
 /** What a text can be. A string is read as UTF-8, in which a lone surrogate has three bytes. */
@@ -11,7 +11,7 @@ export type Text = string | Uint8Array;
  * Returns the text of a number. It is the shortest one, with 1 to 22 letters.
  *
  * @example encode(1337) === 'LZ'
- * @param number an integer from 0 on. As a `number` it is at most 2**53 - 1, since greater ones were rounded. As a
+ * @param number an integer from 0 on. As a `number` it is at most 2**53 - 1, since greater ones may be rounded. As a
  *   `bigint` it is at most 2n ** 128n - 1n. -0 is 0.
  * @param alphabet the letters, by default the standard ones
  * @throws {Base62Error} `OUT_OF_RANGE`
@@ -19,14 +19,14 @@ export type Text = string | Uint8Array;
 export function encode(number: number | bigint, alphabet?: Alphabet): string;
 
 /**
- * Returns the text of a number in exactly `width` letters, with zeros in front. Texts of one width sort as their
- * numbers, if each letter is a greater byte than the one before it. The standard letters are such.
+ * Returns the text of a number in exactly `width` letters, with leading zeros. Texts of one width sort as their
+ * numbers, if each letter is a greater byte than the one before it, as the standard letters are.
  *
  * @example encodeFixed(1337, 4) === '00LZ'
  * @param number as of {@link encode}
  * @param width an integer from 1 on. Each number has a text of 22 letters.
  * @throws {Base62Error} `BUFFER_TOO_SMALL` if the width is 0 or the number needs more letters, and `OUT_OF_RANGE`.
- *   Where the host has no memory for the text, it throws an error of its own.
+ *   If the host has no memory for the text, it throws an error of its own.
  */
 export function encodeFixed(number: number | bigint, width: number, alphabet?: Alphabet): string;
 
@@ -40,7 +40,7 @@ export function encodeFixed(number: number | bigint, width: number, alphabet?: A
 export function encodeKey(number: number | bigint): string;
 
 /**
- * Returns the text of a UUID. It is that of the number with the same 16 bytes, the highest first.
+ * Returns the text of a UUID, which is the text of the number with the same 16 bytes, the highest first.
  *
  * @example encodeUuid('550e8400-e29b-41d4-a716-446655440000') === '2aUyqjCzEIiEcYMKj7TZtw'
  * @param uuid 36 characters, with hyphens and with letters of either case, or 16 bytes
@@ -52,12 +52,11 @@ export function encodeUuid(uuid: string | Uint8Array, alphabet?: Alphabet): stri
 export function digitCount(number: number | bigint): number;
 
 /**
- * Returns the number of a text. Zeros in front change nothing.
+ * Returns the number of a text. Leading zeros change nothing.
  *
  * @example decode('LZ') === 1337n
- * @throws {Base62Error} `EMPTY_INPUT`, `INVALID_BYTE`, or `OVERFLOW` if the text denotes 2**128 or more. A text with
- *   more than 22 bytes after its leading zeros overflows, even if some are no letters. So does one with exactly 22 if
- *   the first ten of them are letters and already show it.
+ * @throws {Base62Error} `EMPTY_INPUT`, `INVALID_BYTE`, or `OVERFLOW` if the text denotes 2**128 or more. If a text has
+ *   several errors, docs/DEFINITIONS.md of the project tells which one is thrown.
  */
 export function decode(text: Text, alphabet?: Alphabet): bigint;
 
@@ -73,7 +72,7 @@ export function decodeNumber(text: Text, alphabet?: Alphabet): number;
  * Returns the number of a text, as {@link decode} does, but takes only what {@link encode} writes. Each number has
  * exactly one such text.
  *
- * @throws {Base62Error} what {@link decode} throws, and `NOT_CANONICAL` for a needless zero in front
+ * @throws {Base62Error} what {@link decode} throws, and `NOT_CANONICAL` for a needless zero
  */
 export function decodeCanonical(text: Text, alphabet?: Alphabet): bigint;
 
@@ -106,7 +105,7 @@ export class Alphabet {
    *   `INVALID_ALPHABET` if they are not 62 letters of ASCII
    */
   constructor(letters: string);
-  /** The letters that it was made of. */
+  /** Its letters. */
   readonly letters: string;
   /** `0` to `9`, `A` to `Z` and `a` to `z`, the default. */
   static readonly standard: Alphabet;
@@ -129,8 +128,8 @@ export class Base62Error extends RangeError {
     | 'UNSAFE_INTEGER'
     | 'INVALID_UUID'
     | 'INVALID_ALPHABET';
-  /** With `INVALID_BYTE` and `REPEATED_LETTER`: the first byte that is no letter, or that is a letter again. */
+  /** With `INVALID_BYTE` the first byte that is no letter, with `REPEATED_LETTER` the first that repeats a letter. */
   readonly byte?: number;
-  /** Its index among the bytes, from 0. In a string whose letters before it are ASCII, its character has that index. */
+  /** Its index among the bytes, from 0. If all characters before it are ASCII, it is the index of its character. */
   readonly index?: number;
 }

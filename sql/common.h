@@ -1,12 +1,12 @@
-/* What the modules of both databases have in common: calls over the standard alphabet or one of the caller's own, and
- * why they refuse. Nothing of it is exported. */
+/* What the modules of both databases share: calls over the standard alphabet or one of the caller's own, and why they
+ * refuse. Nothing of it is exported. */
 #ifndef BASE62_COMMON_H
 #define BASE62_COMMON_H
 
 #include "base62.h"
 #include <stdbool.h>
 
-/* No number needs more than 22 letters. More fill a column that is wider, and far more only take time. */
+/* No number needs more than 22 letters. A greater width fills a wider column; far greater ones only take time. */
 #define MAX_WIDTH 1000
 
 /* The kinds for which PostgreSQL has different codes. */
@@ -16,22 +16,22 @@ typedef enum {
     WRONG_PARAMETER
 } refusal_kind;
 
-/* Why a call is refused, as an English text of so many letters of ASCII. */
+/* Why a call is refused, as an English text in ASCII and its length. */
 typedef struct {
     refusal_kind kind;
     size_t length;
     char said[BASE62_MAX_FAULT_TEXT];
 } refusal;
 
-/* Those that answer bool write what they find and answer true, or write why not and answer false. An alphabet that is
- * NULL is the standard one. */
+/* A function that answers bool writes its result and answers true, or writes *why and answers false. An alphabet that
+ * is NULL is the standard one. */
 
-/* The alphabet of letters, which have to be ASCII: others would make texts that no database takes. */
+/* Makes the alphabet of letters, which have to be ASCII: with others, texts would be invalid in a database. */
 bool make_alphabet(const char *letters, size_t length, base62_alphabet *alphabet, refusal *why);
 
 bool number_of_int64(int64_t whole, base62_number *number, refusal *why);
 
-/* It answers whether the number is below 2^63, and refuses nothing. */
+/* Answers whether the number is below 2^63, and if so writes it. */
 bool int64_of_number(base62_number number, int64_t *whole);
 
 /* The buffer has BASE62_MAX_DIGITS places. Answers the length. */

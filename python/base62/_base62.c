@@ -3,7 +3,7 @@
 #include <Python.h>
 #include <base62.h>
 
-/* The objects that the module holds. The first are those of base62._types. */
+/* The objects that the module holds. Those before OF_TYPES come from base62._types. */
 enum {
     WHOLE_OF,
     BYTES_OF,
@@ -23,20 +23,20 @@ enum {
 
 struct state {
     PyObject *held[HELD];
-    /* The size of bytes without items. */
+    /* The size of a bytes object without its items. */
     Py_ssize_t size_of_bytes;
-    /* What str.isascii calls. */
+    /* The C function of str.isascii. */
     PyCFunction is_ascii;
 };
 
-/* Bytes, and the object that has them, which is held. If it is NULL, a str of the caller has them. */
+/* Bytes, and a reference to the object that has them. If it is NULL, a str that the caller holds has them. */
 struct text {
     const char *bytes;
     Py_ssize_t length;
     PyObject *held;
 };
 
-/* An alphabet, and whether its letters are ASCII, so that its texts are. */
+/* An alphabet, and whether its letters are ASCII. */
 struct made {
     base62_alphabet alphabet;
     char kind;
@@ -63,13 +63,13 @@ static PyObject *shared(PyObject *object) {
     return object;
 }
 
-/* Converts an argument of a rarer type, by a function of base62._types. */
+/* Converts an argument of an uncommon type by a function of base62._types. */
 static PyObject *converted(struct state *state, int by, PyObject *given) {
     PyObject *call = held(state, by);
     return call == NULL ? NULL : PyObject_CallFunctionObjArgs(call, given, NULL);
 }
 
-/* Other threads run while the library reads or writes so many bytes. */
+/* Other threads run while the library reads or writes this many bytes or more. */
 enum { LONG = 4096 };
 
 static PyThreadState *let_others_run(size_t length) {
@@ -164,7 +164,7 @@ static int width_of(PyObject *given, size_t *width) {
     return found < 0 ? -1 : 0;
 }
 
-/* Takes over a reference, which has to be one to bytes. */
+/* Takes over a reference to a bytes object, or NULL. */
 static int hold(PyObject *bytes, struct text *text) {
     text->held = bytes;
     text->bytes = bytes == NULL ? NULL : PyBytes_AsString(bytes);
@@ -175,8 +175,8 @@ static int hold(PyObject *bytes, struct text *text) {
     return -1;
 }
 
-/* A str in ASCII is its own UTF-8. Any other str makes a copy in UTF-8 when it is asked, and keeps that copy as long as
-   it lives. So its bytes are taken in another way. */
+/* A str in ASCII is its own UTF-8. Any other str would make a copy in UTF-8 and keep it as long as it lives, so its
+   bytes are converted apart. */
 static int text_of(struct state *state, PyObject *given, struct text *text) {
     if (!PyUnicode_Check(given))
         return hold(PyBytes_Check(given) ? shared(given) : converted(state, BYTES_OF, given), text);
@@ -253,7 +253,7 @@ static int make(struct state *state, const char *letters, struct made *made) {
     return 0;
 }
 
-/* Letters that are no Alphabet. */
+/* The letters of an argument that is not an Alphabet. */
 static int letters_of(struct state *state, PyObject *given, struct text *letters) {
     if (hold(PyBytes_Check(given) ? shared(given) : converted(state, LETTERS_OF, given), letters) != 0)
         return -1;
@@ -264,13 +264,13 @@ static int letters_of(struct state *state, PyObject *given, struct text *letters
     return -1;
 }
 
-/* What an Alphabet adds to its letters. The items of bytes end an object, so this is behind them, as what a subclass in
-   Python adds would be. Where a caller has changed __new__ of the class, it is UNMADE. */
+/* What an Alphabet adds to its letters. It lies behind the items of bytes, which end that object, as the fields of a
+   subclass in Python would. If a caller has changed __new__ of the class, it is UNMADE. */
 static struct made *made_in(const struct state *state, PyObject *alphabet) {
     return (struct made *)((char *)alphabet + state->size_of_bytes + Py_SIZE(alphabet));
 }
 
-/* Lends what an Alphabet holds. Of letters it makes the same in a place of the caller. */
+/* Lends what an Alphabet holds. From letters it makes the same at the caller's place. */
 static const struct made *lend(struct state *state, PyObject *given, struct made *place) {
     PyObject *alphabet = given == NULL ? held(state, STANDARD) : given;
     if (alphabet == NULL)
@@ -313,7 +313,7 @@ static PyObject *plain(PyObject *bytes) {
 
 static PyObject *alphabet_of(struct state *state, PyTypeObject *type, PyObject *letters, const struct made *made) {
     newfunc new_bytes = (newfunc)PyType_GetSlot(&PyBytes_Type, Py_tp_new);
-    /* A subclass of bytes could say that it has others. */
+    /* A subclass of bytes could show other letters. */
     PyObject *in_row = new_bytes == NULL ? NULL : Py_BuildValue("(N)", plain(letters));
     PyObject *alphabet = in_row == NULL ? NULL : new_bytes(type, in_row, NULL);
     Py_DecRef(in_row);
@@ -351,7 +351,7 @@ static void free_alphabet(PyObject *self) {
     Py_DecRef((PyObject *)type);
 }
 
-/* The built-in ones are attributes of their type, so they and it hold each other. */
+/* The built-in alphabets are attributes of their type, so they and the type hold each other. */
 static int traverse_alphabet(PyObject *self, visitproc visit, void *arg) {
     Py_VISIT(Py_TYPE(self));
     return 0;
@@ -528,7 +528,7 @@ static PyObject *digit_count(PyObject *module, PyObject *const *given, Py_ssize_
     return PyLong_FromSize_t(base62_digit_count(number));
 }
 
-/* The text and the alphabet of a call, read by one of the library. */
+/* Reads the text of a call over its alphabet, by a call of the library. */
 static inline PyObject *read_by(base62_status (*read)(const base62_alphabet *, const char *, size_t, base62_number *,
                                                       base62_bad_byte *),
                                 struct state *state, PyObject *const found[3]) {
@@ -654,7 +654,7 @@ static PyMethodDef calls[] = {
     {NULL, NULL, 0, NULL},
 };
 
-/* The calls say that they are of base62, where callers find them. */
+/* The calls name base62 as their module, since callers find them there. */
 static int add_calls(PyObject *module) {
     PyObject *package = PyUnicode_FromString("base62");
     int ok = package != NULL;
@@ -682,7 +682,7 @@ static int take_types(PyObject **own) {
     return ok;
 }
 
-/* The C function of str.isascii, which is asked of each str. */
+/* Takes the C function of str.isascii, which text_of calls for each str. */
 static int take_is_ascii(struct state *state) {
     PyObject *empty = PyUnicode_FromString("");
     PyObject *method = empty == NULL ? NULL : PyObject_GetAttrString(empty, "isascii");

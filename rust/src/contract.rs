@@ -1,9 +1,9 @@
-//! What the contracts of the source require, and its own `unsafe`.
+//! What the contracts of the source require, and the `unsafe` of the source.
 //!
 //! All `unsafe` of the crate is here. With the feature `checked` there is none.
 
-/// A clause of the contract of the function that begins with it. Each caller in this crate is proved to meet it. A debug
-/// build asserts it, a release build tells it to the compiler.
+/// A clause of the function's contract, at the start of its body. Each caller in this crate is proved to meet it. A
+/// debug build asserts it, a release build tells it to the compiler.
 #[cfg(not(feature = "checked"))]
 macro_rules! requires {
     ($clause:expr) => {
@@ -20,7 +20,7 @@ macro_rules! requires {
     };
 }
 
-/// A form that is `unsafe` in the source, and proved there: an index that is inside, or bytes that are UTF-8.
+/// An index that is in bounds, or bytes that are UTF-8. The source has the same `unsafe`, and proves it.
 #[cfg(not(feature = "checked"))]
 macro_rules! proved {
     ($self:ident.$array:ident[$index:expr]) => {{
@@ -44,7 +44,7 @@ macro_rules! proved {
     };
 }
 
-/// What the contracts of public calls require, which callers in Rust do not prove.
+/// Asserts what the contract of a public call requires, since callers in Rust do not prove it.
 #[inline(always)]
 #[track_caller]
 pub(crate) fn assert_ascii(alphabet: &crate::Alphabet) {

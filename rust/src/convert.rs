@@ -1,4 +1,4 @@
-//! What Rust has, and the source has not.
+//! Traits of Rust that the source does not implement.
 
 use crate::{Alphabet, AlphabetError};
 use core::hash::{Hash, Hasher};

@@ -1,4 +1,4 @@
-//! A text of at most `N` bytes, without an allocator: what `InlineText` of Rattle's `std` is where no part is cut.
+//! A text of at most `N` bytes, without an allocator, in the place of `InlineText` of Rattle's `std`.
 
 #[derive(Clone, Copy)]
 pub(crate) struct InlineText<const N: usize> {
@@ -14,7 +14,7 @@ impl<const N: usize> InlineText<N> {
         }
     }
 
-    /// Appends a part. All that this crate appends fits, as is proved.
+    /// Appends a part. Whatever this crate appends is proved to fit.
     pub(crate) fn and_str(mut self, part: &str, _max_len: usize) -> InlineText<N> {
         let end = self.len + part.len();
         self.bytes[self.len..end].copy_from_slice(part.as_bytes());

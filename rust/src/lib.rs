@@ -1,9 +1,9 @@
 //! Whole numbers below 2^128 as short texts of `0` to `9`, `A` to `Z` and `a` to `z`, and back.
 //!
 //! The calls of the crate `base62` 2.2.6 have their names, types, features and answers here. The codec is written in
-//! Rattle, a dialect of Rust with contracts, and each of its functions is proved to meet its contract. The modules
-//! of this crate are that source without its contracts and proofs. A program of the project takes them out; it is
-//! tested, not proved.
+//! Rattle, which is Rust with contracts, and each of its functions is proved to meet its contract. The modules of this
+//! crate are that source without its contracts and proofs. A program of the project takes them out; it is tested, not
+//! proved.
 //!
 //! ```
 //! let mut buffer = [0; base62::MAX_DIGITS];
@@ -29,7 +29,7 @@
 //! | a `String` | `encode`, `encode_buf`, with the feature `alloc` |
 //! | a format string | [`encode_fmt`] |
 //! | a writer | `encode_io`, with the feature `std` |
-//! | a number | [`decode`], or [`decode_canonical`] to refuse all texts but one of each number |
+//! | a number | [`decode`], or [`decode_canonical`] to accept one text for each number |
 //! | a UUID | [`decode_uuid`], or [`decode_uuid_canonical`] in the same way |
 //! | keys and columns, which sort as their numbers | [`encode_key`], [`encode_fixed`] |
 //! | a scan of those with one prefix | [`key_range`], [`fixed_range`] |
@@ -37,8 +37,8 @@
 //! # Features
 //!
 //! `alloc`, the default, adds the calls that make or grow a `String`. `std` adds the calls that write to an
-//! `io::Write`, and includes `alloc`. With neither, the crate needs `core` alone. `checked` leaves out all `unsafe`:
-//! the tests that the proofs make needless are made.
+//! `io::Write`, and includes `alloc`. With neither, the crate needs `core` alone. `checked` leaves out all `unsafe`,
+//! and tests again what the proofs show.
 //!
 //! Only the calls of `alloc` allocate. If memory is refused, they end the program, as a `String` does. Only
 //! `encode_with`, `encode_buf_with` and [`encode_fmt_with`] panic, on letters that are not ASCII. No call takes

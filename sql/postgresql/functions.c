@@ -45,7 +45,8 @@ typedef struct {
 } kept_alphabet;
 
 /* The alphabet of the letters at a place, or NULL if there is no argument. It is kept for the next call of the same
- * expression. Each call compares the letters: those in a variable of PL/pgSQL, which changes, pass for a constant. */
+ * expression. Each call compares the letters: PostgreSQL reports a variable of PL/pgSQL as a constant, although its
+ * value can change. */
 static const base62_alphabet *alphabet_at(FunctionCallInfo fcinfo, int place) {
     FmgrInfo *function = fcinfo->flinfo;
     kept_alphabet *kept;
@@ -98,7 +99,7 @@ static Datum fixed(base62_number number, size_t width, const base62_alphabet *al
     PG_RETURN_TEXT_P(answer);
 }
 
-/* Whether the text that is the first argument, over the alphabet that is the second one, is accepted. */
+/* Whether the first argument, a text, is accepted over the second, an alphabet. */
 static bool decodes(FunctionCallInfo fcinfo, bool canonical, base62_number *number, refusal *why) {
     const text *given = PG_GETARG_TEXT_PP(0);
     return decode_over(alphabet_at(fcinfo, 1), VARDATA_ANY(given), VARSIZE_ANY_EXHDR(given), canonical, number, why);

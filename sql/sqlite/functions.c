@@ -4,7 +4,7 @@
 #include <sqlite3ext.h>
 SQLITE_EXTENSION_INIT1
 
-/* Refusals. Each tells the context, and answers 0. */
+/* Refusals. Each sets the error of the context, and answers 0. */
 
 static int refuse_with(sqlite3_context *context, const char *said) {
     sqlite3_result_error(context, said, -1);
@@ -22,7 +22,7 @@ static int refuse_memory(sqlite3_context *context) {
     return 0;
 }
 
-/* Arguments. If one is refused, the context has been told, and the answer is 0. */
+/* Arguments. If one is refused, the error of the context is set, and the answer is 0. */
 
 static int any_null(int count, sqlite3_value **given) {
     for (int i = 0; i < count; i++)
@@ -47,7 +47,7 @@ static int number_of(sqlite3_context *context, sqlite3_value *given, base62_numb
     return 1;
 }
 
-/* A number is never read as its digits: a column of the type STRING makes 100000 of the text 1E5. */
+/* Only a text is taken: a column of the type STRING turns the text 1E5 into the number 100000. */
 static int text_of(sqlite3_context *context, sqlite3_value *given, const char **text, size_t *length) {
     if (sqlite3_value_type(given) != SQLITE_TEXT)
         return refuse_with(context, "base62: the argument is no text");
@@ -58,8 +58,8 @@ static int text_of(sqlite3_context *context, sqlite3_value *given, const char **
     return 1;
 }
 
-/* Points to the alphabet of the letters at a place, or to NULL if there is no argument. SQLite keeps it as long as the
- * statement runs if the letters are constant, and else may free it at once. So this call has its own. */
+/* Points to the alphabet of the letters at a place, or to NULL if there is no argument. If the letters are constant,
+ * SQLite keeps the alphabet for the next call. If not, it may free it at once, so this call uses a copy in *own. */
 static int alphabet_at(sqlite3_context *context, int place, int count, sqlite3_value **given, base62_alphabet *own,
                        const base62_alphabet **alphabet) {
     const char *letters;
@@ -117,7 +117,7 @@ static void encode(sqlite3_context *context, int count, sqlite3_value **given) {
     sqlite3_result_text(context, text, (int)length, SQLITE_TRANSIENT);
 }
 
-/* A function that has data decodes canonical texts alone. */
+/* A function that has data accepts only canonical texts. */
 static int decoded(sqlite3_context *context, int count, sqlite3_value **given, base62_number *number) {
     const char *text;
     size_t length;
@@ -151,7 +151,8 @@ static void decode_blob(sqlite3_context *context, int count, sqlite3_value **giv
     sqlite3_result_blob(context, uuid, sizeof uuid, SQLITE_TRANSIENT);
 }
 
-/* Whether decoding accepts, to an integer if the function has data. It accepts no value but a text. */
+/* Whether decoding accepts the value, which has to be a text. If the function has data, the number has to be an
+ * integer of SQLite too. */
 static void accepts(sqlite3_context *context, int count, sqlite3_value **given) {
     const char *text;
     size_t length;
@@ -188,7 +189,7 @@ static void encode_fixed(sqlite3_context *context, int count, sqlite3_value **gi
         result_fixed(context, alphabet, number, width);
 }
 
-/* The last key if the function has data, and else the first one. */
+/* The last key if the function has data, and otherwise the first. */
 static void key_end(sqlite3_context *context, int count, sqlite3_value **given) {
     const char *prefix;
     size_t length, width = BASE62_KEY_LENGTH;
@@ -244,8 +245,8 @@ static int create_functions(sqlite3 *db) {
     return status;
 }
 
-/* SQLite tries the first name, and then sqlite3_base_init, which it makes of base62.so. The second name is for those
- * who ask for it. The module exports these two alone. */
+/* SQLite tries the first name, and then sqlite3_base_init, which it makes of base62.so. The second name is for callers
+ * that ask for it. The module exports only these two. */
 #ifdef _WIN32
 #define EXPORT __declspec(dllexport)
 #else

@@ -472,7 +472,7 @@ static PyObject *fixed_text(const base62_alphabet *alphabet, base62_number numbe
 
 PyDoc_STRVAR(encode_fixed_doc,
              "encode_fixed($module, /, number, width, alphabet=Alphabet.STANDARD)\n--\n\n"
-             "Return the text of a number with zeros in front, of exactly width letters.\n\n"
+             "Return the text of a number with leading zeros, of exactly width letters.\n\n"
              "Texts of one width sort as their numbers, if each letter of the alphabet is a greater byte than the one\n"
              "before it, as in Alphabet.STANDARD. decode reads them. Raises OverflowError if the number has more\n"
              "letters, or as encode does, and ValueError if the width is negative.\n\n"
@@ -495,7 +495,7 @@ static PyObject *encode_fixed(PyObject *module, PyObject *const *given, Py_ssize
 
 PyDoc_STRVAR(encode_key_doc,
              "encode_key($module, /, number)\n--\n\n"
-             "Return the key of a number: its standard text with zeros in front, of 22 letters.\n\n"
+             "Return the key of a number: its standard text with leading zeros, of 22 letters.\n\n"
              "Keys sort as their numbers. decode reads them. Raises OverflowError as encode does.\n\n"
              ">>> encode_key(1337)\n"
              "'00000000000000000000LZ'");
@@ -553,7 +553,7 @@ static inline PyObject *read_by(base62_status (*read)(const base62_alphabet *, c
 }
 
 PyDoc_STRVAR(decode_doc, "decode($module, /, text, alphabet=Alphabet.STANDARD)\n--\n\n"
-                         "Return the number that a text denotes. Zeros in front change nothing.\n\n"
+                         "Return the number that a text denotes. Leading zeros change nothing.\n\n"
                          "Raises EmptyInputError, InvalidByteError or TooLargeError.\n\n"
                          ">>> decode(\"00LZ\"), decode(b\"lz\", Alphabet.ALTERNATIVE)\n"
                          "(1337, 1337)\n"

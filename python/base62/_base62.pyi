@@ -35,7 +35,7 @@ def encode(number: Number, alphabet: AnyAlphabet = Alphabet.STANDARD) -> str:
     """
 
 def encode_fixed(number: Number, width: SupportsIndex, alphabet: AnyAlphabet = Alphabet.STANDARD) -> str:
-    """Return the text of a number with zeros in front, of exactly width letters.
+    """Return the text of a number with leading zeros, of exactly width letters.
 
     Texts of one width sort as their numbers, if each letter of the alphabet is a greater byte than the one
     before it, as in Alphabet.STANDARD. decode reads them. Raises OverflowError if the number has more
@@ -46,7 +46,7 @@ def encode_fixed(number: Number, width: SupportsIndex, alphabet: AnyAlphabet = A
     """
 
 def encode_key(number: Number) -> str:
-    """Return the key of a number: its standard text with zeros in front, of 22 letters.
+    """Return the key of a number: its standard text with leading zeros, of 22 letters.
 
     Keys sort as their numbers. decode reads them. Raises OverflowError as encode does.
 
@@ -64,7 +64,7 @@ def digit_count(number: Number) -> int:
     """
 
 def decode(text: Text, alphabet: AnyAlphabet = Alphabet.STANDARD) -> int:
-    """Return the number that a text denotes. Zeros in front change nothing.
+    """Return the number that a text denotes. Leading zeros change nothing.
 
     Raises EmptyInputError, InvalidByteError or TooLargeError.
 

@@ -55,8 +55,8 @@ class EmptyInputError(DecodeError):
 class TooLargeError(DecodeError):
     """A text denotes 2**128 or more.
 
-    A text with more than 22 bytes after its leading zeros is always too large, even if some are not letters. So is one
-    with exactly 22 if the first ten of them are letters and already show it. The bytes of a str are those of UTF-8.
+    If a text has several errors, docs/DEFINITIONS.md of the project tells which one is raised. The bytes of a str are
+    those of UTF-8.
     """
 
     __module__ = "base62"

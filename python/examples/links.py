@@ -9,7 +9,7 @@
 >>> name = uuid.UUID("550e8400-e29b-41d4-a716-446655440000")
 >>> add(links, name, "https://example.org/b")
 '2aUyqjCzEIiEcYMKj7TZtw'
->>> [base62.decode_uuid(key) for key, _ in with_front(links, "2aUy")]
+>>> [base62.decode_uuid(key) for key, _ in with_prefix(links, "2aUy")]
 [UUID('550e8400-e29b-41d4-a716-446655440000')]
 >>> links.close()
 """
@@ -41,7 +41,7 @@ def add(links: sqlite3.Connection, number: int | uuid.UUID, where: str) -> str:
 
 
 def target(links: sqlite3.Connection, text: str, strict: bool = False) -> str | None:
-    """Where a link leads. Zeros in front are fine, unless only the text that was given out is."""
+    """Where a link leads. Leading zeros are fine, unless only the text that was given out is."""
     try:
         number = base62.decode_canonical(text) if strict else base62.decode(text)
     except base62.NotCanonicalError:
@@ -50,7 +50,7 @@ def target(links: sqlite3.Connection, text: str, strict: bool = False) -> str | 
     return row and str(row[0])
 
 
-def with_front(links: sqlite3.Connection, front: str) -> list[tuple[str, str]]:
+def with_prefix(links: sqlite3.Connection, front: str) -> list[tuple[str, str]]:
     """The links whose keys begin so, in the order of their numbers."""
     bounds = base62.key_bounds(front)
     return [] if bounds is None else links.execute(BETWEEN, bounds).fetchall()

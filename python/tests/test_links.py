@@ -49,9 +49,9 @@ class Links(unittest.TestCase):
             for number in choice.sample(sorted(self.numbers), 8):
                 least = number // span * span
                 within = sorted(other for other in self.numbers if least <= other < least + span)
-                found = links.with_front(self.links, base62.encode_key(number)[:length])
+                found = links.with_prefix(self.links, base62.encode_key(number)[:length])
                 self.assertEqual([int(where) for _, where in found], within)
-        self.assertEqual(links.with_front(self.links, "8"), [])
+        self.assertEqual(links.with_prefix(self.links, "8"), [])
 
     def test_plan(self) -> None:
         """A scan by a front goes over the primary key's part between the bounds, and sorts nothing."""

@@ -22,9 +22,11 @@ PREPROCESSOR = f"-I{SOURCE.parent} -U__SIZEOF_INT128__"
 
 # A function, what Eva cannot show there, and the clause that covers it.
 COVERED = {
-    ("Tables_pair", "remainder < 62"): "`Tables::pair` requires `number < 3844`, and the quotient by 62 was subtracted",
     ("write_1_or_2", "\\valid(buf + 0)"): "`write_1_or_2` requires `1 ≤ places` and `places ≤ length buf.old`",
     ("write_1_or_2", "\\valid(buf + (size_t)(places - 1))"): "`write_1_or_2` requires `places ≤ length buf.old`",
+    ("write_5", "\\valid(buf + 0)"): "`write_5` requires `5 ≤ length buf.old`",
+    ("write_pair", "\\valid(buf + 0)"): "`write_pair` requires `2 ≤ length buf.old`",
+    ("write_pair", "\\valid(buf + 1)"): "`write_pair` requires `2 ≤ length buf.old`",
 }
 
 

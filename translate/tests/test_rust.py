@@ -12,12 +12,12 @@ TOP = Path(__file__).resolve().parents[2]
 
 # Edits of the source: a file of crates, what stands there, and what comes in its place. Each is refused.
 REFUSED = [
-    ("base62/src/codec/encoder.rt", "    let high = n / POWER_5;", "    proof { x }\n    let high = n / POWER_5;"),
-    ("base62/src/codec/encoder.rt", "    let high = n / POWER_5;", "    prove!(n < 5);\n    let high = n / POWER_5;"),
-    ("base62/src/codec/encoder.rt", "    let high = n / POWER_5;", "    let high = n.wrapping_div(POWER_5);"),
-    ("base62/src/codec/encoder.rt", "    let high = n / POWER_5;", "    ghost let x = { n };"),
-    ("base62/src/codec/encoder.rt", "    let high = n / POWER_5;", "    let high = unsafe { n };"),
-    ("base62/src/codec/encoder.rt", "write_5(tables, high as u32, buf", "write_5(tables, high as i32, buf"),
+    ("base62/src/codec/encoder.rt", "    let quotient = x / POWER_2;", "    proof { x }\n    let quotient = x / POWER_2;"),
+    ("base62/src/codec/encoder.rt", "    let quotient = x / POWER_2;", "    prove!(x < 5);\n    let quotient = x / POWER_2;"),
+    ("base62/src/codec/encoder.rt", "    let quotient = x / POWER_2;", "    let quotient = x.wrapping_div(POWER_2);"),
+    ("base62/src/codec/encoder.rt", "    let quotient = x / POWER_2;", "    ghost let y = { x };"),
+    ("base62/src/codec/encoder.rt", "    let quotient = x / POWER_2;", "    let quotient = unsafe { x };"),
+    ("base62/src/codec/encoder.rt", "(digit as u32, after)", "(digit as i32, after)"),
     ("base62/src/codec/encoder.rt", "    requires fits { x < 62 ^ 2 }", "    decreases { x }"),
     ("base62/src/codec/encoder.rt", "fn write_2(", "#[cycle(a)]\nfn write_2("),
     ("base62/src/codec/decoder.rt", "            return i;", "            continue;"),

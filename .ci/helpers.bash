@@ -58,7 +58,8 @@ declare -A packages=(
 # THING, by its name there.
 is_here() {
     case $1 in
-        build | ensurepip | pip) python3 -c "import $1" ;;
+        # Of the system's Python, if there is one: Debian's setuptools works with no other.
+        build | ensurepip | pip) PATH=/usr/bin:$PATH python3 -c "import $1" ;;
         # Debian's file, which serves each Python without a network.
         wheel) compgen -G '/usr/share/python-wheels/wheel-*.whl' ;;
         Python.h) python3 -c 'import os, sysconfig; os.stat(sysconfig.get_path("include") + "/Python.h")' ;;

@@ -29,7 +29,6 @@ declare -A packages=(
     [mypy]=mypy
     [node]=nodejs
     [npm]=npm
-    [objcopy]=binutils
     [pg_virtualenv]=postgresql-common
     [pip]=python3-pip
     [pkg-config]=pkg-config

@@ -35,23 +35,11 @@
 
 #ifdef __GNUC__
 #define ALWAYS_INLINE inline __attribute__((__always_inline__))
-#define NEVER_INLINE __attribute__((__noinline__))
-#define COLD __attribute__((__cold__))
 #else
 #define ALWAYS_INLINE inline
-#define NEVER_INLINE
-#define COLD
 #endif
 #ifdef _MSC_VER
 #define restrict __restrict
-#endif
-
-/* Tells GCC to write out a short loop, which clang does anyway. */
-#if defined __GNUC__ && __GNUC__ >= 8 && !defined __clang__
-#define PRAGMA(text) _Pragma(#text)
-#define UNROLL(times) PRAGMA(GCC unroll times)
-#else
-#define UNROLL(times)
 #endif
 
 /* Whole numbers below 2^128. A sum, a difference and a product are those modulo 2^128. */
@@ -146,6 +134,8 @@ static ALWAYS_INLINE u128 u128_saturating_add(u128 a, u128 b) {
     const u128 sum = u128_add(a, b);
     return u128_less(sum, a) ? u128_sub(u128_of(0), u128_of(1)) : sum;
 }
+
+static ALWAYS_INLINE uint64_t u64_wrapping_add(uint64_t a, uint64_t b) { return a + b; }
 
 /* The index of the highest bit of a number that is not 0. */
 static ALWAYS_INLINE uint32_t u64_ilog2(uint64_t n) {
@@ -242,8 +232,8 @@ static const Tables ALTERNATIVE = {
 
 typedef struct pair_u8_u8 { uint8_t _0; uint8_t _1; } pair_u8_u8;
 
-static ALWAYS_INLINE pair_u8_u8 Tables_pair_of_digits(const Tables *self, uint32_t first_digit,
-    uint32_t second_digit);
+static ALWAYS_INLINE pair_u8_u8 Tables_pair_of_digits(const Tables *self, uint64_t first_digit,
+    uint64_t second_digit);
 
 // The digit of a byte, or 255 if it has none.
 static inline uint8_t Tables_digit(const Tables *self, uint8_t byte) {
@@ -260,12 +250,12 @@ static ALWAYS_INLINE pair_u8_u8 Tables_pair(const Tables *self, uint32_t number)
     //@ assert requires: number < 3844;
     // The quotient by 62, since the number is small.
     const uint32_t quotient = (number * 4229) >> 18;
-    return Tables_pair_of_digits(self, quotient, number - quotient * 62);
+    return Tables_pair_of_digits(self, (uint64_t)quotient, (uint64_t)(number - quotient * 62));
 }
 
 // The letters of two digits at once.
-static ALWAYS_INLINE pair_u8_u8 Tables_pair_of_digits(const Tables *self, uint32_t first_digit,
-    uint32_t second_digit) {
+static ALWAYS_INLINE pair_u8_u8 Tables_pair_of_digits(const Tables *self, uint64_t first_digit,
+    uint64_t second_digit) {
     //@ assert requires: first_digit < 62 && second_digit < 62;
     // SAFETY: a digit is below 62.
     const uint8_t first = self->letters[first_digit];
@@ -274,7 +264,7 @@ static ALWAYS_INLINE pair_u8_u8 Tables_pair_of_digits(const Tables *self, uint32
 }
 
 // The letter of a digit.
-static ALWAYS_INLINE uint8_t Tables_letter(const Tables *self, uint32_t digit) {
+static ALWAYS_INLINE uint8_t Tables_letter(const Tables *self, uint64_t digit) {
     //@ assert requires: digit < 62;
     // SAFETY: a digit is below 62.
     return self->letters[digit];
@@ -563,23 +553,15 @@ static ALWAYS_INLINE size_t narrow_count(uint64_t n) {
     if (n == 0) {
         return 1;
     }
-    const size_t highest = (size_t)u64_ilog2(n);
-    const size_t estimate = ((highest * 43) >> 8) + 1;
-    if (n > GREATEST_NARROW[estimate]) {
-        return estimate + 1;
-    } else {
-        return estimate;
-    }
+    const uint32_t highest = u64_ilog2(n);
+    const size_t estimate = (size_t)((highest * 43) >> 8) + 1;
+    return estimate + (size_t)(n > GREATEST_NARROW[estimate]);
 }
 
 static ALWAYS_INLINE size_t wide_count(u128 n) {
-    const size_t highest = (size_t)u64_ilog2(u128_low(u128_shift_right(n, 64))) + 64;
-    const size_t estimate = ((highest * 43) >> 8) + 1;
-    if (u128_less(GREATEST[estimate], n)) {
-        return estimate + 1;
-    } else {
-        return estimate;
-    }
+    const uint32_t highest = u64_ilog2(u128_low(u128_shift_right(n, 64))) + 64;
+    const size_t estimate = (size_t)((highest * 43) >> 8) + 1;
+    return estimate + (size_t)u128_less(GREATEST[estimate], n);
 }
 
 
@@ -625,6 +607,8 @@ static ALWAYS_INLINE result_u32 err_u32(DecodeError err) {
     return (result_u32){.is_ok = false, .err = err};
 }
 
+static ALWAYS_INLINE result_u128 decode_after(const Tables *tables, const uint8_t *input, size_t input_length,
+    size_t zeros);
 static ALWAYS_INLINE size_t count_zeros(const Tables *tables, const uint8_t *input, size_t input_length);
 static ALWAYS_INLINE result_u128 read_long(const Tables *tables, const uint8_t *after_zeros,
     size_t after_zeros_length, size_t zeros);
@@ -644,6 +628,13 @@ static ALWAYS_INLINE result_u128 decode_over(const Tables *tables, const uint8_t
         return err_u128(DecodeError_EmptyInput());
     }
     const size_t zeros = count_zeros(tables, input, input_length);
+    return decode_after(tables, input, input_length, zeros);
+}
+
+// The number of a text whose leading zeros are counted.
+static ALWAYS_INLINE result_u128 decode_after(const Tables *tables, const uint8_t *input, size_t input_length,
+    size_t zeros) {
+    //@ assert requires: 0 < input_length;
     const uint8_t *after_zeros = input + zeros;
     const size_t after_zeros_length = input_length - zeros;
     if (after_zeros_length > MAX_DIGITS) {
@@ -738,11 +729,7 @@ static ALWAYS_INLINE result_u64 read_on(const Tables *tables, uint64_t number, c
     size_t part_length, size_t start) {
     //@ assert requires: number < 916132832 && part_length <= 5;
     uint64_t total = number;
-    UNROLL(5)
-    for (size_t i = 0; i < 5; i++) {
-        if (i == part_length) {
-            break;
-        }
+    for (size_t i = 0; i < part_length; i++) {
         const result_u32 digit = read_digit(tables, part, i, start);
         if (!digit.is_ok) return err_u64(digit.err);
         total = total * 62 + (uint64_t)digit.ok;
@@ -801,7 +788,6 @@ static ALWAYS_INLINE result_option_u128 err_option_u128(DecodeError err) {
 }
 
 static result_option_u128 read_canonical(const Tables *tables, const uint8_t *input, size_t input_length);
-static bool has_needless_zero(const Tables *tables, const uint8_t *input, size_t input_length);
 
 // The number below 2^128 whose canonical standard text is `input`.
 //
@@ -826,17 +812,16 @@ static result_option_u128 decode_canonical_with(const Alphabet *alphabet, const 
 
 // The number of a canonical text over the alphabet of the tables.
 static result_option_u128 read_canonical(const Tables *tables, const uint8_t *input, size_t input_length) {
-    const result_u128 number = decode_over(tables, input, input_length);
+    if (input_length == 0) {
+        return err_option_u128(DecodeError_EmptyInput());
+    }
+    const size_t zeros = count_zeros(tables, input, input_length);
+    const result_u128 number = decode_after(tables, input, input_length, zeros);
     if (!number.is_ok) return err_option_u128(number.err);
-    if (has_needless_zero(tables, input, input_length)) {
+    if (zeros > 0 && input_length > 1) {
         return ok_option_u128(none_u128());
     }
     return ok_option_u128(some_u128(number.ok));
-}
-
-// Whether the text begins with a zero letter, and more bytes follow it.
-static bool has_needless_zero(const Tables *tables, const uint8_t *input, size_t input_length) {
-    return input_length > 1 && Tables_is_zero(tables, input[0]);
 }
 
 
@@ -865,14 +850,12 @@ typedef struct pair_u64_u64 { uint64_t _0; uint64_t _1; } pair_u64_u64;
 
 typedef struct pair_u32_u64_u64 { uint32_t _0; uint64_t _1; uint64_t _2; } pair_u32_u64_u64;
 
-typedef struct pair_u32_u64 { uint32_t _0; uint64_t _1; } pair_u32_u64;
-
 static ALWAYS_INLINE void write_text(const Tables *tables, u128 n, size_t count, uint8_t *restrict buf);
 static void write_narrow(const Tables *tables, uint64_t n, size_t count, uint8_t *restrict buf);
 static void write_wide(const Tables *tables, u128 n, size_t count, uint8_t *restrict buf);
 static ALWAYS_INLINE pair_u32_u64_u64 cut_by_20(u128 n);
 static ALWAYS_INLINE pair_u64_u64 cut_by_10(u128 n);
-static ALWAYS_INLINE u128 fraction_of(uint64_t n);
+static ALWAYS_INLINE pair_u64_u64 fraction_of(uint64_t n);
 static ALWAYS_INLINE pair_u64_u64 cut_narrow_by_10(uint64_t n);
 static ALWAYS_INLINE void write_up_to_9(const Tables *tables, uint64_t n, size_t places, uint8_t *restrict buf);
 static ALWAYS_INLINE void write_up_to_5(const Tables *tables, uint32_t n, size_t places, uint8_t *restrict buf);
@@ -882,9 +865,9 @@ static ALWAYS_INLINE void write_4(const Tables *tables, uint32_t x, uint8_t *res
 static ALWAYS_INLINE void write_20(const Tables *tables, uint64_t high, uint64_t low, uint8_t *restrict buf);
 static ALWAYS_INLINE void write_10(const Tables *tables, uint64_t fraction, uint8_t *restrict buf);
 static ALWAYS_INLINE void write_5(const Tables *tables, uint64_t fraction, uint8_t *restrict buf);
-static ALWAYS_INLINE void write_pair(const Tables *tables, uint32_t first, uint32_t second, uint8_t *restrict buf);
-static ALWAYS_INLINE pair_u32_u64 next_digit(uint64_t fraction);
-static ALWAYS_INLINE uint32_t first_digit(uint64_t fraction);
+static ALWAYS_INLINE void write_pair(const Tables *tables, uint64_t first, uint64_t second, uint8_t *restrict buf);
+static ALWAYS_INLINE pair_u64_u64 next_digit(uint64_t fraction);
+static ALWAYS_INLINE uint64_t first_digit(uint64_t fraction);
 static ALWAYS_INLINE uint64_t after_5(uint64_t fraction);
 static ALWAYS_INLINE pair_u64_u64 whole_and_fraction(u128 n);
 
@@ -916,8 +899,8 @@ static void write_narrow(const Tables *tables, uint64_t n, size_t count, uint8_t
     } else {
         const pair_u64_u64 first_fraction = cut_narrow_by_10(n);
         const uint64_t first = first_fraction._0, fraction = first_fraction._1;
-        // Of ten letters, the first is written over this one.
-        buf[0] = Tables_letter(tables, (uint32_t)first);
+        // A text of ten letters then overwrites this letter with its first.
+        buf[0] = Tables_letter(tables, first);
         write_10(tables, fraction, buf + (count - 10));
     }
 }
@@ -932,15 +915,17 @@ static void write_wide(const Tables *tables, u128 n, size_t count, uint8_t *rest
         const uint64_t low = top_high_low._2;
         write_1_or_2(tables, top, count - 20, buf);
         write_20(tables, high, low, buf + (count - 20));
-    } else if (count == 20) {
-        const pair_u64_u64 high_low = cut_by_10(n);
-        const uint64_t high = high_low._0, low = high_low._1;
-        write_20(tables, u128_low(fraction_of(high)), low, buf);
     } else {
         const pair_u64_u64 high_low = cut_by_10(n);
         const uint64_t high = high_low._0, low = high_low._1;
         write_10(tables, low, buf + (count - 10));
-        write_up_to_9(tables, high, count - 10, buf);
+        if (count == 20) {
+            const pair_u64_u64 fraction = fraction_of(high);
+            const uint64_t fraction_2 = fraction._1;
+            write_10(tables, fraction_2, buf);
+        } else {
+            write_up_to_9(tables, high, count - 10, buf);
+        }
     }
 }
 
@@ -952,7 +937,7 @@ static ALWAYS_INLINE pair_u32_u64_u64 cut_by_20(u128 n) {
     const u128 remainder = u128_sub(n, u128_mul(u128_of(estimate), POWER_20));
     const pair_u64_u64 high_low = cut_by_10(remainder);
     const uint64_t high = high_low._0, low = high_low._1;
-    const pair_u64_u64 whole_fraction = whole_and_fraction(fraction_of(high));
+    const pair_u64_u64 whole_fraction = fraction_of(high);
     const uint64_t whole = whole_fraction._0, fraction = whole_fraction._1;
     return (pair_u32_u64_u64){estimate + (uint32_t)whole, fraction, low};
 }
@@ -964,19 +949,22 @@ static ALWAYS_INLINE pair_u64_u64 cut_by_10(u128 n) {
     const uint64_t estimate = u128_low(u128_shift_right(u128_mul(u128_of(upper),
         u128_of(UINT64_C(1583735255667320618))), 64));
     const uint64_t remainder = u128_low(u128_sub(n, u128_mul(u128_of(estimate), u128_of(POWER_10))));
-    const pair_u64_u64 whole_fraction = whole_and_fraction(fraction_of(remainder));
+    const pair_u64_u64 whole_fraction = fraction_of(remainder);
     const uint64_t whole = whole_fraction._0, fraction = whole_fraction._1;
     return (pair_u64_u64){estimate + whole, fraction};
 }
 
-// A fraction of a number, and a whole for each 62^10. The fractions of a number are 21 or more, from
+// A number as a fraction, and a whole for each 62^10. The fractions of a number are 21 or more, from
 // the number times 2^64 / 62^10 on. This one is at most two above that product. The factor is
 // 2^124 / 62^10 - 2^64, rounded up.
-static ALWAYS_INLINE u128 fraction_of(uint64_t n) {
+static ALWAYS_INLINE pair_u64_u64 fraction_of(uint64_t n) {
     //@ assert requires: n < 1152921504606846976;
     const uint64_t scaled = n * 16;
-    return u128_add(u128_add(u128_of(scaled),
-        u128_shift_right(u128_mul(u128_of(scaled), u128_of(UINT64_C(6893020016967578278))), 64)), u128_of(1));
+    const uint64_t upper = u128_low(u128_shift_right(u128_mul(u128_of(scaled),
+        u128_of(UINT64_C(6893020016967578278))), 64));
+    const uint64_t fraction = u64_wrapping_add(scaled + 1, upper);
+    // A sum that wraps around is less than what was added.
+    return (pair_u64_u64){(uint64_t)(fraction < upper), fraction};
 }
 
 // Divides a number below 2^64 by 62^10, and gives the remainder as a fraction: at most five above the
@@ -1053,25 +1041,21 @@ static ALWAYS_INLINE void write_10(const Tables *tables, uint64_t fraction, uint
 
 // Five letters of a fraction.
 static ALWAYS_INLINE void write_5(const Tables *tables, uint64_t fraction, uint8_t *restrict buf) {
-    const pair_u32_u64 first_after_1 = next_digit(fraction);
-    const uint32_t first = first_after_1._0;
-    const uint64_t after_1 = first_after_1._1;
+    const pair_u64_u64 first_after_1 = next_digit(fraction);
+    const uint64_t first = first_after_1._0, after_1 = first_after_1._1;
     buf[0] = Tables_letter(tables, first);
-    const pair_u32_u64 second_after_2 = next_digit(after_1);
-    const uint32_t second = second_after_2._0;
-    const uint64_t after_2 = second_after_2._1;
-    const pair_u32_u64 third_after_3 = next_digit(after_2);
-    const uint32_t third = third_after_3._0;
-    const uint64_t after_3 = third_after_3._1;
+    const pair_u64_u64 second_after_2 = next_digit(after_1);
+    const uint64_t second = second_after_2._0, after_2 = second_after_2._1;
+    const pair_u64_u64 third_after_3 = next_digit(after_2);
+    const uint64_t third = third_after_3._0, after_3 = third_after_3._1;
     write_pair(tables, second, third, buf + 1);
-    const pair_u32_u64 fourth_after_4 = next_digit(after_3);
-    const uint32_t fourth = fourth_after_4._0;
-    const uint64_t after_4 = fourth_after_4._1;
+    const pair_u64_u64 fourth_after_4 = next_digit(after_3);
+    const uint64_t fourth = fourth_after_4._0, after_4 = fourth_after_4._1;
     write_pair(tables, fourth, first_digit(after_4), buf + 3);
 }
 
 // The letters of two digits.
-static ALWAYS_INLINE void write_pair(const Tables *tables, uint32_t first, uint32_t second, uint8_t *restrict buf) {
+static ALWAYS_INLINE void write_pair(const Tables *tables, uint64_t first, uint64_t second, uint8_t *restrict buf) {
     //@ assert requires: first < 62 && second < 62;
     const pair_u8_u8 first_letter_second_letter = Tables_pair_of_digits(tables, first, second);
     const uint8_t first_letter = first_letter_second_letter._0, second_letter = first_letter_second_letter._1;
@@ -1080,15 +1064,13 @@ static ALWAYS_INLINE void write_pair(const Tables *tables, uint32_t first, uint3
 }
 
 // The first digit of a fraction, and the fraction of those after it.
-static ALWAYS_INLINE pair_u32_u64 next_digit(uint64_t fraction) {
-    const pair_u64_u64 digit_after = whole_and_fraction(u128_mul(u128_of(fraction), u128_of(62)));
-    const uint64_t digit = digit_after._0, after = digit_after._1;
-    return (pair_u32_u64){(uint32_t)digit, after};
+static ALWAYS_INLINE pair_u64_u64 next_digit(uint64_t fraction) {
+    return whole_and_fraction(u128_mul(u128_of(fraction), u128_of(62)));
 }
 
 // The first digit of a fraction alone.
-static ALWAYS_INLINE uint32_t first_digit(uint64_t fraction) {
-    return (uint32_t)u128_low(u128_shift_right(u128_mul(u128_of(fraction), u128_of(62)), 64));
+static ALWAYS_INLINE uint64_t first_digit(uint64_t fraction) {
+    return u128_low(u128_shift_right(u128_mul(u128_of(fraction), u128_of(62)), 64));
 }
 
 // The fraction of the digits after the first five.
@@ -1221,7 +1203,7 @@ static result_u128 decode_with_counted(const Alphabet *alphabet, const uint8_t *
 
 /* -------------------- base62: fixed -------------------- */
 
-// Texts of a fixed width, with zeros in front, and the range of the texts that share a prefix.
+// Texts of a fixed width, with leading zeros, and the range of the texts that share a prefix.
 
 typedef struct result_unit { bool is_ok; EncodeError err; } result_unit;
 
@@ -1276,7 +1258,7 @@ static result_option_pair_u128_u128 range_found(const Tables *tables, size_t wid
 static option_pair_u128_u128 ends_of(u128 number, size_t width, size_t len);
 static result_unit_DecodeError check_letters(const Tables *tables, const uint8_t *prefix, size_t prefix_length);
 
-// Fills `places` with the standard text of `num`, with zeros in front.
+// Fills `places` with the standard text of `num`, with leading zeros.
 //
 // `Err(BufferTooSmall)` comes exactly if there are no places, or fewer than `num` has letters.
 // It never comes at 22 places or more, and it leaves `places` as they were. The lexicographic
@@ -1309,7 +1291,7 @@ static result_unit fill_places(const Tables *tables, u128 n, uint8_t *restrict p
     return ok_unit();
 }
 
-// The text of a number, whose count of letters is given, with zeros in front.
+// The text of a number, whose count of letters is given, with leading zeros.
 static void write_padded(const Tables *tables, u128 n, size_t count, uint8_t *restrict places,
     size_t places_length) {
     //@ assert requires: count <= places_length;
@@ -1408,7 +1390,7 @@ static result_unit_DecodeError check_letters(const Tables *tables, const uint8_t
 // A key is as long as the longest text.
 #define KEY_LEN MAX_DIGITS
 
-// The key of `num`: the standard text of exactly 22 letters that denotes it, with zeros in front.
+// The key of `num`: the standard text of exactly 22 letters that denotes it, with leading zeros.
 //
 // The lexicographic order of keys is the order of their numbers. `decode` reads them. The call
 // takes no memory and refuses nothing.
@@ -1550,7 +1532,7 @@ static InlineText text_of(uint32_t status, base62_bad_byte bad) {
         const DecodeError value = DecodeError_ArithmeticOverflow();
         return DecodeError_text(&value);
     }
-    if (status == NO_KEY) return whole(TEXT("No text of so many letters begins with the front"));
+    if (status == NO_KEY) return whole(TEXT("No text of so many letters begins with the prefix"));
     if (status == REPEATED_LETTER) {
         const AlphabetError value = AlphabetError_Repeated(bad.byte, bad.index);
         return AlphabetError_text(&value);

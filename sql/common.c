@@ -58,21 +58,21 @@ bool check_width(int64_t width, refusal *why) {
 
 /* Calls */
 
-size_t encode_over(const base62_alphabet *alphabet, base62_number number, char *buffer) {
+size_t encode_own_or_standard(const base62_alphabet *alphabet, base62_number number, char *buffer) {
     return alphabet == NULL ? base62_encode(number, buffer, BASE62_MAX_DIGITS)
                             : base62_encode_with(alphabet, number, buffer, BASE62_MAX_DIGITS);
 }
 
-bool encode_fixed_over(const base62_alphabet *alphabet, base62_number number, char *places, size_t width,
-                       refusal *why) {
+bool encode_fixed_own_or_standard(const base62_alphabet *alphabet, base62_number number, char *places, size_t width,
+                                  refusal *why) {
     base62_bad_byte none = {0, 0};
     size_t length = alphabet == NULL ? base62_encode_fixed(number, places, width)
                                      : base62_encode_fixed_with(alphabet, number, places, width);
     return length != 0 || refuse_status(BASE62_BUFFER_TOO_SMALL, none, why);
 }
 
-bool decode_over(const base62_alphabet *alphabet, const char *text, size_t length, bool canonical,
-                 base62_number *number, refusal *why) {
+bool decode_own_or_standard(const base62_alphabet *alphabet, const char *text, size_t length, bool canonical,
+                            base62_number *number, refusal *why) {
     base62_bad_byte bad = {0, 0};
     base62_status status;
     if (canonical)

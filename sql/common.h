@@ -35,12 +35,13 @@ bool number_of_int64(int64_t whole, base62_number *number, refusal *why);
 bool int64_of_number(base62_number number, int64_t *whole);
 
 /* The buffer has BASE62_MAX_DIGITS places. Answers the length. */
-size_t encode_over(const base62_alphabet *alphabet, base62_number number, char *buffer);
+size_t encode_own_or_standard(const base62_alphabet *alphabet, base62_number number, char *buffer);
 
-bool encode_fixed_over(const base62_alphabet *alphabet, base62_number number, char *places, size_t width, refusal *why);
+bool encode_fixed_own_or_standard(const base62_alphabet *alphabet, base62_number number, char *places, size_t width,
+                                  refusal *why);
 
-bool decode_over(const base62_alphabet *alphabet, const char *text, size_t length, bool canonical,
-                 base62_number *number, refusal *why);
+bool decode_own_or_standard(const base62_alphabet *alphabet, const char *text, size_t length, bool canonical,
+                            base62_number *number, refusal *why);
 
 bool check_width(int64_t width, refusal *why);
 

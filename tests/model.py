@@ -136,7 +136,7 @@ def range_of(letters: bytes, width: int, prefix: bytes) -> Answer:
         return named
     if width == 0 or len(prefix) > width:
         return ("none",)
-    # A greater width only puts more zeros in front, where the prefix has no other letter.
+    # From 30 on, a greater width changes nothing: a prefix with a letter other than zero has no range.
     span = 62 ** min(width - len(prefix), 30)
     least = value(letters, prefix) * span
     return ("numbers", least, min(least + span - 1, LARGEST)) if least <= LARGEST else ("none",)
@@ -155,7 +155,7 @@ def message(fault: Answer) -> str:
         "byte": "Encoded input contains the invalid byte b'{}' at index {}",
         "zero": "Encoded input begins with a needless zero",
         "narrow": "Buffer too small to encode the number",
-        "none": "No text of so many letters begins with the front",
+        "none": "No text of so many letters begins with the prefix",
         "repeated": "Alphabet repeats the byte b'{}' at index {}",
     }
     word, *named = fault
@@ -278,7 +278,7 @@ KNOWN_MESSAGES: list[tuple[str, Answer]] = [
     ("Encoded input is an empty string", ("empty",)),
     ("Buffer too small to encode the number", ("narrow",)),
     ("Encoded input begins with a needless zero", ("zero",)),
-    ("No text of so many letters begins with the front", ("none",)),
+    ("No text of so many letters begins with the prefix", ("none",)),
 ]
 
 
@@ -347,7 +347,7 @@ def refused_texts() -> Iterator[bytes]:
             text[place] = no_letters[turn % len(no_letters)]
             yield bytes(text)
             turn += 1
-    # Two such bytes, zeros in front, and the borders of the first ten bytes and of the number.
+    # Two such bytes, leading zeros, and the borders of the first ten bytes and of the number.
     for place in range(22):
         for front in (b"7n42DGM5Tf", b"7n42DGM5Tg", b"0007n42DGM5Tg", b"1000000000"):
             text = bytearray(front.ljust(22 + len(front) - len(front.lstrip(b"0")), b"0"))

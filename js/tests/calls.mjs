@@ -140,7 +140,7 @@ const tests = {
     }
   },
 
-  'texts of a width and keys have zeros in front'({ base62, rowsOf, alphabets, alphabet, refused }) {
+  'texts of a width and keys have leading zeros'({ base62, rowsOf, alphabets, alphabet, refused }) {
     for (const [name, digits, width, field] of rowsOf('fixed')) {
       const text = textOf(field);
       same(base62.encodeFixed(BigInt(digits), Number(width), alphabets[name]), text);
@@ -156,7 +156,7 @@ const tests = {
     }
   },
 
-  'zeros in front change no number, and are not canonical'({ base62, rowsOf, alphabets, refused }) {
+  'leading zeros change no number, and are not canonical'({ base62, rowsOf, alphabets, refused }) {
     for (const [name, field, digits] of rowsOf('zeros')) {
       for (const text of formsOf(textOf(field))) {
         same(base62.decode(text, alphabets[name]), BigInt(digits));

@@ -89,7 +89,7 @@ def decode_uuid_canonical(text: Text, alphabet: AnyAlphabet = Alphabet.STANDARD)
     return uuid.UUID(int=decode_canonical(text, alphabet))
 
 
-def key_bounds(front: Text) -> tuple[str, str] | None:
+def key_bounds(prefix: Text) -> tuple[str, str] | None:
     """Return the least and the greatest key that begins with a prefix, or None if there is none.
 
     In a database these are the bounds of a search. Raises InvalidByteError.
@@ -97,5 +97,5 @@ def key_bounds(front: Text) -> tuple[str, str] | None:
     >>> key_bounds("00000000000000000000L")
     ('00000000000000000000L0', '00000000000000000000Lz')
     """
-    ends = key_range(front)
+    ends = key_range(prefix)
     return ends and (encode_key(ends[0]), encode_key(ends[1]))

@@ -589,7 +589,7 @@ static PyObject *decode_canonical(PyObject *module, PyObject *const *given, Py_s
 }
 
 PyDoc_STRVAR(key_range_doc,
-             "key_range($module, /, front)\n--\n\n"
+             "key_range($module, /, prefix)\n--\n\n"
              "Return the least and the greatest number whose key begins with a prefix, or None if there is none.\n\n"
              "Raises InvalidByteError.\n\n"
              ">>> key_range(\"00000000000000000000L\")\n"
@@ -597,23 +597,23 @@ PyDoc_STRVAR(key_range_doc,
              ">>> key_range(\"8\")");
 
 static PyObject *key_range(PyObject *module, PyObject *const *given, Py_ssize_t count, PyObject *keywords) {
-    static const struct parameters of = {"O:key_range", {"front", NULL}, 1, 1};
+    static const struct parameters of = {"O:key_range", {"prefix", NULL}, 1, 1};
     struct state *state = state_of(module);
     PyObject *found[3];
-    struct text front;
-    if (unpack(&of, given, count, keywords, found) != 0 || text_of(state, found[0], &front) != 0)
+    struct text prefix;
+    if (unpack(&of, given, count, keywords, found) != 0 || text_of(state, found[0], &prefix) != 0)
         return NULL;
     base62_range range = {{0, 0}, {0, 0}};
     base62_bad_byte bad = {0, 0};
-    PyThreadState *saved = let_others_run((size_t)front.length);
-    base62_status status = base62_key_range(front.bytes, (size_t)front.length, &range, &bad);
+    PyThreadState *saved = let_others_run((size_t)prefix.length);
+    base62_status status = base62_key_range(prefix.bytes, (size_t)prefix.length, &range, &bad);
     run_on(saved);
-    Py_DecRef(front.held);
+    Py_DecRef(prefix.held);
     return range_of(state, status, range, bad);
 }
 
 PyDoc_STRVAR(fixed_range_doc,
-             "fixed_range($module, /, width, front, alphabet=Alphabet.STANDARD)\n--\n\n"
+             "fixed_range($module, /, width, prefix, alphabet=Alphabet.STANDARD)\n--\n\n"
              "Return the least and the greatest number whose text by encode_fixed of this width begins with a prefix,\n"
              "or None if there is none.\n\n"
              "Raises InvalidByteError, and ValueError if the width is negative.\n\n"
@@ -622,13 +622,13 @@ PyDoc_STRVAR(fixed_range_doc,
              ">>> fixed_range(4, \"000LZ\")");
 
 static PyObject *fixed_range(PyObject *module, PyObject *const *given, Py_ssize_t count, PyObject *keywords) {
-    static const struct parameters of = {"OO|O:fixed_range", {"width", "front", "alphabet", NULL}, 2, 3};
+    static const struct parameters of = {"OO|O:fixed_range", {"width", "prefix", "alphabet", NULL}, 2, 3};
     struct state *state = state_of(module);
     PyObject *found[3];
     size_t width;
-    struct text front;
+    struct text prefix;
     if (unpack(&of, given, count, keywords, found) != 0 || width_of(found[0], &width) != 0 ||
-        text_of(state, found[1], &front) != 0)
+        text_of(state, found[1], &prefix) != 0)
         return NULL;
     base62_range range = {{0, 0}, {0, 0}};
     base62_bad_byte bad = {0, 0};
@@ -636,11 +636,11 @@ static PyObject *fixed_range(PyObject *module, PyObject *const *given, Py_ssize_
     struct made place;
     const struct made *made = lend(state, found[2], &place);
     if (made != NULL) {
-        PyThreadState *saved = let_others_run((size_t)front.length);
-        status = base62_fixed_range_with(&made->alphabet, width, front.bytes, (size_t)front.length, &range, &bad);
+        PyThreadState *saved = let_others_run((size_t)prefix.length);
+        status = base62_fixed_range_with(&made->alphabet, width, prefix.bytes, (size_t)prefix.length, &range, &bad);
         run_on(saved);
     }
-    Py_DecRef(front.held);
+    Py_DecRef(prefix.held);
     return made == NULL ? NULL : range_of(state, status, range, bad);
 }
 

@@ -88,7 +88,7 @@ def decode_canonical(text: Text, alphabet: AnyAlphabet = Alphabet.STANDARD) -> i
     base62.NotCanonicalError: Encoded input begins with a needless zero
     """
 
-def key_range(front: Text) -> tuple[int, int] | None:
+def key_range(prefix: Text) -> tuple[int, int] | None:
     """Return the least and the greatest number whose key begins with a prefix, or None if there is none.
 
     Raises InvalidByteError.
@@ -99,7 +99,7 @@ def key_range(front: Text) -> tuple[int, int] | None:
     """
 
 def fixed_range(
-    width: SupportsIndex, front: Text, alphabet: AnyAlphabet = Alphabet.STANDARD
+    width: SupportsIndex, prefix: Text, alphabet: AnyAlphabet = Alphabet.STANDARD
 ) -> tuple[int, int] | None:
     """Return the least and the greatest number whose text by encode_fixed of this width begins with a prefix,
     or None if there is none.

@@ -50,7 +50,7 @@ def target(links: sqlite3.Connection, text: str, strict: bool = False) -> str | 
     return row and str(row[0])
 
 
-def with_prefix(links: sqlite3.Connection, front: str) -> list[tuple[str, str]]:
+def with_prefix(links: sqlite3.Connection, prefix: str) -> list[tuple[str, str]]:
     """The links whose keys begin so, in the order of their numbers."""
-    bounds = base62.key_bounds(front)
+    bounds = base62.key_bounds(prefix)
     return [] if bounds is None else links.execute(BETWEEN, bounds).fetchall()

@@ -42,7 +42,7 @@ class Links(unittest.TestCase):
         self.assertRaises(sqlite3.IntegrityError, links.add, self.links, 62, "other")
         self.assertEqual(links.target(self.links, "10"), "62")
 
-    def test_fronts(self) -> None:
+    def test_prefixes(self) -> None:
         choice = random.Random(22)
         for length in (0, 1, 11, 16, 18, 20, 21, 22):
             span = 62 ** (22 - length)
@@ -50,11 +50,11 @@ class Links(unittest.TestCase):
                 least = number // span * span
                 within = sorted(other for other in self.numbers if least <= other < least + span)
                 found = links.with_prefix(self.links, base62.encode_key(number)[:length])
-                self.assertEqual([int(where) for _, where in found], within)
+                self.assertEqual([int(target) for _, target in found], within)
         self.assertEqual(links.with_prefix(self.links, "8"), [])
 
     def test_plan(self) -> None:
-        """A scan by a front goes over the primary key's part between the bounds, and sorts nothing."""
+        """A scan by a prefix goes over the primary key's part between the bounds, and sorts nothing."""
         bounds = base62.key_bounds("0000")
         assert bounds is not None
         plan = [row[3] for row in self.links.execute("EXPLAIN QUERY PLAN " + links.BETWEEN, bounds)]

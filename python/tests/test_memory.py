@@ -7,19 +7,14 @@ import importlib
 import importlib.util
 import sys
 import unittest
-import uuid
-from collections.abc import Callable
 from typing import Any
 
 import base62
+import calls
+from calls import LETTERS, WIDE, Call
 
-OWN = "zyxwvutsrqponmlkjihgfedcbaZYXWVUTSRQPONMLKJIHGFEDCBA9876543210"
-WIDE = 2**128 - 1
-TEXT = "7n42DGM5Tflk9n8mt7Fhc7"
 # More requests than any of the calls makes.
 BEYOND = 120
-
-Call = Callable[..., object]
 
 try:
     memory: Any = importlib.import_module("_testcapi")
@@ -97,65 +92,28 @@ class Refused(Refusing):
         self.assertGreater(self.told, 50)
 
     def test_calls(self) -> None:
-        for number in (1337, WIDE, uuid.UUID(int=WIDE), True):
-            self.is_refused(base62.encode, number)
-            self.is_refused(base62.digit_count, number)
-            self.is_refused(base62.encode_key, number)
-            self.is_refused(base62.encode_fixed, number, 22)
-        for letters in (base62.Alphabet.ALTERNATIVE, base62.Alphabet(OWN), OWN, OWN.encode()):
-            self.is_refused(base62.encode, WIDE, letters)
-            self.is_refused(base62.decode, "LZ", letters)
-            self.is_refused(base62.decode_canonical, "LZ", letters)
-            self.is_refused(base62.encode_fixed, WIDE, 65, letters)
-            self.is_refused(base62.fixed_range, 40, "0", letters)
-        texts: list[Any] = ["LZ", TEXT, TEXT.encode(), bytearray(TEXT, "ascii"), memoryview(b"0L0Z")[::2]]
-        for text in texts:
-            self.is_refused(base62.decode, text)
-            self.is_refused(base62.key_range, text[:2])
-            self.is_refused(base62.fixed_range, 22, text[:2])
-        for shown in (base62.Alphabet(OWN), base62.Alphabet.STANDARD):
-            self.is_refused(repr, shown)
-            self.is_refused(shown.__reduce__)
-        self.is_refused(base62.decode_uuid_canonical, TEXT)
-        self.is_refused(base62.fixed_range, width=40, front="0", alphabet=OWN)
-        self.is_refused(base62.encode, number=WIDE, alphabet=base62.Alphabet(OWN))
-        self.is_refused(base62.decode, "LZ", alphabet=OWN)
-        self.is_refused(base62.Alphabet, OWN)
-        self.is_refused(base62.key_bounds, "7n")
-        self.is_refused(base62.encode_uuid, uuid.UUID(int=WIDE))
-        self.is_refused(base62.decode_uuid, TEXT)
+        for call, given, named in calls.calls():
+            self.is_refused(call, *given, **named)
 
     def test_refusals(self) -> None:
-        rows: list[tuple[Call, list[tuple[Any, ...]]]] = [
-            (base62.encode, [(-1,), (WIDE + 1,), (10**100,), (1.0,), (), (1, OWN, 1)]),
-            (base62.encode, [(1, None), (1, "short"), (1, "0" * 62), (1, bytes(range(194, 256))), (1, "é" * 62)]),
-            (base62.decode, [("",), ("-",), (b"-",), (bytearray(b"-"),), ("é",), ("\ud800",), ("z" * 22,), (5,)]),
-            (base62.decode, [("1", None), ("1", "0" * 62)]),
-            (base62.decode_canonical, [("00LZ",), ("",), ("é",), (5,), ("1", "0" * 62)]),
-            (base62.encode_fixed, [(1337, 1), (1, -1), (1, 2**64), (1, "1"), (1,), (1, 5, bytes(range(194, 256)))]),
-            (base62.fixed_range, [(5, "-"), (5, 5), (-1, "0"), ("5", "0"), (5, "0", "0" * 62), (5,)]),
-            (base62.key_range, [("-",), (5,), ()]),
-            (base62.Alphabet, [("0" * 62,), (b"short",), (5,)]),
-        ]
-        for call, given in rows:
-            for one in given:
-                self.is_refused(call, *one)
-        self.is_refused(base62.encode, 1, other=1)
+        for call, given, named in calls.refusals():
+            self.is_refused(call, *given, **named)
 
     def test_loading(self) -> None:
         self.sweep(load_extension)
 
+
 class Asked(Refusing):
     def test_alphabet(self) -> None:
         """A call over an Alphabet asks for the memory of its answer, and makes no object of letters."""
-        calls: list[tuple[Call, tuple[Any, ...]]] = [
+        kept: list[tuple[Call, tuple[Any, ...]]] = [
             (base62.encode, (1337,)),
             (base62.encode_fixed, (1337, 22)),
             (base62.decode, ("LZ",)),
             (base62.decode_canonical, ("LZ",)),
         ]
-        for alphabet in (base62.Alphabet.STANDARD, base62.Alphabet.ALTERNATIVE, base62.Alphabet(OWN)):
-            for call, given in calls:
+        for alphabet in (base62.Alphabet.STANDARD, base62.Alphabet.ALTERNATIVE, LETTERS):
+            for call, given in kept:
                 # The first sweep fills CPython's stores.
                 self.sweep(call, *given, alphabet)
                 self.told = 0

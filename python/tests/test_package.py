@@ -16,12 +16,13 @@ import sys
 import unittest
 import uuid
 import weakref
-from array import array
 from collections.abc import Callable
 from typing import Any
 
 import base62
+import calls
 from base62 import _base62, _types
+from calls import OWN
 
 EXPORTED = """
     Alphabet AlphabetError DecodeError EmptyInputError InvalidByteError NotCanonicalError TooLargeError
@@ -29,7 +30,6 @@ EXPORTED = """
     fixed_range key_bounds key_range
 """.split()
 TOP = pathlib.Path(__file__).parents[2]
-OWN = "zyxwvutsrqponmlkjihgfedcbaZYXWVUTSRQPONMLKJIHGFEDCBA9876543210"
 
 
 class Package(unittest.TestCase):
@@ -66,14 +66,14 @@ class Package(unittest.TestCase):
             ("encode_uuid", ["value", "alphabet"]),
             ("decode_uuid", ["text", "alphabet"]),
             ("encode_fixed", ["number", "width", "alphabet"]),
-            ("fixed_range", ["width", "front", "alphabet"]),
+            ("fixed_range", ["width", "prefix", "alphabet"]),
             ("decode_canonical", ["text", "alphabet"]),
             ("decode_uuid_canonical", ["text", "alphabet"]),
             ("Alphabet", ["letters"]),
             ("digit_count", ["number"]),
             ("encode_key", ["number"]),
-            ("key_range", ["front"]),
-            ("key_bounds", ["front"]),
+            ("key_range", ["prefix"]),
+            ("key_bounds", ["prefix"]),
         ):
             parameters = inspect.signature(getattr(base62, name)).parameters
             self.assertEqual([*parameters], names)
@@ -97,13 +97,13 @@ class Package(unittest.TestCase):
         self.assertEqual(base62.decode(alphabet=letters, text="lz"), 1337)
         self.assertEqual(base62.digit_count(number=62), 2)
         self.assertEqual(base62.encode_key(number=1337), "00000000000000000000LZ")
-        self.assertEqual(base62.key_range(front="00000000000000000000L"), (1302, 1363))
+        self.assertEqual(base62.key_range(prefix="00000000000000000000L"), (1302, 1363))
         self.assertEqual(base62.encode_fixed(number=1337, width=4), "00LZ")
         self.assertEqual(base62.encode_fixed(1337, 4, alphabet=letters), "00lz")
         self.assertEqual(base62.encode_fixed(width=4, alphabet=letters, number=1337), "00lz")
-        self.assertEqual(base62.fixed_range(width=4, front="00L"), (1302, 1363))
+        self.assertEqual(base62.fixed_range(width=4, prefix="00L"), (1302, 1363))
         self.assertEqual(base62.fixed_range(4, "00l", alphabet=letters), (1302, 1363))
-        self.assertEqual(base62.fixed_range(alphabet=letters, front="00l", width=4), (1302, 1363))
+        self.assertEqual(base62.fixed_range(alphabet=letters, prefix="00l", width=4), (1302, 1363))
         self.assertEqual(base62.decode_canonical(alphabet=letters, text="lz"), 1337)
 
     def test_wrong_arguments(self) -> None:
@@ -229,10 +229,6 @@ class Kept(unittest.TestCase):
     """Two thousand runs of each call, and of each refusal, leave memory and counts of references as they were."""
 
     RUNS = 2_000
-    WIDE = 2**128 - 1
-    TEXT = "7n42DGM5Tflk9n8mt7Fhc7"
-    LETTERS = base62.Alphabet(OWN)
-    REPEATED = "0" * 62
     # What calls borrow, besides what they are given.
     SHARED: list[object] = [None, False, True, 0, 64, uuid.UUID, base62.Alphabet]
     SHARED += [base62.Alphabet.STANDARD, base62.Alphabet.ALTERNATIVE]
@@ -255,57 +251,16 @@ class Kept(unittest.TestCase):
             self.assertLess(abs(now - was), self.RUNS // 20, f"{call} of {given} and {named}")
 
     def test_calls(self) -> None:
-        for number in (1337, self.WIDE, uuid.UUID(int=self.WIDE), True):
-            self.kept(base62.encode, number)
-            self.kept(base62.digit_count, number)
-            self.kept(base62.encode_key, number)
-            self.kept(base62.encode_fixed, number, 22)
-        for letters in (base62.Alphabet.ALTERNATIVE, self.LETTERS, OWN, OWN.encode()):
-            self.kept(base62.encode, self.WIDE, letters)
-            self.kept(base62.decode, "LZ", letters)
-            self.kept(base62.decode_canonical, "LZ", letters)
-            self.kept(base62.encode_fixed, self.WIDE, 65, letters)
-            self.kept(base62.fixed_range, 5, "0", letters)
-        buffers: list[Any] = [self.TEXT.encode(), bytearray(self.TEXT, "ascii"), memoryview(b"0L0Z")[::2]]
-        for text in ("LZ", self.TEXT, *buffers):
-            self.kept(base62.decode, text)
-            self.kept(base62.decode_canonical, text[-1:])
-            self.kept(base62.key_range, text[:2])
-            self.kept(base62.fixed_range, 5, text[:2])
-        shown: list[Callable[..., object]] = [repr, str, copy.copy, base62.Alphabet]
-        for call in shown:
-            self.kept(call, self.LETTERS)
-            self.kept(call, base62.Alphabet.STANDARD)
-        self.kept(base62.fixed_range, width=5, front="0", alphabet=OWN)
-        self.kept(base62.decode_uuid_canonical, self.TEXT)
-        self.kept(base62.encode, number=self.WIDE, alphabet=self.LETTERS)
-        self.kept(base62.decode, "LZ", alphabet=self.LETTERS)
-        self.kept(base62.Alphabet, OWN)
-        self.kept(base62.key_bounds, "8")
-        self.kept(base62.key_bounds, "7n")
-        self.kept(base62.encode_uuid, uuid.UUID(int=self.WIDE))
-        self.kept(base62.decode_uuid, self.TEXT)
+        for call, given, named in calls.calls():
+            self.kept(call, *given, **named)
+        for copied in (calls.LETTERS, base62.Alphabet.STANDARD):
+            self.kept(copy.copy, copied)
+            self.kept(base62.Alphabet, copied)
 
     def test_refusals(self) -> None:
-        refusals: list[tuple[Callable[..., object], list[tuple[object, ...]]]] = [
-            (base62.encode, [(-1,), (self.WIDE + 1,), (10**100,), (1.0,), (), (1, OWN, 1)]),
-            (base62.encode, [(1, None), (1, "short"), (1, self.REPEATED), (1, bytes(range(194, 256))), (1, "é" * 62)]),
-            (base62.digit_count, [(-1,), ("1",)]),
-            (base62.encode_key, [(self.WIDE + 1,), (None,)]),
-            (base62.decode, [("",), ("-",), (b"-",), (bytearray(b"-"),), ("é",), ("\ud800",), ("z" * 22,), (5,)]),
-            (base62.decode, [(array("H", [48]),), (memoryview(array("H", [48])),), ("1", None), ("1", self.REPEATED)]),
-            (base62.decode_canonical, [("00LZ",), ("",), ("-",), (5,), ("1", None), ("1", self.REPEATED)]),
-            (base62.encode_fixed, [(1337, 1), (1, -1), (1, 2**64), (1, "1"), (-1, 5), (1,), (1, 2**62)]),
-            (base62.encode_fixed, [(1, 5, None), (1, 5, self.REPEATED), (1, 5, bytes(range(194, 256)))]),
-            (base62.key_range, [("-",), (bytearray(b"-"),), (5,), ()]),
-            (base62.fixed_range, [(5, "-"), (5, bytearray(b"-")), (5, 5), (-1, "0"), ("5", "0"), (5, "0", None)]),
-            (base62.fixed_range, [(5, "0", self.REPEATED), (5,)]),
-            (base62.Alphabet, [(self.REPEATED,), (b"short",), (5,), ()]),
-        ]
-        for call, rows in refusals:
-            for given in rows:
-                self.kept(refused(call), *given)
-        self.kept(refused(base62.encode), 1, other=1)
+        for call, given, named in calls.refusals():
+            self.kept(refused(call), *given, **named)
+        self.kept(refused(base62.encode_fixed), 1, 2**62)
 
 
 def load_tests(loader: unittest.TestLoader, tests: unittest.TestSuite, pattern: object) -> unittest.TestSuite:

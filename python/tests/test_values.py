@@ -75,24 +75,31 @@ class Values(unittest.TestCase):
         self.assertEqual(str(error), MESSAGES.get(tuple(told), str(error)))
 
     def test_canonical_texts(self) -> None:
-        for name, number, escaped in rows("encode"):
-            texts = forms_of_text(escaped)
-            self.assertEqual(base62.digit_count(int(number)), len(texts[0]))
+        for name, digits, escaped in rows("encode"):
+            texts, number, named = forms_of_text(escaped), int(digits), uuid.UUID(int=int(digits))
+            self.assertEqual((base62.digit_count(number), base62.digit_count(named)), (len(texts[0]),) * 2)
+            self.assertEqual(base62.encode_key(named), base62.encode_key(number))
             for alphabet in forms_of_alphabet(name):
                 for text in texts:
-                    self.assertEqual(base62.decode(text, alphabet), int(number))
-                    self.assertEqual(base62.decode_canonical(text, alphabet), int(number))
+                    self.assertEqual(base62.decode(text, alphabet), number)
+                    self.assertEqual(base62.decode_canonical(text, alphabet), number)
+                    self.assertEqual(base62.decode_uuid(text, alphabet), named)
+                    self.assertEqual(base62.decode_uuid_canonical(text, alphabet), named)
                 if name in OF_ASCII:
-                    self.assertEqual(base62.encode(int(number), alphabet), texts[1])
+                    self.assertEqual(base62.encode(number, alphabet), texts[1])
+                    self.assertEqual(base62.encode(named, alphabet), texts[1])
+                    self.assertEqual(base62.encode_uuid(named, alphabet), texts[1])
             if name == "standard":
-                self.assertEqual(base62.encode(int(number)), texts[1])
-                self.assertEqual((base62.decode(texts[1]), base62.decode_canonical(texts[1])), (int(number),) * 2)
+                self.assertEqual(base62.encode(number), texts[1])
+                self.assertEqual((base62.decode(texts[1]), base62.decode_canonical(texts[1])), (number,) * 2)
 
     def test_zeros(self) -> None:
         for name, escaped, number in rows("zeros"):
             for text in forms_of_text(escaped):
                 self.assertEqual(base62.decode(text, ALPHABETS[name]), int(number))
-                self.raises(["zero"], base62.decode_canonical, text, ALPHABETS[name])
+                self.assertEqual(base62.decode_uuid(text, ALPHABETS[name]), uuid.UUID(int=int(number)))
+                for call in (base62.decode_canonical, base62.decode_uuid_canonical):
+                    self.raises(["zero"], call, text, ALPHABETS[name])
 
     def test_refused(self) -> None:
         for name, escaped, *told in rows("refused"):
@@ -137,9 +144,21 @@ class Values(unittest.TestCase):
             self.assertEqual(base62.encode_fixed(uuid.UUID(name), 22), base62.encode_key(int(number)))
 
     def test_repeated(self) -> None:
-        for letters, *told in rows("repeated"):
-            for call in (Alphabet, lambda own: base62.encode(1, own), lambda own: base62.decode("1", own)):
-                self.raises(["repeated", *told], call, unquote_to_bytes(letters))
+        calls: list[Callable[..., object]] = [
+            Alphabet,
+            lambda letters: base62.encode(1, letters),
+            lambda letters: base62.decode("9", letters),
+            lambda letters: base62.encode_uuid(uuid.UUID(int=1), letters),
+            lambda letters: base62.decode_uuid("", letters),
+            lambda letters: base62.encode_fixed(1, 5, letters),
+            lambda letters: base62.decode_canonical("9", letters),
+            lambda letters: base62.decode_uuid_canonical("9", letters),
+            lambda letters: base62.fixed_range(5, "9", letters),
+        ]
+        for escaped, *told in rows("repeated"):
+            for letters in forms_of_text(escaped):
+                for call in calls:
+                    self.raises(["repeated", *told], call, letters)
 
     def test_messages(self) -> None:
         """Each bad byte and each repeated letter is named in the words of its row."""

@@ -4,7 +4,7 @@
 //! Decoding of canonical texts alone.
 
 use crate::alphabet::{Alphabet, Tables, alternative_tables, standard_tables};
-use crate::codec::decoder::decode_over;
+use crate::codec::decoder::{count_zeros, decode_after};
 use crate::fault::DecodeError;
 
 /// The number below 2^128 whose canonical standard text is `input`.
@@ -49,14 +49,13 @@ pub fn decode_canonical_with<T: AsRef<[u8]>>(
 
 // The number of a canonical text over the alphabet of the tables.
 fn read_canonical(tables: &Tables, input: &[u8]) -> Result<Option<u128>, DecodeError> {
-    let number = decode_over(tables, input)?;
-    if has_needless_zero(tables, input) {
+    if input.is_empty() {
+        return Err(DecodeError::EmptyInput);
+    }
+    let zeros = count_zeros(tables, input);
+    let number = decode_after(tables, input, zeros)?;
+    if zeros > 0 && input.len() > 1 {
         return Ok(None);
     }
     Ok(Some(number))
-}
-
-// Whether the text begins with a zero letter, and more bytes follow it.
-fn has_needless_zero(tables: &Tables, input: &[u8]) -> bool {
-    input.len() > 1 && tables.is_zero(input[0])
 }

@@ -1,7 +1,7 @@
 // translate/rust has written this file from crates/base62/src/fixed.rt. Edit that one.
 // Its functions are proved there. This translation of them is tested, not proved.
 
-//! Texts of a fixed width, with zeros in front, and the range of the texts that share a prefix.
+//! Texts of a fixed width, with leading zeros, and the range of the texts that share a prefix.
 
 use crate::alphabet::{Alphabet, Tables, alternative_tables, standard_tables};
 use crate::codec::decoder::decode_over;
@@ -10,7 +10,7 @@ use crate::count::digit_count;
 use crate::fault::{DecodeError, EncodeError};
 use crate::powers::greatest;
 
-/// Fills `places` with the standard text of `num`, with zeros in front.
+/// Fills `places` with the standard text of `num`, with leading zeros.
 ///
 /// `Err(BufferTooSmall)` comes exactly if there are no places, or fewer than `num` has letters.
 /// It never comes at 22 places or more, and it leaves `places` as they were. The lexicographic
@@ -70,7 +70,7 @@ fn fill_places(tables: &Tables, n: u128, places: &mut [u8]) -> Result<(), Encode
     Ok(())
 }
 
-// The text of a number, whose count of letters is given, with zeros in front.
+// The text of a number, whose count of letters is given, with leading zeros.
 pub(crate) fn write_padded(tables: &Tables, n: u128, count: usize, places: &mut [u8]) {
     requires!(count <= places.len());
     let (zeros, text) = places.split_at_mut(places.len() - count);

@@ -11,7 +11,7 @@ use crate::fixed::{fixed_range, write_padded};
 // A key is as long as the longest text.
 const KEY_LEN: usize = MAX_DIGITS;
 
-/// The key of `num`: the standard text of exactly 22 letters that denotes it, with zeros in front.
+/// The key of `num`: the standard text of exactly 22 letters that denotes it, with leading zeros.
 ///
 /// The lexicographic order of keys is the order of their numbers. [`decode`] reads them. The call
 /// takes no memory and refuses nothing.

@@ -23,7 +23,7 @@ extern "C" {
 /// As long as the longest on ARM, and so a whole number of each other.
 const PAGE: usize = 65536;
 
-/// A page between two that end the process where they are touched.
+/// A page between two that end the process if they are touched.
 struct Page(*mut u8);
 
 impl Page {

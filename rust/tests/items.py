@@ -1,7 +1,7 @@
 """Compares the public items of a crate with those of a list, by the pages that rustdoc writes.
 
-items.py DOC LIST FEATURES ORIGINS: DOC is the folder of the crate's pages. A line of LIST is a feature, the origin,
-which is `crate` for base62 2.2.6 and else `beyond`, and an item. FEATURES and ORIGINS choose lines, as `core,alloc`.
+items.py DOC LIST FEATURES: DOC is the folder of the crate's pages. A line of LIST is a feature and an item. FEATURES
+chooses lines, as `core,alloc`.
 """
 
 import pathlib
@@ -30,11 +30,11 @@ def items(folder):
 
 
 def main():
-    doc, listed, features, origins = sys.argv[1:]
+    doc, listed, features = sys.argv[1:]
     expected = set()
     for line in pathlib.Path(listed).read_text().splitlines():
-        feature, origin, item = line.split(maxsplit=2)
-        if feature in features.split(",") and origin in origins.split(","):
+        feature, item = line.split(maxsplit=1)
+        if feature in features.split(","):
             expected.add(item)
     found = set(items(pathlib.Path(doc)))
     for item in sorted(found ^ expected):

@@ -1,21 +1,27 @@
-//! The program `base62`: its input, output and memory where they fail, and where they end well.
+//! The program, if its input, output or memory fails, and if all goes well. `BASE62_CLI` names another program to test,
+//! which `.ci/failed-runs` sets.
 #![cfg(all(feature = "std", unix))]
 
+use std::env;
 use std::process::Command;
 
 /// The stored run.
-const INPUT: &str = "enc 1337\nalt 1337\ndec rustlang\nadc rustlang\ndec \nenc x\nfoo\n";
-const OUTPUT: &str = "LZ\nlz\n189876682536016\n96813686712946\n\
-    fault: Encoded input is an empty string\nfault: not a number\nfault: unknown command\n";
+const INPUT: &str = include_str!("../../crates/base62_cli/stdin");
+const OUTPUT: &str = include_str!("../../crates/base62_cli/stdout");
+
+/// The other program.
+fn other() -> Option<String> {
+    env::var("BASE62_CLI").ok()
+}
 
 /// What a line of a shell, in which `$program` is the program and `$input` the stored run, ends with: its status, and
 /// what it has written to standard output and standard error.
 fn run(line: &str) -> (Option<i32>, String, String) {
     let mut shell = Command::new("bash");
-    shell
-        .args(["-c", line])
-        .env("input", INPUT)
-        .env("program", env!("CARGO_BIN_EXE_base62"));
+    shell.args(["-c", line]).env("input", INPUT).env(
+        "program",
+        other().unwrap_or(env!("CARGO_BIN_EXE_base62").into()),
+    );
     let ended = shell.output().unwrap();
     let text = |bytes| String::from_utf8(bytes).unwrap();
     (ended.status.code(), text(ended.stdout), text(ended.stderr))
@@ -94,6 +100,12 @@ fn no_memory_for_a_line() {
 #[cfg(target_os = "linux")]
 #[test]
 fn closed_files() {
-    ends_well(r#""$program" <&-"#, "");
-    ends_well(r#""$program" <<<"$input" >&-"#, "");
+    let (input, output) = (r#""$program" <&-"#, r#""$program" <<<"$input" >&-"#);
+    if other().is_some() {
+        fails(input, "read failed", "");
+        fails(output, "write failed", "");
+    } else {
+        ends_well(input, "");
+        ends_well(output, "");
+    }
 }

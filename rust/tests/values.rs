@@ -22,7 +22,7 @@ struct Calls {
     #[cfg(feature = "alloc")]
     encode_buf: fn(&Alphabet, u128, &mut String),
     #[cfg(feature = "std")]
-    encode_io: fn(&Alphabet, u128, &mut Vec<u8>) -> std::io::Result<()>,
+    encode_io: fn(&Alphabet, u128, &mut dyn std::io::Write) -> std::io::Result<()>,
 }
 
 macro_rules! calls {
@@ -103,22 +103,67 @@ fn strings() {
     each("encode", |calls, alphabet, row| {
         if alphabet.is_ascii() {
             let (num, text) = (number(row[0]), String::from_utf8(bytes(row[1])).unwrap());
-            assert_eq!((calls.encode)(alphabet, num), text);
-            let mut buf = String::from("é");
-            (calls.encode_buf)(alphabet, num, &mut buf);
-            assert_eq!(buf, format!("é{text}"));
+            let encoded = (calls.encode)(alphabet, num);
+            assert_eq!((&encoded, encoded.capacity()), (&text, text.len()));
+            for spare in [0, text.len() - 1, text.len(), 22] {
+                let mut buf = String::with_capacity(2 + spare);
+                buf.push('é');
+                let capacity = buf.capacity();
+                (calls.encode_buf)(alphabet, num, &mut buf);
+                assert_eq!(buf, format!("é{text}"));
+                // What has room is not moved.
+                assert_eq!(buf.capacity() == capacity, spare >= text.len());
+            }
         }
     });
 }
 
 #[cfg(feature = "std")]
-#[test]
-fn writers() {
-    each("encode", |calls, alphabet, row| {
-        let mut written = Vec::new();
-        (calls.encode_io)(alphabet, number(row[0]), &mut written).unwrap();
-        assert_eq!(written, bytes(row[1]));
-    });
+mod writers {
+    use super::*;
+    use std::io::{Error, ErrorKind, Result, Write};
+
+    /// Takes so many bytes in a call, and fails if there is no more room.
+    struct Writer {
+        most: usize,
+        room: usize,
+        taken: Vec<Vec<u8>>,
+    }
+
+    impl Write for Writer {
+        fn write(&mut self, bytes: &[u8]) -> Result<usize> {
+            if self.room == 0 {
+                return Err(ErrorKind::BrokenPipe.into());
+            }
+            let taken = &bytes[..bytes.len().min(self.most)];
+            self.room -= 1;
+            self.taken.push(taken.to_vec());
+            Ok(taken.len())
+        }
+
+        fn flush(&mut self) -> Result<()> {
+            panic!("flushed");
+        }
+    }
+
+    #[test]
+    fn writers() {
+        each("encode", |calls, alphabet, row| {
+            let (num, text) = (number(row[0]), bytes(row[1]));
+            let written = |most, room| {
+                let taken = Vec::new();
+                let mut writer = Writer { most, room, taken };
+                let answer = (calls.encode_io)(alphabet, num, &mut writer);
+                (answer.map_err(|fault: Error| fault.kind()), writer.taken)
+            };
+            let each_byte: Vec<Vec<u8>> = text.iter().map(|&byte| vec![byte]).collect();
+            let but_one = each_byte[..text.len() - 1].to_vec();
+            assert_eq!(written(99, 1), (Ok(()), vec![text.clone()]));
+            assert_eq!(written(1, 99), (Ok(()), each_byte));
+            let fault = Err(ErrorKind::BrokenPipe);
+            assert_eq!(written(1, text.len() - 1), (fault, but_one));
+        });
+    }
 }
 
 #[test]

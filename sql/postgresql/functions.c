@@ -86,7 +86,7 @@ static size_t width_at(FunctionCallInfo fcinfo, int place) {
 
 static Datum encoded(base62_number number, const base62_alphabet *alphabet) {
     char buffer[BASE62_MAX_DIGITS];
-    size_t length = encode_over(alphabet, number, buffer);
+    size_t length = encode_own_or_standard(alphabet, number, buffer);
     PG_RETURN_TEXT_P(cstring_to_text_with_len(buffer, (int)length));
 }
 
@@ -94,7 +94,7 @@ static Datum fixed(base62_number number, size_t width, const base62_alphabet *al
     text *answer = palloc(VARHDRSZ + width);
     refusal why;
     SET_VARSIZE(answer, VARHDRSZ + width);
-    if (!encode_fixed_over(alphabet, number, VARDATA(answer), width, &why))
+    if (!encode_fixed_own_or_standard(alphabet, number, VARDATA(answer), width, &why))
         refuse(&why);
     PG_RETURN_TEXT_P(answer);
 }
@@ -102,7 +102,8 @@ static Datum fixed(base62_number number, size_t width, const base62_alphabet *al
 /* Whether the first argument, a text, is accepted over the second, an alphabet. */
 static bool decodes(FunctionCallInfo fcinfo, bool canonical, base62_number *number, refusal *why) {
     const text *given = PG_GETARG_TEXT_PP(0);
-    return decode_over(alphabet_at(fcinfo, 1), VARDATA_ANY(given), VARSIZE_ANY_EXHDR(given), canonical, number, why);
+    return decode_own_or_standard(alphabet_at(fcinfo, 1), VARDATA_ANY(given), VARSIZE_ANY_EXHDR(given), canonical,
+                                  number, why);
 }
 
 static base62_number decoded(FunctionCallInfo fcinfo, bool canonical) {

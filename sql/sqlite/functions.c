@@ -98,7 +98,7 @@ static void result_fixed(sqlite3_context *context, const base62_alphabet *alphab
                          size_t width) {
     char places[MAX_WIDTH];
     refusal why;
-    if (encode_fixed_over(alphabet, number, places, width, &why))
+    if (encode_fixed_own_or_standard(alphabet, number, places, width, &why))
         sqlite3_result_text(context, places, (int)width, SQLITE_TRANSIENT);
     else
         refuse(context, &why);
@@ -113,7 +113,7 @@ static void encode(sqlite3_context *context, int count, sqlite3_value **given) {
     if (any_null(count, given) || !number_of(context, given[0], &number) ||
         !alphabet_at(context, 1, count, given, &own, &alphabet))
         return;
-    length = encode_over(alphabet, number, text);
+    length = encode_own_or_standard(alphabet, number, text);
     sqlite3_result_text(context, text, (int)length, SQLITE_TRANSIENT);
 }
 
@@ -128,7 +128,7 @@ static int decoded(sqlite3_context *context, int count, sqlite3_value **given, b
     if (any_null(count, given) || !text_of(context, given[0], &text, &length) ||
         !alphabet_at(context, 1, count, given, &own, &alphabet))
         return 0;
-    return decode_over(alphabet, text, length, canonical, number, &why) || refuse(context, &why);
+    return decode_own_or_standard(alphabet, text, length, canonical, number, &why) || refuse(context, &why);
 }
 
 static void decode(sqlite3_context *context, int count, sqlite3_value **given) {
@@ -167,7 +167,7 @@ static void accepts(sqlite3_context *context, int count, sqlite3_value **given) 
     if (sqlite3_value_type(given[0]) == SQLITE_TEXT) {
         if (!text_of(context, given[0], &text, &length))
             return;
-        accepted = decode_over(alphabet, text, length, false, &number, &why) &&
+        accepted = decode_own_or_standard(alphabet, text, length, false, &number, &why) &&
                    (sqlite3_user_data(context) == NULL || int64_of_number(number, &whole));
     }
     sqlite3_result_int(context, accepted);

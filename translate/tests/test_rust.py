@@ -17,13 +17,13 @@ REFUSED = [
     ("base62/src/codec/encoder.rt", "    let quotient = x / POWER_2;", "    let quotient = x.wrapping_div(POWER_2);"),
     ("base62/src/codec/encoder.rt", "    let quotient = x / POWER_2;", "    ghost let y = { x };"),
     ("base62/src/codec/encoder.rt", "    let quotient = x / POWER_2;", "    let quotient = unsafe { x };"),
-    ("base62/src/codec/encoder.rt", "(digit as u32, after)", "(digit as i32, after)"),
+    ("base62/src/codec/encoder.rt", "(estimate + whole as u32, fraction, low)", "(estimate + whole as i32, fraction, low)"),
     ("base62/src/codec/encoder.rt", "    requires fits { x < 62 ^ 2 }", "    decreases { x }"),
     ("base62/src/codec/encoder.rt", "fn write_2(", "#[cycle(a)]\nfn write_2("),
     ("base62/src/codec/decoder.rt", "            return i;", "            continue;"),
-    ("base62/src/codec/decoder.rt", "    for i in 0..5 {", "    'digits: for i in 0..5 {"),
+    ("base62/src/codec/decoder.rt", "    for i in 0..part.len() {", "    'digits: for i in 0..part.len() {"),
     ("base62/src/codec/decoder.rt", "    let mut total = number;", "    let mut total ≔ number;"),
-    ("base62/src/codec/decoder.rt", "    for i in 0..5 {", "    for i in 0..5 invariant { total } {"),
+    ("base62/src/codec/decoder.rt", "    for i in 0..part.len() {", "    for i in 0..part.len() invariant { total } {"),
     ("base62/src/fault.rt", "use std::fmt::InlineText;", "use std::collections::HashMap;"),
     ("base62/src/fault.rt", "#[derive(Clone, Copy,", "#[derive(Clone, Copy, Default,"),
     ("base62/src/fault.rt", "impl error::Error for DecodeError {}", "trait Shown {}"),
@@ -83,8 +83,8 @@ MISTAKES = {
 
 def copy(folder):
     """A tree of its own, with what the translator reads and writes, and the tests."""
-    for name in ("translate", "rust", "crates/base62/src", "crates/base62_cli/src", "tests"):
-        shutil.copytree(TOP / name, folder / name, ignore=shutil.ignore_patterns("target", "__pycache__"))
+    for name in ("translate", "rust", "crates/base62/src", "crates/base62_cli", "tests"):
+        shutil.copytree(TOP / name, folder / name, ignore=shutil.ignore_patterns("target", "out", "__pycache__"))
     return folder
 
 

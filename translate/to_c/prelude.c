@@ -35,23 +35,11 @@
 
 #ifdef __GNUC__
 #define ALWAYS_INLINE inline __attribute__((__always_inline__))
-#define NEVER_INLINE __attribute__((__noinline__))
-#define COLD __attribute__((__cold__))
 #else
 #define ALWAYS_INLINE inline
-#define NEVER_INLINE
-#define COLD
 #endif
 #ifdef _MSC_VER
 #define restrict __restrict
-#endif
-
-/* Tells GCC to write out a short loop, which clang does anyway. */
-#if defined __GNUC__ && __GNUC__ >= 8 && !defined __clang__
-#define PRAGMA(text) _Pragma(#text)
-#define UNROLL(times) PRAGMA(GCC unroll times)
-#else
-#define UNROLL(times)
 #endif
 
 /* Whole numbers below 2^128. A sum, a difference and a product are those modulo 2^128. */
@@ -146,6 +134,8 @@ static ALWAYS_INLINE u128 u128_saturating_add(u128 a, u128 b) {
     const u128 sum = u128_add(a, b);
     return u128_less(sum, a) ? u128_sub(u128_of(0), u128_of(1)) : sum;
 }
+
+static ALWAYS_INLINE uint64_t u64_wrapping_add(uint64_t a, uint64_t b) { return a + b; }
 
 /* The index of the highest bit of a number that is not 0. */
 static ALWAYS_INLINE uint32_t u64_ilog2(uint64_t n) {

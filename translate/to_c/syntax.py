@@ -179,8 +179,6 @@ class Parser:
             return block.tail if block.tail and not block.statements else refuse(token, "not one value")
         if self.accept("return"):
             return Node("return", token, value=self.expression(0, structs))
-        if self.accept("break"):
-            return Node("break", token)
         names = self.path()
         if structs and self.peek() == "{" and names[-1][0].isupper():
             self.next()

@@ -14,6 +14,7 @@ STANDARD = {
     "u128_to_be_bytes": ([], ("array", U8, 16)),
     "u128_from_be_bytes": ([("array", U8, 16)], U128),
     "u64_ilog2": ([], U32),
+    "u64_wrapping_add": ([U64], U64),
     "usize_min": ([USIZE], USIZE),
     "InlineText_new": ([], INLINE_TEXT),
     "InlineText_and_str": ([TEXT, USIZE], INLINE_TEXT),

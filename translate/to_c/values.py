@@ -229,11 +229,13 @@ class Values:
         found = self.value(node)
         if behind(found.type)[0] not in ("array", "slice"):
             refuse(node.token, "an index of neither an array nor a slice")
-        text = self.text(index, USIZE)
+        # An index of C has any type of integers, and is proved to be below the length.
+        is_cast = index.kind == "cast" and self.library.read(index.to, self.definition) == USIZE
+        value = self.value(index.value if is_cast else index, None if is_cast else USIZE)
+        if value.type not in (U8, U32, U64, USIZE):
+            refuse(index.token, "an index that is not known, of")
         self.in_any_order([node, index])
-        # An index of C has any type of integers.
-        text = re.sub(r"^\(size_t\)(\w+|\*\w+)$", r"\1", text)
-        return Value(f"{found.closed(POSTFIX)}[{text}]", behind(found.type)[1])
+        return Value(f"{found.closed(POSTFIX)}[{value.text}]", behind(found.type)[1])
 
     def range(self, node):
         found, low, high = self.value(node.value), node.index.low, node.index.high
@@ -318,7 +320,7 @@ class Values:
         of = found.type
         if to == of:
             return found
-        if to[0] not in INTS or of[0] not in INTS or to == USIZE and of not in (U8, U32):
+        if to[0] not in INTS or of[0] not in (*INTS, "bool") or to == USIZE and of not in (U8, U32, BOOL):
             refuse(node.token, "a cast that is not known, of")
         if to == U128:
             return Value(f"u128_of({found.text})", to)

@@ -7,8 +7,7 @@ from .layout import WIDTH, comment_of, wrapped
 from .types import HELD, INTS, U8, U32, U64, UNIT, USIZE, WORK, behind, is_slice
 from .values import UNARY, Values
 
-STORAGE = {"#[cold]": "COLD ", "#[inline]": "inline ", "#[inline(always)]": "ALWAYS_INLINE ",
-           "#[inline(never)]": "NEVER_INLINE "}
+STORAGE = {"#[inline]": "inline ", "#[inline(always)]": "ALWAYS_INLINE "}
 # A length, a power or a name in a contract.
 WORD = re.compile(r"length (\w+)\.(?:now|old)|(\d+) \^ (\d+)|[A-Za-z_]\w*")
 
@@ -154,8 +153,6 @@ class Writer(Values):
             self.put(node.value, None)
         elif node.kind == "return":
             self.put(node.value, "return")
-        elif node.kind == "break":
-            self.emit("break;")
         elif node.kind == "tuple" and not node.items or node.kind == "method" and self.is_ghost(node.value):
             pass
         elif into == "return" and self.out_name:
@@ -189,11 +186,10 @@ class Writer(Values):
         self.enter(0)
         while over.kind == "method" and not over.args and len(names) < 2:
             names, over = names + [over.name], over.value
-        is_range = over.kind == "range" and over.low and over.low.token == "0" and over.high.kind == "number"
+        is_range = (over.kind == "range" and over.low and over.low.token == "0"
+                    and getattr(over.high, "name", None) == "len")
         if is_range and pattern.kind == "binding":
-            index, end = self.bind(pattern.name, USIZE), over.high.number
-            if end <= 8:
-                self.emit(f"UNROLL({end})")
+            index, end = self.bind(pattern.name, USIZE), self.alone(over.high, USIZE)
         elif names == ["enumerate", "iter"] and [p.kind for p in pattern.items] == ["binding", "binding"]:
             found = self.value(over)
             index, end = self.bind(pattern.items[0].name, USIZE), self.count(found)

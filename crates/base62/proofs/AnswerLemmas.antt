@@ -20,13 +20,13 @@ use Rattle.base62.proofs.ZeroLemmas.{letters_from_after_zeros, value-after_zeros
 use Rattle.base62.proofs.LengthLemmas.{canonical_of_value}
 use Rattle.base62.proofs.OverflowLemmas.{over_long, over_first, over_letters}
 
--- a list whose front does not all pass does not all pass
+-- a list whose first part does not all pass does not all pass
 not_all-take : (p : ℕ → Bool) (xs : List ℕ) (n : ℕ) → list_all p (take n xs) ≡ false
     → list_all p xs ≡ false
 not_all-take p xs n bad =
     ap (list_all p) (sym (take-append-drop n xs)) ∙ list_all-append p (take n xs) (drop n xs) ∙ and_left (list_all p (take n xs)) (list_all p (drop n xs)) bad
 
--- what holds in each case of decoding, where that case is reached, holds of the answer
+-- what holds in each case of decoding, if that case is reached, holds of the answer
 decoding_cases : (B text : List ℕ) (P : Result ℕ DecodeError → Type 0)
     → (length text ≡ 0 → P (Err EmptyInput))
     → (22 < length (after_zeros B text) → P (Err ArithmeticOverflow))
@@ -119,7 +119,7 @@ module _ (B : List ℕ) (ok : IsAlphabet B) where
       (λ byte index first n is. cc)
       (λ denotes small n is. let same : value B text ≡ n = cc in (subst (Denotes B text) same denotes, rw (← same) small))
 
-  -- a nonempty text of letters is accepted where its value is below 2^128, and else overflows
+  -- a nonempty text of letters is accepted if its value is below 2^128, and else overflows
   decoding-letters : (text : List ℕ) → 0 < length text → AreLetters B text
       → decoding B text ≡ number_or_overflow (value B text)
   decoding-letters text some letters =
@@ -137,7 +137,7 @@ module _ (B : List ℕ) (ok : IsAlphabet B) where
   decoding-denotes n small text d =
       decoding-letters text d.nonempty d.letters ∙ rw (d.value_is, lt-ltb n (2 ^ 128) small)
 
-  -- and overflows where that is 2^128 or more
+  -- and overflows if that is 2^128 or more
   pub refuses_large : (text : List ℕ) (result : Result ℕ DecodeError) → result ≡ decoding B text
       → RefusesLarge B text result
   refuses_large text result is letters large =

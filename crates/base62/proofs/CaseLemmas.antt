@@ -117,7 +117,7 @@ pub canonical_of_alternative : (text : List ℕ) (n : ℕ) → IsCanonical alter
     → IsCanonical standard (exchange_case text) n
 canonical_of_alternative text n canonical = canonical_exchanged alternative standard digit_in_standard digit_in_alternative text n canonical
 
--- a byte is the zero letter where the exchanged one is, since both alphabets have the digit 0, which has no case
+-- a byte is the zero letter if the exchanged one is, since both alphabets have the digit 0, which has no case
 zero_exchanged : (b : ℕ) → (b == zero_letter alternative) ≡ (other_case b == zero_letter standard)
 unfolding standard alternative other_case
 zero_exchanged b = elim (cases_lt b 128) [

@@ -1,5 +1,7 @@
 -- The count of a number's letters by the place b of its highest bit: it is b * 43 / 256 + 1, or one more.
-use Rattle.std.proofs.Common.{◌≡◌, ℕ, ◌+◌, ◌-◌, ◌*◌, ◌/◌, ◌^◌, ◌<◌, ◌≤◌, get_or, min, refl, inr, arith}
+use Rattle.std.proofs.Common.{◌≡◌, ℕ, ◌+◌, ◌-◌, ◌*◌, ◌/◌, ◌^◌, ◌<◌, ◌≤◌, Bool, true, false, nat_lt, get_or, min, refl, inr, arith}
+use Rattle.std.proofs.lemmas.Bool.{ltb-true, ltb-false}
+use mir.Val.{bool_byte}
 use Rattle.std.proofs.Math.Nat.{pow-le-pow_left}
 use Rattle.base62.specs.declared.powers.TheConstants.{GREATEST, GREATEST_NARROW}
 use Rattle.base62.specs.Canonical.{DigitCount}
@@ -36,15 +38,22 @@ greatest_narrow_is k few = same_on_range (λ k. get_or GREATEST_NARROW k 0 + 1) 
 
 -- the estimate is right, or short by one
 module _ (n b limit greatest : ℕ) (few : b < 128) (low : 2 ^ b ≤ n) (high : n < 2 * 2 ^ b) (small : n < limit) (threshold : greatest + 1 ≡ min (62 ^ estimate b) limit) where
-  pub estimate_right : n ≤ greatest → DigitCount n (estimate b)
+  estimate_right : n ≤ greatest → DigitCount n (estimate b)
   estimate_right within =
       let back : estimate b - 1 ≡ b * 43 / 256 = omega arith in
       let least : 62 ^ (estimate b - 1) ≤ n = rw back (omega (arith, power_of_62_le_64 (b * 43 / 256), from_power_of_64 n b few low)) in
       digit_count_is n (estimate b) (omega arith) (omega (arith, within, threshold)) (inr least)
 
-  pub estimate_short : greatest < n → DigitCount n (estimate b + 1)
+  estimate_short : greatest < n → DigitCount n (estimate b + 1)
   estimate_short beyond =
       let back : estimate b + 1 - 1 ≡ estimate b = omega arith in
       let least : 62 ^ (estimate b + 1 - 1) ≤ n = rw back (omega (arith, beyond, small, threshold)) in
       let fits : n < 62 ^ (estimate b + 1) = omega (arith, below_power_of_64 n b few high, power_of_64_le_62 (estimate b) (omega (arith, few))) in
       digit_count_is n (estimate b + 1) (omega arith) fits (inr least)
+
+  -- so the test whether it is short corrects it
+  pub estimate_corrected : (short : Bool) → nat_lt greatest n ≡ short → DigitCount n (estimate b + bool_byte short)
+  estimate_corrected true test = estimate_short (ltb-true greatest n test)
+  estimate_corrected false test =
+      let same : estimate b + 0 ≡ estimate b = omega arith in
+      rw same (estimate_right (ltb-false greatest n test))

@@ -1,4 +1,4 @@
--- A text of letters is canonical exactly where it has no needless zero letter.
+-- A text of letters is canonical exactly if it has no needless zero letter.
 use Rattle.std.proofs.Common.{◌≡◌, ◌≢◌, ℕ, suc, ◌-◌, ◌*◌, ◌^◌, ◌<◌, ◌≤◌, List, [], ◌∷◌, length, get_or, refl, sym, ◌∙◌, inl, inr, arith}
 use Rattle.std.proofs.Math.Nat.{le-mul_of_pos_right}
 use Rattle.std.proofs.lemmas.Bool.{cases_eq}
@@ -34,7 +34,7 @@ module _ (B : List ℕ) (ok : IsAlphabet B) where
     | inr some ↦ omega arith
   ]
 
-  -- such a letter in front alone weighs more than all that can come after it
+  -- such a leading letter alone weighs more than all that can come after it
   pub first_weighs : (text : List ℕ) → 0 < length text → IsLetter B (get_or text 0 0)
       → get_or text 0 0 ≢ zero_letter B → 62 ^ (length text - 1) ≤ value B text
   first_weighs [] some letter other = absurd (omega arith)

@@ -17,7 +17,7 @@ pub denotes_by : (B text : List ℕ) (n : ℕ) → 0 < length text → list_all 
     → value B text ≡ n → Denotes B text n
 denotes_by B text n some letters is = record { nonempty = some; letters = AllPass-from_list_all (is_letter B) text letters; value_is = is }
 
--- and is canonical where one letter fewer would not do
+-- and is canonical if one letter fewer would not do
 pub canonical_by : (B : List ℕ) → IsAlphabet B → (text : List ℕ) (n : ℕ) → Denotes B text n
     → 62 ^ (length text - 1) ≤ n → IsCanonical B text n
 canonical_by B ok text n denotes least = canonical_is B ok text n denotes (inr least)
@@ -35,9 +35,6 @@ canonical_1337 = canonical_by standard standard_is_alphabet (codes "LZ") 1337 de
 pub denotes_above : Denotes standard (codes "7n42DGM5Tflk9n8mt7Fhc8") (2 ^ 128)
 unfolding base62_on_literals
 denotes_above = denotes_by standard (codes "7n42DGM5Tflk9n8mt7Fhc8") (2 ^ 128) (omega arith) refl refl
-
-pub canonical_above : IsCanonical standard (codes "7n42DGM5Tflk9n8mt7Fhc8") (2 ^ 128)
-canonical_above = canonical_by standard standard_is_alphabet (codes "7n42DGM5Tflk9n8mt7Fhc8") (2 ^ 128) denotes_above (lit≤ tt)
 
 -- ---- texts of so many letters
 

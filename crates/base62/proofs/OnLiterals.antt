@@ -1,4 +1,4 @@
--- What unfolds where a clause names written-out texts, so that computing proves it.
+-- What unfolds if a clause names written-out texts, so that computing proves it.
 use Rattle.std.specs.Prelude.{⊤}
 use Rattle.std.specs.Char.{encode_utf8}
 use Rattle.std.specs.Fmt.{char_count, digits}
@@ -10,7 +10,7 @@ use Rattle.base62.specs.Steps.{decoding_steps, encoding_steps}
 use Rattle.base62.specs.Fault.{escaped, byte_at_index, decode_error_text, encode_error_text, alphabet_error_text}
 use Rattle.base62.specs.Padding.{displayed}
 use Rattle.base62.specs.Case.{other_case}
-use Rattle.base62.specs.Key.{interval_ends}
+use Rattle.base62.specs.Range.{interval_ends}
 
 unfoldable pub base62_on_literals : ⊤
 unfolding encode_utf8 char_count digits standard alternative digit_of sum_over_places value decoding

@@ -61,7 +61,7 @@ compared_alike x y m n less equal greater = elim (cases_order x y) [
 place-lt : (x u y v w : ℕ) → x < y → u < w → x * w + u < y * w + v
 place-lt x u y v w more below = let weighs : (x + 1) * w ≤ y * w = mul-le-mul_right w (omega arith) in omega arith
 
--- first places decide, and where they are one, what comes after them
+-- first places decide, and if they are one, what comes after them
 pub place_compares : (x u y v w : ℕ) → u < w → v < w
     → nat_cmp (x * w + u) (y * w + v) ≡ ordering_then (nat_cmp x y) (nat_cmp u v)
 place_compares x u y v w p q = elim (cases_order x y) [
@@ -70,7 +70,7 @@ place_compares x u y v w p q = elim (cases_order x y) [
   | inr (inr h) ↦ rw (compared x y Greater h) (compared _ _ Greater (place-lt y v x u w h q))
 ]
 
--- one number is at most another exactly where they compare so
+-- one number is at most another exactly if they compare so
 at_most_iff : (m n : ℕ) → (IsTrue (is_le (nat_cmp m n)) ↔ (m ≤ n))
 at_most_iff m n = (
   le_from_is_le m n,
@@ -82,7 +82,7 @@ at_most_iff m n = (
 )
 
 module _ (B : List ℕ) (ok : IsAlphabet B) where
-  -- the letters of an alphabet are distinct, so they ascend where they do not fall
+  -- the letters of an alphabet are distinct, so they ascend if they do not fall
   ascends_where_sorted : (r : Bool)
       → MatchBool r (IsNonDecreasing B)
       ((k : ℕ) × (k + 1 < length B) × ((d : ℕ) → get_or B (k + 1) d < get_or B k d))
@@ -166,7 +166,7 @@ module _ (B : List ℕ) (ok : IsAlphabet B) where
       | inr (inr h) ↦ rw (compared (length a) (length b) Greater h) (sym (compared m n Greater (shorter-lt b a n m q p h)))
     ]
 
-    -- one is before another, or is the same, exactly where its number is at most the other's
+    -- one is before another, or is the same, exactly if its number is at most the other's
     pub not_after_iff : (w : ℕ) (a b : List ℕ) (m n : ℕ) → IsFixed B w a m → IsFixed B w b n
         → (IsNotAfter a b ↔ (m ≤ n))
     not_after_iff w a b m n p q = rw (fixed_compare w a b m n p q) (at_most_iff m n)

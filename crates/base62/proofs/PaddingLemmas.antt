@@ -24,7 +24,7 @@ take_chars_all n (b ∷ text) short = cond_both (is_char_start b) _ _ (λ shown.
     (λ start. rw (ne_eqb n 0 (λ e. omega arith), take_chars_all (n - 1) text (omega arith)) refl)
     (λ inside. rw (take_chars_all n text (omega arith)) refl)
 
--- how much of the padding stands in front of the text, by the number of the alignment
+-- how much of the padding stands before the text, by the number of the alignment
 abbrev in_front : ℕ → ℕ → ℕ
 in_front number padding =
     let align = cond (eqb number 0) 1 number in cond (eqb align 1) 0 (cond (eqb align 2) (padding / 2) padding)
@@ -56,11 +56,11 @@ module _ (fill : ℕ) (text : List ℕ) where
     | inr some ↦ rw (ne_eqb width 0 some) (padded_to-some width a)
   ]
 
-  -- the text with so much of the padding in front of it, and what is left behind it
+  -- the text with so much of the padding before it, and what is left behind it
   around : (front padding : ℕ) → List ℕ
   around front padding = fills fill front ++ (text ++ fills fill (padding - front))
 
-  -- with what an alignment asks for in front, that is the aligned text
+  -- with what an alignment asks for before it, that is the aligned text
   aligned-around : (number padding : ℕ)
       → IfSome (alignment_of number)
       (λ a. around (in_front number padding) padding ≡ aligned a fill padding text)
@@ -74,7 +74,7 @@ module _ (fill : ℕ) (text : List ℕ) where
       let n : ℕ = suc (suc (suc (suc k))) in
       rw (ne_eqb n 0 (λ e. omega arith), ne_eqb n 1 (λ e. omega arith), ne_eqb n 2 (λ e. omega arith), ne_eqb n 3 (λ e. omega arith)) tt
 
--- a text that equals g of the stated alignment equals f of it, where f and g are one
+-- a text that equals g of the stated alignment equals f of it, if f and g are one
 mapped : (o : Option Alignment) (f g : Alignment → List ℕ) (text : List ℕ)
     → ((a : Alignment) → f a ≡ g a) → IfSome o (λ a. text ≡ g a)
     → IfSome (option_map f o) (λ bs. text ≡ bs)
@@ -112,7 +112,7 @@ displayed-padded : {W : Type 0} (f : Formatter W) (text : List ℕ) → length t
 unfolding padded around
 displayed-padded f text short = by_numbers _ _ _ _ text short
 
--- where `pad` has written a text, a display has written it
+-- if `pad` has written a text, a display has written it
 pub pad_displays : {W : Type 0} (took : W → List ℕ → W → Type 0) (f g : Formatter W)
     (r : Result (Unit {0}) Error) (text : List ℕ) → length text ≤ 22
     → WritesStyledOnOk took f r (padded (formatter_spec f) text) g
@@ -139,7 +139,7 @@ repeat-one b (suc count) = rw (repeat-one b count) refl
 fills-ascii : (fill : ℕ) → fill < 128 → (count : ℕ) → fills fill count ≡ replicate count fill
 fills-ascii fill ascii count = rw (encode_ascii fill ascii) (repeat-one fill count)
 
--- a text that stands right has as many fills in front as it is short of bytes
+-- a text that stands right has as many fills before it as it is short of bytes
 pub padded_right : (width fill : ℕ) (text : List ℕ) → IsAscii text → fill < 128
     → padded_to (Some width) fill Right text ≡ replicate (width - length text) fill ++ text
 padded_right width fill text ascii small =

@@ -30,7 +30,7 @@ pub places-nil : (base : ℕ) → sum_over_places base [] ≡ 0
 unfolding sum_over_places
 places-nil base = refl
 
--- a digit in front adds its place
+-- a digit before others adds its place
 pub places-cons : (base d : ℕ) (ds : List ℕ)
     → sum_over_places base (d ∷ ds) ≡ d * base ^ length ds + sum_over_places base ds
 unfolding sum_over_places
@@ -38,7 +38,7 @@ places-cons base d ds =
     let e : suc (length ds) - 1 - 0 ≡ length ds = omega arith in
     rw (sum_by-cons (at_place base (d ∷ ds)) 0 (range_with_len (0 + 1) (length ds)), e, sum_by_later base d ds (length ds) 0)
 
--- digits in front are worth their sum at the place where the others begin
+-- digits before others are worth their sum at the place where the others begin
 pub places-append : (base : ℕ) (xs ys : List ℕ)
     → sum_over_places base (xs ++ ys)
     ≡ sum_over_places base xs * base ^ length ys + sum_over_places base ys

@@ -14,7 +14,7 @@ pub value-nil : (B : List ℕ) → value B [] ≡ 0
 unfolding value
 value-nil B = places-nil 62
 
--- a letter in front adds its digit at its place
+-- a letter before a text adds its digit at its place
 pub value-cons : (B : List ℕ) (b : ℕ) (text : List ℕ)
     → value B (b ∷ text) ≡ digit_or_zero B b * 62 ^ length text + value B text
 unfolding value
@@ -22,7 +22,7 @@ value-cons B b text =
     places-cons 62 (digit_or_zero B b) (map (digit_or_zero B) text)
     ∙ ap (λ k. digit_or_zero B b * 62 ^ k + value B text) (length-map text (digit_or_zero B))
 
--- a text in front is worth its value at the place where the other begins
+-- a text before another is worth its value at the place where the other begins
 pub value-append : (B a b : List ℕ) → value B (a ++ b) ≡ value B a * 62 ^ length b + value B b
 unfolding value
 value-append B a b =

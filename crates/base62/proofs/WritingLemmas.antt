@@ -22,14 +22,6 @@ module _ (B : List ℕ) (v w m : ℕ) (old part : List ℕ) (room : v + w ≤ le
       let none : post_of v (length old - v) old ≡ [] = drop_all (length old - v) (drop v old) behind in
       rw (none, append-nil, writes, places, drop-drop w v old) refl
 
-  pub part_length : length (put_from v old part) ≡ length old
-  part_length =
-      let front = length-take-le v old (omega (arith, room)) in
-      let back = length-append (fixed B w m) (drop (v + w) old) in
-      ap length part_written
-      ∙ length-append (take v old) (fixed B w m ++ drop (v + w) old)
-      ∙ omega (arith, room, front, back, length-fixed B w m, length-drop (v + w) old)
-
 -- what is written at the front
 module _ (B : List ℕ) (v n : ℕ) (old new : List ℕ) (writes : WritesFixed B v n old new) where
   -- stands there

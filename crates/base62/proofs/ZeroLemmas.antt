@@ -1,4 +1,4 @@
--- Zero letters in front of a text.
+-- Zero letters before a text.
 use Rattle.std.proofs.Common.{◌≡◌, ◌≢◌, ℕ, zero, suc, ◌+◌, ◌<◌, ◌≤◌, ◌==◌, Bool, true, false, List, ◌∷◌, length, get_or, take, drop}
 use Rattle.std.proofs.Common.{Result, if◌then◌else◌, refl, sym, ap, ◌∙◌, subst, inl, inr, add-one, arith}
 use Rattle.std.proofs.lemmas.Bool.{cases_eq, eq-eqb, ne_eqb, eqb-true, eqb-false}
@@ -15,8 +15,17 @@ use Rattle.base62.proofs.AlphabetLemmas.{IsLetter, is_letter-letter, digit_or_ze
 use Rattle.base62.proofs.ValueLemmas.{value-nil, value-cons, value-cut, value_more}
 
 -- each byte of the leading zeros is the zero letter
-zero_before : (B text : List ℕ) (k : ℕ) → k < leading_zeros B text → get_or text k 0 ≡ zero_letter B
+pub zero_before : (B text : List ℕ) (k : ℕ) → k < leading_zeros B text → get_or text k 0 ≡ zero_letter B
 zero_before B text k h = eqb-true _ _ (prefix_len_passes (λ b. b == zero_letter B) text k 0 h)
+
+-- a text that begins with the zero letter has leading zeros
+pub zeros_some : (B text : List ℕ) → 0 < length text → get_or text 0 0 ≡ zero_letter B → 0 < leading_zeros B text
+zeros_some B text some first = elim (cases_eq (leading_zeros B text) 0) [
+  | inl none ↦
+      let stops = prefix_len_stops (λ b. b == zero_letter B) text 0 (omega (arith, none, some)) in
+      absurd (eqb-false _ _ (rw none at stops) first)
+  | inr more ↦ omega (arith, more)
+]
 
 pub zeros_within : (B text : List ℕ) → leading_zeros B text ≤ length text
 zeros_within B text = prefix_len-le-length (λ b. b == zero_letter B) text
@@ -38,7 +47,7 @@ after_zeros_first B text some same =
     let stops = prefix_len_stops (λ b. b == zero_letter B) text 0 (omega (arith, length-drop z text)) in
     eqb-false _ _ stops (sym place ∙ same)
 
--- a zero letter in front is one more leading zero, with the same text after the zeros
+-- a zero letter before a text is one more leading zero, with the same text after the zeros
 after_zeros_front : (B text : List ℕ) → after_zeros B (zero_letter B ∷ text) ≡ after_zeros B text
 after_zeros_front B text =
     let zeros : leading_zeros B (zero_letter B ∷ text) ≡ suc (leading_zeros B text) = rw (eq-eqb (zero_letter B) (zero_letter B) refl) (omega arith) in
@@ -88,7 +97,7 @@ module _ (B : List ℕ) (ok : IsAlphabet B) where
       let none = zeros_value text z (omega arith) in
       value-cut B text z ∙ rw none (omega arith)
 
-  -- a zero letter in front adds nothing
+  -- a zero letter before a text adds nothing
   pub value_front : (text : List ℕ) → value B (zero_letter B ∷ text) ≡ value B text
   value_front text = rw (value-cons B (zero_letter B) text, zero_digit) (omega arith)
 

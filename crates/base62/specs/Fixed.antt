@@ -7,7 +7,7 @@ pub record IsFixed (B : List ℕ) (w : ℕ) (text : List ℕ) (n : ℕ) : Type 0
   pub size : length text ≡ w
   pub denotes : Denotes B text n
 
--- the text of exactly w letters for the last w digits of n, with zeros in front where n has fewer
+-- the text of exactly w letters for the last w digits of n, with leading zeros if n has fewer
 unfoldable pub fixed : List ℕ → ℕ → ℕ → List ℕ
 fixed B zero n = []
 fixed B (suc w) n = fixed B w (n / 62) ++ slice_index B (n % 62) ∷ []

@@ -12,7 +12,7 @@ abbrev pub HasNoNeedlessZero : List ℕ → List ℕ → Type 0
 HasNoNeedlessZero B text =
     (0 < length text) × ((length text ≡ 1) ⊎ (slice_index text 0 ≢ zero_letter B))
 
--- what follows the leading zeros of a text, or one zero letter where nothing does
+-- what follows the leading zeros of a text, or one zero letter if nothing does
 abbrev pub without_zeros : List ℕ → List ℕ → List ℕ
 without_zeros B text =
     if length (after_zeros B text) == 0 then zero_letter B ∷ [] else after_zeros B text
@@ -25,7 +25,7 @@ pub record AgreesAtLetters (B text other : List ℕ) : Type 0 where
       → slice_index other i ≡ slice_index text i
 
 -- What the answer of decoding tells of the text: which texts are accepted, and their values and
--- canonical texts; which byte a fault names; and what an overflow says where a letter follows the
+-- canonical texts; which byte a fault names; and what an overflow says if a letter follows the
 -- leading zeros: with any letters in place of the bad bytes the text denotes 2^128 or more. It also
 -- tells all that a call of `decode` does.
 pub record AnswerTells (B text : List ℕ) : Type 0 where
@@ -41,7 +41,7 @@ pub record AnswerTells (B text : List ℕ) : Type 0 where
       → is_letter B (slice_index (after_zeros B text) 0) ≡ true
       → (other : List ℕ) → AgreesAtLetters B text other → 2 ^ 128 ≤ value B other
 
--- a number, or an overflow where it is 2^128 or more
+-- a number, or an overflow if it is 2^128 or more
 abbrev pub number_or_overflow : ℕ → Result ℕ DecodeError
 number_or_overflow n = if nat_lt n (2 ^ 128) then Ok n else Err ArithmeticOverflow
 

@@ -16,4 +16,5 @@ pub mod Case
 pub mod Laws
 pub mod Order
 pub mod Uuid
+pub mod Range
 pub mod Key

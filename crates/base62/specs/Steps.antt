@@ -14,7 +14,7 @@ steps_to_invalid B text = invalid_index B text - leading_zeros B text + 1
 
 -- The steps of decoding, by its cases. An empty text takes none; nor does one with more than 22
 -- bytes after its leading zeros. A bad byte among the first ten is the last that is read. Ten are
--- read where those show an overflow. A later bad byte is the last that is read. Of any other text
+-- read if those show an overflow. A later bad byte is the last that is read. Of any other text
 -- each byte after the leading zeros is read.
 unfoldable pub decoding_steps : List ℕ → List ℕ → ℕ
 decoding_steps B text =

@@ -4,7 +4,7 @@ use Rattle.std.specs.List.{range_with_len}
 use Rattle.base62.specs.declared.alphabet.tables.Tables.{Tables}
 use Rattle.base62.specs.Alphabet.{IsAlphabet, digit_of}
 
--- the digit of a byte, or 255 where it has none
+-- the digit of a byte, or 255 if it has none
 abbrev pub digit_or_255 : List ℕ → ℕ → ℕ
 digit_or_255 B b = unwrap_or (digit_of B b) 255
 

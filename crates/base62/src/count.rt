@@ -54,13 +54,9 @@ fn narrow_count(n: u64) -> usize
     if n == 0 {
         return 1;
     }
-    let highest = n.ilog2() as usize;
-    let estimate = ((highest * 43) >> 8) + 1;
-    if n > GREATEST_NARROW[estimate] {
-        estimate + 1
-    } else {
-        estimate
-    }
+    let highest = n.ilog2();
+    let estimate = ((highest * 43) >> 8) as usize + 1;
+    estimate + (n > GREATEST_NARROW[estimate]) as usize
 }
 
 #[inline(always)]
@@ -68,11 +64,7 @@ fn wide_count(n: u128) -> usize
     requires { 2 ^ 64 ≤ n }
     ensures { DigitCount n result }
 {
-    let highest = ((n >> 64) as u64).ilog2() as usize + 64;
-    let estimate = ((highest * 43) >> 8) + 1;
-    if n > GREATEST[estimate] {
-        estimate + 1
-    } else {
-        estimate
-    }
+    let highest = ((n >> 64) as u64).ilog2() + 64;
+    let estimate = ((highest * 43) >> 8) as usize + 1;
+    estimate + (n > GREATEST[estimate]) as usize
 }

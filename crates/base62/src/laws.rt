@@ -15,7 +15,7 @@ ghost use Rattle.base62.specs.Decoding.{decoding};
 ghost use Rattle.base62.specs.Case.{exchange_case};
 ghost use Rattle.base62.specs.Encoding.{EncodesInto};
 ghost use Rattle.base62.specs.Fixed.{IsFixed};
-ghost use Rattle.base62.specs.Key.{BeginsWith, BeginsTextsOf, BeginsTextsBetween, IsInInterval, interval_ends, range_of};
+ghost use Rattle.base62.specs.Range.{BeginsWith, BeginsTextsOf, BeginsTextsBetween, IsInInterval, interval_ends, range_of};
 ghost use Rattle.base62.specs.Order.{lexicographic_order, partial_order, IsNotAfter, shortlex_order, Ascends};
 ghost use Rattle.base62.specs.Laws.{HasNoNeedlessZero, AnswerTells, number_or_overflow, one_place_on, without_zeros};
 ghost use Rattle.base62.specs.Fault.{alphabet_error_order, decode_error_order};
@@ -47,8 +47,8 @@ pub fn letters_are_distinct(alphabet: &Alphabet)
 
 /// Over any alphabet each number below 2^128 has exactly one canonical text, of 1 to 22 letters.
 /// For k from 1 on, the canonical text of a number below 62^k has at most k letters. A text of
-/// letters is the canonical text of its value exactly where it has one letter, or more and no zero
-/// letter in front.
+/// letters is the canonical text of its value exactly if it has one letter, or more and no leading
+/// zero letter.
 pub fn one_text()
     ensures exists { (B : List ℕ) → IsAlphabet B → (n : ℕ) → n < 2 ^ 128
         → (text : List ℕ) × IsCanonical B text n }
@@ -85,7 +85,7 @@ pub fn round_trip()
         → IsCanonical B text m → IsCanonical B text n → m ≡ n }
 {}
 
-/// Over any alphabet decoding answers n exactly where the text denotes n, and n is below 2^128.
+/// Over any alphabet decoding answers n exactly if the text denotes n, and n is below 2^128.
 pub fn decoded_numbers()
     ensures decoded { (B : List ℕ) → IsAlphabet B → (text : List ℕ) (n : ℕ)
         → Denotes B text n → n < 2 ^ 128 → decoding B text ≡ Ok n }
@@ -95,7 +95,7 @@ pub fn decoded_numbers()
         → decoding B text ≡ Ok n → n < 2 ^ 128 }
 {}
 
-/// Two canonical texts are the same exactly where their numbers are.
+/// Two canonical texts are the same exactly if their numbers are.
 pub fn texts_of_two(alphabet: &Alphabet, first: &[u8], second: &[u8], m: u128, n: u128)
     ensures texts { IsCanonical alphabet.now first.now m → IsCanonical alphabet.now second.now n
         → m ≡ n → first.now ≡ second.now }
@@ -118,7 +118,7 @@ pub fn numbers_of_uuids()
     ensures { (uuid : List ℕ) → IsUuid uuid → uuid_number uuid < 2 ^ 128 }
 {}
 
-/// Two UUIDs are the same where their numbers are.
+/// Two UUIDs are the same if their numbers are.
 pub fn uuids_of_two(a: [u8; 16], b: [u8; 16])
     ensures { uuid_number a ≡ uuid_number b → a ≡ b }
 {}
@@ -139,7 +139,7 @@ pub fn answer_for(alphabet: &Alphabet, text: &[u8])
 }
 
 /// Two texts in a row, over any alphabet: the first has the number m, and the second k letters and
-/// the number n. Together they decode to m * 62^k + n, or overflow where that is 2^128 or more.
+/// the number n. Together they decode to m * 62^k + n, or overflow if that is 2^128 or more.
 pub fn concatenation()
     ensures { (B : List ℕ) → IsAlphabet B → (a b : List ℕ) (m n : ℕ)
         → decoding B a ≡ Ok m → decoding B b ≡ Ok n
@@ -156,8 +156,8 @@ pub fn concatenation_of_two(alphabet: &Alphabet, first: &[u8], second: &[u8], m:
     concatenation();
 }
 
-/// Over any alphabet a zero letter in front of a nonempty text changes nothing but the index of a
-/// bad byte.
+/// Over any alphabet a zero letter before a nonempty text changes nothing but the index of a bad
+/// byte.
 pub fn zero_in_front()
     ensures { (B : List ℕ) → IsAlphabet B → (text : List ℕ) → 0 < length text
         → decoding B (zero_letter B ∷ text) ≡ one_place_on (decoding B text) }
@@ -194,7 +194,7 @@ pub fn exchange_of_text(text: &[u8], n: u128)
 
 /// Over any alphabet, for w from 1 on, a number has a text of exactly w letters if and only if it
 /// is below 62^w, and it has only one. The text decodes to the number, if that is below 2^128. A
-/// shorter text becomes the number's text of w letters once zero letters in front fill it up. Keys
+/// shorter text becomes the number's text of w letters once leading zero letters fill it up. Keys
 /// are these texts for w = 22.
 #[tactic(auto, using(crate::proofs::WidthLemmas::one_fixed, crate::proofs::WidthLemmas::fixed_decodes))]
 pub fn fixed_widths()
@@ -254,7 +254,7 @@ pub fn order_of_parts(high: u128, low: u128, other_high: u128, other_low: u128, 
 /// If a text of at most `width` letters decodes to a number, the number is below 62^width. If it
 /// has exactly `width` letters, it is the number's text of this width. The text of this width of a
 /// number below 2^128 decodes to the number. A text that denotes a number becomes its text of this
-/// width once zero letters in front fill it up.
+/// width once leading zero letters fill it up.
 pub fn of_text(alphabet: &Alphabet, width: usize, text: &[u8])
     ensures small { (n : ℕ) → decoding alphabet.now text.now ≡ Ok n → length text.now ≤ width
         → n < 62 ^ width }
@@ -269,54 +269,54 @@ pub fn of_text(alphabet: &Alphabet, width: usize, text: &[u8])
     letters_are_distinct(alphabet);
 }
 
-/// Texts of w letters over any alphabet, and their fronts. A front is a prefix, and has at most w
-/// letters. The text of a number below 2^128 begins with a front exactly where the number is in the
-/// front's interval. The interval has exactly the numbers from one of its ends to the other. It has
-/// no ends exactly where it is empty. Where the letters ascend, the texts that begin with the front
-/// are those from the text of the one end to the text of the other.
+/// Texts of w letters over any alphabet, and their prefixes, which have at most w letters. The text
+/// of a number below 2^128 begins with a prefix exactly if the number is in the prefix's interval.
+/// The interval has exactly the numbers from one of its ends to the other. It has no ends exactly if
+/// it is empty. If the letters ascend, the texts that begin with the prefix are those from the text
+/// of the one end to the text of the other.
 pub fn fronts()
-    ensures letters { (B : List ℕ) (w : ℕ) (front text : List ℕ) (n : ℕ) → IsFixed B w text n
-        → BeginsWith front text → AreLetters B front × (length front ≤ w) }
-    ensures begins { (B : List ℕ) → IsAlphabet B → (w : ℕ) (front text : List ℕ) (n : ℕ)
-        → n < 2 ^ 128 → AreLetters B front → IsFixed B w text n
-        → (BeginsWith front text ↔ IsInInterval B w front n) }
-    ensures none { (B : List ℕ) → IsAlphabet B → (w : ℕ) (front : List ℕ) → AreLetters B front
-        → (interval_ends B w front ≡ None ↔ ((n : ℕ) → IsInInterval B w front n → ⊥)) }
-    ensures ends { (B : List ℕ) → IsAlphabet B → (w : ℕ) (front : List ℕ) (least greatest : ℕ)
-        → AreLetters B front → interval_ends B w front ≡ Some (least, greatest)
+    ensures letters { (B : List ℕ) (w : ℕ) (prefix text : List ℕ) (n : ℕ) → IsFixed B w text n
+        → BeginsWith prefix text → AreLetters B prefix × (length prefix ≤ w) }
+    ensures begins { (B : List ℕ) → IsAlphabet B → (w : ℕ) (prefix text : List ℕ) (n : ℕ)
+        → n < 2 ^ 128 → AreLetters B prefix → IsFixed B w text n
+        → (BeginsWith prefix text ↔ IsInInterval B w prefix n) }
+    ensures none { (B : List ℕ) → IsAlphabet B → (w : ℕ) (prefix : List ℕ) → AreLetters B prefix
+        → (interval_ends B w prefix ≡ None ↔ ((n : ℕ) → IsInInterval B w prefix n → ⊥)) }
+    ensures ends { (B : List ℕ) → IsAlphabet B → (w : ℕ) (prefix : List ℕ) (least greatest : ℕ)
+        → AreLetters B prefix → interval_ends B w prefix ≡ Some (least, greatest)
         → (least ≤ greatest)
-        × ((n : ℕ) → (IsInInterval B w front n ↔ ((least ≤ n) × (n ≤ greatest)))) }
+        × ((n : ℕ) → (IsInInterval B w prefix n ↔ ((least ≤ n) × (n ≤ greatest)))) }
     ensures between { (B : List ℕ) → IsAlphabet B → Ascends B
-        → (w : ℕ) (front : List ℕ) (least greatest : ℕ)
-        → BeginsTextsOf B w front least greatest → BeginsTextsBetween B w front least greatest }
+        → (w : ℕ) (prefix : List ℕ) (least greatest : ℕ)
+        → BeginsTextsOf B w prefix least greatest → BeginsTextsBetween B w prefix least greatest }
 {}
 
-/// Take an alphabet that ascends, the ends of a front's range, and their texts `low` and `high` of
-/// `width` letters. A text of `width` letters whose value is below 2^128 begins with the front
-/// exactly where it stands, in lexicographic order, from `low` to `high`.
+/// Take an alphabet that ascends, the ends of a prefix's range, and their texts `low` and `high` of
+/// `width` letters. A text of `width` letters whose value is below 2^128 begins with the prefix
+/// exactly if it stands, in lexicographic order, from `low` to `high`.
 pub fn scan_of_front(
     alphabet: &Alphabet,
     width: usize,
-    front: &[u8],
+    prefix: &[u8],
     ends: (u128, u128),
     low: &[u8],
     high: &[u8],
 )
-    ensures from { Ascends alphabet.now → range_of alphabet.now width front.now ≡ Ok (Some ends)
+    ensures from { Ascends alphabet.now → range_of alphabet.now width prefix.now ≡ Ok (Some ends)
         → IsFixed alphabet.now width low.now ends.0
         → (text : List ℕ) → length text ≡ width → AreLetters alphabet.now text
         → value alphabet.now text < 2 ^ 128
-        → BeginsWith front.now text → IsNotAfter low.now text }
-    ensures to { Ascends alphabet.now → range_of alphabet.now width front.now ≡ Ok (Some ends)
+        → BeginsWith prefix.now text → IsNotAfter low.now text }
+    ensures to { Ascends alphabet.now → range_of alphabet.now width prefix.now ≡ Ok (Some ends)
         → IsFixed alphabet.now width high.now ends.1
         → (text : List ℕ) → length text ≡ width → AreLetters alphabet.now text
         → value alphabet.now text < 2 ^ 128
-        → BeginsWith front.now text → IsNotAfter text high.now }
-    ensures taken { Ascends alphabet.now → range_of alphabet.now width front.now ≡ Ok (Some ends)
+        → BeginsWith prefix.now text → IsNotAfter text high.now }
+    ensures taken { Ascends alphabet.now → range_of alphabet.now width prefix.now ≡ Ok (Some ends)
         → IsFixed alphabet.now width low.now ends.0 → IsFixed alphabet.now width high.now ends.1
         → (text : List ℕ) → length text ≡ width → AreLetters alphabet.now text
         → value alphabet.now text < 2 ^ 128
-        → IsNotAfter low.now text → IsNotAfter text high.now → BeginsWith front.now text }
+        → IsNotAfter low.now text → IsNotAfter text high.now → BeginsWith prefix.now text }
 {
     letters_are_distinct(alphabet);
 }
@@ -331,7 +331,7 @@ pub fn letters_of_a_kind(alphabet: &Alphabet)
 {}
 
 /// The built-in alphabets are ASCII. Over an alphabet of ASCII letters each text of letters is
-/// ASCII. Right-aligned to a width, an ASCII text has one ASCII fill in front for each byte that it
+/// ASCII. Right-aligned to a width, an ASCII text has one ASCII fill before it for each byte that it
 /// is short of the width.
 #[tactic(auto, using(crate::proofs::AlphabetLemmas::standard_is_ascii, crate::proofs::AlphabetLemmas::alternative_is_ascii, crate::proofs::PaddingLemmas::padded_right))]
 pub fn texts_of_ascii()
@@ -343,8 +343,8 @@ pub fn texts_of_ascii()
 {}
 
 /// How faults of decoding compare: an overflow is least, then comes the empty input, and then bad
-/// bytes, by byte and then by index. Two faults are equal, and compare as equal, exactly where they
-/// are one value. Equal faults are hashed alike.
+/// bytes, by byte and then by index. Two faults are equal, and compare as equal, exactly if they are
+/// one value. Equal faults are hashed alike.
 pub fn order_of_decode_errors()
     ensures order { (d e : DecodeError)
         → ⟦<fault::DecodeError as Ord>⟧.cmp d e ≡ decode_error_order d e }
@@ -368,7 +368,7 @@ pub fn order_of_encode_errors()
 {}
 
 /// How faults of alphabets compare: by byte and then by index. Two are equal, and compare as equal,
-/// exactly where they are one value. Equal faults are hashed alike.
+/// exactly if they are one value. Equal faults are hashed alike.
 pub fn order_of_alphabet_errors()
     ensures order { (d e : AlphabetError)
         → ⟦<fault::AlphabetError as Ord>⟧.cmp d e ≡ alphabet_error_order d e }
@@ -382,7 +382,7 @@ pub fn order_of_alphabet_errors()
         ≡ ⟦<fault::AlphabetError as Hash>⟧.hash_input e }
 {}
 
-/// Two alphabets are equal exactly where their letters are.
+/// Two alphabets are equal exactly if their letters are.
 pub fn equality_of_alphabets()
     ensures { (a b : List ℕ) → (⟦<Alphabet as PartialEq>⟧.eq a b ≡ true) ↔ (a ≡ b) }
 {}
@@ -409,7 +409,7 @@ pub fn clones_of_errors()
         → ⟦<fault::AlphabetError as Clone>⟧.is_infallible d }
 {}
 
-/// What digits denote in a base, one at a time. No digits denote 0. A digit in front of k digits
+/// What digits denote in a base, one at a time. No digits denote 0. A digit before k digits
 /// adds itself times base^k.
 #[tactic(auto, using(crate::proofs::PlacesLemmas::one_at_a_time))]
 pub fn sums_over_places()

@@ -108,7 +108,7 @@ fn pad<W: fmt::Write>(text: &Text, f: &mut fmt::Formatter<W>) -> fmt::Result
 ///
 /// A display pads the text to the formatter's width, which counts characters. If it is not greater
 /// than the text's length, nothing is added. The fill is a space if none is stated. A text with no
-/// stated alignment is left-aligned. A centred text has half of the padding in front, rounded down.
+/// stated alignment is left-aligned. Half of the padding precedes a centred text, rounded down.
 /// What a stated precision leaves of the text is not specified. The error of a display is that of
 /// the underlying writer. Neither call takes memory of its own, and this one refuses nothing.
 ///

@@ -10,7 +10,7 @@ use Rattle.base62_c.specs.declared.answer.Range.{Range}
 use Rattle.base62_c.specs.declared.number.Number.{Number}
 use Rattle.base62_c.specs.Number.{number_of}
 
--- A number is encoded into a buffer. The length of its text is told, or 0 where the buffer is too
+-- A number is encoded into a buffer. The length of its text is told, or 0 if the buffer is too
 -- small.
 pub record Encodes (B : List ℕ) (n : ℕ) (buf buf' : List ℕ) (told : ℕ) : Type 0 where
   pub written : EncodesInto B n buf buf' (if told == 0 then Err BufferTooSmall else Ok told)
@@ -19,7 +19,7 @@ pub record Encodes (B : List ℕ) (n : ℕ) (buf buf' : List ℕ) (told : ℕ) :
   pub roomy : 22 ≤ length buf → 1 ≤ told
   pub refused : told ≡ 0 → buf' ≡ buf
 
--- A number is written into all places. Their count is told, or 0 where they are too few.
+-- A number is written into all places. Their count is told, or 0 if they are too few.
 pub record Fills (B : List ℕ) (n : ℕ) (places places' : List ℕ) (told : ℕ) : Type 0 where
   pub written : FillsPlaces B n places places' (if told == 0 then Err BufferTooSmall else Ok tt)
   pub whole : told ≢ 0 → told ≡ length places
@@ -30,14 +30,14 @@ pub record Fills (B : List ℕ) (n : ℕ) (places places' : List ℕ) (told : �
 abbrev pub bad_byte : ℕ → ℕ → BadByte
 bad_byte byte index = record { byte = byte; index = index }
 
--- a fault of decoding: its status, and the bad byte with its index where it names them
+-- a fault of decoding: its status, and the bad byte with its index if it names them
 abbrev pub TellsFault : DecodeError → ℕ → BadByte → BadByte → Type 0
 TellsFault EmptyInput status bad bad' = (status ≡ 2) × (bad' ≡ bad)
 TellsFault (InvalidBase62Byte byte index) status bad bad' =
     (status ≡ 3) × (bad' ≡ bad_byte byte index)
 TellsFault ArithmeticOverflow status bad bad' = (status ≡ 4) × (bad' ≡ bad)
 
--- an answer of decoding: its status, and the number where there is one
+-- an answer of decoding: its status, and the number if there is one
 abbrev pub TellsNumber : Result ℕ DecodeError → ℕ → Number → Number → BadByte → BadByte → Type 0
 TellsNumber (Ok n) status number number' bad bad' =
     (status ≡ 0) × (number_of number' ≡ n) × (bad' ≡ bad)
@@ -58,19 +58,19 @@ TellsCanonical (Err fault) status number number' bad bad' =
 abbrev pub ends : Number → Number → Range
 ends least greatest = record { least = least; greatest = greatest }
 
--- a range: its status, and its two ends where there are any
-abbrev pub TellsRange :
+-- a range: its status, and its two ends if there are any
+abbrev pub TellsEnds :
     Result (Option (ℕ × ℕ)) DecodeError → ℕ → Range → Range → BadByte → BadByte → Type 0
-TellsRange (Ok (Some (least, greatest))) status range range' bad bad' =
+TellsEnds (Ok (Some (least, greatest))) status range range' bad bad' =
     (status ≡ 0) × (number_of range'.least ≡ least) × (number_of range'.greatest ≡ greatest)
     × (bad' ≡ bad)
-TellsRange (Ok None) status range range' bad bad' =
+TellsEnds (Ok None) status range range' bad bad' =
     (status ≡ 5) × (range' ≡ range) × (bad' ≡ bad)
-TellsRange (Err fault) status range range' bad bad' =
+TellsEnds (Err fault) status range range' bad bad' =
     TellsFault fault status bad bad' × (range' ≡ range)
 
 -- A text is written to the start of a buffer, and all other bytes stay. Its length is told, or 0
--- where the buffer is too small.
+-- if the buffer is too small.
 pub record WritesText (text buf buf' : List ℕ) (told : ℕ) : Type 0 where
   pub written : length text ≤ length buf
       → (told ≡ length text) × (buf' ≡ text ++ drop (length text) buf)

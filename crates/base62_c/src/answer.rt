@@ -2,7 +2,7 @@
 
 ghost use Rattle.std.specs.Prelude.{◌≡◌, OnOk, OnErr};
 ghost use Rattle.base62.specs.declared.fault.AlphabetError.TheVariants.{Repeated};
-ghost use Rattle.base62_c.specs.Answer.{TellsFault, TellsNumber, TellsCanonical, TellsRange, WritesText};
+ghost use Rattle.base62_c.specs.Answer.{TellsFault, TellsNumber, TellsCanonical, TellsEnds, WritesText};
 
 use crate::number::{Number, halves};
 use base62::{AlphabetError, DecodeError, EncodeError};
@@ -88,7 +88,7 @@ pub(crate) fn tell_range(
     range: &mut Range,
     bad: &mut BadByte,
 ) -> u32
-    ensures { TellsRange answer result range.old range.new bad.old bad.new }
+    ensures { TellsEnds answer result range.old range.new bad.old bad.new }
 {
     match answer {
         Ok(Some((least, greatest))) => {

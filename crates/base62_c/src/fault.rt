@@ -2,7 +2,7 @@
 
 ghost use Rattle.std.specs.Prelude.{◌≡◌, ◌≤◌, length};
 ghost use Rattle.std.specs.Fmt.InlineText.{inline_text};
-ghost use Rattle.base62_c.specs.Fault.{fault_text};
+ghost use Rattle.base62_c.specs.Fault.{status_text};
 
 use crate::answer::{
     BUFFER_TOO_SMALL, BadByte, EMPTY_INPUT, INVALID_BYTE, NO_KEY, NOT_CANONICAL, OVERFLOW,
@@ -11,16 +11,16 @@ use crate::answer::{
 use base62::{AlphabetError, DecodeError, EncodeError, MAX_FAULT_TEXT};
 use std::fmt::InlineText;
 
-#[tactic(auto, unfolding(crate::specs::Fault::fault_text))]
+#[tactic(auto, unfolding(crate::specs::Fault::status_text))]
 pub(crate) fn text_of(status: u32, bad: BadByte) -> InlineText<MAX_FAULT_TEXT>
-    ensures { inline_text result ≡ fault_text status bad.byte bad.index }
+    ensures { inline_text result ≡ status_text status bad.byte bad.index }
 {
     match status {
         BUFFER_TOO_SMALL => EncodeError::BufferTooSmall.text(),
         EMPTY_INPUT => DecodeError::EmptyInput.text(),
         INVALID_BYTE => DecodeError::InvalidBase62Byte(bad.byte, bad.index).text(),
         OVERFLOW => DecodeError::ArithmeticOverflow.text(),
-        NO_KEY => whole("No text of so many letters begins with the front"),
+        NO_KEY => whole("No text of so many letters begins with the prefix"),
         REPEATED_LETTER => AlphabetError::Repeated(bad.byte, bad.index).text(),
         NOT_CANONICAL => whole("Encoded input begins with a needless zero"),
         _ => InlineText::new(),

@@ -6,8 +6,8 @@ ghost use Rattle.base62.specs.Fault.{alphabet_error_text, decode_error_text, enc
 ghost use Rattle.base62.specs.declared.fault.AlphabetError.TheVariants.{Repeated};
 ghost use Rattle.base62.specs.declared.fault.DecodeError.{DecodeError};
 ghost use Rattle.base62.specs.declared.fault.EncodeError.TheVariants.{BufferTooSmall};
-ghost use Rattle.base62_c.specs.Answer.{Encodes, Fills, TellsFault, TellsNumber, TellsCanonical, TellsRange, WritesText};
-ghost use Rattle.base62_c.specs.Fault.{fault_text};
+ghost use Rattle.base62_c.specs.Answer.{Encodes, Fills, TellsFault, TellsNumber, TellsCanonical, TellsEnds, WritesText};
+ghost use Rattle.base62_c.specs.Fault.{status_text};
 ghost use Rattle.base62_c.specs.Number.{AreHalves, number_of};
 ghost use Rattle.base62_c.specs.declared.answer.BadByte.{BadByte};
 ghost use Rattle.base62_c.specs.declared.answer.Range.{Range};
@@ -38,7 +38,7 @@ pub fn one_answer()
         → TellsCanonical b status m number' other bad' → a ≡ b }
     ensures ranges { (a b : Result (Option (ℕ × ℕ)) DecodeError) (status : ℕ)
         (range r range' : Range) (bad other bad' : BadByte)
-        → TellsRange a status range range' bad bad' → TellsRange b status r range' other bad'
+        → TellsEnds a status range range' bad bad' → TellsEnds b status r range' other bad'
         → a ≡ b }
     ensures texts { (text buf buf' : List ℕ) (told : ℕ)
         → told ≢ 0 → WritesText text buf buf' told → text ≡ take told buf' }
@@ -65,7 +65,7 @@ pub fn one_telling()
     ensures ranges { (answer : Result (Option (ℕ × ℕ)) DecodeError) (s t : ℕ) (range m n : Range)
         (bad a b : BadByte)
         → AreHalves m.least → AreHalves m.greatest → AreHalves n.least → AreHalves n.greatest
-        → TellsRange answer s range m bad a → TellsRange answer t range n bad b
+        → TellsEnds answer s range m bad a → TellsEnds answer t range n bad b
         → (s ≡ t) × (m ≡ n) × (a ≡ b) }
     ensures texts { (text buf a b : List ℕ) (s t : ℕ)
         → WritesText text buf a s → WritesText text buf b t → (s ≡ t) × (a ≡ b) }
@@ -84,13 +84,13 @@ pub fn one_telling()
 /// A status that tells a fault of decoding, with the byte and the index that are told, has the text
 /// of that fault. Status 1 has the text of a buffer that is too small, and status 6 that of a
 /// repeated letter.
-#[tactic(auto, unfolding(crate::specs::Fault::fault_text))]
+#[tactic(auto, unfolding(crate::specs::Fault::status_text))]
 pub fn text_of_told_fault()
     ensures decoding { (fault : DecodeError) (status : ℕ) (bad bad' : BadByte)
         → TellsFault fault status bad bad'
-        → fault_text status bad'.byte bad'.index ≡ decode_error_text fault }
+        → status_text status bad'.byte bad'.index ≡ decode_error_text fault }
     ensures encoding { (byte index : ℕ)
-        → fault_text 1 byte index ≡ encode_error_text BufferTooSmall }
+        → status_text 1 byte index ≡ encode_error_text BufferTooSmall }
     ensures alphabets { (byte index : ℕ)
-        → fault_text 6 byte index ≡ alphabet_error_text (Repeated byte index) }
+        → status_text 6 byte index ≡ alphabet_error_text (Repeated byte index) }
 {}

@@ -8,10 +8,11 @@ ghost use Rattle.std.specs.Prelude.{◌≡◌, ◌≢◌, ◌≤◌, length};
 ghost use Rattle.base62.specs.Alphabet.{IsAlphabet, RepeatsFirst, standard, alternative};
 ghost use Rattle.base62.specs.Canonical.{DigitCount};
 ghost use Rattle.base62.specs.Decoding.{decoding, canonical_decoding};
-ghost use Rattle.base62.specs.Key.{IsKey, range_of};
+ghost use Rattle.base62.specs.Key.{IsKey};
+ghost use Rattle.base62.specs.Range.{range_of};
 ghost use Rattle.base62.specs.Uuid.{uuid_number};
-ghost use Rattle.base62_c.specs.Answer.{Encodes, Fills, TellsNumber, TellsCanonical, TellsRange, WritesText};
-ghost use Rattle.base62_c.specs.Fault.{fault_text};
+ghost use Rattle.base62_c.specs.Answer.{Encodes, Fills, TellsNumber, TellsCanonical, TellsEnds, WritesText};
+ghost use Rattle.base62_c.specs.Fault.{status_text};
 ghost use Rattle.base62_c.specs.Number.{number_of};
 
 mod answer;
@@ -168,7 +169,7 @@ pub extern "C" fn base62_decode_canonical_with(
 
 #[unsafe(no_mangle)]
 pub extern "C" fn base62_key_range(prefix: &[u8], range: &mut Range, bad: &mut BadByte) -> u32
-    ensures { TellsRange (range_of standard 22 prefix.now) result range.old range.new
+    ensures { TellsEnds (range_of standard 22 prefix.now) result range.old range.new
         bad.old bad.new }
 {
     tell_range(base62::key_range(prefix), range, bad)
@@ -181,7 +182,7 @@ pub extern "C" fn base62_fixed_range(
     range: &mut Range,
     bad: &mut BadByte,
 ) -> u32
-    ensures { TellsRange (range_of standard width prefix.now) result range.old range.new
+    ensures { TellsEnds (range_of standard width prefix.now) result range.old range.new
         bad.old bad.new }
 {
     tell_range(base62::fixed_range(width, prefix), range, bad)
@@ -195,7 +196,7 @@ pub extern "C" fn base62_fixed_range_with(
     range: &mut Range,
     bad: &mut BadByte,
 ) -> u32
-    ensures { TellsRange (range_of alphabet.now width prefix.now) result range.old range.new
+    ensures { TellsEnds (range_of alphabet.now width prefix.now) result range.old range.new
         bad.old bad.new }
 {
     tell_range(
@@ -245,8 +246,8 @@ pub extern "C" fn base62_uuid_of_number(number: Number, uuid: &mut [u8; 16])
 
 #[unsafe(no_mangle)]
 pub extern "C" fn base62_fault_text(status: u32, bad: BadByte, buf: &mut [u8]) -> usize
-    ensures written { WritesText (fault_text status bad.byte bad.index) buf.old buf.new result }
-    ensures most { length (fault_text status bad.byte bad.index) ≤ 77 }
+    ensures written { WritesText (status_text status bad.byte bad.index) buf.old buf.new result }
+    ensures most { length (status_text status bad.byte bad.index) ≤ 77 }
 {
     tell_text(text_of(status, bad).as_str().as_bytes(), buf)
 }

@@ -4,8 +4,8 @@
 
 ghost use Rattle.std.specs.Prelude.{◌≡◌, ◌+◌, ◌-◌, ◌^◌, ℕ, List, [], codes, Ok, Err, Some, None};
 ghost use Rattle.base62.specs.declared.fault.DecodeError.TheVariants.{ArithmeticOverflow, EmptyInput, InvalidBase62Byte};
-ghost use Rattle.base62_c.specs.Answer.{Encodes, Fills, TellsFault, TellsNumber, TellsCanonical, TellsRange, WritesText, bad_byte, ends};
-ghost use Rattle.base62_c.specs.Fault.{fault_text};
+ghost use Rattle.base62_c.specs.Answer.{Encodes, Fills, TellsFault, TellsNumber, TellsCanonical, TellsEnds, WritesText, bad_byte, ends};
+ghost use Rattle.base62_c.specs.Fault.{status_text};
 ghost use Rattle.base62_c.specs.Number.{number_of, pair};
 ghost use Rattle.base62_c.specs.declared.answer.BadByte.{BadByte};
 ghost use Rattle.base62_c.specs.declared.answer.Range.{Range};
@@ -36,7 +36,7 @@ pub fn lengths_by_example()
         → Fills B n (codes "......................") (codes "......................") 0 → ⊥ }
 {}
 
-/// How faults are told, whatever stood at the byte and its index, or where 7 and 8 stood there.
+/// How faults are told, whatever stood at the byte and its index, or if 7 and 8 stood there.
 pub fn faults_by_example()
     ensures empty { (bad : BadByte) → TellsFault EmptyInput 2 bad bad }
     ensures empty_by_another_status { (bad : BadByte) → TellsFault EmptyInput 4 bad bad → ⊥ }
@@ -55,7 +55,7 @@ pub fn faults_by_example()
         → ⊥ }
 {}
 
-/// How decoding is told, whatever stood at the pointers, or where 3 and 4 stood at the halves.
+/// How decoding is told, whatever stood at the pointers, or if 3 and 4 stood at the halves.
 pub fn answers_by_example()
     ensures number { (n : Number) (bad : BadByte)
         → TellsNumber (Ok (2 ^ 64 + 5)) 0 n (pair 1 5) bad bad }
@@ -96,38 +96,38 @@ pub fn canonical_by_example()
         → TellsCanonical (Err EmptyInput) 2 (pair 3 4) (pair 3 0) bad bad → ⊥ }
 {}
 
-/// How ranges are told, whatever stood at the pointers, or where 3 and 4 stood at an end's halves.
+/// How ranges are told, whatever stood at the pointers, or if 3 and 4 stood at an end's halves.
 pub fn ranges_by_example()
     ensures both { (r : Range) (bad : BadByte)
-        → TellsRange (Ok (Some (1302, 1363))) 0 r (ends (pair 0 1302) (pair 0 1363)) bad bad }
+        → TellsEnds (Ok (Some (1302, 1363))) 0 r (ends (pair 0 1302) (pair 0 1363)) bad bad }
     ensures exchanged { (r : Range) (bad : BadByte)
-        → TellsRange (Ok (Some (1302, 1363))) 0 r (ends (pair 0 1363) (pair 0 1302)) bad bad → ⊥ }
+        → TellsEnds (Ok (Some (1302, 1363))) 0 r (ends (pair 0 1363) (pair 0 1302)) bad bad → ⊥ }
     ensures least_left { (n : Number) (bad : BadByte)
-        → TellsRange (Ok (Some (5, 6))) 0 (ends (pair 3 4) n) (ends (pair 3 4) (pair 0 6)) bad bad
+        → TellsEnds (Ok (Some (5, 6))) 0 (ends (pair 3 4) n) (ends (pair 3 4) (pair 0 6)) bad bad
         → ⊥ }
     ensures greatest_left { (n : Number) (bad : BadByte)
-        → TellsRange (Ok (Some (5, 6))) 0 (ends n (pair 3 4)) (ends (pair 0 5) (pair 3 4)) bad bad
+        → TellsEnds (Ok (Some (5, 6))) 0 (ends n (pair 3 4)) (ends (pair 0 5) (pair 3 4)) bad bad
         → ⊥ }
     ensures both_with_an_index { (r : Range)
-        → TellsRange (Ok (Some (5, 6))) 0 r (ends (pair 0 5) (pair 0 6)) (bad_byte 7 8)
+        → TellsEnds (Ok (Some (5, 6))) 0 r (ends (pair 0 5) (pair 0 6)) (bad_byte 7 8)
         (bad_byte 7 0) → ⊥ }
-    ensures none { (r : Range) (bad : BadByte) → TellsRange (Ok None) 5 r r bad bad }
+    ensures none { (r : Range) (bad : BadByte) → TellsEnds (Ok None) 5 r r bad bad }
     ensures none_by_another_status { (r : Range) (bad : BadByte)
-        → TellsRange (Ok None) 0 r r bad bad → ⊥ }
+        → TellsEnds (Ok None) 0 r r bad bad → ⊥ }
     ensures none_with_a_least { (n : Number) (bad : BadByte)
-        → TellsRange (Ok None) 5 (ends (pair 3 4) n) (ends (pair 0 0) n) bad bad → ⊥ }
+        → TellsEnds (Ok None) 5 (ends (pair 3 4) n) (ends (pair 0 0) n) bad bad → ⊥ }
     ensures none_with_a_greatest { (n : Number) (bad : BadByte)
-        → TellsRange (Ok None) 5 (ends n (pair 3 4)) (ends n (pair 0 0)) bad bad → ⊥ }
+        → TellsEnds (Ok None) 5 (ends n (pair 3 4)) (ends n (pair 0 0)) bad bad → ⊥ }
     ensures none_with_a_byte { (r : Range)
-        → TellsRange (Ok None) 5 r r (bad_byte 7 8) (bad_byte 0 8) → ⊥ }
+        → TellsEnds (Ok None) 5 r r (bad_byte 7 8) (bad_byte 0 8) → ⊥ }
     ensures fault { (r : Range) (bad : BadByte)
-        → TellsRange (Err (InvalidBase62Byte 45 1)) 3 r r bad (bad_byte 45 1) }
+        → TellsEnds (Err (InvalidBase62Byte 45 1)) 3 r r bad (bad_byte 45 1) }
     ensures fault_with_a_least { (n : Number) (bad : BadByte)
-        → TellsRange (Err EmptyInput) 2 (ends (pair 3 4) n) (ends (pair 0 0) n) bad bad → ⊥ }
+        → TellsEnds (Err EmptyInput) 2 (ends (pair 3 4) n) (ends (pair 0 0) n) bad bad → ⊥ }
     ensures fault_with_a_greatest { (n : Number) (bad : BadByte)
-        → TellsRange (Err EmptyInput) 2 (ends n (pair 3 4)) (ends n (pair 0 0)) bad bad → ⊥ }
+        → TellsEnds (Err EmptyInput) 2 (ends n (pair 3 4)) (ends n (pair 0 0)) bad bad → ⊥ }
     ensures fault_left { (r : Range)
-        → TellsRange (Err (InvalidBase62Byte 45 1)) 3 r r (bad_byte 7 8) (bad_byte 7 8) → ⊥ }
+        → TellsEnds (Err (InvalidBase62Byte 45 1)) 3 r r (bad_byte 7 8) (bad_byte 7 8) → ⊥ }
 {}
 
 /// How texts are written into buffers of full stops.
@@ -147,21 +147,21 @@ pub fn texts_by_example()
 /// What statuses say, with byte 33, which is `!`, and index 5.
 #[tactic(auto, using(std::proofs::lemmas::Fmt::decimal_digit), unfolding(
 // the text of a status
-crate::specs::Fault::fault_text,
+crate::specs::Fault::status_text,
 // what each fault says
 base62::specs::Fault::decode_error_text, base62::specs::Fault::encode_error_text, base62::specs::Fault::alphabet_error_text,
 // a byte and its index
 base62::specs::Fault::byte_at_index, base62::specs::Fault::escaped))]
-pub fn fault_texts_by_example()
-    ensures ok { fault_text 0 33 5 ≡ [] }
-    ensures buffer_too_small { fault_text 1 33 5 ≡ codes "Buffer too small to encode the number" }
-    ensures empty_input { fault_text 2 33 5 ≡ codes "Encoded input is an empty string" }
-    ensures invalid_byte { fault_text 3 33 5
+pub fn status_texts_by_example()
+    ensures ok { status_text 0 33 5 ≡ [] }
+    ensures buffer_too_small { status_text 1 33 5 ≡ codes "Buffer too small to encode the number" }
+    ensures empty_input { status_text 2 33 5 ≡ codes "Encoded input is an empty string" }
+    ensures invalid_byte { status_text 3 33 5
         ≡ codes "Encoded input contains the invalid byte b'!' at index 5" }
-    ensures overflow { fault_text 4 33 5 ≡ codes "Decoded number cannot fit into a `u128`" }
-    ensures no_key { fault_text 5 33 5 ≡ codes "No text of so many letters begins with the front" }
-    ensures repeated_letter { fault_text 6 33 5
+    ensures overflow { status_text 4 33 5 ≡ codes "Decoded number cannot fit into a `u128`" }
+    ensures no_key { status_text 5 33 5 ≡ codes "No text of so many letters begins with the prefix" }
+    ensures repeated_letter { status_text 6 33 5
         ≡ codes "Alphabet repeats the byte b'!' at index 5" }
-    ensures not_canonical { fault_text 7 33 5 ≡ codes "Encoded input begins with a needless zero" }
-    ensures no_status { fault_text 8 33 5 ≡ [] }
+    ensures not_canonical { status_text 7 33 5 ≡ codes "Encoded input begins with a needless zero" }
+    ensures no_status { status_text 8 33 5 ≡ [] }
 {}

@@ -19,7 +19,7 @@ zeros_written n =
     let width : 19 - length (decimal n) - 0 - 0 ≡ 19 - length (decimal n) = omega arith in
     rw (width, append-nil (decimal n)) refl
 
--- its last digit, where there are more
+-- its last digit, if there are more
 with_zeros_step : (k n : ℕ) → n < 10 ^ 64
     → with_zeros (suc (suc k)) n ≡ with_zeros (suc k) (n / 10) ++ (48 + n % 10) ∷ []
 with_zeros_step k n small = elim (cases_lt n 10) [
@@ -37,7 +37,7 @@ with_zeros_step k n small = elim (cases_lt n 10) [
       rw (decimal_step_wide n more small, width) (sym (append_assoc (replicate (suc k - length digits) 48) digits last))
 ]
 
--- the digits of a number are those of its upper part, and then those of its lower part with zeros in front
+-- the digits of a number are those of its upper part, and then those of its lower part with leading zeros
 pub decimal_parts : (k high low : ℕ) → 0 < high → low < 10 ^ suc k
     → high * 10 ^ suc k + low < 10 ^ 64
     → decimal (high * 10 ^ suc k + low) ≡ decimal high ++ with_zeros (suc k) low

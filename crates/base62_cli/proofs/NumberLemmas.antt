@@ -13,7 +13,7 @@ use Rattle.base62_cli.specs.Reply.{decimal_value, is_number}
 -- the texts of digits, and what they denote, by the law of sums over places
 module _ (none : (base : ℕ) → sum_over_places base [] ≡ 0)
     (front : (base digit : ℕ) (digits : List ℕ) → sum_over_places base (digit ∷ digits) ≡ digit * base ^ length digits + sum_over_places base digits) where
-  -- a digit in front adds its place
+  -- a digit before others adds its place
   weighs : WeighsDigits decimal_value
   unfolding decimal_value
   weighs = record {
@@ -32,7 +32,7 @@ number_parts text e =
     let parts = and_parts _ _ e in
     let front = and_parts _ _ parts.0 in (ltb-true 0 (length text) front.0, front.1, ltb-true (decimal_value text) (2 ^ 128) parts.1)
 
--- a plus sign in front, which std takes
+-- a leading plus sign, which std takes
 abbrev pub has_plus : List ℕ → Bool
 has_plus text = starts_with nat_eq text (codes "+")
 
@@ -47,7 +47,7 @@ pub no_plus : (text : List ℕ) → has_plus text ≡ false → get_or text 0 0 
 no_plus [] none e = absurd (omega arith)
 no_plus (c ∷ cs) none e = true≢false (rw e at none)
 
--- what `number_of` answers where the text is a number, and where it is none
+-- what `number_of` answers if the text is a number, and if it is none
 pub the_number : (text : List ℕ) (n : ℕ) → all_ascii_digits text ≡ true → 0 < length text
     → decimal_value text < 2 ^ 128 → n ≡ decimal_value text
     → Some n ≡ (if is_number text then Some (decimal_value text) else None)
@@ -58,7 +58,7 @@ pub no_number : (text : List ℕ) → is_number text ≢ true
     → None ≡ (if is_number text then Some (decimal_value text) else None)
 no_number text none = rw (false_from_ne_true (is_number text) none) refl
 
--- what std parses of a text with no plus sign in front
+-- what std parses of a text with no leading plus sign
 pub parsed_number : {E : Type 0} (text : List ℕ) (r : Result ℕ E)
     → OkIff r ((all_ascii_digits text ≡ true) × (0 < length text) × (decimal_value text < 2 ^ 128))
     (decimal_value text)

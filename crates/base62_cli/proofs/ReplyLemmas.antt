@@ -17,7 +17,7 @@ pub record ExactlyOne (P : List ℕ → Type 0) : Type 0 where
   pub exists : (text : List ℕ) × P text
   pub only : (a b : List ℕ) → P a → P b → a ≡ b
 
--- where each side of a choice has one text, the choice has one
+-- if each side of a choice has one text, the choice has one
 one_of_two : (test : Bool) (F G : List ℕ → Type 0) → (test ≡ true → ExactlyOne F) → ExactlyOne G
     → ExactlyOne (λ x. MatchBool test (F x) (G x))
 one_of_two true F G f g = f refl
@@ -31,7 +31,7 @@ stated text = record { exists = (text, refl); only = λ a b p q. p ∙ sym q }
 abbrev pub begins : List ℕ → List ℕ → Bool
 begins line command = starts_with nat_eq line command
 
--- a line and an input have one reply, where a number below 2^128 has one text over each built-in alphabet
+-- a line and an input have one reply, if a number below 2^128 has one text over each built-in alphabet
 module _ (standard_text : (n : ℕ) → n < 2 ^ 128 → ExactlyOne (λ text. IsCanonical standard text n))
     (alternative_text : (n : ℕ) → n < 2 ^ 128 → ExactlyOne (λ text. IsCanonical alternative text n)) where
   -- a text to be encoded has one reply
@@ -96,7 +96,7 @@ unfolding IsReply
 reply_to_other line enc alt dec adc =
     rw (begins_not line (codes "enc ") enc, begins_not line (codes "alt ") alt, begins_not line (codes "dec ") dec, begins_not line (codes "adc ") adc) refl
 
--- where `number_of` gave nothing, the text is no number
+-- if `number_of` gave nothing, the text is no number
 pub not_a_number : (test : Bool) (n : ℕ) (P Q : Type 0) → (if test then Some n else None) ≡ None
     → Q → MatchBool test P Q
 not_a_number true n P Q e q = absurd (none-some n (sym e))

@@ -2,7 +2,7 @@
 -- only if it is nonempty.
 use Rattle.std.specs.Prelude.{ℕ, ◌==◌, if◌then◌else◌, List, [], ◌∷◌}
 
--- a byte goes in front of the first line, or begins one where there is none
+-- a byte goes before the first line, or begins one if there is none
 abbrev pub onto_first_line : ℕ → List (List ℕ) → List (List ℕ)
 onto_first_line b [] = (b ∷ []) ∷ []
 onto_first_line b (line ∷ lines) = (b ∷ line) ∷ lines

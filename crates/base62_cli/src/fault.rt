@@ -1,7 +1,7 @@
 //! Why a run ended early.
 
 ghost use Rattle.std.specs.Prelude.{◌≡◌, Some};
-ghost use Rattle.base62_cli.specs.Fault.{fault_text};
+ghost use Rattle.base62_cli.specs.Fault.{tool_fault_text};
 
 use std::{error, fmt};
 
@@ -17,9 +17,9 @@ pub enum ToolFault {
 }
 
 impl ToolFault {
-    #[tactic(auto, unfolding(crate::specs::Fault::fault_text))]
+    #[tactic(auto, unfolding(crate::specs::Fault::tool_fault_text))]
     fn text(self) -> &'static str
-        ensures { result.now ≡ fault_text self }
+        ensures { result.now ≡ tool_fault_text self }
     {
         match self {
             ToolFault::Read => "base62_cli: read failed",
@@ -31,9 +31,9 @@ impl ToolFault {
 
 /// Says what failed, and the same under any width, fill and alignment.
 impl fmt::Display for ToolFault {
-    ghost output = { λ fault. Some (fault_text fault) };
+    ghost output = { λ fault. Some (tool_fault_text fault) };
 
-    ghost styled_output = { λ fault _. Some (fault_text fault) };
+    ghost styled_output = { λ fault _. Some (tool_fault_text fault) };
 
     fn fmt<W: fmt::Write>(&self, f: &mut fmt::Formatter<W>) -> fmt::Result {
         f.write_str(self.text())

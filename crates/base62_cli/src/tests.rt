@@ -19,7 +19,7 @@ const STORED_OUTPUT: &str = "LZ\n\
     fault: not a number\n\
     fault: unknown command\n";
 
-// The stored run, and the same where no line end follows the last line.
+// The stored run, and the same if no line end follows the last line.
 fn stored_inputs() -> [&'static str; 2] {
     [STORED_INPUT, STORED_INPUT.trim_end_matches('\n')]
 }

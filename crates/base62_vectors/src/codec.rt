@@ -1,7 +1,8 @@
 //! Numbers and their texts over both alphabets, both ways, and the inputs that are refused.
 
-use crate::support::alphabets::{BOTH, Letters, texts};
-use crate::support::checks::{assert_decodes, assert_encodes, plain_text};
+use crate::support::alphabets::{ALL, BOTH, Letters, texts};
+use crate::support::checks::{assert_decodes, assert_encodes};
+use crate::support::reference::plain_text;
 use base62::DecodeError;
 use base62::DecodeError::{ArithmeticOverflow, EmptyInput, InvalidBase62Byte};
 use std::process::Abort;
@@ -10,10 +11,10 @@ use std::test::Fail;
 // A number below 2^64 is encoded as each of the two types.
 fn assert_texts(rt: &(impl Abort + AllocGlobal), alphabet: Letters) -> Result<(), Fail> {
     assert_encodes(rt, alphabet, 0_u8, b"0");
-    for (number, text) in &texts(rt, alphabet)? {
-        assert_encodes(rt, alphabet, *number, text.as_bytes());
+    for (number, text) in &texts(rt.alloc(), alphabet)? {
+        assert_encodes(rt, alphabet, *number, text.as_slice());
         if let Ok(small) = u64::try_from(*number) {
-            assert_encodes(rt, alphabet, small, text.as_bytes());
+            assert_encodes(rt, alphabet, small, text.as_slice());
         }
     }
     Ok(())
@@ -39,7 +40,7 @@ fn test_encode_exact_and_short_buffers(rt: HostRuntime) {
         power = power.wrapping_mul(62);
     }
     centers[23] = 18446744073709551616;
-    centers[24] = 340282366920938463463374607431768211454;
+    centers[24] = u128::MAX - 1;
     for center in centers {
         for number in [center.wrapping_sub(1), center, center.wrapping_add(1)] {
             assert_plain(&rt, number);
@@ -48,51 +49,51 @@ fn test_encode_exact_and_short_buffers(rt: HostRuntime) {
 }
 
 fn assert_plain(rt: &impl Abort, number: u128) {
-    for alphabet in BOTH {
-        let (letters, zeros) = plain_text(alphabet, number);
-        assert_encodes(rt, alphabet, number, &letters[zeros..]);
+    for alphabet in ALL {
+        let (letters, start) = plain_text(&alphabet.letters(), number);
+        assert_encodes(rt, alphabet, number, &letters[start..]);
     }
 }
 
-// Each text with what it denotes over the standard and over the alternative alphabet.
-const DECODED: [(&str, u128, u128); 10] = [
-    ("00", 0, 0),
-    ("000", 0, 0),
-    ("0000000000000000000000", 0, 0),
+// Each standard text with what it denotes, as the text of the same digits does over the alternative alphabet.
+const DECODED: [(&str, u128); 13] = [
+    ("000", 0),
+    ("00000000000000000000001", 1),
     (
         "00001000000000000000000000",
         43674252383913877424036476406214950912,
-        43674252383913877424036476406214950912,
     ),
-    ("lz", 2975, 1337),
-    ("LZ", 1337, 2975),
+    ("1", 1),
+    ("LZ", 1337),
+    ("lz", 2975),
+    // The first letter's number goes up by one place for each letter after it.
+    ("100", 3844),
+    ("1LZ", 5181),
     (
         "111111111111111111111",
-        715971350555965203672729121413359851,
         715971350555965203672729121413359851,
     ),
     (
         "1111111111111111111111",
         44390223734469842627709205527628310763,
-        44390223734469842627709205527628310763,
     ),
-    ("rustlang", 189876682536016, 96813686712946),
-    ("RUSTLANG", 96813686712946, 189876682536016),
+    (
+        "zzzzzzzzzzzzzzzzzzzzz",
+        43674252383913877424036476406214950911,
+    ),
+    ("rustlang", 189876682536016),
+    ("RUSTLANG", 96813686712946),
 ];
 
 fn assert_numbers(rt: &(impl Abort + AllocGlobal), alphabet: Letters) -> Result<(), Fail> {
-    for (number, text) in &texts(rt, alphabet)? {
-        assert_decodes(rt, alphabet, text.as_bytes(), Ok(*number));
+    for (number, text) in &texts(rt.alloc(), alphabet)? {
+        assert_decodes(rt, alphabet, text.as_slice(), Ok(*number));
     }
-    assert_decoded(rt, alphabet);
+    for (text, number) in DECODED {
+        let text = alphabet.of_standard(rt.alloc(), text.as_bytes())?;
+        assert_decodes(rt, alphabet, text.as_slice(), Ok(number));
+    }
     Ok(())
-}
-
-fn assert_decoded(rt: &impl Abort, alphabet: Letters) {
-    for (text, standard, alternative) in DECODED {
-        let number = alphabet.of_two(standard, alternative);
-        assert_decodes(rt, alphabet, text.as_bytes(), Ok(number));
-    }
 }
 
 #[test]
@@ -122,12 +123,8 @@ fn test_decode_overflow(rt: HostRuntime) {
 
 #[test]
 fn test_decode_alternative_overflow(rt: HostRuntime) {
-    assert_decodes(
-        &rt,
-        Letters::Alternative,
-        &[b'1'; 23],
-        Err(ArithmeticOverflow),
-    );
+    let overflow = Err(ArithmeticOverflow);
+    assert_decodes(&rt, Letters::Alternative, &[b'1'; 23], overflow);
 }
 
 #[test]
@@ -137,66 +134,28 @@ fn test_decode_invalid_char(rt: HostRuntime) {
 
 #[test]
 fn test_decode_alternative_invalid_char(rt: HostRuntime) {
-    assert_decodes(
-        &rt,
-        Letters::Alternative,
-        b"!",
-        Err(InvalidBase62Byte(33, 0)),
-    );
+    let bad_byte = Err(InvalidBase62Byte(33, 0));
+    assert_decodes(&rt, Letters::Alternative, b"!", bad_byte);
 }
 
-// Which fault is reported, where a text has more than one.
-// Each row has a text for each alphabet, the standard one first.
-const REFUSED: [(&str, &str, DecodeError); 10] = [
-    ("0!", "0!", InvalidBase62Byte(b'!', 1)),
+// Which fault is reported of a standard text that has more than one, and of the text of the same digits over the
+// alternative alphabet.
+const REFUSED: [(&str, DecodeError); 12] = [
+    ("0!", InvalidBase62Byte(b'!', 1)),
     // A text of more than 22 bytes after its leading zeros is refused before any of them is looked at.
-    (
-        "!0000000000000000000000",
-        "!0000000000000000000000",
-        ArithmeticOverflow,
-    ),
-    (
-        "!000000000000000000000",
-        "!000000000000000000000",
-        InvalidBase62Byte(b'!', 0),
-    ),
+    ("!0000000000000000000000", ArithmeticOverflow),
+    ("7n42DGM5Tflk9n8mt7Fhc70", ArithmeticOverflow),
+    ("!000000000000000000000", InvalidBase62Byte(b'!', 0)),
+    ("0!000000000000000000000", InvalidBase62Byte(b'!', 1)),
     // A wrong byte among the first ten is reported, and a later one only where those ten do not overflow.
-    (
-        "zzzzzzzzz!000000000000",
-        "ZZZZZZZZZ!000000000000",
-        InvalidBase62Byte(b'!', 9),
-    ),
-    (
-        "zzzzzzzzzz!00000000000",
-        "ZZZZZZZZZZ!00000000000",
-        ArithmeticOverflow,
-    ),
-    (
-        "7n42DGM5Tf!00000000000",
-        "7N42dgm5tF!00000000000",
-        InvalidBase62Byte(b'!', 10),
-    ),
-    (
-        "7n42DGM5Tg!00000000000",
-        "7N42dgm5tG!00000000000",
-        ArithmeticOverflow,
-    ),
-    (
-        "zzzzzzzzzzzzzzzzzzzzzz",
-        "ZZZZZZZZZZZZZZZZZZZZZZ",
-        ArithmeticOverflow,
-    ),
+    ("zzzzzzzzz!000000000000", InvalidBase62Byte(b'!', 9)),
+    ("zzzzzzzzzz!00000000000", ArithmeticOverflow),
+    ("7n42DGM5Tf!00000000000", InvalidBase62Byte(b'!', 10)),
+    ("7n42DGM5Tg!00000000000", ArithmeticOverflow),
     // A wrong byte is reported before an overflow that only the last letters could make.
-    (
-        "7n42DGM5Tflk9n8mt7Fhc!",
-        "7N42dgm5tFLK9N8MT7fHC!",
-        InvalidBase62Byte(b'!', 21),
-    ),
-    (
-        "7n42DGM5Tflk9n8mt7Fhc8",
-        "7N42dgm5tFLK9N8MT7fHC8",
-        ArithmeticOverflow,
-    ),
+    ("7n42DGM5Tflk9n8mt7Fhc!", InvalidBase62Byte(b'!', 21)),
+    ("7n42DGM5Tflk9n8mt7Fhc8", ArithmeticOverflow),
+    ("zzzzzzzzzzzzzzzzzzzzzz", ArithmeticOverflow),
 ];
 
 // At the ends of the parts in which 22 letters are read, a byte that is no letter is reported with its index.
@@ -212,19 +171,17 @@ fn assert_names(rt: &impl Abort, byte: u8) {
 }
 
 #[test]
-fn test_decode_invalid_bytes_and_overflow_precedence(rt: HostRuntime) {
+fn test_decode_invalid_bytes_and_overflow_precedence(rt: HostRuntime) -> Result<(), Fail> {
     for byte in 0..=255_u8 {
         if !byte.is_ascii_alphanumeric() {
             assert_names(&rt, byte);
         }
     }
-    for (standard, alternative, fault) in REFUSED {
-        assert_decodes(&rt, Letters::Standard, standard.as_bytes(), Err(fault));
-        assert_decodes(
-            &rt,
-            Letters::Alternative,
-            alternative.as_bytes(),
-            Err(fault),
-        );
+    for (text, fault) in REFUSED {
+        for alphabet in BOTH {
+            let text = alphabet.of_standard(rt.alloc(), text.as_bytes())?;
+            assert_decodes(&rt, alphabet, text.as_slice(), Err(fault));
+        }
     }
+    Ok(())
 }

@@ -3,8 +3,6 @@
 #![tactic(auto)]
 
 #[cfg(test)]
-mod canonical;
-#[cfg(test)]
 mod codec;
 #[cfg(test)]
 mod count;
@@ -13,13 +11,9 @@ mod failing;
 #[cfg(test)]
 mod fault;
 #[cfg(test)]
-mod fixed;
-#[cfg(test)]
 mod hostile;
 #[cfg(test)]
 mod key;
-#[cfg(test)]
-mod laws;
 #[cfg(test)]
 mod memory;
 #[cfg(test)]
@@ -35,5 +29,3 @@ mod support;
 mod target;
 #[cfg(test)]
 mod uses;
-#[cfg(test)]
-mod uuid;

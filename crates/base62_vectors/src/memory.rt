@@ -1,19 +1,25 @@
-//! What the calls that make texts answer where they are refused memory, and which calls ask for none.
+//! What the calls that make texts answer where they are refused memory, and some that ask for none.
 
-use crate::support::alphabets::{Letters, in_ascii};
-use crate::support::checks::FILLER;
-use base62::{DecodeError, digit_count, encode_fmt, encode_fmt_alt, encode_key, key_range};
+use crate::support::alphabets::{ALL, Letters};
+use base62::{decode, encode_bytes, encode_key, key_range};
 use std::process::Abort;
 use std::test::Fail;
 
-const ALTERNATIVE: &str = "7N42dgm5tFLK9N8MT7fHC7";
-
-const DESCENDING: &str = "sCvxmjduWKEFqCrD6skINs";
-
-const STANDARD: &str = "7n42DGM5Tflk9n8mt7Fhc7";
-
-// The calls that make a string, over the alphabets of `in_ascii`.
+// The calls that make a string, by their alphabets.
 const TEXT_CALLS: [&str; 3] = ["encode", "encode_alternative", "encode_with"];
+
+// Numbers with their texts over each alphabet.
+const TEXTS: [(u128, [&str; 3]); 2] = [
+    (1337, ["LZ", "lz", "6D"]),
+    (
+        u128::MAX,
+        [
+            "7n42DGM5Tflk9n8mt7Fhc7",
+            "7N42dgm5tFLK9N8MT7fHC7",
+            "(R%#.17&>JPO*R)QX(0LG(",
+        ],
+    ),
+];
 
 const BASE62: &str = "Base62: Base62";
 
@@ -64,81 +70,27 @@ fn is_append_refused(
     is_refused
 }
 
+// These calls ask for no memory, so none of them is ever refused any. The text has room to spare.
 fn are_texts_appended(text: &mut String) -> bool {
-    for (alphabet, wanted) in in_ascii("LZ", "lz", "eQ") {
-        text.clear();
-        if alphabet.append(1337_u32, text).is_err() || text.as_str() != wanted {
+    for alphabet in ALL {
+        if alphabet.append(1337_u32, text).is_err() {
             return false;
         }
     }
-    true
+    text.as_str() == "LZlz6D"
 }
 
-fn are_calls_over_the_greatest_answered() -> bool {
-    for (alphabet, wanted) in in_ascii(STANDARD, ALTERNATIVE, DESCENDING) {
-        let mut room = [0u8; 22];
-        let is_encoded = alphabet.encode(u128::MAX, &mut room) == Ok(22);
-        let mut writer = room.as_mut_slice();
-        let is_written = alphabet.write(u128::MAX, &mut writer).is_ok();
-        if !is_encoded || !is_written || alphabet.decode(wanted.as_bytes()) != Ok(u128::MAX) {
-            return false;
-        }
-    }
-    true
-}
-
-// A display takes no memory of its own, and this one's room is at hand.
-fn is_displayed(text: &mut String) -> bool {
-    text.clear();
-    write!(text, "{:>3}", encode_fmt(1337_u32)).is_ok()
-        && write!(text, "{}", encode_fmt_alt(1337_u32)).is_ok()
-        && text.as_str() == " LZlz"
-}
-
-fn are_texts_written() -> bool {
-    let mut bytes = [FILLER; 5];
-    let mut places = [FILLER; 5];
-    Letters::Standard.encode(1337_u32, &mut bytes) == Ok(2)
+fn are_buffers_filled() -> bool {
+    let mut bytes = [0xa5; 5];
+    encode_bytes(1337_u32, &mut bytes) == Ok(2)
         && bytes == *b"LZ\xa5\xa5\xa5"
-        && Letters::Standard.encode_fixed(1337_u32, &mut places) == Ok(())
-        && places == *b"000LZ"
-}
-
-fn are_texts_decoded() -> bool {
-    Letters::Standard.decode(b"1LY7VK") == Ok(1234567890)
-        && Letters::Standard.decode_canonical(b"LZ") == Ok(Some(1337))
-        && Letters::Standard.decode_canonical(b"0LZ") == Ok(None)
-}
-
-fn are_keys_told() -> bool {
-    let range = (340236514539200045093703517809706795008, u128::MAX);
-    encode_key(1337_u32) == *b"00000000000000000000LZ"
+        && encode_key(1337_u32) == *b"00000000000000000000LZ"
         && encode_key(0_u8) == *b"0000000000000000000000"
-        && key_range(b"7n") == Ok(Some(range))
 }
 
-fn is_the_rest_told() -> bool {
-    let fault = DecodeError::InvalidBase62Byte(b'!', 7);
-    digit_count(u128::MAX) == 22
-        && Letters::Standard.fixed_range(5, b"000L") == Ok(Some((1302, 1363)))
-        && fault.text().as_str() == "Encoded input contains the invalid byte b'!' at index 7"
-}
-
-// These calls ask for no memory, so none of them is ever refused any.
-fn assert_no_memory(rt: &impl Abort, text: &mut String) {
-    assert!(rt; are_texts_appended(text), "texts in room at hand");
-    assert!(rt;
-        are_calls_over_the_greatest_answered(),
-        "the greatest number"
-    );
-    assert!(rt; is_displayed(text), "a display");
-    assert!(rt; are_texts_written(), "texts in buffers");
-    assert!(rt; are_texts_decoded(), "numbers of texts");
-    assert!(rt; are_keys_told(), "keys");
-    assert!(rt;
-        is_the_rest_told(),
-        "a count, a range and the text of a fault"
-    );
+fn are_texts_read() -> bool {
+    decode(b"1LY7VK") == Ok(1234567890)
+        && key_range(b"7n") == Ok(Some((340236514539200045093703517809706795008, u128::MAX)))
 }
 
 // Says which step was refused memory, for `.ci/refused-memory`, which has each request refused in turn. The
@@ -154,12 +106,12 @@ fn refused_memory(rt: HostRuntime) -> Result<(), Fail> {
         println!(rt; "refused: set-up")?;
         return Ok(());
     };
-    assert_no_memory(&rt, &mut roomy);
-    let greatest = in_ascii(STANDARD, ALTERNATIVE, DESCENDING);
-    for (number, texts) in [(1337, in_ascii("LZ", "lz", "eQ")), (u128::MAX, greatest)] {
-        for (call, (alphabet, text)) in TEXT_CALLS.iter().zip(texts) {
-            if is_text_refused(&rt, alphabet, number, text) {
-                println!(rt; "refused: {call}")?;
+    assert!(rt; are_texts_appended(&mut roomy), "texts in room at hand");
+    assert!(rt; are_buffers_filled() && are_texts_read(), "without memory");
+    for (number, texts) in TEXTS {
+        for place in 0..3_usize {
+            if is_text_refused(&rt, ALL[place], number, texts[place]) {
+                println!(rt; "refused: {}", TEXT_CALLS[place])?;
             }
         }
     }

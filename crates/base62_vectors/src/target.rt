@@ -7,25 +7,12 @@ use std::alloc::{AllocError, Global};
 use std::process::Abort;
 use std::test::Fail;
 
-fn is_alone<T: Number + Drop>(
-    alloc: Global,
-    alphabet: Letters,
-    number: T,
-    text: &str,
-) -> Result<bool, AllocError> {
-    Ok(alphabet.text(alloc, number)?.as_str() == text)
-}
-
 fn assert_alone(rt: &(impl Abort + AllocGlobal), alphabet: Letters) -> Result<(), Fail> {
-    assert!(rt;
-        is_alone(rt.alloc(), alphabet, 0_u8, "0")?,
-        "the text of a u8"
-    );
-    for (number, text) in &texts(rt, alphabet)? {
-        assert!(rt;
-            is_alone(rt.alloc(), alphabet, *number, text.as_str())?,
-            "{text}"
-        );
+    let zero = alphabet.text(rt.alloc(), 0_u8)?;
+    assert!(rt; zero.as_str() == "0", "the text of a u8");
+    for (number, text) in &texts(rt.alloc(), alphabet)? {
+        let alone = alphabet.text(rt.alloc(), *number)?;
+        assert!(rt; alone.as_bytes() == text.as_slice(), "the text of {number}");
     }
     Ok(())
 }
@@ -40,29 +27,18 @@ fn test_encode_alternative(rt: HostRuntime) -> Result<(), Fail> {
     assert_alone(&rt, Letters::Alternative)
 }
 
-fn is_appended<T: Number + Drop>(
-    alphabet: Letters,
-    number: T,
-    mut earlier: String,
-    joined: &str,
-) -> Result<bool, AllocError> {
-    alphabet.append(number, &mut earlier)?;
-    Ok(earlier.as_str() == joined)
-}
-
 // The text comes behind no text, and behind an earlier one.
-fn are_appended(
+fn is_appended(
     alloc: Global,
     alphabet: Letters,
     number: u128,
-    text: &str,
+    text: &[u8],
 ) -> Result<bool, AllocError> {
-    let joined = format!(in alloc; "é={text}")?;
-    let earlier = String::from_str(alloc, "é=")?;
-    Ok(
-        is_appended(alphabet, number, String::new(alloc), text)?
-            && is_appended(alphabet, number, earlier, joined.as_str())?,
-    )
+    let mut alone = String::new(alloc);
+    alphabet.append(number, &mut alone)?;
+    let mut joined = String::from_str(alloc, "é=")?;
+    alphabet.append(number, &mut joined)?;
+    Ok(alone.as_bytes() == text && joined.as_bytes().strip_prefix("é=".as_bytes()) == Some(text))
 }
 
 fn assert_appends(
@@ -70,16 +46,12 @@ fn assert_appends(
     alphabet: Letters,
     number: u64,
 ) -> Result<(), Fail> {
-    let base62 = String::from_str(rt.alloc(), "Base62: ")?;
-    assert!(rt;
-        is_appended(alphabet, number, base62, "Base62: Base62")?,
-        "the text of a u64"
-    );
-    for (number, text) in &texts(rt, alphabet)? {
-        assert!(rt;
-            are_appended(rt.alloc(), alphabet, *number, text.as_str())?,
-            "{text}"
-        );
+    let mut base62 = String::from_str(rt.alloc(), "Base62: ")?;
+    alphabet.append(number, &mut base62)?;
+    assert_eq!(rt; base62.as_str(), "Base62: Base62");
+    for (number, text) in &texts(rt.alloc(), alphabet)? {
+        let is_text = is_appended(rt.alloc(), alphabet, *number, text.as_slice())?;
+        assert!(rt; is_text, "the text of {number}");
     }
     Ok(())
 }
@@ -99,24 +71,25 @@ fn assert_written<T: Number + Drop>(
     rt: &(impl Abort + AllocGlobal),
     alphabet: Letters,
     number: T,
-    text: &str,
+    text: &[u8],
 ) -> Result<(), Fail> {
     let mut writer = TestWriter::taking(rt.alloc(), usize::MAX);
     alphabet.write(number, &mut writer)?;
-    let whole = [text.len()];
-    let is_at_once = writer.handed.as_slice() == whole.as_slice() && writer.flushes == 0;
-    assert!(rt;
-        is_at_once && writer.written.as_slice() == text.as_bytes(),
-        "{text}"
-    );
+    let is_at_once = writer.handed.as_slice() == [text.len()].as_slice() && writer.flushes == 0;
+    assert!(rt; is_at_once && writer.written.as_slice() == text, "{text:?}");
     Ok(())
 }
 
 fn assert_writes(rt: &(impl Abort + AllocGlobal), alphabet: Letters) -> Result<(), Fail> {
-    assert_written(rt, alphabet, 1337_u32, alphabet.of_two("LZ", "lz"))?;
-    assert_written(rt, alphabet, 0_u8, "0")?;
-    for (number, text) in &texts(rt, alphabet)? {
-        assert_written(rt, alphabet, *number, text.as_str())?;
+    assert_written(
+        rt,
+        alphabet,
+        1337_u32,
+        alphabet.of_standard(rt.alloc(), b"LZ")?.as_slice(),
+    )?;
+    assert_written(rt, alphabet, 0_u8, b"0")?;
+    for (number, text) in &texts(rt.alloc(), alphabet)? {
+        assert_written(rt, alphabet, *number, text.as_slice())?;
     }
     Ok(())
 }

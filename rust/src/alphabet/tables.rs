@@ -30,12 +30,12 @@ impl Tables {
         requires!(number < 3844);
         // The quotient by 62, since the number is small.
         let quotient = (number * 4229) >> 18;
-        self.pair_of_digits(quotient, number - quotient * 62)
+        self.pair_of_digits(quotient as u64, (number - quotient * 62) as u64)
     }
 
     // The letters of two digits at once.
     #[inline(always)]
-    pub(crate) fn pair_of_digits(&self, first_digit: u32, second_digit: u32) -> (u8, u8) {
+    pub(crate) fn pair_of_digits(&self, first_digit: u64, second_digit: u64) -> (u8, u8) {
         requires!(first_digit < 62);
         requires!(second_digit < 62);
         // SAFETY: a digit is below 62.
@@ -46,7 +46,7 @@ impl Tables {
 
     // The letter of a digit.
     #[inline(always)]
-    pub(crate) fn letter(&self, digit: u32) -> u8 {
+    pub(crate) fn letter(&self, digit: u64) -> u8 {
         requires!(digit < 62);
         // SAFETY: a digit is below 62.
         proved!(self.letters[digit as usize])

@@ -15,6 +15,17 @@ pub(crate) fn decode_over(tables: &Tables, input: &[u8]) -> Result<u128, DecodeE
         return Err(DecodeError::EmptyInput);
     }
     let zeros = count_zeros(tables, input);
+    decode_after(tables, input, zeros)
+}
+
+// The number of a text whose leading zeros are counted.
+#[inline(always)]
+pub(crate) fn decode_after(
+    tables: &Tables,
+    input: &[u8],
+    zeros: usize,
+) -> Result<u128, DecodeError> {
+    requires!(!input.is_empty());
     let (_, after_zeros) = input.split_at(zeros);
     if after_zeros.len() > MAX_DIGITS {
         return Err(DecodeError::ArithmeticOverflow);
@@ -27,7 +38,7 @@ pub(crate) fn decode_over(tables: &Tables, input: &[u8]) -> Result<u128, DecodeE
 
 // How many zero letters a text begins with.
 #[inline(always)]
-fn count_zeros(tables: &Tables, input: &[u8]) -> usize {
+pub(crate) fn count_zeros(tables: &Tables, input: &[u8]) -> usize {
     requires!(!input.is_empty());
     // Most texts have none, and need no loop to tell.
     if !tables.is_zero(input[0]) {
@@ -94,10 +105,7 @@ fn read_on(tables: &Tables, number: u64, part: &[u8], start: usize) -> Result<u6
     requires!(number < 62_u64.pow(5));
     requires!(part.len() <= 5);
     let mut total = number;
-    for i in 0..5 {
-        if i == part.len() {
-            break;
-        }
+    for i in 0..part.len() {
         let digit = read_digit(tables, part, i, start)?;
         total = total * 62 + digit as u64;
     }

@@ -46,8 +46,8 @@ fn write_narrow(tables: &Tables, n: u64, count: usize, buf: &mut [u8]) {
         write_up_to_9(tables, n, count, buf);
     } else {
         let (first, fraction) = cut_narrow_by_10(n);
-        // Of ten letters, the first is written over this one.
-        buf[0] = tables.letter(first as u32);
+        // A text of ten letters then overwrites this letter with its first.
+        buf[0] = tables.letter(first);
         write_10(tables, fraction, &mut buf[count - 10..]);
     }
 }
@@ -61,13 +61,15 @@ fn write_wide(tables: &Tables, n: u128, count: usize, buf: &mut [u8]) {
         let (top, high, low) = cut_by_20(n);
         write_1_or_2(tables, top, count - 20, buf);
         write_20(tables, high, low, &mut buf[count - 20..]);
-    } else if count == 20 {
-        let (high, low) = cut_by_10(n);
-        write_20(tables, fraction_of(high) as u64, low, buf);
     } else {
         let (high, low) = cut_by_10(n);
         write_10(tables, low, &mut buf[count - 10..]);
-        write_up_to_9(tables, high, count - 10, buf);
+        if count == 20 {
+            let (_, fraction) = fraction_of(high);
+            write_10(tables, fraction, buf);
+        } else {
+            write_up_to_9(tables, high, count - 10, buf);
+        }
     }
 }
 
@@ -79,7 +81,7 @@ fn cut_by_20(n: u128) -> (u32, u64, u64) {
     let estimate = ((upper * 123664) >> 40) as u32;
     let remainder = n - estimate as u128 * POWER_20;
     let (high, low) = cut_by_10(remainder);
-    let (whole, fraction) = whole_and_fraction(fraction_of(high));
+    let (whole, fraction) = fraction_of(high);
     (estimate + whole as u32, fraction, low)
 }
 
@@ -90,18 +92,21 @@ fn cut_by_10(n: u128) -> (u64, u64) {
     let upper = (n >> 56) as u64;
     let estimate = ((upper as u128 * 1583735255667320618) >> 64) as u64;
     let remainder = (n - estimate as u128 * POWER_10 as u128) as u64;
-    let (whole, fraction) = whole_and_fraction(fraction_of(remainder));
+    let (whole, fraction) = fraction_of(remainder);
     (estimate + whole, fraction)
 }
 
-// A fraction of a number, and a whole for each 62^10. The fractions of a number are 21 or more, from
+// A number as a fraction, and a whole for each 62^10. The fractions of a number are 21 or more, from
 // the number times 2^64 / 62^10 on. This one is at most two above that product. The factor is
 // 2^124 / 62^10 - 2^64, rounded up.
 #[inline(always)]
-fn fraction_of(n: u64) -> u128 {
+fn fraction_of(n: u64) -> (u64, u64) {
     requires!(n < 2_u64.pow(60));
     let scaled = n * 16;
-    scaled as u128 + ((scaled as u128 * 6893020016967578278) >> 64) + 1
+    let upper = ((scaled as u128 * 6893020016967578278) >> 64) as u64;
+    let fraction = (scaled + 1).wrapping_add(upper);
+    // A sum that wraps around is less than what was added.
+    ((fraction < upper) as u64, fraction)
 }
 
 // Divides a number below 2^64 by 62^10, and gives the remainder as a fraction: at most five above the
@@ -207,7 +212,7 @@ fn write_5(tables: &Tables, fraction: u64, buf: &mut [u8]) {
 
 // The letters of two digits.
 #[inline(always)]
-fn write_pair(tables: &Tables, first: u32, second: u32, buf: &mut [u8]) {
+fn write_pair(tables: &Tables, first: u64, second: u64, buf: &mut [u8]) {
     requires!(first < 62);
     requires!(second < 62);
     requires!(2 <= buf.len());
@@ -218,15 +223,14 @@ fn write_pair(tables: &Tables, first: u32, second: u32, buf: &mut [u8]) {
 
 // The first digit of a fraction, and the fraction of those after it.
 #[inline(always)]
-fn next_digit(fraction: u64) -> (u32, u64) {
-    let (digit, after) = whole_and_fraction(fraction as u128 * 62);
-    (digit as u32, after)
+fn next_digit(fraction: u64) -> (u64, u64) {
+    whole_and_fraction(fraction as u128 * 62)
 }
 
 // The first digit of a fraction alone.
 #[inline(always)]
-fn first_digit(fraction: u64) -> u32 {
-    ((fraction as u128 * 62) >> 64) as u32
+fn first_digit(fraction: u64) -> u64 {
+    ((fraction as u128 * 62) >> 64) as u64
 }
 
 // The fraction of the digits after the first five.

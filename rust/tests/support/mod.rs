@@ -15,13 +15,6 @@ pub fn high_letters() -> [u8; 62] {
     std::array::from_fn(|digit| 194 + digit as u8)
 }
 
-/// Letters of ASCII that do not ascend.
-pub fn reversed_letters() -> [u8; 62] {
-    let mut letters = *STANDARD;
-    letters.reverse();
-    letters
-}
-
 /// The values that the tests of all packages share.
 fn values() -> &'static str {
     static VALUES: OnceLock<String> = OnceLock::new();
@@ -103,7 +96,7 @@ pub fn digits(letters: &[u8; 62], mut number: u128) -> Vec<u8> {
     text
 }
 
-/// That text with zeros in front, or none where it is longer or there are no letters.
+/// That text with leading zeros, or none if it is longer than the width.
 pub fn fixed(letters: &[u8; 62], number: u128, width: usize) -> Option<Vec<u8>> {
     let text = digits(letters, number);
     let zeros = width.checked_sub(text.len())?;

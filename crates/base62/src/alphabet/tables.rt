@@ -44,15 +44,15 @@ impl Tables {
     {
         // The quotient by 62, since the number is small.
         let quotient = (number * 4229) >> 18;
-        self.pair_of_digits(quotient, number - quotient * 62, work)
+        self.pair_of_digits(quotient as u64, (number - quotient * 62) as u64, work)
     }
 
     // The letters of two digits at once.
     #[inline(always)]
     pub(crate) fn pair_of_digits(
         &self,
-        first_digit: u32,
-        second_digit: u32,
+        first_digit: u64,
+        second_digit: u64,
         work: &mut Work,
     ) -> (u8, u8)
         requires first { first_digit < 62 }
@@ -70,7 +70,7 @@ impl Tables {
 
     // The letter of a digit.
     #[inline(always)]
-    pub(crate) fn letter(&self, digit: u32, work: &mut Work) -> u8
+    pub(crate) fn letter(&self, digit: u64, work: &mut Work) -> u8
         requires { digit < 62 }
         ensures letter { result ≡ slice_index self.now.letters digit }
         ensures step { work.new ≡ work.old + 1 }

@@ -26,6 +26,22 @@ pub(crate) fn decode_over(
         return Err(DecodeError::EmptyInput);
     }
     let zeros = count_zeros(tables, input);
+    decode_after(tables, input, zeros, work)
+}
+
+// The number of a text whose leading zeros are counted.
+#[inline(always)]
+pub(crate) fn decode_after(
+    tables: &Tables,
+    input: &[u8],
+    zeros: usize,
+    work: &mut Work,
+) -> Result<u128, DecodeError>
+    requires tables { AreTables tables.now }
+    requires some { 0 < length input.now }
+    requires zeros { zeros ≡ leading_zeros tables.now.letters input.now }
+    ensures { DecodesCounted tables.now.letters input.now work.old work.new result }
+{
     let (_, after_zeros) = input.split_at(zeros);
     if after_zeros.len() > MAX_DIGITS {
         return Err(DecodeError::ArithmeticOverflow);
@@ -38,7 +54,7 @@ pub(crate) fn decode_over(
 
 // How many zero letters a text begins with.
 #[inline(always)]
-fn count_zeros(tables: &Tables, input: &[u8]) -> usize
+pub(crate) fn count_zeros(tables: &Tables, input: &[u8]) -> usize
     requires { 0 < length input.now }
     ensures within { result ≤ length input.now }
     ensures zeros { result ≡ leading_zeros tables.now.letters input.now }
@@ -147,10 +163,7 @@ fn read_on(
     ensures { ReadsOn tables.now.letters number part.now start work.old work.new result }
 {
     let mut total = number;
-    for i in 0..5 {
-        if i == part.len() {
-            break;
-        }
+    for i in 0..part.len() {
         let digit = read_digit(tables, part, i, start, work)?;
         total = total * 62 + digit as u64;
     }

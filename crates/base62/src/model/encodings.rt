@@ -85,7 +85,7 @@ pub fn appended_by_example()
         → AppendsTo standard (62 ^ 22) old new (Ok tt) → ⊥ }
 {}
 
-/// What becomes of a writer's bytes, where it tells them.
+/// What becomes of a writer's bytes, if it tells them.
 pub fn written_by_example()
     ensures text { WritesCanonical standard 1337 (Some (codes "> ")) (Some (codes "> LZ")) }
     ensures untold { WritesCanonical standard 1337 None None }

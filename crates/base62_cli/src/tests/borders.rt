@@ -6,7 +6,7 @@ use crate::tool::{CHUNK_LEN, run};
 use std::alloc::{AllocError, Global};
 use std::test::Fail;
 
-// Whether the input has the output where a read takes one byte.
+// Whether the input has the output if a read takes one byte.
 fn is_answered_by_byte(alloc: Global, input: &[u8], output: &[u8]) -> Result<bool, Fail> {
     let mut reader = ByteReader::new(input, Calls::default());
     let mut written = Vec::new(alloc);
@@ -14,7 +14,7 @@ fn is_answered_by_byte(alloc: Global, input: &[u8], output: &[u8]) -> Result<boo
     Ok(written.as_slice() == output)
 }
 
-// Whether the input has the output where a read takes all that there is room for, and where it
+// Whether the input has the output if a read takes all that there is room for, and if it
 // takes one byte.
 fn is_answered_both_ways(alloc: Global, input: &[u8], output: &[u8]) -> Result<bool, Fail> {
     Ok(is_answered(alloc, input, output)? && is_answered_by_byte(alloc, input, output)?)

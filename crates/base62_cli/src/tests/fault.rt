@@ -2,7 +2,7 @@
 
 ghost use Rattle.std.specs.Prelude.{◌≡◌, ◌++◌, codes, IfOk};
 ghost use Rattle.std.specs.String.{string_bytes};
-ghost use Rattle.base62_cli.specs.Fault.{fault_text};
+ghost use Rattle.base62_cli.specs.Fault.{tool_fault_text};
 
 use crate::fault::ToolFault;
 use std::alloc::{AllocError, Global};
@@ -11,7 +11,7 @@ use std::test::Fail;
 // A fault in two cells of a table, of 40 and of 3 characters. It is neither padded nor cut.
 fn cells(alloc: Global, fault: ToolFault) -> Result<String, AllocError>
     ensures { IfOk result (λ cells. string_bytes cells
-        ≡ fault_text fault ++ (codes "|" ++ (fault_text fault ++ codes "|"))) }
+        ≡ tool_fault_text fault ++ (codes "|" ++ (tool_fault_text fault ++ codes "|"))) }
 {
     format!(in alloc; "{fault:>40}|{fault:.3}|")
 }

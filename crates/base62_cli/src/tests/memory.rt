@@ -1,4 +1,4 @@
-//! What a run answers where it is refused memory.
+//! What a run answers if it is refused memory.
 
 use super::streams::PartReader;
 use super::{STORED_INPUT, STORED_OUTPUT};

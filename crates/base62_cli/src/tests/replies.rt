@@ -68,7 +68,7 @@ pub(super) fn exchange(place: usize) -> (&'static [u8], &'static str) {
     REPLIES[place % REPLY_COUNT]
 }
 
-// Whether the input has the output, where a read takes all that there is room for.
+// Whether the input has the output if a read takes all that there is room for.
 pub(super) fn is_answered(alloc: Global, input: &[u8], output: &[u8]) -> Result<bool, Fail> {
     let mut reader = input;
     let mut written = Vec::new(alloc);

@@ -12,7 +12,7 @@ use std::io::{ErrorKind, Read, Write};
 use std::slice::Iter;
 use std::test::Fail;
 
-// Counts calls from 1, and fails one of them where it is told to.
+// Counts calls from 1, and fails one of them if it is told to.
 #[derive(Clone, Copy, Default)]
 pub(super) struct Calls {
     made: usize,
@@ -97,7 +97,7 @@ impl Write for ByteWriter {
     }
 }
 
-// Whether the input has the output where a read and a write take one byte. The one flush is at the
+// Whether the input has the output if a read and a write take one byte. The one flush is at the
 // end.
 fn is_answered_by_byte(alloc: Global, input: &[u8], output: &[u8]) -> Result<bool, Fail> {
     let mut reader = ByteReader::new(input, Calls::default());
@@ -295,7 +295,7 @@ fn no_read_after_the_end(rt: HostRuntime) -> Result<(), Fail> {
     Ok(())
 }
 
-// Gives one line a read, and fails where the replies to those before it have not gone out.
+// Gives one line a read, and fails if the replies to those before it have not gone out.
 #[derive(Drop)]
 struct Asker<'a> {
     exchanges: Iter<'a, (&'static str, &'static str)>,

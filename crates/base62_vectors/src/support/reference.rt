@@ -1,28 +1,30 @@
 //! A plain digit loop, and a plain decoder by the table of cases, over any list of 62 letters: a digit or a byte at
 //! a time.
 
+ghost use Rattle.std.specs.Prelude.{◌≤◌};
+
 use base62::DecodeError;
 use base62::DecodeError::{ArithmeticOverflow, EmptyInput, InvalidBase62Byte};
 
-// A number in 22 letters.
-pub(crate) fn plain_letters(letters: &[u8; 62], number: u128) -> [u8; 22] {
+// A number in 22 letters, and the place among them at which its text starts.
+pub(crate) fn plain_text(letters: &[u8; 62], number: u128) -> ([u8; 22], usize)
+    ensures { result.1 ≤ 21 }
+{
     let mut text = [letters[0]; 22];
-    let _ = plain_fixed(letters, number, &mut text);
-    text
-}
-
-// A number in all places by repeated division, the last digit first, and whether nothing was left of it.
-pub(crate) fn plain_fixed(letters: &[u8; 62], number: u128, places: &mut [u8]) -> bool {
     let mut left = number;
-    for place in places.iter_mut().rev() {
-        *place = letters[(left % 62) as usize];
+    for place in (1..22_usize).rev() {
+        text[place] = letters[(left % 62) as usize];
         left /= 62;
+        if left == 0 {
+            return (text, place);
+        }
     }
-    left == 0
+    text[0] = letters[(left % 62) as usize];
+    (text, 0)
 }
 
 // How many zeros the text begins with.
-pub(crate) fn plain_zeros(letters: &[u8; 62], text: &[u8]) -> usize {
+fn plain_zeros(letters: &[u8; 62], text: &[u8]) -> usize {
     for (place, byte) in text.iter().enumerate() {
         if *byte != letters[0] {
             return place;
@@ -31,13 +33,11 @@ pub(crate) fn plain_zeros(letters: &[u8; 62], text: &[u8]) -> usize {
     text.len()
 }
 
-pub(crate) fn plain_digit(letters: &[u8; 62], byte: u8) -> Option<u128> {
-    let mut digit: u128 = 0;
-    for letter in letters {
-        if *letter == byte {
-            return Some(digit);
+fn plain_digit(letters: &[u8; 62], byte: u8) -> Option<u128> {
+    for digit in 0..62_u8 {
+        if letters[usize::from(digit)] == byte {
+            return Some(u128::from(digit));
         }
-        digit = digit.checked_add(1)?;
     }
     None
 }

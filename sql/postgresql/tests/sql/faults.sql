@@ -1,4 +1,4 @@
--- What is refused, and how.
+-- What is refused, and how, beside what values.sql has.
 \set ECHO none
 \pset format unaligned
 \pset tuples_only on
@@ -26,13 +26,11 @@ SELECT call, refusal(call) FROM (VALUES
     ($$base62_encode(-9223372036854775808, own())$$),
     ($$base62_encode_key(-1)$$),
     ($$base62_encode_fixed(-1, 22)$$),
-    ($$base62_encode_fixed(62, 1)$$),
     ($$base62_encode_fixed(62, 1, own())$$),
     ($$base62_encode_fixed(62, 0)$$),
     ($$base62_encode_fixed(62, -1)$$),
     ($$base62_encode_fixed(62, 1001)$$),
     ($$base62_encode_fixed(62, 2147483647)$$),
-    ($$base62_encode_fixed_uuid('00000000-0000-0000-0000-000000000539', 1)$$),
     ($$base62_encode_fixed_uuid('00000000-0000-0000-0000-000000000539', 1001, own())$$),
     ($$base62_key_first('', 0)$$),
     ($$base62_key_last('', -1)$$),
@@ -40,21 +38,9 @@ SELECT call, refusal(call) FROM (VALUES
 ) calls (call);
 \echo Texts and prefixes
 SELECT call, refusal(call) FROM (VALUES
-    ($$base62_decode('AzL8n0Y58m7')$$),
     ($$base62_decode('AzL8n0Y58m8')$$),
-    ($$base62_decode('LygHa16AHYG')$$),
     ($$base62_decode('7n42DGM5Tflk9n8mt7Fhc8')$$),
-    ($$base62_decode_uuid('7n42DGM5Tflk9n8mt7Fhc8')$$),
-    ($$base62_decode('')$$),
-    ($$base62_decode_uuid('')$$),
-    ($$base62_decode('LZ-')$$),
-    ($$base62_decode_uuid('LZ-', own())$$),
-    ($$base62_decode_canonical('0LZ')$$),
-    ($$base62_decode_canonical('zLZ', own())$$),
     ($$base62_decode_canonical('AzL8n0Y58m8')$$),
-    ($$base62_decode_uuid_canonical('00')$$),
-    ($$base62_decode_uuid_canonical('')$$),
-    ($$base62_key_first('-')$$),
     ($$base62_key_last('0é', 1)$$)
 ) calls (call);
 \echo Alphabets, and arguments of other types
@@ -64,7 +50,6 @@ SELECT call, refusal(call) FROM (VALUES
     ($$base62_encode(1, accented())$$),
     ($$base62_decode('LZ', accented())$$),
     ($$base62_encode_fixed(1, 1, accented())$$),
-    ($$base62_encode(1, repeated())$$),
     ($$base62_encode_uuid('00000000-0000-0000-0000-000000000539', repeated())$$),
     ($$base62_decode('LZ', repeated())$$),
     ($$base62_encode_fixed(1, 1, repeated())$$),

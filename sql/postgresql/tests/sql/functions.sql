@@ -4,7 +4,7 @@ CREATE VIEW functions AS SELECT p.*
     JOIN pg_extension e ON (d.refclassid, d.refobjid, e.extname) = ('pg_extension'::regclass, e.oid, 'base62');
 SELECT oid::regprocedure, prorettype::regtype, proargnames FROM functions ORDER BY proname COLLATE "C", pronargs;
 SELECT provolatile, proisstrict, proparallel, proleakproof, prosecdef, count(*) FROM functions GROUP BY 1, 2, 3, 4, 5;
--- No two share a name, except where an argument is optional. Each has its own description.
+-- No two share a name, unless an argument is optional. Each has its own description.
 SELECT proname FROM functions GROUP BY proname, pronargs HAVING count(*) > 1;
 SELECT oid::regprocedure FROM functions WHERE obj_description(oid, 'pg_proc') IS NULL;
 SELECT count(DISTINCT obj_description(oid, 'pg_proc')), obj_description('base62_key'::regtype, 'pg_type')

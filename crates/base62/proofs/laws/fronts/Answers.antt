@@ -5,13 +5,13 @@ pub returns-clause-letters : goal.returns-clause-letters
 returns-clause-letters c = front_letters
 
 pub returns-clause-begins : goal.returns-clause-begins
-returns-clause-begins c = λ B ok w front text n small letters is. (in_interval B ok w front text n small is, begins_with B ok w front text n letters is)
+returns-clause-begins c = λ B ok w prefix text n small letters is. (in_interval B ok w prefix text n small is, begins_with B ok w prefix text n letters is)
 
 pub returns-clause-none : goal.returns-clause-none
-returns-clause-none c = λ B ok w front letters. (none_inside B ok w front, no_ends B ok w front)
+returns-clause-none c = λ B ok w prefix letters. (none_inside B ok w prefix, no_ends B ok w prefix)
 
 pub returns-clause-ends : goal.returns-clause-ends
-returns-clause-ends c = λ B ok w front least greatest letters. ends_are B ok w front least greatest
+returns-clause-ends c = λ B ok w prefix least greatest letters. ends_are B ok w prefix least greatest
 
 pub returns-clause-between : goal.returns-clause-between
-returns-clause-between c = λ B ok up w front. begins_between B ok w front up
+returns-clause-between c = λ B ok up w prefix. begins_between B ok w prefix up

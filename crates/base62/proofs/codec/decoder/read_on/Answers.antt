@@ -44,16 +44,9 @@ overflow_add-total c =
 pub loop-i-preserved : goal.loop-i-preserved
 loop-i-preserved c = (omega arith, (_, more c, total_is c))
 
-pub returns-then-i-part : goal.returns-then-i-part
-returns-then-i-part c =
+pub returns : goal.returns
+returns c =
     let i = c.loop-i.i in
-    let all : i ≡ length c.args.part.now = omega (arith, c.if-i-part.true) in
-    let whole = take_all i c.args.part.now (omega (arith, all)) in
-    (Ok c.loop-i.invariant.1.0, rw whole at c.loop-i.invariant.1.1, ap Ok (rw all at c.loop-i.invariant.1.2))
-
-pub returns-after-loop-i : goal.returns-after-loop-i
-returns-after-loop-i c =
-    let i = c.loop-i.i in
-    let all : i ≡ length c.args.part.now = omega (arith, c.loop-i-test.false, c.loop-i.invariant.0) in
+    let all : i ≡ length c.args.part.now = omega (arith, c.loop-i.invariant.0, c.loop-i-test.false) in
     let whole = take_all i c.args.part.now (omega (arith, all)) in
     (Ok c.loop-i.invariant.1.0, rw whole at c.loop-i.invariant.1.1, ap Ok (rw all at c.loop-i.invariant.1.2))

@@ -1,4 +1,4 @@
-use Rattle.std.proofs.Common.{◌+◌, ◌-◌, ◌≡◌, arith}
+use Rattle.std.proofs.Common.{◌+◌, ◌-◌, ◌*◌, ◌/◌, ◌^◌, ◌<◌, ◌≡◌, arith}
 use Rattle.base62.proofs.PowerLemmas.{fits_more, quotient_fits}
 use Rattle.base62.proofs.WritingLemmas.{written_on, back_on}
 use Rattle.base62.proofs.StepsLemmas.{ten_steps, steps_of_20, twenty_steps}
@@ -9,15 +9,15 @@ write_1_or_2-requires-clause-fits c =
     let fits = quotient_fits c.args.n (c.args.count - 20) 20 c.args.count (omega arith) c.requires.fits in
     rw c.cut_by_20-top.ensures.quotient fits
 
-pub cut_by_10-high-requires-else-count-eq20 : goal.cut_by_10-high-requires-else-count-eq20
-cut_by_10-high-requires-else-count-eq20 c =
+pub cut_by_10-high-requires : goal.cut_by_10-high-requires
+cut_by_10-high-requires c =
     omega (arith, fits_more c.args.n c.args.count 20 c.requires.fits (omega arith))
 
 pub write_up_to_9-requires-clause-fits : goal.write_up_to_9-requires-clause-fits
 write_up_to_9-requires-clause-fits c =
     let both : c.args.count - 10 + 10 ≡ c.args.count = omega (arith, c.requires.least) in
     let fits = quotient_fits c.args.n (c.args.count - 10) 10 c.args.count both c.requires.fits in
-    rw c.cut_by_10-high-else-count-eq20.ensures.quotient fits
+    rw c.cut_by_10-high.ensures.quotient fits
 
 pub returns-then-count-gt20-clause-written : goal.returns-then-count-gt20-clause-written
 returns-then-count-gt20-clause-written c =
@@ -33,13 +33,29 @@ returns-then-count-gt20-clause-steps c =
     let steps = twenty_steps c.args.count (omega arith) c.requires.most in
     rw steps (omega (arith, c.write_1_or_2.ensures.steps, c.write_20.ensures.steps))
 
+pub returns-then-count-eq20-clause-written : goal.returns-then-count-eq20-clause-written
+returns-then-count-eq20-clause-written c =
+    let n = c.args.n in
+    let count = c.args.count in
+    let cut = c.cut_by_10-high in
+    let part = c.fraction_of-fraction in
+    let few : n < 62 ^ 20 = fits_more n count 20 c.requires.fits (omega (arith, c.if-count-eq20.true)) in
+    let whole : part.result.1 * 62 ^ 10 / 2 ^ 64 ≡ cut.result.0 = omega (arith, few, cut.ensures.quotient, part.ensures.number) in
+    let ten : count - 10 ≡ 10 = omega (arith, c.if-count-eq20.true) in
+    let both : count - 10 + 10 ≡ count = omega (arith, c.if-count-eq20.true) in
+    let back = c.write_10 in
+    let front = c.write_10-then-count-eq20 in
+    let join = back_on c.args.tables.now.letters (count - 10) 10 count n _ _ both cut.ensures.quotient cut.ensures.remainder in
+    join c.args.buf.now back.new.buf front.new.buf c.requires.room back.ensures.written (rw ten (rw (ten, whole) at front.ensures.written))
+
 pub returns-then-count-eq20-clause-steps : goal.returns-then-count-eq20-clause-steps
-returns-then-count-eq20-clause-steps c = rw (c.if-count-eq20.true, steps_of_20) c.write_20-then-count-eq20.ensures.steps
+returns-then-count-eq20-clause-steps c =
+    rw (c.if-count-eq20.true, steps_of_20) (omega (arith, c.write_10.ensures.steps, c.write_10-then-count-eq20.ensures.steps))
 
 pub returns-else-count-eq20-clause-written : goal.returns-else-count-eq20-clause-written
 returns-else-count-eq20-clause-written c =
     let count = c.args.count in
-    let cut = c.cut_by_10-high-else-count-eq20.ensures in
+    let cut = c.cut_by_10-high.ensures in
     let B = c.args.tables.now.letters in
     let both : count - 10 + 10 ≡ count = omega (arith, c.requires.least) in
     let back = c.write_10 in

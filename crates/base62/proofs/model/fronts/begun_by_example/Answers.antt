@@ -2,7 +2,7 @@ use Rattle.std.proofs.Common.{◌≡◌, ◌^◌, ◌-◌, [], ◌∷◌, get_or
 use Rattle.std.proofs.lemmas.List.Sums.{AllPass-from_list_all}
 use Rattle.base62.specs.Alphabet.{standard, is_letter}
 use Rattle.base62.specs.Fixed.{IsFixed}
-use Rattle.base62.specs.Key.{BeginsTextsOf}
+use Rattle.base62.specs.Range.{BeginsTextsOf}
 use Rattle.base62.proofs.AlphabetLemmas.{standard_is_alphabet}
 use Rattle.base62.proofs.FrontLemmas.{begins_none, begins_texts, begins_between}
 use Rattle.base62.proofs.LiteralLemmas.{fixed_by}

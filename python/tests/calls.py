@@ -1,0 +1,78 @@
+"""Calls, and calls that are refused, with what they are given: the tests of memory make each many times."""
+
+from __future__ import annotations
+
+import uuid
+from array import array
+from collections.abc import Callable, Iterator
+from typing import Any
+
+import base62
+
+OWN = "zyxwvutsrqponmlkjihgfedcbaZYXWVUTSRQPONMLKJIHGFEDCBA9876543210"
+LETTERS = base62.Alphabet(OWN)
+REPEATED = "0" * 62
+HIGH = bytes(range(194, 256))
+WIDE = 2**128 - 1
+TEXT = "7n42DGM5Tflk9n8mt7Fhc7"
+
+Call = Callable[..., object]
+Made = tuple[Call, tuple[Any, ...], dict[str, Any]]
+
+
+def made(call: Call, *given: Any, **named: Any) -> Made:
+    return call, given, named
+
+
+def calls() -> Iterator[Made]:
+    for number in (1337, WIDE, uuid.UUID(int=WIDE), True):
+        yield made(base62.encode, number)
+        yield made(base62.digit_count, number)
+        yield made(base62.encode_key, number)
+        yield made(base62.encode_fixed, number, 22)
+    for letters in (base62.Alphabet.ALTERNATIVE, LETTERS, OWN, OWN.encode()):
+        yield made(base62.encode, WIDE, letters)
+        yield made(base62.decode, "LZ", letters)
+        yield made(base62.decode_canonical, "LZ", letters)
+        yield made(base62.encode_fixed, WIDE, 65, letters)
+        yield made(base62.fixed_range, 40, "0", letters)
+    texts: list[Any] = ["LZ", TEXT, TEXT.encode(), bytearray(TEXT, "ascii"), memoryview(b"0L0Z")[::2]]
+    for text in texts:
+        yield made(base62.decode, text)
+        yield made(base62.decode_canonical, text[-1:])
+        yield made(base62.key_range, text[:2])
+        yield made(base62.fixed_range, 22, text[:2])
+    for shown in (LETTERS, base62.Alphabet.STANDARD):
+        yield made(repr, shown)
+        yield made(shown.__reduce__)
+    yield made(base62.decode_uuid_canonical, TEXT)
+    yield made(base62.fixed_range, width=40, prefix="0", alphabet=OWN)
+    yield made(base62.encode, number=WIDE, alphabet=LETTERS)
+    yield made(base62.decode, "LZ", alphabet=OWN)
+    yield made(base62.Alphabet, OWN)
+    yield made(base62.key_bounds, "8")
+    yield made(base62.key_bounds, "7n")
+    yield made(base62.encode_uuid, uuid.UUID(int=WIDE))
+    yield made(base62.decode_uuid, TEXT)
+
+
+def refusals() -> Iterator[Made]:
+    rows: list[tuple[Call, list[tuple[object, ...]]]] = [
+        (base62.encode, [(-1,), (WIDE + 1,), (10**100,), (1.0,), (), (1, OWN, 1)]),
+        (base62.encode, [(1, None), (1, "short"), (1, REPEATED), (1, HIGH), (1, "é" * 62)]),
+        (base62.digit_count, [(-1,), ("1",)]),
+        (base62.encode_key, [(WIDE + 1,), (None,)]),
+        (base62.decode, [("",), ("-",), (b"-",), (bytearray(b"-"),), ("é",), ("\ud800",), ("z" * 22,), (5,)]),
+        (base62.decode, [(array("H", [48]),), (memoryview(array("H", [48])),), ("1", None), ("1", REPEATED)]),
+        (base62.decode_canonical, [("00LZ",), ("",), ("é",), (5,), ("1", None), ("1", REPEATED)]),
+        (base62.encode_fixed, [(1337, 1), (1, -1), (1, 2**64), (1, "1"), (-1, 5), (1,)]),
+        (base62.encode_fixed, [(1, 5, None), (1, 5, REPEATED), (1, 5, HIGH)]),
+        (base62.key_range, [("-",), (bytearray(b"-"),), (5,), ()]),
+        (base62.fixed_range, [(5, "-"), (5, bytearray(b"-")), (5, 5), (-1, "0"), ("5", "0"), (5, "0", None)]),
+        (base62.fixed_range, [(5, "0", REPEATED), (5,)]),
+        (base62.Alphabet, [(REPEATED,), (b"short",), (5,), ()]),
+    ]
+    for call, given in rows:
+        for one in given:
+            yield made(call, *one)
+    yield made(base62.encode, 1, other=1)

@@ -1,0 +1,179 @@
+//! The calls of a library for C, with the names and types of this crate.
+
+use proved::{AlphabetError, DecodeError, EncodeError};
+use std::ops::RangeInclusive;
+
+#[repr(C)]
+#[derive(Clone, Copy, Default)]
+struct Number {
+    high: u64,
+    low: u64,
+}
+
+impl Number {
+    fn new(num: u128) -> Self {
+        let (high, low) = ((num >> 64) as u64, num as u64);
+        Number { high, low }
+    }
+
+    fn value(self) -> u128 {
+        u128::from(self.high) << 64 | u128::from(self.low)
+    }
+}
+
+#[repr(C)]
+#[derive(Default)]
+struct Range {
+    least: Number,
+    greatest: Number,
+}
+
+#[repr(C)]
+#[derive(Default)]
+struct BadByte {
+    index: usize,
+    byte: u8,
+}
+
+#[repr(C)]
+pub struct Alphabet([u8; 318]);
+
+// .ci/compare-rust says where it is.
+#[link(name = "base62_c", kind = "static")]
+extern "C" {
+    fn base62_encode_key(number: Number, key: &mut [u8; 22]);
+    fn base62_digit_count(number: Number) -> usize;
+    fn base62_make_alphabet(letters: &[u8; 62], made: &mut Alphabet, bad: &mut BadByte) -> u32;
+    fn base62_uuid_of_number(number: Number, uuid: &mut [u8; 16]);
+    fn base62_number_of_uuid(uuid: &[u8; 16]) -> Number;
+    fn base62_fault_text(status: u32, bad: BadByte, buffer: *mut u8, size: usize) -> usize;
+}
+
+/// Calls with a buffer. They answer how many bytes they wrote, or 0 if it is too small.
+macro_rules! encoders {
+    ($type:ty: $answer:expr; $($call:ident $name:ident $($own:ident)?,)*) => {
+        extern "C" {
+            $(fn $name($($own: &Alphabet,)? number: Number, start: *mut u8, size: usize) -> usize;)*
+        }
+        $(pub fn $call($($own: &Alphabet,)? num: u128, buf: &mut [u8]) -> Result<$type, EncodeError> {
+            // SAFETY: a slice is valid for writes of its length, and `Alphabet::new` has made each alphabet.
+            match unsafe { $name($($own,)? Number::new(num), buf.as_mut_ptr(), buf.len()) } {
+                0 => Err(EncodeError::BufferTooSmall),
+                written => Ok($answer(written, buf.len())),
+            }
+        })*
+    };
+}
+
+encoders! {
+    usize: |written, _| written;
+    encode_bytes base62_encode,
+    encode_alternative_bytes base62_encode_alternative,
+    encode_bytes_with base62_encode_with own,
+}
+
+encoders! {
+    (): |written, width| assert_eq!(written, width);
+    encode_fixed base62_encode_fixed,
+    encode_alternative_fixed base62_encode_alternative_fixed,
+    encode_fixed_with base62_encode_fixed_with own,
+}
+
+/// Calls with a text. They write a number or a range, and answer a status.
+macro_rules! decoders {
+    ($type:ty: $found:ident, $answer:expr; $($call:ident $name:ident $($own:ident)? $(($width:ident))?,)*) => {
+        extern "C" {
+            $(fn $name(
+                $($own: &Alphabet,)? $($width: usize,)? start: *const u8, length: usize, found: &mut $found,
+                bad: &mut BadByte,
+            ) -> u32;)*
+        }
+        $(pub fn $call($($own: &Alphabet,)? $($width: usize,)? text: &[u8]) -> Result<$type, DecodeError> {
+            let (mut found, mut bad) = ($found::default(), BadByte::default());
+            let (start, length) = (text.as_ptr(), text.len());
+            // SAFETY: a slice is valid for reads of its length, and `Alphabet::new` has made each alphabet.
+            match unsafe { $name($($own,)? $($width,)? start, length, &mut found, &mut bad) } {
+                2 => Err(DecodeError::EmptyInput),
+                3 => Err(DecodeError::InvalidBase62Byte(bad.byte, bad.index)),
+                4 => Err(DecodeError::ArithmeticOverflow),
+                status => Ok($answer(status, found)),
+            }
+        })*
+    };
+}
+
+decoders! {
+    u128: Number, |status, number: Number| (status == 0).then(|| number.value()).unwrap();
+    decode base62_decode,
+    decode_alternative base62_decode_alternative,
+    decode_with base62_decode_with own,
+}
+
+decoders! {
+    Option<u128>: Number, |status, number: Number| found(status, 7, number.value());
+    decode_canonical base62_decode_canonical,
+    decode_alternative_canonical base62_decode_alternative_canonical,
+    decode_canonical_with base62_decode_canonical_with own,
+}
+
+decoders! {
+    Option<RangeInclusive<u128>>: Range,
+    |status, range: Range| found(status, 5, range.least.value()..=range.greatest.value());
+    key_range base62_key_range,
+    fixed_range base62_fixed_range (width),
+    fixed_range_with base62_fixed_range_with own (width),
+}
+
+/// What was found, by a status that may say that there is none.
+fn found<T>(status: u32, none: u32, found: T) -> Option<T> {
+    assert!(status == 0 || status == none, "the status {status}");
+    (status == 0).then_some(found)
+}
+
+pub fn decode_uuid(text: &[u8]) -> Result<[u8; 16], DecodeError> {
+    let (number, mut uuid) = (Number::new(decode(text)?), [0; 16]);
+    // SAFETY: the UUID is here.
+    unsafe { base62_uuid_of_number(number, &mut uuid) };
+    Ok(uuid)
+}
+
+pub fn number_of(uuid: [u8; 16]) -> u128 {
+    // SAFETY: the UUID is here.
+    unsafe { base62_number_of_uuid(&uuid) }.value()
+}
+
+pub fn encode_key(num: u128) -> [u8; 22] {
+    let mut key = [0; 22];
+    // SAFETY: the key is here.
+    unsafe { base62_encode_key(Number::new(num), &mut key) };
+    key
+}
+
+pub fn digit_count(num: u128) -> usize {
+    // SAFETY: it has no pointers.
+    unsafe { base62_digit_count(Number::new(num)) }
+}
+
+impl Alphabet {
+    pub fn new(letters: [u8; 62]) -> Result<Self, AlphabetError> {
+        let (mut made, mut bad) = (Alphabet([0; 318]), BadByte::default());
+        // SAFETY: all three are here.
+        match unsafe { base62_make_alphabet(&letters, &mut made, &mut bad) } {
+            0 => Ok(made),
+            _ => Err(AlphabetError::Repeated(bad.byte, bad.index)),
+        }
+    }
+}
+
+/// What a fault says.
+pub fn text_of(fault: DecodeError) -> String {
+    let (status, byte, index) = match fault {
+        DecodeError::EmptyInput => (2, 0, 0),
+        DecodeError::InvalidBase62Byte(byte, index) => (3, byte, index),
+        DecodeError::ArithmeticOverflow => (4, 0, 0),
+    };
+    let (bad, mut text) = (BadByte { index, byte }, [0; 77]);
+    // SAFETY: the buffer is here.
+    let length = unsafe { base62_fault_text(status, bad, text.as_mut_ptr(), text.len()) };
+    String::from_utf8(text[..length].to_vec()).unwrap()
+}

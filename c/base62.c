@@ -974,7 +974,7 @@ static ALWAYS_INLINE pair_u64_u64 cut_narrow_by_10(uint64_t n) {
         u128_of(UINT64_C(12669882045338564947))), 59), u128_of(1)));
 }
 
-// One to nine letters. Where there are more than four, the last four are written first.
+// One to nine letters. If there are more than four, the last four are written first.
 static ALWAYS_INLINE void write_up_to_9(const Tables *tables, uint64_t n, size_t places, uint8_t *restrict buf) {
     //@ assert requires: 1 <= places && places <= 9;
     if (places > 4) {

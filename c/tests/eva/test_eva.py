@@ -1,4 +1,4 @@
-"""A second look at base62.c by a tool that is not ours: Frama-C's Eva goes through the calls of eva.c with all values.
+"""A second look at base62.c by another tool: Frama-C's Eva goes through the calls of eva.c with all values.
 
     python3 test_eva.py [Eva.test_encode_narrow ..]
 

@@ -1,4 +1,4 @@
--- Which texts are canonical, that a number has no two, and that they are ASCII where the letters are.
+-- Which texts are canonical, that a number has no two, and that they are ASCII if the letters are.
 use Rattle.std.proofs.Common.{◌≡◌, ℕ, ◌-◌, ◌^◌, ◌<◌, ◌≤◌, ◌⊎◌, List, length, sym, ◌∙◌, inl, inr, arith}
 use Rattle.std.proofs.lemmas.Bool.{cases_lt}
 use Rattle.std.specs.Str.{IsAscii}

@@ -13,7 +13,7 @@ same_on_range f g a n all k from below =
     sym (get_or-map-range_with_len f a n i k (f k) (omega arith) (omega arith)) ∙ ap (λ xs. get_or xs i (f k)) all
     ∙ get_or-map-range_with_len g a n i k (f k) (omega arith) (omega arith)
 
--- and one stays at or below the other where the test says so there
+-- and one stays at or below the other if the test says so there
 pub at_most_on_range : (f g : ℕ → ℕ) (a n : ℕ)
     → map (λ k. leb (f k) (g k)) (range_with_len a n) ≡ map (λ _. true) (range_with_len a n)
     → (k : ℕ) → a ≤ k → k < a + n → f k ≤ g k

@@ -64,7 +64,7 @@ decodes_long B text old some long =
     let above = lt-ltb 22 (length (after_zeros B text)) long in
     record { answer = rw (not_empty text some, above) refl; steps = rw (not_empty text some, above) (omega arith); most = omega arith }
 
--- a number, or an overflow where it is 2^128 or more; a fault stays
+-- a number, or an overflow if it is 2^128 or more; a fault stays
 abbrev pub or_overflow : Result ℕ DecodeError → Result ℕ DecodeError
 or_overflow (Ok number) = number_or_overflow number
 or_overflow (Err fault) = Err fault
@@ -246,7 +246,7 @@ weight_is n h = let back : n - 10 + 10 ≡ n = omega arith in sym (pow-add 62 (n
 pub too_large : (n : ℕ) → (n < 2 ^ 128 → ⊥) → 2 ^ 128 ≤ n
 too_large n h = elim (cases_lt n (2 ^ 128)) [ inl less ↦ absurd (h less) | inr more ↦ more ]
 
--- the sum where it fits, and else the overflow
+-- the sum if it fits, and else the overflow
 pub sum_or_overflow : (o : Option ℕ) (sum : ℕ) → SomeIff o (sum < 2 ^ 128) sum
     → ok_or o ArithmeticOverflow ≡ number_or_overflow sum
 sum_or_overflow None sum h = rw (le-ltb sum (2 ^ 128) (too_large sum h)) refl

@@ -68,7 +68,7 @@ module _ (B : List ℕ) (v w t n q m : ℕ) (both : v + w ≡ t) (quotient : q �
       let behind : drop v (put_from v old part) ≡ fixed B w m ++ drop (v + w) old = ap (drop v) written ∙ drop_at (take v old) _ v size in
       front ∙ rw behind (joined old)
 
--- the same, where the code cuts n by 62^w
+-- the same, if the code cuts n by 62^w
 pub back_first : (B : List ℕ) (v w t n : ℕ) → v + w ≡ t → (old part new : List ℕ) → t ≤ length old
     → WritesFixed B w (n - n / 62 ^ w * 62 ^ w) (places_from v old) part
     → WritesFixed B v (n / 62 ^ w) (put_from v old part) new → WritesFixed B t n old new
@@ -81,7 +81,7 @@ unfolding fixed
 letter_written B [] x letter room small is = absurd (omega arith)
 letter_written B (_ ∷ old) x letter room small is = let same : x % 62 ≡ x = omega arith in rw (is, same) refl
 
--- a letter that is written over, where no place is left for it
+-- a letter that is written over, if no place is left for it
 pub letter_front : (B old : List ℕ) (v x letter : ℕ) → 1 ≤ length old → v ≤ 1 → x < 62
     → letter ≡ get_or B x 0 → take v (set old 0 letter) ≡ fixed B v x
 unfolding fixed
@@ -99,7 +99,7 @@ pair_written B [] x first second room small one two = absurd (omega arith)
 pair_written B (_ ∷ []) x first second room small one two = absurd (omega arith)
 pair_written B (_ ∷ _ ∷ old) x first second room small one two = let same : x / 62 % 62 ≡ x / 62 = omega arith in rw (one, two, same) refl
 
--- two letters, of which the second is written over the first where there is one place alone
+-- two letters, of which the second is written over the first if there is one place alone
 pub ends_written : (B old : List ℕ) (places x first second : ℕ) → 1 ≤ places → places ≤ 2
     → places ≤ length old → x < 62 ^ places
     → first ≡ get_or B (x / 62) 0 → second ≡ get_or B (x % 62) 0

@@ -140,7 +140,7 @@ pub fn texts_by_example()
     ensures longer_than_the_buffer { WritesText (codes "LZ") (codes ".") (codes "LZ") 2 → ⊥ }
     ensures byte_behind { WritesText (codes "LZ") (codes "....") (codes "LZ?.") 2 → ⊥ }
     ensures another_length { WritesText (codes "LZ") (codes "....") (codes "LZ..") 4 → ⊥ }
-    ensures refused_with_a_front { WritesText (codes "LZ") (codes ".") (codes "L") 0 → ⊥ }
+    ensures refused_with_a_prefix { WritesText (codes "LZ") (codes ".") (codes "L") 0 → ⊥ }
     ensures refused_with_a_length { WritesText (codes "LZ") (codes ".") (codes ".") 2 → ⊥ }
 {}
 

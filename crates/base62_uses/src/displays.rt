@@ -37,7 +37,7 @@ pub fn own_heading(alloc: Global, alphabet: &Alphabet, number: u128) -> Result<S
     format!(in alloc; "Code {}", base62::encode_fmt_with(alphabet, number))
 }
 
-/// The text of a number in a column of 22 letters, with zeros in front. `Err` says that there was
+/// The text of a number in a column of 22 letters, with leading zeros. `Err` says that there was
 /// no memory for it.
 #[tactic(auto, unfolding(base62::specs::Padding::displayed))]
 pub fn column_text(alloc: Global, number: u128) -> Result<String, AllocError>

@@ -98,8 +98,8 @@ pub fn answer_all(answers: &mut [DecodeError], fault: DecodeError)
     answers.fill(fault);
 }
 
-/// What a server tells a client whose text names no number below 2^128. Where it names one, that is
-/// nothing. The call takes no memory, so it serves where none is left.
+/// What a server tells a client whose text names no number below 2^128. If it names one, that is
+/// nothing. The call takes no memory, so it serves when none is left.
 pub fn complaint(text: &[u8]) -> InlineText<MAX_FAULT_TEXT>
     ensures number { IsOk (decoding standard text.now) → inline_text result ≡ [] }
     ensures fault { (fault : DecodeError) → decoding standard text.now ≡ Err fault

@@ -91,7 +91,7 @@ pub fn faults_of_short(text: &[u8])
     base62::laws::answer_for(&Alphabet::standard(), text);
 }
 
-/// The number of a text in front of which a form put a zero. The index of a bad byte is its place
+/// The number of a text before which a form put a zero. The index of a bad byte is its place
 /// in what was typed.
 pub fn number_behind_zero(alphabet: &Alphabet, text: &[u8]) -> Result<u128, DecodeError>
     ensures { (typed : List ℕ) → 0 < length typed → text.now ≡ zero_letter alphabet.now ∷ typed

@@ -8,7 +8,7 @@ ghost use Rattle.base62.specs.declared.fault.DecodeError.{DecodeError};
 
 use base62::DecodeError;
 
-/// What becomes of a code with needless zeros in front.
+/// What becomes of a code with needless leading zeros.
 #[derive(Clone, Copy)]
 pub enum LeadingZeros {
     Accepted,
@@ -18,7 +18,7 @@ pub enum LeadingZeros {
 /// Why a code is refused.
 #[derive(Clone, Copy)]
 pub enum InviteFault {
-    /// It has needless zeros in front.
+    /// It has needless leading zeros.
     LeadingZero,
     /// It is no number below 2^128. A byte that is no letter is named with its place.
     Text(DecodeError),
@@ -49,7 +49,7 @@ pub fn invite_number(code: &[u8], zeros: LeadingZeros) -> Result<u128, InviteFau
     }
 }
 
-/// Whether a code has needless zeros in front, and would be a number without them.
+/// Whether a code has needless leading zeros, and would be a number without them.
 pub fn has_needless_zeros(code: &[u8]) -> bool
     ensures number { IsTrue result → IsOk (decoding standard code.now) }
     ensures zero { IsTrue result → slice_index code.now 0 ≡ zero_letter standard }

@@ -32,7 +32,7 @@ pub fn append_mark(line: &mut Vec<u8>, number: u128) -> Result<(), AllocError>
     line.extend_from_slice(&buf[..len])
 }
 
-/// Two marks in a row reach 2^128 - 1 and no further, where the second has 11 letters.
+/// Two marks in a row reach 2^128 - 1 and no further, if the second has 11 letters.
 pub fn borders_of_joined_marks(front: &[u8], back: &[u8])
     requires size { length back.now ≡ 11 }
     requires front { decoding mark_letters front.now ≡ Ok 6539293958884420617 }
@@ -57,7 +57,7 @@ pub fn border_of_a_longer_mark(front: &[u8], back: &[u8])
     base62::laws::concatenation_of_two(&mark_alphabet(), front, back, u128::MAX, 0);
 }
 
-/// A zero in front of 22 letters changes no number and no overflow. A bad byte at the last place
+/// A zero before 22 letters changes no number and no overflow. A bad byte at the last place
 /// goes to index 22.
 #[tactic(auto, unfolding(crate::specs::Marks::mark_letters))]
 pub fn borders_of_zeros_in_front()

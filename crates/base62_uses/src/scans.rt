@@ -4,55 +4,56 @@ ghost use Rattle.std.specs.Prelude.{◌≡◌, ◌<◌, ◌≤◌, ◌+◌, ◌*
 ghost use Rattle.std.specs.Result.{is_ok};
 ghost use Rattle.base62.specs.Alphabet.{AreLetters, standard};
 ghost use Rattle.base62.specs.Decoding.{decoding};
-ghost use Rattle.base62.specs.Key.{IsKey, BeginsWith};
+ghost use Rattle.base62.specs.Key.{IsKey};
+ghost use Rattle.base62.specs.Range.{BeginsWith};
 ghost use Rattle.base62.specs.Order.{IsNotAfter};
 
 use base62::{Alphabet, Work};
 
 /// Whether a scan of a table takes the row of a key. It is for the rows whose keys begin with a
-/// front, and goes from the key of the least number to that of the greatest. Where there is no
+/// prefix, and goes from the key of the least number to that of the greatest. If there is no
 /// number, it takes no row.
-pub fn is_scanned(front: &[u8], key: &[u8; 22]) -> bool
+pub fn is_scanned(prefix: &[u8], key: &[u8; 22]) -> bool
     ensures { (n : ℕ) → n < 2 ^ 128 → IsKey standard key.now n
-        → (IsTrue result ↔ BeginsWith front.now key.now) }
+        → (IsTrue result ↔ BeginsWith prefix.now key.now) }
 {
     base62::laws::built_in_alphabets();
-    let Ok(Some(ends)) = base62::key_range(front) else {
+    let Ok(Some(ends)) = base62::key_range(prefix) else {
         return false;
     };
     let low = base62::encode_key(ends.0);
     let high = base62::encode_key(ends.1);
-    base62::laws::scan_of_front(&Alphabet::standard(), 22, front, ends, &low, &high);
+    base62::laws::scan_of_front(&Alphabet::standard(), 22, prefix, ends, &low, &high);
     low.cmp(key).is_le() && key.cmp(&high).is_le()
 }
 
 /// The keys from which, and up to which, a database scans for the rows whose keys begin with a
-/// front. `None` says that there are no such rows.
-pub fn scan_ends(front: &[u8]) -> Option<([u8; 22], [u8; 22])>
+/// prefix. `None` says that there are no such rows.
+pub fn scan_ends(prefix: &[u8]) -> Option<([u8; 22], [u8; 22])>
     ensures found { (ends : List ℕ × List ℕ) (n : ℕ) (key : List ℕ) → result ≡ Some ends
-        → n < 2 ^ 128 → IsKey standard key n → BeginsWith front.now key
+        → n < 2 ^ 128 → IsKey standard key n → BeginsWith prefix.now key
         → IsNotAfter ends.0 key × IsNotAfter key ends.1 }
     ensures alone { (ends : List ℕ × List ℕ) (n : ℕ) (key : List ℕ) → result ≡ Some ends
         → n < 2 ^ 128 → IsKey standard key n → IsNotAfter ends.0 key → IsNotAfter key ends.1
-        → BeginsWith front.now key }
+        → BeginsWith prefix.now key }
     ensures none { (n : ℕ) (key : List ℕ) → result ≡ None → n < 2 ^ 128 → IsKey standard key n
-        → BeginsWith front.now key → ⊥ }
+        → BeginsWith prefix.now key → ⊥ }
 {
     base62::laws::built_in_alphabets();
-    let Ok(Some(ends)) = base62::fixed_range(22, front) else {
+    let Ok(Some(ends)) = base62::fixed_range(22, prefix) else {
         return None;
     };
     let low = base62::encode_key(ends.0);
     let high = base62::encode_key(ends.1);
-    base62::laws::scan_of_front(&Alphabet::standard(), 22, front, ends, &low, &high);
+    base62::laws::scan_of_front(&Alphabet::standard(), 22, prefix, ends, &low, &high);
     Some((low, high))
 }
 
 /// Whether a prefix that somebody typed is letters alone.
-pub fn is_prefix(front: &[u8]) -> bool
-    ensures { IsTrue result ↔ AreLetters standard front.now }
+pub fn is_prefix(prefix: &[u8]) -> bool
+    ensures { IsTrue result ↔ AreLetters standard prefix.now }
 {
-    base62::fixed_range(22, front).is_ok()
+    base62::fixed_range(22, prefix).is_ok()
 }
 
 /// How many texts of a request name an id, for a server that must bound its work. Each text takes

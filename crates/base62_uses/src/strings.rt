@@ -38,7 +38,7 @@ pub fn append_pair(text: &mut String, first: u128, second: u128) -> Result<(), A
     Ok(())
 }
 
-// Appends the text of a number where there is room for 22 letters.
+// Appends the text of a number if there is room for 22 letters.
 fn append_within(string: &mut String, number: u128)
     requires { string_len string.old + 22 ≤ string_capacity string.old }
     ensures text { (text : List ℕ) × IsCanonical standard text number
@@ -64,7 +64,7 @@ pub fn append_exactly(string: &mut String, number: u128) -> Result<(), AllocErro
     Ok(())
 }
 
-/// Appends the text of a number to a string that has room for a byte. Where there is no memory for
+/// Appends the text of a number to a string that has room for a byte. If there is no memory for
 /// the text, it appends a `?`. It answers whether it appended the text.
 pub fn append_or_mark(string: &mut String, number: u128) -> bool
     requires { string_len string.old < string_capacity string.old }

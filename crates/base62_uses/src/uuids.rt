@@ -27,7 +27,7 @@ pub fn uuid_of_short(text: &[u8]) -> Option<[u8; 16]>
     base62::decode_uuid_canonical(text).ok()?
 }
 
-/// The same, where the number is asked for first.
+/// The same, by a call for the number first.
 pub fn uuid_of_link(text: &[u8]) -> Option<[u8; 16]>
     ensures canonical { (uuid : List ℕ) → result ≡ Some uuid
         → IsCanonical standard text.now (uuid_number uuid) }

@@ -147,7 +147,7 @@ const REFUSED: [(&str, DecodeError); 12] = [
     ("7n42DGM5Tflk9n8mt7Fhc70", ArithmeticOverflow),
     ("!000000000000000000000", InvalidBase62Byte(b'!', 0)),
     ("0!000000000000000000000", InvalidBase62Byte(b'!', 1)),
-    // A wrong byte among the first ten is reported, and a later one only where those ten do not overflow.
+    // A wrong byte among the first ten is reported, and a later one only if those ten do not overflow.
     ("zzzzzzzzz!000000000000", InvalidBase62Byte(b'!', 9)),
     ("zzzzzzzzzz!00000000000", ArithmeticOverflow),
     ("7n42DGM5Tf!00000000000", InvalidBase62Byte(b'!', 10)),

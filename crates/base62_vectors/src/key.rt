@@ -20,7 +20,7 @@ fn keys_of_numbers(rt: HostRuntime) {
 }
 
 #[test]
-fn ranges_of_fronts(rt: HostRuntime) {
+fn ranges_of_prefixes(rt: HostRuntime) {
     let rows = [
         ("", Ok(Some((0, u128::MAX)))),
         // 62^21 - 1 is the last number whose key begins with a zero.
@@ -43,12 +43,12 @@ fn ranges_of_fronts(rt: HostRuntime) {
         // No key has 23 letters.
         ("00000000000000000000000", Ok(None)),
         ("!", Err(InvalidBase62Byte(b'!', 0))),
-        // A wrong byte is reported where no key begins with the letters before it too.
+        // A wrong byte is reported too if no key begins with the letters before it.
         ("7o!", Err(InvalidBase62Byte(b'!', 2))),
         ("00000000000000000000000!", Err(InvalidBase62Byte(b'!', 23))),
     ];
-    for (front, answer) in rows {
-        let is_answer = key_range(front.as_bytes()) == answer;
-        assert!(rt; is_answer, "the range of {front}");
+    for (prefix, answer) in rows {
+        let is_answer = key_range(prefix.as_bytes()) == answer;
+        assert!(rt; is_answer, "the range of {prefix}");
     }
 }

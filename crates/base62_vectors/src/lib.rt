@@ -1,5 +1,5 @@
-//! Tests of `base62` by its modules, against values from outside and plain code, counted calls whose contracts
-//! state the answer and the steps, and callers of `base62_uses` that can be refused memory or a write.
+//! Tests of `base62` against values from outside and plain code, of counted calls, whose contracts state the answer
+//! and the steps, and of the callers in `base62_uses` that can be refused memory or a write.
 #![tactic(auto)]
 
 #[cfg(test)]

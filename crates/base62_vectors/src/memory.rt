@@ -1,4 +1,4 @@
-//! What the calls that make texts answer where they are refused memory, and some that ask for none.
+//! What the calls that make texts answer if they are refused memory, and some that ask for none.
 
 use crate::support::alphabets::{ALL, Letters};
 use base62::{decode, encode_bytes, encode_key, key_range};

@@ -38,7 +38,7 @@ impl Random {
         b"0123456789ABCDEFGHIJKLMNOPQRSTUVWXYZabcdefghijklmnopqrstuvwxyz"[self.below(62)]
     }
 
-    /// The text of a number with zeros in front, any letters, or one that is nearly 2^128, in either built-in alphabet;
+    /// The text of a number with leading zeros, any letters, or one that is nearly 2^128, in either built-in alphabet;
     /// with some bytes changed.
     fn text(&mut self, number: u128) -> Vec<u8> {
         let mut text = match self.below(3) {

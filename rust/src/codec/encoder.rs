@@ -116,7 +116,7 @@ fn cut_narrow_by_10(n: u64) -> (u64, u64) {
     whole_and_fraction(((n as u128 * 12669882045338564947) >> 59) + 1)
 }
 
-// One to nine letters. Where there are more than four, the last four are written first.
+// One to nine letters. If there are more than four, the last four are written first.
 #[inline(always)]
 fn write_up_to_9(tables: &Tables, n: u64, places: usize, buf: &mut [u8]) {
     requires!(1 <= places);

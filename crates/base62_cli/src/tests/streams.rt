@@ -160,7 +160,7 @@ fn failed_reads(rt: HostRuntime) {
     }
 }
 
-// How many reads of a byte come before the reply to a line. Where the input ends without a line
+// How many reads of a byte come before the reply to a line. If the input ends without a line
 // end, it is one more.
 fn reads_for(input: &[u8], line: usize) -> usize {
     let mut ends: usize = 0;

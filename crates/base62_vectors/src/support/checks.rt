@@ -6,7 +6,7 @@ use base62::EncodeError::BufferTooSmall;
 use base62::{DecodeError, Number};
 use std::process::Abort;
 
-// Into a part of each length, from the second of 24 bytes on: the text comes at its front with no other byte
+// Into a part of each length, from the second of 24 bytes on: the text comes first with no other byte
 // written, or it is too short and no byte is written. The bytes are no letters before.
 pub(crate) fn assert_encodes<T: Number + Copy>(
     rt: &impl Abort,

@@ -6,6 +6,7 @@ ghost use Rattle.base62.specs.Decoding.{decoding};
 ghost use Rattle.base62_cli.specs.BuiltIn.{alphabet_of};
 ghost use Rattle.base62_cli.specs.Reply.{IsReply, IsEncodeReply, decode_reply, decimal_value, is_number};
 
+use crate::fault::ToolFault;
 use base62::DecodeError;
 use std::io::{self, Write};
 use std::str;
@@ -22,9 +23,9 @@ pub(crate) enum BuiltIn {
     Alternative,
 }
 
-/// Appends the reply to `line`, and `\n`. `Err` says that there was no memory; a part of
+/// Appends the reply to `line`, and `\n`. `Err(Memory)` says that there was no memory; a part of
 /// them may have been appended.
-pub fn push_reply(line: &[u8], out: &mut Vec<u8>) -> io::Result<()>
+pub fn push_reply(line: &[u8], out: &mut Vec<u8>) -> Result<(), ToolFault>
     ensures { OnOk result ((reply : List ℕ) × IsReply line.now reply
         × (out.new.items ≡ out.old.items ++ (reply ++ 10 ∷ []))) }
 {
@@ -37,22 +38,30 @@ pub fn push_reply(line: &[u8], out: &mut Vec<u8>) -> io::Result<()>
     } else if let Some(text) = line.strip_prefix(b"adc ") {
         push_decoded(BuiltIn::Alternative, text, out)
     } else {
-        out.write_all(b"fault: unknown command\n")
+        append(b"fault: unknown command\n", out)
     }
 }
 
-fn push_encoded(alphabet: BuiltIn, text: &[u8], out: &mut Vec<u8>) -> io::Result<()>
+// Appends bytes. An `io::Result` is larger than this one, and each call would copy it.
+#[inline]
+pub(crate) fn append(bytes: &[u8], out: &mut Vec<u8>) -> Result<(), ToolFault>
+    ensures { OnOk result (out.new.items ≡ out.old.items ++ bytes.now) }
+{
+    out.write_all(bytes).map_err(|_| ToolFault::Memory)
+}
+
+fn push_encoded(alphabet: BuiltIn, text: &[u8], out: &mut Vec<u8>) -> Result<(), ToolFault>
     ensures { OnOk result ((reply : List ℕ) × IsEncodeReply (alphabet_of alphabet) text.now reply
         × (out.new.items ≡ out.old.items ++ (reply ++ 10 ∷ []))) }
 {
     let Some(number) = number_of(text) else {
-        return out.write_all(b"fault: not a number\n");
+        return append(b"fault: not a number\n", out);
     };
     // The text has 22 letters at most.
     let mut buf = [0u8; 23];
     let len = encode(alphabet, number, &mut buf);
     buf[len] = b'\n';
-    out.write_all(&buf[..=len])
+    append(&buf[..=len], out)
 }
 
 fn encode(alphabet: BuiltIn, number: u128, buf: &mut [u8; 23]) -> usize
@@ -65,14 +74,15 @@ fn encode(alphabet: BuiltIn, number: u128, buf: &mut [u8; 23]) -> usize
     }
 }
 
-fn push_decoded(alphabet: BuiltIn, text: &[u8], out: &mut Vec<u8>) -> io::Result<()>
+fn push_decoded(alphabet: BuiltIn, text: &[u8], out: &mut Vec<u8>) -> Result<(), ToolFault>
     ensures { OnOk result (out.new.items
         ≡ out.old.items ++ (decode_reply (alphabet_of alphabet) text.now ++ 10 ∷ [])) }
 {
-    match decode(alphabet, text) {
+    let written = match decode(alphabet, text) {
         Ok(number) => push_number(number, out),
         Err(fault) => writeln!(out, "fault: {fault}"),
-    }
+    };
+    written.map_err(|_| ToolFault::Memory)
 }
 
 // Appends the number in decimal, and `\n`. A number above 64 bits goes in two parts, since each of

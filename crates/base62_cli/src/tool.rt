@@ -7,9 +7,9 @@ ghost use Rattle.base62_cli.specs.Output.{IsOutput, Leaves};
 
 use crate::fault::ToolFault;
 use crate::line_end::line_end;
-use crate::reply::push_reply;
+use crate::reply::{append, push_reply};
 use std::alloc::Global;
-use std::io::{self, Read, Write};
+use std::io::{Read, Write};
 
 // How many bytes a read may take.
 pub(crate) const CHUNK_LEN: usize = 32768;
@@ -61,9 +61,7 @@ pub fn run<R: Read, W: Write>(
         if count == 0 {
             return finish(line.as_slice(), &mut out, writer);
         }
-        let Ok(()) = answer(&chunk[..count], &mut line, &mut out) else {
-            return Err(ToolFault::Memory);
-        };
+        answer(&chunk[..count], &mut line, &mut out)?;
         let Ok(()) = writer.write_all(out.as_slice()) else {
             return Err(ToolFault::Write);
         };
@@ -74,7 +72,7 @@ pub fn run<R: Read, W: Write>(
 
 // Answers the lines that end in the chunk. The first of them began with `line`. What has come of
 // the next is left in `line`.
-fn answer(chunk: &[u8], line: &mut Vec<u8>, out: &mut Vec<u8>) -> io::Result<()>
+fn answer(chunk: &[u8], line: &mut Vec<u8>, out: &mut Vec<u8>) -> Result<(), ToolFault>
     requires { All (λ b. b ≢ 10) line.old.items }
     ensures unended { OnOk result (All (λ b. b ≢ 10) line.new.items) }
     ensures answered { OnOk result ((replies : List ℕ) × (out.new.items ≡ out.old.items ++ replies)
@@ -82,9 +80,9 @@ fn answer(chunk: &[u8], line: &mut Vec<u8>, out: &mut Vec<u8>) -> io::Result<()>
         → Leaves (line.old.items ++ (chunk.now ++ more)) replies (line.new.items ++ more))) }
 {
     let Some((end, mut rest)) = split_line(chunk) else {
-        return line.write_all(chunk);
+        return append(chunk, line);
     };
-    line.write_all(end)?;
+    append(end, line)?;
     push_reply(line.as_slice(), out)?;
     line.clear();
     // The others stand whole in the chunk.
@@ -92,7 +90,7 @@ fn answer(chunk: &[u8], line: &mut Vec<u8>, out: &mut Vec<u8>) -> io::Result<()>
         push_reply(whole, out)?;
         rest = after;
     }
-    line.write_all(rest)
+    append(rest, line)
 }
 
 // What stands before the first byte 10, and what after it.
@@ -111,9 +109,7 @@ fn finish<W: Write>(line: &[u8], out: &mut Vec<u8>, writer: &mut W) -> Result<()
     ensures { OnOk result ((output : List ℕ) × IsOutput line.now output
         × Appends (W.contents writer.old) (W.contents writer.new) output) }
 {
-    let Ok(()) = answer_last(line, out) else {
-        return Err(ToolFault::Memory);
-    };
+    answer_last(line, out)?;
     let Ok(()) = writer.write_all(out.as_slice()) else {
         return Err(ToolFault::Write);
     };
@@ -123,7 +119,7 @@ fn finish<W: Write>(line: &[u8], out: &mut Vec<u8>, writer: &mut W) -> Result<()
     Ok(())
 }
 
-fn answer_last(line: &[u8], out: &mut Vec<u8>) -> io::Result<()>
+fn answer_last(line: &[u8], out: &mut Vec<u8>) -> Result<(), ToolFault>
     requires unended { All (λ b. b ≢ 10) line.now }
     requires empty { out.old.items ≡ [] }
     ensures { OnOk result (IsOutput line.now out.new.items) }

@@ -3,6 +3,7 @@
 
 //! The reply to one line.
 
+use crate::fault::ToolFault;
 use crate::memory::Bytes;
 use base62::DecodeError;
 use std::io::{self, Write};
@@ -20,9 +21,9 @@ pub(crate) enum BuiltIn {
     Alternative,
 }
 
-/// Appends the reply to `line`, and `\n`. `Err` says that there was no memory; a part of
+/// Appends the reply to `line`, and `\n`. `Err(Memory)` says that there was no memory; a part of
 /// them may have been appended.
-pub fn push_reply(line: &[u8], out: &mut Bytes) -> io::Result<()> {
+pub fn push_reply(line: &[u8], out: &mut Bytes) -> Result<(), ToolFault> {
     if let Some(text) = line.strip_prefix(b"enc ") {
         push_encoded(BuiltIn::Standard, text, out)
     } else if let Some(text) = line.strip_prefix(b"alt ") {
@@ -32,19 +33,25 @@ pub fn push_reply(line: &[u8], out: &mut Bytes) -> io::Result<()> {
     } else if let Some(text) = line.strip_prefix(b"adc ") {
         push_decoded(BuiltIn::Alternative, text, out)
     } else {
-        out.write_all(b"fault: unknown command\n")
+        append(b"fault: unknown command\n", out)
     }
 }
 
-fn push_encoded(alphabet: BuiltIn, text: &[u8], out: &mut Bytes) -> io::Result<()> {
+// Appends bytes. An `io::Result` is larger than this one, and each call would copy it.
+#[inline]
+pub(crate) fn append(bytes: &[u8], out: &mut Bytes) -> Result<(), ToolFault> {
+    out.write_all(bytes).map_err(|_| ToolFault::Memory)
+}
+
+fn push_encoded(alphabet: BuiltIn, text: &[u8], out: &mut Bytes) -> Result<(), ToolFault> {
     let Some(number) = number_of(text) else {
-        return out.write_all(b"fault: not a number\n");
+        return append(b"fault: not a number\n", out);
     };
     // The text has 22 letters at most.
     let mut buf = [0u8; 23];
     let len = encode(alphabet, number, &mut buf);
     buf[len] = b'\n';
-    out.write_all(&buf[..=len])
+    append(&buf[..=len], out)
 }
 
 fn encode(alphabet: BuiltIn, number: u128, buf: &mut [u8; 23]) -> usize {
@@ -54,11 +61,12 @@ fn encode(alphabet: BuiltIn, number: u128, buf: &mut [u8; 23]) -> usize {
     }
 }
 
-fn push_decoded(alphabet: BuiltIn, text: &[u8], out: &mut Bytes) -> io::Result<()> {
-    match decode(alphabet, text) {
+fn push_decoded(alphabet: BuiltIn, text: &[u8], out: &mut Bytes) -> Result<(), ToolFault> {
+    let written = match decode(alphabet, text) {
         Ok(number) => push_number(number, out),
         Err(fault) => writeln!(out, "fault: {fault}"),
-    }
+    };
+    written.map_err(|_| ToolFault::Memory)
 }
 
 // Appends the number in decimal, and `\n`. A number above 64 bits goes in two parts, since each of

@@ -6,8 +6,8 @@
 use crate::fault::ToolFault;
 use crate::line_end::line_end;
 use crate::memory::Bytes;
-use crate::reply::push_reply;
-use std::io::{self, Read, Write};
+use crate::reply::{append, push_reply};
+use std::io::{Read, Write};
 
 // How many bytes a read may take.
 pub(crate) const CHUNK_LEN: usize = 32768;
@@ -51,9 +51,7 @@ pub fn run<R: Read, W: Write + ?Sized>(reader: &mut R, writer: &mut W) -> Result
         if count == 0 {
             return finish(line.as_slice(), &mut out, writer);
         }
-        let Ok(()) = answer(&chunk[..count], &mut line, &mut out) else {
-            return Err(ToolFault::Memory);
-        };
+        answer(&chunk[..count], &mut line, &mut out)?;
         let Ok(()) = writer.write_all(out.as_slice()) else {
             return Err(ToolFault::Write);
         };
@@ -64,11 +62,11 @@ pub fn run<R: Read, W: Write + ?Sized>(reader: &mut R, writer: &mut W) -> Result
 
 // Answers the lines that end in the chunk. The first of them began with `line`. What has come of
 // the next is left in `line`.
-fn answer(chunk: &[u8], line: &mut Bytes, out: &mut Bytes) -> io::Result<()> {
+fn answer(chunk: &[u8], line: &mut Bytes, out: &mut Bytes) -> Result<(), ToolFault> {
     let Some((end, mut rest)) = split_line(chunk) else {
-        return line.write_all(chunk);
+        return append(chunk, line);
     };
-    line.write_all(end)?;
+    append(end, line)?;
     push_reply(line.as_slice(), out)?;
     line.clear();
     // The others stand whole in the chunk.
@@ -76,7 +74,7 @@ fn answer(chunk: &[u8], line: &mut Bytes, out: &mut Bytes) -> io::Result<()> {
         push_reply(whole, out)?;
         rest = after;
     }
-    line.write_all(rest)
+    append(rest, line)
 }
 
 // What stands before the first byte 10, and what after it.
@@ -91,9 +89,7 @@ fn finish<W: Write + ?Sized>(
     out: &mut Bytes,
     writer: &mut W,
 ) -> Result<(), ToolFault> {
-    let Ok(()) = answer_last(line, out) else {
-        return Err(ToolFault::Memory);
-    };
+    answer_last(line, out)?;
     let Ok(()) = writer.write_all(out.as_slice()) else {
         return Err(ToolFault::Write);
     };
@@ -103,7 +99,7 @@ fn finish<W: Write + ?Sized>(
     Ok(())
 }
 
-fn answer_last(line: &[u8], out: &mut Bytes) -> io::Result<()> {
+fn answer_last(line: &[u8], out: &mut Bytes) -> Result<(), ToolFault> {
     if line.is_empty() {
         return Ok(());
     }

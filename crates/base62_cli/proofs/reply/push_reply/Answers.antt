@@ -42,4 +42,4 @@ returns-in_default-strip_prefix-3 c =
     let not_alt = rw c.in_default-strip_prefix.is at (strip_prefix_is Decides-eqb line (codes "alt ") _ c.strip_prefix-in_default.ensures.cases) in
     let not_dec = rw c.in_default-strip_prefix-2.is at (strip_prefix_is Decides-eqb line (codes "dec ") _ c.strip_prefix-in_default-strip_prefix.ensures.cases) in
     let not_adc = rw c.in_default-strip_prefix-3.is at (strip_prefix_is Decides-eqb line (codes "adc ") _ c.strip_prefix-in_default-strip_prefix-2.ensures.cases) in
-    on_ok_weaker c.write_all.result (λ h. (codes "fault: unknown command", reply_to_other line not_enc not_alt not_dec not_adc, h)) c.write_all.ensures.bytes
+    on_ok_weaker c.append.result (λ h. (codes "fault: unknown command", reply_to_other line not_enc not_alt not_dec not_adc, h)) c.append.ensures

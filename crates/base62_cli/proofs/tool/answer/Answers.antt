@@ -15,7 +15,7 @@ loop-whole-init c =
     let cut = c.in-Some.ensures in
     let reply = c.in_ok-push_reply.ensures in
     let unended = All-append (λ b. b ≢ 10) line end c.requires cut.0 in
-    let is = rw (c.as_slice.ensures.value ∙ c.in_ok-write_all.ensures.bytes) at reply.1 in (
+    let is = rw (c.as_slice.ensures.value ∙ c.in_ok-append.ensures) at reply.1 in (
       reply.0 ++ 10 ∷ [],
       reply.2,
       λ more. leaves_more _ [] (line ++ end) _ reply.0 (after ++ more) unended is (line_cut line c.args.chunk.now end after more cut.1) (λ later h. h),

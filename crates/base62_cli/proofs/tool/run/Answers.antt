@@ -12,8 +12,8 @@ returns-then-count-eq0 g c =
 
 pub loop-preserved : goal.loop-preserved
 loop-preserved g c =
-    let answered = c.in-Ok-answer.ensures.answered in (
-      c.in-Ok-answer.ensures.unended,
+    let answered = c.in_ok-answer.ensures.answered in (
+      c.in_ok-answer.ensures.unended,
       c.clear.ensures.items,
       progress_more _ _ _ _ _ _ c.loop.line.items _ _ answered.0 c.loop.invariant.2 c.in-Ok.ensures.bytes.0 answered.2
           (rw (c.as_slice-in-loop.ensures.value, answered.1, c.loop.invariant.1) at c.in-Ok-write_all.ensures.bytes),

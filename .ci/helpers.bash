@@ -88,6 +88,14 @@ has() {
     return 1
 }
 
+# FOLDER. Copies into it the files as they are: those that git knows or would add.
+copy_files() {
+    local file
+    git ls-files -z --cached --others --exclude-standard | while IFS= read -rd '' file; do
+        [[ ! -e $file ]] || printf '%s\0' "$file"
+    done | xargs -0 cp --parents -t "$1"
+}
+
 # COMMAND.. What it prints is shown only if it fails.
 quietly() {
     "$@" >"$work/said" 2>&1 || {

@@ -61,7 +61,7 @@ impl DecodeError {
     }
 }
 
-/// Prints what `DecodeError::text` answers, and the same under any width, fill and alignment.
+/// Prints the text of the error, the same under any width, fill and alignment.
 impl fmt::Display for DecodeError {
     fn fmt(&self, f: &mut fmt::Formatter<'_>) -> fmt::Result {
         write_unpadded(self.text(), f)
@@ -81,7 +81,7 @@ impl EncodeError {
     }
 }
 
-/// Prints what `EncodeError::text` answers, and the same under any width, fill and alignment.
+/// Prints the text of the error, the same under any width, fill and alignment.
 impl fmt::Display for EncodeError {
     fn fmt(&self, f: &mut fmt::Formatter<'_>) -> fmt::Result {
         write_unpadded(self.text(), f)
@@ -103,7 +103,7 @@ impl AlphabetError {
     }
 }
 
-/// Prints what `AlphabetError::text` answers, and the same under any width, fill and alignment.
+/// Prints the text of the error, the same under any width, fill and alignment.
 impl fmt::Display for AlphabetError {
     fn fmt(&self, f: &mut fmt::Formatter<'_>) -> fmt::Result {
         write_unpadded(self.text(), f)

@@ -26,9 +26,9 @@
 //! | for | call |
 //! |---|---|
 //! | a buffer | [`encode_bytes`] |
-//! | a `String` | `encode`, `encode_buf`, with the feature `alloc` |
+//! | a `String` | [`encode`], [`encode_buf`], with the feature `alloc` |
 //! | a format string | [`encode_fmt`] |
-//! | a writer | `encode_io`, with the feature `std` |
+//! | a writer | [`encode_io`], with the feature `std` |
 //! | a number | [`decode`], or [`decode_canonical`] to accept one text for each number |
 //! | a UUID | [`decode_uuid`], or [`decode_uuid_canonical`] in the same way |
 //! | keys and columns, which sort as their numbers | [`encode_key`], [`encode_fixed`] |
@@ -41,10 +41,12 @@
 //! and tests again what the proofs show.
 //!
 //! Only the calls of `alloc` allocate. If memory is refused, they end the program, as a `String` does. Only
-//! `encode_with`, `encode_buf_with` and [`encode_fmt_with`] panic, on letters that are not ASCII. No call takes
-//! constant time: it depends on the number or text.
+//! `encode_with`, `encode_buf_with` and [`encode_fmt_with`] panic, on letters that are not ASCII. The time of a
+//! call depends on its number or text.
 
 #![no_std]
+// docs.rs then says of each call which feature it needs.
+#![cfg_attr(docsrs, feature(doc_cfg))]
 #![cfg_attr(feature = "checked", forbid(unsafe_code))]
 #![warn(missing_docs)]
 // Comments name calls of all features.

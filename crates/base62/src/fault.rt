@@ -75,7 +75,7 @@ impl DecodeError {
     }
 }
 
-/// Prints what [`DecodeError::text`] answers, and the same under any width, fill and alignment.
+/// Prints the text of the error, the same under any width, fill and alignment.
 impl fmt::Display for DecodeError {
     ghost output = { λ e. Some (decode_error_text e) };
 
@@ -107,7 +107,7 @@ impl EncodeError {
     }
 }
 
-/// Prints what [`EncodeError::text`] answers, and the same under any width, fill and alignment.
+/// Prints the text of the error, the same under any width, fill and alignment.
 impl fmt::Display for EncodeError {
     ghost output = { λ e. Some (encode_error_text e) };
 
@@ -141,7 +141,7 @@ impl AlphabetError {
     }
 }
 
-/// Prints what [`AlphabetError::text`] answers, and the same under any width, fill and alignment.
+/// Prints the text of the error, the same under any width, fill and alignment.
 impl fmt::Display for AlphabetError {
     ghost output = { λ e. Some (alphabet_error_text e) };
 

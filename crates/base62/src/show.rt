@@ -110,7 +110,7 @@ fn pad<W: fmt::Write>(text: &Text, f: &mut fmt::Formatter<W>) -> fmt::Result
 /// than the text's length, nothing is added. The fill is a space if none is stated. A text with no
 /// stated alignment is left-aligned. Half of the padding precedes a centred text, rounded down.
 /// What a stated precision leaves of the text is not specified. The error of a display is that of
-/// the underlying writer. Neither call takes memory of its own, and this one refuses nothing.
+/// the underlying writer. Neither the call nor a display takes memory. The call refuses nothing.
 ///
 /// ```rust
 /// println!(rt; "{}", base62::encode_fmt(1337_u64))?;     // LZ

@@ -3,7 +3,7 @@
 function(base62_share target version)
     string(REGEX MATCH "^[0-9]+" major "${version}")
     target_compile_definitions(${target} PRIVATE BASE62_BUILD INTERFACE BASE62_SHARED)
-    set_target_properties(${target} PROPERTIES VERSION "${version}" SOVERSION "${major}" C_VISIBILITY_PRESET hidden)
+    set_target_properties(${target} PROPERTIES VERSION "${version}" SOVERSION "${major}")
     if(WIN32)
         set_target_properties(${target} PROPERTIES RUNTIME_OUTPUT_NAME "base62-${major}")
     elseif(UNIX AND NOT APPLE AND CMAKE_C_COMPILER_ID MATCHES "GNU|Clang")

@@ -4,8 +4,9 @@
 #
 # SHARED is a shared library of ELF, and IMPORT the import library of a DLL.
 
-# Some processors lack instructions for which the compiler calls its own library.
+# Some processors lack instructions for which the compiler calls its own library, and some flags make it test more.
 set(of_compiler "__aeabi_[a-z]+|__[a-z]+di[0-9]|_GLOBAL_OFFSET_TABLE_|__x86.get_pc_thunk.[a-z]+")
+string(APPEND of_compiler "|__stack_chk_[a-z_]+|__mem[a-z]+_chk")
 set(names_it_may_call "mem(cpy|move|set|cmp)|${of_compiler}")
 cmake_policy(SET CMP0057 NEW)
 
@@ -15,11 +16,12 @@ function(find_symbols)
     if(NOT status EQUAL 0)
         message(FATAL_ERROR "nm ${ARGN}: ${status}")
     endif()
-    string(REGEX MATCHALL "[^\n]+ [A-Za-z]( [0-9a-f]+)*" lines "${text}")
+    string(REPLACE "\n" ";" lines "${text}")
     set(found)
     foreach(line IN LISTS lines)
-        string(REGEX REPLACE "^([^ ]+) ([A-Za-z]).*" "\\2 \\1" symbol "${line}")
-        list(APPEND found "${symbol}")
+        if(line MATCHES "^([^ ]+) ([A-Za-z])( [0-9a-f]*)*$")
+            list(APPEND found "${CMAKE_MATCH_2} ${CMAKE_MATCH_1}")
+        endif()
     endforeach()
     set(found "${found}" PARENT_SCOPE)
 endfunction()

@@ -33,6 +33,7 @@ DECODER, ENCODER, FAULT, FIXED = "codec/decoder.rt", "codec/encoder.rt", "fault.
 # A form that is not known, the file of the source, what stands there, and what takes its place.
 REFUSALS = [
     ("a loop without a condition", DECODER, "    let mut done = 0;", "    let mut done = 0;\n    loop { break; }"),
+    ("a comment that C continues", DECODER, "    let mut done = 0;", "    // The rest. \\ \n    let mut done = 0;"),
     ("a label", DECODER, "    for i in 0..part.len() {", "    'digits: for i in 0..part.len() {"),
     ("a closure", DECODER, "    let mut done = 0;", "    let mut done = (|x| x)(0);"),
     ("another method of std", DECODER, "total * 62 + digit as u64", "total.wrapping_mul(62) + digit as u64"),

@@ -23,7 +23,7 @@ def wrapped(line):
 
 def comment_of(comment):
     """A comment of Rust as one of C."""
-    if comment.endswith("\\") or "??" in comment:
+    if comment.rstrip().endswith("\\") or "??" in comment:
         refuse(comment, "a comment that means something else in C")
     return "//" + re.match("//[/!]?(.*)", comment)[1]
 

@@ -39,7 +39,8 @@ def alarms(function):
         ran = subprocess.run(command, capture_output=True, text=True)
         if ran.returncode or not report.exists():
             raise AssertionError(ran.stdout + ran.stderr)
-        if not re.search(r"\d+ functions analyzed", ran.stdout):
+        # Eva leaves out the code behind an assertion that never holds.
+        if not re.search(r"\d+ functions analyzed", ran.stdout) or "got status invalid" in ran.stdout:
             raise AssertionError(ran.stdout)
         with open(report, newline="") as lines:
             rows = list(csv.DictReader(lines, delimiter="\t", quoting=csv.QUOTE_NONE))

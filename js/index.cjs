@@ -343,7 +343,7 @@ const ROOM = lengthOf(bytes) - TEXT;
 
 // A longer text gets an instance of its own, whose memory goes with it.
 function instanceFor(size) {
-  return size > ROOM ? open(ceil((size - ROOM) / PAGE)) : kept;
+  return size > ROOM ? open(min(ceil((size - ROOM) / PAGE), PAGE)) : kept;
 }
 
 // Copies the numbers and the bad byte.
@@ -526,8 +526,8 @@ function encode(number, alphabet) {
 
 function encodeFixed(number, width, alphabet) {
   checkWidth(width);
-  const it = instanceFor(width);
   put(number);
+  const it = instanceFor(width);
   carry(kept, it);
   lend(it, alphabet);
   const filled = ended(it, begun(it).base62_encode_fixed_with(ALPHABET, NUMBER, TEXT, width));

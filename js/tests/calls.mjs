@@ -199,7 +199,9 @@ const tests = {
   },
 
   'numbers that are none are refused'({ base62, refused }) {
-    const calls = [base62.encode, base62.encodeKey, base62.digitCount, (number) => base62.encodeFixed(number, 22)];
+    const calls = [base62.encode, base62.encodeKey, base62.digitCount];
+    // No memory has room for the second width.
+    for (const width of [22, 2 ** 40]) calls.push((number) => base62.encodeFixed(number, width));
     const rounded = [2 ** 53, 1.5, 5e-324, NaN, Infinity, -Infinity, -1];
     const wide = [-1n, 2n ** 128n, -(2n ** 200n), 2n ** 200n];
     const others = ['5', '', undefined, null, true, [], {}, Symbol('5'), Object(5), Object(5n), convertible, trap];

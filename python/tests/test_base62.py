@@ -235,6 +235,7 @@ class Alphabets(Refusing):
         own = Alphabet(Own(OWN.encode()))
         self.assertEqual(own, OWN.encode())
         self.assertEqual(base62.decode("1", own), OWN.index("1"))
+        self.assertEqual(base62.decode("1", Own(OWN.encode())), OWN.index("1"))
 
     def test_no_more_names(self) -> None:
         own: Any = Alphabet(OWN)

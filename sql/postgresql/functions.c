@@ -84,9 +84,10 @@ static size_t width_at(FunctionCallInfo fcinfo, int place) {
 
 /* Answers */
 
-static Datum encoded(base62_number number, const base62_alphabet *alphabet) {
+/* The number comes first, so that its error comes before that of another argument. */
+static Datum encoded(FunctionCallInfo fcinfo, base62_number number) {
     char buffer[BASE62_MAX_DIGITS];
-    size_t length = encode_own_or_standard(alphabet, number, buffer);
+    size_t length = encode_own_or_standard(alphabet_at(fcinfo, 1), number, buffer);
     PG_RETURN_TEXT_P(cstring_to_text_with_len(buffer, (int)length));
 }
 
@@ -97,6 +98,11 @@ static Datum fixed(base62_number number, size_t width, const base62_alphabet *al
     if (!encode_fixed_own_or_standard(alphabet, number, VARDATA(answer), width, &why))
         refuse(&why);
     PG_RETURN_TEXT_P(answer);
+}
+
+static Datum encoded_fixed(FunctionCallInfo fcinfo, base62_number number) {
+    size_t width = width_at(fcinfo, 1);
+    return fixed(number, width, alphabet_at(fcinfo, 2));
 }
 
 /* Whether the first argument, a text, is accepted over the second, an alphabet. */
@@ -147,12 +153,12 @@ static Datum end_of_prefix(FunctionCallInfo fcinfo, bool last) {
 
 PG_FUNCTION_INFO_V1(pg_base62_encode_int8);
 Datum pg_base62_encode_int8(PG_FUNCTION_ARGS) {
-    return encoded(int8_at(fcinfo, 0), alphabet_at(fcinfo, 1));
+    return encoded(fcinfo, int8_at(fcinfo, 0));
 }
 
 PG_FUNCTION_INFO_V1(pg_base62_encode_uuid);
 Datum pg_base62_encode_uuid(PG_FUNCTION_ARGS) {
-    return encoded(uuid_at(fcinfo, 0), alphabet_at(fcinfo, 1));
+    return encoded(fcinfo, uuid_at(fcinfo, 0));
 }
 
 PG_FUNCTION_INFO_V1(pg_base62_decode_int8);
@@ -202,12 +208,12 @@ Datum pg_base62_encode_key_uuid(PG_FUNCTION_ARGS) {
 
 PG_FUNCTION_INFO_V1(pg_base62_encode_fixed_int8);
 Datum pg_base62_encode_fixed_int8(PG_FUNCTION_ARGS) {
-    return fixed(int8_at(fcinfo, 0), width_at(fcinfo, 1), alphabet_at(fcinfo, 2));
+    return encoded_fixed(fcinfo, int8_at(fcinfo, 0));
 }
 
 PG_FUNCTION_INFO_V1(pg_base62_encode_fixed_uuid);
 Datum pg_base62_encode_fixed_uuid(PG_FUNCTION_ARGS) {
-    return fixed(uuid_at(fcinfo, 0), width_at(fcinfo, 1), alphabet_at(fcinfo, 2));
+    return encoded_fixed(fcinfo, uuid_at(fcinfo, 0));
 }
 
 PG_FUNCTION_INFO_V1(pg_base62_key_first);

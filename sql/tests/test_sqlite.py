@@ -234,7 +234,7 @@ class Arguments(Case):
     def test_types(self) -> None:
         """What an argument of each kind refuses, by the argument that the function takes there."""
         refused: dict[type, list[tuple[Any, str]]] = {
-            int: [(value, NUMBER) for value in (1337.0, 1e300, "1337", "", b"", b"1" * 15, b"1" * 17)],
+            int: [(value, NUMBER) for value in (1337.0, 1e300, "1337", "", "1" * 16, b"", b"1" * 15, b"1" * 17)],
             str: [(value, TEXT) for value in (1337, 13.5, b"LZ", b"1" * 62)],
         }
         refused[int] += [(-1, NEGATIVE), (-(2**63), NEGATIVE)]

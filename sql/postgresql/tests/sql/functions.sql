@@ -51,7 +51,7 @@ BEGIN
         END;
     END LOOP;
 END $$;
-SELECT with_each(:own, :alternative, :own, repeat('0', 62), :own, '01', repeat('é', 31), :alternative,
+SELECT with_each(:own, :alternative, :own, repeat('0', 62), :own, '', left(:own, 61), '01', repeat('é', 31), :alternative,
     :alternative || '!');
 PREPARE with_one AS SELECT base62_encode(n, $1) FROM generate_series(61, 63) n;
 EXECUTE with_one (:own);

@@ -341,7 +341,8 @@ const ALPHABET = NUMBER + 48;
 const TEXT = ALPHABET + ALPHABET_SIZE;
 const ROOM = lengthOf(bytes) - TEXT;
 
-// A longer text gets an instance of its own, whose memory goes with it.
+// A longer text gets an instance of its own, whose memory goes with it. No memory has more than 2^16 pages, of which
+// each has as many bytes.
 function instanceFor(size) {
   return size > ROOM ? open(min(ceil((size - ROOM) / PAGE), PAGE)) : kept;
 }

@@ -1,6 +1,6 @@
 # What people run at the top of the repository. `make` prints it.
 
-parts = translate c rust python js sql dist pages
+parts = translate c rust python js sql bench dist pages
 
 help: ## print this list
 	@sed -n 's/^\([a-z-]*\):.* ## /  make \1	/p' $(MAKEFILE_LIST) | expand -t 24
@@ -16,6 +16,9 @@ $(parts:%=check-%): check-%:
 prove: ## prove all crates, try all edits and run all tests, with the kit
 	rt ci
 
+prove-c: ## prove c/base62.c by Frama-C, as far as c/proof tells; MISTAKES=1 tries planted mistakes
+	@$(if $(MISTAKES),c/proof/mistakes.py,c/proof/prove)
+
 generated: ## write the generated files anew, after a change of crates/
 	tests/model.py
 	translate/rust
@@ -25,8 +28,14 @@ generated: ## write the generated files anew, after a change of crates/
 check-generated: ## fail if a generated file is not what a translator writes
 	tests/model.py --check
 	translate/rust --check
+	translate/judge
 	translate/c --check
 	translate/wasm --check
+
+ROUNDS = 300
+
+bench: ## time the packages on this machine, beside other code for base 62
+	bench/run $(ROUNDS)
 
 dist: ## pack all packages into a folder: make dist FOLDER=..
 	.ci/dist '$(FOLDER)'
@@ -34,4 +43,4 @@ dist: ## pack all packages into a folder: make dist FOLDER=..
 setup: ## install by apt-get what the checks need
 	.ci/setup
 
-.PHONY: help check $(parts:%=check-%) prove generated check-generated dist setup
+.PHONY: help check $(parts:%=check-%) prove prove-c generated check-generated bench dist setup

@@ -1,3 +1,6 @@
+/* SPDX-License-Identifier: MIT */
+/* Copyright (c) 2026 the maintainers of base62 for Rattle */
+
 /*
  * Numbers below 2^128 as short texts in base 62, and back: the functions that base62.h declares.
  *
@@ -24,7 +27,6 @@
 #include <stdbool.h>
 #include <stddef.h>
 #include <stdint.h>
-#include <string.h>
 
 #if CHAR_BIT != 8
 #error "base62.c is for bytes of 8 bits"
@@ -127,7 +129,10 @@ static ALWAYS_INLINE u128 u128_from_be_bytes(const uint8_t bytes[16]) {
 }
 
 static ALWAYS_INLINE void u128_to_be_bytes(u128 a, uint8_t bytes[16]) {
-    for (unsigned i = 0; i < 16; i++) bytes[i] = (uint8_t)u128_low(u128_shift_right(a, 120 - 8 * i));
+    for (unsigned i = 16; i > 0; i--) {
+        bytes[i - 1] = (uint8_t)u128_low(a);
+        a = u128_shift_right(a, 8);
+    }
 }
 
 static ALWAYS_INLINE u128 u128_saturating_add(u128 a, u128 b) {
@@ -154,13 +159,13 @@ static ALWAYS_INLINE uint32_t u64_ilog2(uint64_t n) {
 
 static ALWAYS_INLINE size_t usize_min(size_t a, size_t b) { return a < b ? a : b; }
 
-/* Copies bytes, if there are any: C does not clearly allow a copy of none to the end of an array. */
+/* Compilers make memcpy and memset of these loops. Provers understand them, and no bytes are fine too. */
 static inline void copy_bytes(uint8_t *restrict to, const uint8_t *restrict from, size_t length) {
-    if (length != 0) memcpy(to, from, length);
+    for (size_t i = 0; i < length; i++) to[i] = from[i];
 }
 
 static inline void fill_bytes(uint8_t *to, uint8_t byte, size_t length) {
-    if (length != 0) memset(to, byte, length);
+    for (size_t i = 0; i < length; i++) to[i] = byte;
 }
 
 /* The bytes of a text, and how many they are. */
@@ -257,7 +262,6 @@ static ALWAYS_INLINE pair_u8_u8 Tables_pair(const Tables *self, uint32_t number)
 static ALWAYS_INLINE pair_u8_u8 Tables_pair_of_digits(const Tables *self, uint64_t first_digit,
     uint64_t second_digit) {
     //@ assert requires: first_digit < 62 && second_digit < 62;
-    // SAFETY: a digit is below 62.
     const uint8_t first = self->letters[first_digit];
     const uint8_t second = self->letters[second_digit];
     return (pair_u8_u8){first, second};
@@ -266,7 +270,6 @@ static ALWAYS_INLINE pair_u8_u8 Tables_pair_of_digits(const Tables *self, uint64
 // The letter of a digit.
 static ALWAYS_INLINE uint8_t Tables_letter(const Tables *self, uint64_t digit) {
     //@ assert requires: digit < 62;
-    // SAFETY: a digit is below 62.
     return self->letters[digit];
 }
 
@@ -457,17 +460,19 @@ static ALWAYS_INLINE result_Alphabet err_Alphabet(AlphabetError err) {
 // whose byte stands at an earlier index too. The call takes no memory.
 static result_Alphabet Alphabet_new(const uint8_t letters[62]) {
     uint8_t digits[256];
-    memset(digits, 255, sizeof digits);
-    for (size_t index = 0; index < 62; index++) {
-        const uint8_t *byte = letters + index;
-        if (digits[*byte] != 255) {
-            return err_Alphabet(AlphabetError_Repeated(*byte, index));
+    fill_bytes(digits, 255, sizeof digits);
+    size_t index = 0;
+    while (index < 62) {
+        const uint8_t byte = letters[index];
+        if (digits[byte] != 255) {
+            return err_Alphabet(AlphabetError_Repeated(byte, index));
         }
-        digits[*byte] = (uint8_t)index;
+        digits[byte] = (uint8_t)index;
+        index += 1;
     }
     Alphabet made;
-    memcpy(made.tables.letters, letters, 62);
-    memcpy(made.tables.digits, digits, 256);
+    copy_bytes(made.tables.letters, letters, 62);
+    copy_bytes(made.tables.digits, digits, 256);
     return ok_Alphabet(made);
 }
 
@@ -486,7 +491,6 @@ static ALWAYS_INLINE const Tables *Alphabet_as_tables(const Alphabet *self) {
 #define POWER_4 UINT32_C(14776336)
 #define POWER_5 UINT64_C(916132832)
 #define POWER_10 UINT64_C(839299365868340224)
-static const u128 POWER_20 = U128(0x87aac19e40aafc, 0xe20c98f58100000);
 
 static const uint64_t POWERS[11] = {1, 62, (uint64_t)POWER_2, (uint64_t)POWER_3, (uint64_t)POWER_4, POWER_5,
     UINT64_C(56800235584), UINT64_C(3521614606208), UINT64_C(218340105584896), UINT64_C(13537086546263552),
@@ -854,6 +858,8 @@ static ALWAYS_INLINE void write_text(const Tables *tables, u128 n, size_t count,
 static void write_narrow(const Tables *tables, uint64_t n, size_t count, uint8_t *restrict buf);
 static void write_wide(const Tables *tables, u128 n, size_t count, uint8_t *restrict buf);
 static ALWAYS_INLINE pair_u32_u64_u64 cut_by_20(u128 n);
+static ALWAYS_INLINE uint64_t last_10(u128 n);
+static ALWAYS_INLINE u128 scaled_by_20(u128 n);
 static ALWAYS_INLINE pair_u64_u64 cut_by_10(u128 n);
 static ALWAYS_INLINE pair_u64_u64 fraction_of(uint64_t n);
 static ALWAYS_INLINE pair_u64_u64 cut_narrow_by_10(uint64_t n);
@@ -915,31 +921,52 @@ static void write_wide(const Tables *tables, u128 n, size_t count, uint8_t *rest
         const uint64_t low = top_high_low._2;
         write_1_or_2(tables, top, count - 20, buf);
         write_20(tables, high, low, buf + (count - 20));
+    } else if (count == 20) {
+        const pair_u32_u64_u64 high_low = cut_by_20(n);
+        const uint64_t high = high_low._1, low = high_low._2;
+        write_20(tables, high, low, buf);
     } else {
         const pair_u64_u64 high_low = cut_by_10(n);
         const uint64_t high = high_low._0, low = high_low._1;
         write_10(tables, low, buf + (count - 10));
-        if (count == 20) {
-            const pair_u64_u64 fraction = fraction_of(high);
-            const uint64_t fraction_2 = fraction._1;
-            write_10(tables, fraction_2, buf);
-        } else {
-            write_up_to_9(tables, high, count - 10, buf);
-        }
+        write_up_to_9(tables, high, count - 10, buf);
     }
 }
 
-// Divides by 62^20, and gives the remainder as two fractions. The upper bits times 2^136 / 62^20 give
-// the quotient, or one less: then the first fraction has a whole too many.
+// Divides by 62^20, and gives the remainder as two fractions, of which neither waits for a remainder.
+// The number in units of 62^20 / 2^64 is the quotient and a fraction of all twenty letters. The last
+// ten add up to 22 units to it. 16 times their own fraction is taken off, which leaves few enough, as
+// in `fraction_of`.
 static ALWAYS_INLINE pair_u32_u64_u64 cut_by_20(u128 n) {
-    const uint64_t upper = u128_low(u128_shift_right(n, 96));
-    const uint32_t estimate = (uint32_t)((upper * 123664) >> 40);
-    const u128 remainder = u128_sub(n, u128_mul(u128_of(estimate), POWER_20));
-    const pair_u64_u64 high_low = cut_by_10(remainder);
-    const uint64_t high = high_low._0, low = high_low._1;
-    const pair_u64_u64 whole_fraction = fraction_of(high);
-    const uint64_t whole = whole_fraction._0, fraction = whole_fraction._1;
-    return (pair_u32_u64_u64){estimate + (uint32_t)whole, fraction, low};
+    const uint64_t low = last_10(n);
+    const pair_u64_u64 top_high = whole_and_fraction(u128_sub(scaled_by_20(n), u128_of(low >> 60)));
+    const uint64_t top = top_high._0, high = top_high._1;
+    return (pair_u32_u64_u64){(uint32_t)top, high, low};
+}
+
+// The fraction of the last ten letters. It is the number in units of 62^10 / 2^64, at most eight above,
+// and its wholes wrap around. 2^64 has 2^128 / 62^10 of these units: 21 wholes, the first factor, and
+// the second times 2^-64, rounded up. The third factor is 2^123 / 62^10, rounded up.
+static ALWAYS_INLINE uint64_t last_10(u128 n) {
+    const uint64_t upper = u128_low(u128_shift_right(n, 64));
+    const uint64_t lower = u128_low(u128_and(n, u128_of(UINT64_C(0xffffffffffffffff))));
+    const u128 product = u128_mul(u128_of(upper), u128_of(UINT64_C(18054599902933494364)));
+    const uint64_t first = u128_low(u128_and(product, u128_of(UINT64_C(0xffffffffffffffff))));
+    const uint64_t second = u128_low(u128_shift_right(u128_mul(u128_of(upper),
+        u128_of(UINT64_C(2913576609842229563))), 64));
+    const u128 of_lower = u128_shift_right(u128_mul(u128_of(lower), u128_of(UINT64_C(12669882045338564947))), 59);
+    const uint64_t third = u128_low(u128_and(of_lower, u128_of(UINT64_C(0xffffffffffffffff))));
+    return u64_wrapping_add(u64_wrapping_add(u64_wrapping_add(first, second), third), 2);
+}
+
+// A number in units of 62^20 / 2^64, at most five above. 2^64 has 2^128 / 62^20 of these units: the
+// second factor, and the first times 2^-64, rounded up.
+static ALWAYS_INLINE u128 scaled_by_20(u128 n) {
+    const uint64_t upper = u128_low(u128_shift_right(n, 64));
+    const uint64_t lower = u128_low(u128_and(n, u128_of(UINT64_C(0xffffffffffffffff))));
+    const uint64_t rest = u128_low(u128_shift_right(u128_mul(u128_of(upper),
+        u128_of(UINT64_C(1200736830183971319))), 64));
+    return u128_add(u128_mul(u128_of(upper), u128_of(483)), u128_of(rest + (((lower >> 32) * 483) >> 32) + 4));
 }
 
 // Divides by 62^10, and gives the remainder as a fraction. The upper bits times 2^120 / 62^10 give
@@ -1103,14 +1130,6 @@ static inline u128 bytes_16_number(const uint8_t self[16]) {
 
 // Encoding into a buffer, and decoding.
 
-static result_usize encode_bytes_counted(u128 num, uint8_t *restrict buf, size_t buf_length);
-static result_usize encode_alternative_bytes_counted(u128 num, uint8_t *restrict buf, size_t buf_length);
-static result_usize encode_bytes_with_counted(const Alphabet *alphabet, u128 num, uint8_t *restrict buf,
-    size_t buf_length);
-static ALWAYS_INLINE result_u128 decode_counted(const uint8_t *input, size_t input_length);
-static ALWAYS_INLINE result_u128 decode_alternative_counted(const uint8_t *input, size_t input_length);
-static result_u128 decode_with_counted(const Alphabet *alphabet, const uint8_t *input, size_t input_length);
-
 // Writes the standard text of `num` to the start of `buf`, and answers its length, 1 to 22.
 //
 // The text is the shortest nonempty one that denotes the number. Its letters are `0` to `9`, `A`
@@ -1118,35 +1137,16 @@ static result_u128 decode_with_counted(const Alphabet *alphabet, const uint8_t *
 // as before. `Err(BufferTooSmall)` comes exactly if `buf` is shorter than the text, so never at
 // 22 bytes or more, and leaves `buf` as it was. The call takes no memory.
 static result_usize encode_bytes(u128 num, uint8_t *restrict buf, size_t buf_length) {
-    return encode_bytes_counted(num, buf, buf_length);
+    return encode_over(standard_tables(), u128_number(num), buf, buf_length);
 }
 
 // As `encode_bytes`, over the alternative alphabet.
 static result_usize encode_alternative_bytes(u128 num, uint8_t *restrict buf, size_t buf_length) {
-    return encode_alternative_bytes_counted(num, buf, buf_length);
+    return encode_over(alternative_tables(), u128_number(num), buf, buf_length);
 }
 
 // As `encode_bytes`, over an alphabet of the caller's. Its first letter takes the place of `0`.
 static result_usize encode_bytes_with(const Alphabet *alphabet, u128 num, uint8_t *restrict buf,
-    size_t buf_length) {
-    return encode_bytes_with_counted(alphabet, num, buf, buf_length);
-}
-
-// As `encode_bytes`, with the steps of writing the text counted on `work`, from where it stands.
-//
-// Texts of 1 or 2 letters take 1 step, those of 10 to 12 letters 7, and those of 21 or 22 letters
-// 13, which is the most. A refused call takes none.
-static result_usize encode_bytes_counted(u128 num, uint8_t *restrict buf, size_t buf_length) {
-    return encode_over(standard_tables(), u128_number(num), buf, buf_length);
-}
-
-// As `encode_bytes_counted`, over the alternative alphabet.
-static result_usize encode_alternative_bytes_counted(u128 num, uint8_t *restrict buf, size_t buf_length) {
-    return encode_over(alternative_tables(), u128_number(num), buf, buf_length);
-}
-
-// As `encode_bytes_counted`, over an alphabet of the caller's.
-static result_usize encode_bytes_with_counted(const Alphabet *alphabet, u128 num, uint8_t *restrict buf,
     size_t buf_length) {
     return encode_over(Alphabet_as_tables(alphabet), u128_number(num), buf, buf_length);
 }
@@ -1168,35 +1168,16 @@ static result_usize encode_bytes_with_counted(const Alphabet *alphabet, u128 num
 // Any count of leading zeros is allowed and changes no number. Zeros alone denote 0. The index of
 // a byte is counted from the start of `input`, leading zeros included. The call takes no memory.
 static ALWAYS_INLINE result_u128 decode(const uint8_t *input, size_t input_length) {
-    return decode_counted(input, input_length);
+    return decode_over(standard_tables(), input, input_length);
 }
 
 // As `decode`, over the alternative alphabet, whose zero letter is `0` too.
 static ALWAYS_INLINE result_u128 decode_alternative(const uint8_t *input, size_t input_length) {
-    return decode_alternative_counted(input, input_length);
+    return decode_over(alternative_tables(), input, input_length);
 }
 
 // As `decode`, over an alphabet of the caller's. Its first letter takes the place of `0`.
 static result_u128 decode_with(const Alphabet *alphabet, const uint8_t *input, size_t input_length) {
-    return decode_with_counted(alphabet, input, input_length);
-}
-
-// As `decode`, with the steps of reading `input` counted on `work`, from where it stands.
-//
-// An empty text takes no step, and neither does one with more than 22 bytes after its leading
-// zeros. Case 4 of `decode` takes ten. Any other text takes one step for each byte after its
-// leading zeros, up to and with the first that is no letter. No text takes more than 22.
-static ALWAYS_INLINE result_u128 decode_counted(const uint8_t *input, size_t input_length) {
-    return decode_over(standard_tables(), input, input_length);
-}
-
-// As `decode_counted`, over the alternative alphabet.
-static ALWAYS_INLINE result_u128 decode_alternative_counted(const uint8_t *input, size_t input_length) {
-    return decode_over(alternative_tables(), input, input_length);
-}
-
-// As `decode_counted`, over an alphabet of the caller's.
-static result_u128 decode_with_counted(const Alphabet *alphabet, const uint8_t *input, size_t input_length) {
     return decode_over(Alphabet_as_tables(alphabet), input, input_length);
 }
 
@@ -1398,7 +1379,7 @@ static void encode_key(u128 num, uint8_t result[22]) {
     const u128 n = u128_number(num);
     uint8_t key[22] = {0};
     write_padded(standard_tables(), n, digit_count(n), key, 22);
-    memcpy(result, key, 22);
+    copy_bytes(result, key, 22);
 }
 
 // The least and the greatest number below 2^128 whose key begins with `prefix`.
@@ -1644,7 +1625,7 @@ base62_status base62_make_alphabet(const char letters[BASE62_ALPHABET_LENGTH], b
     const result_Alphabet answer = Alphabet_new((const uint8_t *)letters);
     if (answer.is_ok) {
         const Alphabet made = answer.ok;
-        memcpy(alphabet, &made, sizeof(Alphabet));
+        copy_bytes((uint8_t *)alphabet, (const uint8_t *)&made, sizeof(Alphabet));
         return (base62_status)OK;
     }
     const AlphabetError fault = answer.err;
@@ -1665,5 +1646,5 @@ size_t base62_fault_text(base62_status status, base62_bad_byte bad, char *buffer
 }
 
 uint32_t base62_version_number(void) {
-    return 30100;
+    return 30200;
 }

@@ -1,8 +1,14 @@
+// SPDX-License-Identifier: MIT
+// Copyright (c) 2026 the maintainers of base62 for Rattle
+
 /**
  * Whole numbers below 2**128 and UUIDs as short texts in base 62, and back.
  *
  * An argument of a wrong type throws a TypeError. Any other error is a {@link Base62Error}.
  */
+
+/** What a number can be. `false` is 0, and `true` is 1. */
+export type Integer = number | bigint | boolean;
 
 /** What a text can be. A string is read as UTF-8, in which a lone surrogate has three bytes. */
 export type Text = string | Uint8Array;
@@ -16,7 +22,7 @@ export type Text = string | Uint8Array;
  * @param alphabet the letters, by default the standard ones
  * @throws {Base62Error} `OUT_OF_RANGE`
  */
-export function encode(number: number | bigint, alphabet?: Alphabet): string;
+export function encode(number: Integer, alphabet?: Alphabet): string;
 
 /**
  * Returns the text of a number in exactly `width` letters, with leading zeros. Texts of one width sort as their
@@ -28,7 +34,7 @@ export function encode(number: number | bigint, alphabet?: Alphabet): string;
  * @throws {Base62Error} `BUFFER_TOO_SMALL` if the width is 0 or the number needs more letters, and `OUT_OF_RANGE`.
  *   If the host has no memory for the text, it throws an error of its own.
  */
-export function encodeFixed(number: number | bigint, width: number, alphabet?: Alphabet): string;
+export function encodeFixed(number: Integer, width: number, alphabet?: Alphabet): string;
 
 /**
  * Returns the key of a number: its text in 22 standard letters. Keys sort as their numbers.
@@ -37,7 +43,7 @@ export function encodeFixed(number: number | bigint, width: number, alphabet?: A
  * @param number as of {@link encode}
  * @throws {Base62Error} `OUT_OF_RANGE`
  */
-export function encodeKey(number: number | bigint): string;
+export function encodeKey(number: Integer): string;
 
 /**
  * Returns the text of a UUID, which is the text of the number with the same 16 bytes, the highest first.
@@ -49,7 +55,7 @@ export function encodeKey(number: number | bigint): string;
 export function encodeUuid(uuid: string | Uint8Array, alphabet?: Alphabet): string;
 
 /** Returns the length of the text of a number, from 1 to 22. Throws what {@link encode} throws. */
-export function digitCount(number: number | bigint): number;
+export function digitCount(number: Integer): number;
 
 /**
  * Returns the number of a text. Leading zeros change nothing.
@@ -85,6 +91,13 @@ export function decodeCanonical(text: Text, alphabet?: Alphabet): bigint;
 export function decodeUuid(text: Text, alphabet?: Alphabet): string;
 
 /**
+ * Returns the UUID of a text, as {@link decodeUuid} does, but takes only what {@link encodeUuid} writes.
+ *
+ * @throws {Base62Error} what {@link decodeCanonical} throws
+ */
+export function decodeUuidCanonical(text: Text, alphabet?: Alphabet): string;
+
+/**
  * Returns the least and the greatest number whose texts of `width` letters begin with `prefix`, which may be empty. All
  * numbers between them have such texts too, and no other has one. Returns null if no number has one.
  *
@@ -96,6 +109,14 @@ export function fixedRange(width: number, prefix: Text, alphabet?: Alphabet): [l
 
 /** Returns the range of {@link fixedRange} for keys, which have 22 standard letters. */
 export function keyRange(prefix: Text): [least: bigint, greatest: bigint] | null;
+
+/**
+ * Returns the keys of both numbers of {@link keyRange}, or null. In a database they are the bounds of a search.
+ *
+ * @example keyBounds('00000000000000000000L') gives ['00000000000000000000L0', '00000000000000000000Lz']
+ * @throws {Base62Error} `INVALID_BYTE`
+ */
+export function keyBounds(prefix: Text): [least: string, greatest: string] | null;
 
 /** Letters for the digits from 0 to 61. */
 export class Alphabet {

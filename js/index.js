@@ -1,4 +1,7 @@
-// The calls of the package. They pass values to the WebAssembly of c/base62.c and back, and hold no rule of the texts.
+// SPDX-License-Identifier: MIT
+// Copyright (c) 2026 the maintainers of base62 for Rattle
+
+// The calls of the package. They pass values to the WebAssembly of c/base62.c and back. It has all rules of the texts.
 import {
   ALPHABET_LENGTH,
   ALPHABET_SIZE,
@@ -18,7 +21,7 @@ import {
 // The host's functions are taken as the script loads, so a prototype that changes later changes no answer. No code of
 // the caller's runs within a call.
 const { BigUint64Array, RangeError, TypeError, Uint8Array, Uint32Array } = globalThis;
-const { Global, Instance, Memory, Module } = WebAssembly;
+const { Global, Instance, Memory, Module } = globalThis.WebAssembly ?? noWebAssembly();
 const { defineProperty, getOwnPropertyDescriptor, getPrototypeOf } = Object;
 const { MAX_SAFE_INTEGER } = Number;
 const { fromCharCode } = String;
@@ -50,7 +53,20 @@ const UUID = /^[\da-f]{8}(-[\da-f]{4}){3}-[\da-f]{12}$/i;
 const HYPHEN = 45;
 const HEXADECIMAL = '0123456789abcdef';
 
-const code = new Module(Uint8Array.from(atob(wasm), (byte) => byte.charCodeAt()));
+const code = compiled();
+
+function compiled() {
+  try {
+    return new Module(Uint8Array.from(atob(wasm), (byte) => byte.charCodeAt()));
+  } catch (cause) {
+    const ways = 'allow it in the Content-Security-Policy, or load base62-proved/module';
+    throw new Error(`this host refuses to compile WebAssembly: ${ways}`, { cause });
+  }
+}
+
+function noWebAssembly() {
+  throw new Error('base62-proved needs WebAssembly, which this host does not have');
+}
 
 // An instance of the library, whose memory has so many pages more than at first.
 function open(pages) {
@@ -145,13 +161,15 @@ function put(number) {
     if (upper < 0n || upper > 0xffffffffffffffffn) throw outOfRange();
     halves[NUMBER / 8] = upper;
     halves[NUMBER / 8 + 1] = number;
+  } else if (typeof number === 'boolean') {
+    put(number ? 1 : 0);
   } else {
-    throw new TypeError('a number is a Number or a BigInt');
+    throw new TypeError('a number is a Number, a BigInt or a boolean');
   }
 }
 
 function outOfRange() {
-  return new Base62Error('a number is an integer from 0 to 2**128 - 1, and as a Number to 2**53 - 1', 'OUT_OF_RANGE');
+  return new Base62Error('a number is an integer from 0 to 2**128 - 1, or to 2**53 - 1 as a Number', 'OUT_OF_RANGE');
 }
 
 function checkWidth(width) {
@@ -220,9 +238,15 @@ const tables = new WeakMap();
 function lend(it, alphabet = standard) {
   if (it.alphabet === alphabet) return;
   const table = recall(tables, alphabet);
-  if (!table) throw new TypeError('an alphabet is an Alphabet of this module');
+  if (!table) throw noAlphabet(alphabet);
   copy(it.bytes, table, ALPHABET);
   it.alphabet = alphabet;
+}
+
+// Methods such as map give an index as the second argument.
+function noAlphabet(given) {
+  if (typeof given !== 'number') return new TypeError('an alphabet is an Alphabet of this module');
+  return new TypeError(`an alphabet is an Alphabet, not ${given}: give map a function such as (n) => encode(n)`);
 }
 
 // Answers
@@ -309,7 +333,7 @@ function decodeNumber(text, alphabet) {
   const at = NUMBER / 4;
   const number = words[at + 2] + words[at + 3] * WORD;
   if (words[at] || words[at + 1] || number > MAX_SAFE_INTEGER) {
-    throw new Base62Error('the number is above 2**53 - 1, so decode reads it', 'UNSAFE_INTEGER');
+    throw new Base62Error('the number is above 2**53 - 1: use decode', 'UNSAFE_INTEGER');
   }
   return number;
 }
@@ -330,6 +354,11 @@ function fixedRange(width, prefix, alphabet) {
 
 function keyRange(prefix) {
   return fixedRange(KEY_LENGTH, prefix);
+}
+
+function keyBounds(prefix) {
+  const range = keyRange(prefix);
+  return range && [encodeKey(range[0]), encodeKey(range[1])];
 }
 
 // A UUID has the highest byte first, and each half of a number the lowest one.
@@ -356,6 +385,16 @@ function encodeUuid(uuid, alphabet) {
 
 function decodeUuid(text, alphabet) {
   read(text, alphabet, false);
+  return uuidRead();
+}
+
+function decodeUuidCanonical(text, alphabet) {
+  read(text, alphabet, true);
+  return uuidRead();
+}
+
+// The UUID of the number at its address.
+function uuidRead() {
   let uuid = '';
   for (let i = 0; i < UUID_LENGTH; i++) {
     if (i === 4 || i === 6 || i === 8 || i === 10) uuid += '-';
@@ -413,11 +452,13 @@ export {
   decodeCanonical,
   decodeNumber,
   decodeUuid,
+  decodeUuidCanonical,
   digitCount,
   encode,
   encodeFixed,
   encodeKey,
   encodeUuid,
   fixedRange,
+  keyBounds,
   keyRange,
 };

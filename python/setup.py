@@ -1,3 +1,5 @@
+# SPDX-License-Identifier: MIT
+# Copyright (c) 2026 the maintainers of base62 for Rattle
 """The extension, over base62.c and base62.h, and what an archive of sources has of the repository."""
 
 from pathlib import Path
@@ -6,7 +8,7 @@ from setuptools import Extension, setup
 from setuptools.command.sdist import sdist
 
 # They stand above this folder. An archive has them within.
-SHARED = ["VERSION", "CHANGELOG.md", "c/base62.c", "c/base62.h"]
+SHARED = ["VERSION", "CHANGELOG.md", "c/base62.c", "c/base62.h", "tests/model.py", "tests/values.tsv"]
 top = Path("." if Path("VERSION").exists() else "..")
 
 

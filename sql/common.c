@@ -1,3 +1,5 @@
+/* SPDX-License-Identifier: MIT */
+/* Copyright (c) 2026 the maintainers of base62 for Rattle */
 #include "common.h"
 
 #include <string.h>
@@ -84,9 +86,20 @@ bool decode_own_or_standard(const base62_alphabet *alphabet, const char *text, s
     return status == BASE62_OK || refuse_status(status, bad, why);
 }
 
-bool range_of_prefix(const char *prefix, size_t length, size_t width, base62_range *range, bool *none, refusal *why) {
+bool range_of_prefix(const base62_alphabet *alphabet, const char *prefix, size_t length, size_t width,
+                     base62_range *range, bool *none, refusal *why) {
     base62_bad_byte bad = {0, 0};
-    base62_status status = base62_fixed_range(width, prefix, length, range, &bad);
+    base62_status status = alphabet == NULL
+                               ? base62_fixed_range(width, prefix, length, range, &bad)
+                               : base62_fixed_range_with(alphabet, width, prefix, length, range, &bad);
     *none = status == BASE62_NO_KEY;
     return *none || status == BASE62_OK || refuse_status(status, bad, why);
+}
+
+bool int64_end_of_range(base62_range range, bool last, int64_t *whole) {
+    if (!int64_of_number(range.least, whole))
+        return false;
+    if (last && !int64_of_number(range.greatest, whole))
+        *whole = INT64_MAX;
+    return true;
 }

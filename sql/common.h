@@ -1,3 +1,6 @@
+/* SPDX-License-Identifier: MIT */
+/* Copyright (c) 2026 the maintainers of base62 for Rattle */
+
 /* What the modules of both databases share: calls over the standard alphabet or one of the caller's own, and why they
  * refuse. Nothing of it is exported. */
 #ifndef BASE62_COMMON_H
@@ -46,6 +49,10 @@ bool decode_own_or_standard(const base62_alphabet *alphabet, const char *text, s
 bool check_width(int64_t width, refusal *why);
 
 /* The numbers whose texts of the width begin with the prefix. If there are none, *none is true. */
-bool range_of_prefix(const char *prefix, size_t length, size_t width, base62_range *range, bool *none, refusal *why);
+bool range_of_prefix(const base62_alphabet *alphabet, const char *prefix, size_t length, size_t width,
+                     base62_range *range, bool *none, refusal *why);
+
+/* The first or the last number of the range that is below 2^63. Answers whether there is one. */
+bool int64_end_of_range(base62_range range, bool last, int64_t *whole);
 
 #endif

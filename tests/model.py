@@ -1,4 +1,6 @@
 #!/usr/bin/env python3
+# SPDX-License-Identifier: MIT
+# Copyright (c) 2026 the maintainers of base62 for Rattle
 """What each call has to answer, by whole numbers, and the file of such values that the tests of every language read.
 
     python3 tests/model.py            writes tests/values.tsv
@@ -249,6 +251,11 @@ KNOWN_RANGES: list[tuple[int, bytes, Answer]] = [
     (5, b"000", ("numbers", 0, 3843)),
     (5, b"000L", ("numbers", 1302, 1363)),
     (7, b"2a", ("numbers", 2 * 62**6 + 36 * 62**5, 2 * 62**6 + 37 * 62**5 - 1)),
+    # About 2^63.
+    (11, b"A", ("numbers", 10 * 62**10, 11 * 62**10 - 1)),
+    (11, b"AzL8n0Y58m7", ("numbers", 2**63 - 1, 2**63 - 1)),
+    (11, b"AzL8n0Y58m8", ("numbers", 2**63, 2**63)),
+    (11, b"B", ("numbers", 11 * 62**10, 12 * 62**10 - 1)),
     (21, b"", ("numbers", 0, 62**21 - 1)),
     (23, b"", ("numbers", 0, LARGEST)),
     (23, b"0", ("numbers", 0, LARGEST)),

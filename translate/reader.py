@@ -3,11 +3,13 @@
 Both writers stand on it. A ghost part is there for the proof alone: the contract of a function, a ghost item, and a mark
 of the proof's language, which no code has. What is not known is refused with its file and line.
 """
+import contextlib
 import re
 
 TOKEN = re.compile(r"""
       (?P<space>\s+)
     | (?P<comment>//[^\n]*)
+    | (?P<unknown>/\*|\w+(?=")(?<!\bb)|\b(?:b|c)?r\#)
     | (?P<string>b?"(?:\\.|[^"\\])*")
     | (?P<char>b?'(?:\\.[^'\n]*|[^\\'\n])')
     | (?P<label>'\w+)
@@ -35,13 +37,30 @@ def refuse(token, why):
     raise Refusal(f"{token.file}:{token.line}: {why}: {token}")
 
 
+@contextlib.contextmanager
+def refusing(token):
+    """Makes a refusal of all that fails inside: a form of which nobody has thought. It begins at the token."""
+    try:
+        yield
+    except Exception as unknown:
+        refuse(token, f"a form that is not known ({unknown!r})")
+
+
+def token_at(file, line, text="", kind="space"):
+    token = Token(text)
+    token.kind, token.file, token.line = kind, file, line
+    return token
+
+
 def tokens_of(file, text=None, line=1):
     """All tokens of a file, or of a text from a line of it on."""
+    with refusing(token_at(file, line)):
+        text = file.read_text() if text is None else text
     found = []
-    for match in TOKEN.finditer(file.read_text() if text is None else text):
-        token = Token(match[0])
-        token.kind, token.file, token.line = match.lastgroup, file, line
-        found.append(token)
+    for match in TOKEN.finditer(text):
+        found.append(token_at(file, line, match[0], match.lastgroup))
+        if match.lastgroup == "unknown":
+            refuse(found[-1], "a comment or a text of a form that is not known")
         line += match[0].count("\n")
     return found
 
@@ -100,12 +119,46 @@ def split_list(tokens):
     return [part for part in parts if plain(part)]
 
 
+def decided(least, greatest, comparison):
+    """Whether all numbers between these ends compare so, or none (False), or some (None). An end has both sides."""
+    strict = comparison == "<"
+    if comparison == "≡":
+        return True if least == greatest and least[0] == least[1] else (
+            False if greatest[0] < least[1] or greatest[1] < least[0] else None)
+    if greatest[0] + strict <= least[1]:
+        return True
+    return False if least[0] + strict > greatest[1] else None
+
+
 class Clause:
     """A clause of a contract: `requires` or `ensures`, its name if it has one, and what it states."""
     def __init__(self, tokens):
         words = code_of(tokens)
         self.kind, self.name = words[0], words[1] if words[1] != "{" else None
         self.stated = words[2 if self.name is None else 3:-1]
+
+    def holds(self, ends):
+        """Whether a comparison of sums and products of whole numbers always holds. None: it depends, or is not known.
+
+        `ends` tells the least and the greatest value of a name or a length, for a usize of 32 bits or of 64. What never
+        holds for one of these is refused.
+        """
+        text, always = re.sub(r" ?\. ?(now|old)", "", " ".join(self.stated)), []
+        for bits in (32, 64):
+            def value(term, end):
+                if term[2]:
+                    return str(int(term[2]) ** int(term[3]))
+                return str((ends(term[0], bits) or "??")[end])
+
+            said = [re.sub(r"(length )?\b[A-Za-z_]\w*|(\d+) \^ (\d+)", lambda term: value(term, end), text)
+                    for end in (0, 1)]
+            if not all(re.fullmatch(r"[\d ()+*]+ [<≤≡] [\d ()+*]+", it) for it in said):
+                return None
+            sides = [[eval(side) for side in re.split("[<≤≡]", it)] for it in said]
+            always.append(decided(*sides, re.search("[<≤≡]", text)[0]))
+        if False in always:
+            refuse(self.kind, "a clause that never holds")
+        return all(always) or None
 
 
 class Item:
@@ -118,7 +171,7 @@ class Item:
         self.kind, self.name, self.clauses, self.body = "", "", [], []
         begin = at
         self.attributes, at = self.read_lead(tokens, at)
-        self.lead, self.end = tokens[begin:at], at
+        self.lead, self.end, self.first = tokens[begin:at], at, tokens[min(at, len(tokens) - 1)] if tokens else Token()
         if at < len(tokens):
             self.read_head(tokens, at)
             self.tokens = tokens[at:self.end]
@@ -131,16 +184,21 @@ class Item:
         return attributes, at
 
     def read_head(self, tokens, begin):
-        at, self.first = begin, tokens[begin]
+        at = begin
         self.is_public = self.first == "pub" and tokens[begin + 1] != "("
         if self.first == "pub":
             at = skip_space(tokens, at + 1 if self.is_public else after(tokens, at + 1))
         self.is_exported = tokens[at] == "extern"
         if self.is_exported:
             at = skip_space(tokens, skip_space(tokens, at + 1) + 1)
+        if tokens[at] == "const" and tokens[skip_space(tokens, at + 1)] == "fn":
+            at = skip_space(tokens, at + 1)
         self.kind = tokens[at]
         if self.kind in ONE_LINE:
             self.end = seek(tokens, at, (";",)) + 1
+            named = skip_space(tokens, skip_space(tokens, at + 1) + 1)
+            if tokens[named] != {"const": ":", "static": ":", "mod": ";"}.get(self.kind, tokens[named]):
+                refuse(self.kind, "no item that is known")
             self.signature = tokens[begin:self.end]
         elif self.kind in WITH_BODY:
             self.read_body(tokens, begin, at)
@@ -170,7 +228,9 @@ class Item:
 
 def items_of(tokens):
     """The items of a file or of a body, and what stands behind the last."""
-    found = [Item(tokens, 0)]
-    while found[-1].end < len(tokens):
-        found.append(Item(tokens, found[-1].end))
+    found, at = [], 0
+    while not found or at < len(tokens):
+        with refusing(tokens[min(skip_space(tokens, at), len(tokens) - 1)] if tokens else None):
+            found.append(Item(tokens, at))
+        at = found[-1].end
     return found

@@ -14,6 +14,15 @@ function sameRange(actual, wanted) {
   same(actual[1], BigInt(wanted[1]));
 }
 
+// The keys of both ends of a range, of which a row has the kind and the numbers.
+function sameBounds(base62, prefix, kind, numbers) {
+  if (kind === 'byte') return refuses(base62, () => base62.keyBounds(prefix), ...wantedOf([kind, ...numbers]));
+  const bounds = base62.keyBounds(prefix);
+  if (kind === 'none') return same(bounds, null);
+  same(Array.isArray(bounds) && bounds.length, 2);
+  bounds.forEach((key, i) => same(key.length === 22 && base62.decode(key), BigInt(numbers[i])));
+}
+
 function faultOf(call) {
   try {
     call();
@@ -165,19 +174,25 @@ const tests = {
     }
   },
 
-  'a UUID has the text of its number'({ base62, rows, rowsOf, alphabets }) {
+  'a UUID has the text of its number'({ base62, rows, rowsOf, alphabets, refused }) {
     for (const [digits, uuid, text] of rows.uuid) {
       const bytes = Uint8Array.from(uuid.replaceAll('-', '').match(/../g), (it) => parseInt(it, 16));
       same(base62.encodeUuid(uuid), text);
       same(base62.encodeUuid(uuid.toUpperCase()), text);
       same(base62.encodeUuid(bytes), text);
       same(base62.decodeUuid(text), uuid);
+      same(base62.decodeUuidCanonical(text), uuid);
       same(uuidOf(BigInt(digits)), uuid);
     }
     for (const [name, digits, field] of rowsOf('encode')) {
       const uuid = uuidOf(BigInt(digits));
       same(base62.encodeUuid(uuid, alphabets[name]), textOf(field));
       same(base62.decodeUuid(textOf(field), alphabets[name]), uuid);
+      same(base62.decodeUuidCanonical(textOf(field), alphabets[name]), uuid);
+    }
+    for (const [name, field, digits] of rowsOf('zeros')) {
+      same(base62.decodeUuid(textOf(field), alphabets[name]), uuidOf(BigInt(digits)));
+      refused(() => base62.decodeUuidCanonical(textOf(field), alphabets[name]), 'NOT_CANONICAL');
     }
   },
 
@@ -191,6 +206,7 @@ const tests = {
           if (kind === 'byte') refused(call, ...wantedOf([kind, ...numbers]));
           else sameRange(call(), kind === 'none' ? null : numbers);
         }
+        if (name === 'standard' && width === '22') sameBounds(base62, prefix, kind, numbers);
       }
     }
     for (const width of [2 ** 32, Number.MAX_SAFE_INTEGER]) {
@@ -204,11 +220,12 @@ const tests = {
     for (const width of [22, 2 ** 40]) calls.push((number) => base62.encodeFixed(number, width));
     const rounded = [2 ** 53, 1.5, 5e-324, NaN, Infinity, -Infinity, -1];
     const wide = [-1n, 2n ** 128n, -(2n ** 200n), 2n ** 200n];
-    const others = ['5', '', undefined, null, true, [], {}, Symbol('5'), Object(5), Object(5n), convertible, trap];
+    const others = ['5', '', undefined, null, [], {}, Symbol('5'), Object(5), Object(5n), convertible, trap];
     for (const call of calls) {
       for (const number of [...rounded, ...wide]) refused(() => call(number), 'OUT_OF_RANGE');
       for (const number of others) refusesType(() => call(number));
     }
+    same([false, true].map((it) => base62.encode(it)).join(), '0,1');
     same(base62.encode(-0), '0');
     same(base62.digitCount(-0), 1);
     same(base62.decodeNumber('0'), 0);
@@ -229,8 +246,8 @@ const tests = {
   },
 
   'faults of a text are named'({ base62, rowsOf, alphabets, refused }) {
-    const { decode, decodeCanonical, decodeNumber, decodeUuid } = base62;
-    for (const call of [decode, decodeCanonical, decodeNumber, decodeUuid]) {
+    const { decode, decodeCanonical, decodeNumber, decodeUuid, decodeUuidCanonical } = base62;
+    for (const call of [decode, decodeCanonical, decodeNumber, decodeUuid, decodeUuidCanonical]) {
       for (const [name, field, ...fault] of rowsOf('refused')) {
         for (const text of formsOf(textOf(field))) {
           refused(() => call(text, alphabets[name]), ...wantedOf(fault));
@@ -275,20 +292,26 @@ const tests = {
   'what is no text, UUID or alphabet is refused'({ base62, alphabet, Alphabet, standard }) {
     const others = [undefined, null, 5, 5n, true, [], ['LZ'], {}, Symbol('LZ'), Object('LZ'), convertible, trap];
     const arrays = [new Uint8ClampedArray(2), new Int8Array(2), new ArrayBuffer(2), new DataView(new ArrayBuffer(2))];
-    const { decode, decodeCanonical, decodeNumber, decodeUuid, keyRange, encodeUuid } = base62;
+    const { decode, decodeCanonical, decodeNumber, decodeUuid, decodeUuidCanonical, keyRange, keyBounds } = base62;
+    const decoders = [decode, decodeCanonical, decodeNumber, decodeUuid, decodeUuidCanonical];
     for (const other of [...others, ...arrays, new Proxy(new Uint8Array(2), {})]) {
-      for (const call of [decode, decodeCanonical, decodeNumber, decodeUuid, keyRange, encodeUuid]) {
-        refusesType(() => call(other));
-      }
+      for (const call of [...decoders, keyRange, keyBounds, base62.encodeUuid]) refusesType(() => call(other));
       refusesType(() => new Alphabet(other));
       if (other !== undefined) refusesType(() => base62.encode(5, other));
     }
     const likenesses = [Object.create(Alphabet.prototype), Object.create(alphabet), new Proxy(alphabet, {})];
     for (const other of [standard, ...likenesses]) {
-      for (const call of [decode, decodeCanonical, decodeNumber, decodeUuid]) refusesType(() => call('LZ', other));
+      for (const call of decoders) refusesType(() => call('LZ', other));
       refusesType(() => base62.fixedRange(7, 'LZ', other));
       refusesType(() => base62.encodeFixed(5, 7, other));
       refusesType(() => base62.encodeUuid(new Uint8Array(16), other));
+    }
+  },
+
+  'an index in the place of an alphabet is named'({ base62 }) {
+    const said = 'an alphabet is an Alphabet, not 0: give map a function such as (n) => encode(n)';
+    for (const call of [() => [1, 2, 3].map(base62.encode), () => ['LZ'].map(base62.decode)]) {
+      same(faultOf(call) instanceof TypeError && faultOf(call).message, said);
     }
   },
 

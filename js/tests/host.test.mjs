@@ -1,12 +1,14 @@
 // What a program around the calls could disturb: memory, the stack, other copies and threads, and changed prototypes.
 import assert from 'node:assert/strict';
 import { spawnSync } from 'node:child_process';
+import { readFileSync } from 'node:fs';
 import { createRequire } from 'node:module';
 import { test } from 'node:test';
 import { fileURLToPath, pathToFileURL } from 'node:url';
-import { runInNewContext } from 'node:vm';
+import { createContext, runInContext, runInNewContext } from 'node:vm';
 import { Worker } from 'node:worker_threads';
 import * as base62 from 'base62-proved';
+import { load } from 'base62-proved/module';
 
 const { Alphabet, decode, encode } = base62;
 const own = '23456789ABCDEFGHJKLMNPQRSTUVWXYZabcdefghijkmnpqrstuvwxyz-_.~!*';
@@ -144,4 +146,32 @@ test('changed prototypes change no answer', () => {
     assert.equal(ran.stderr, '');
     assert.equal(ran.stdout, `${how}: right\n`);
   }
+});
+
+// A context that compiles no WebAssembly at run time, as on some servers.
+const context = createContext({ TextDecoder, atob, exports: {} }, { codeGeneration: { strings: true, wasm: false } });
+const { resolve } = createRequire(import.meta.url);
+const runThere = (name, end) => {
+  const script = readFileSync(resolve(name), 'utf8').replace('module.exports', 'exports.all').replace('export ', '');
+  return runInContext(`(() => {${script}; ${end}})()`, context);
+};
+
+test('a host that compiles no WebAssembly says so, and takes a module', () => {
+  const ways = 'allow it in the Content-Security-Policy, or load base62-proved/module';
+  const message = `this host refuses to compile WebAssembly: ${ways}`;
+  assert.throws(() => runThere('base62-proved', ''), { message });
+  context.code = new WebAssembly.Module(readFileSync(resolve('base62-proved/base62.wasm')));
+  assert.equal(runThere('base62-proved/module', 'return load(code).encode(1337n);'), 'LZ');
+});
+
+test('what is no module of the library is refused', () => {
+  const other = new WebAssembly.Module(Uint8Array.of(0, 97, 115, 109, 1, 0, 0, 0));
+  const said = { name: 'TypeError', message: 'load takes the WebAssembly.Module of base62.wasm' };
+  for (const wrong of [undefined, null, {}, new Uint8Array(8), other]) assert.throws(() => load(wrong), said);
+});
+
+test('a host without WebAssembly says so', () => {
+  const script = `import(${JSON.stringify(pathToFileURL(commonJs))}).catch((fault) => console.log(fault.message))`;
+  const ran = spawnSync(process.execPath, ['--jitless', '--eval', script], { encoding: 'utf8' });
+  assert.equal(ran.stdout, 'base62-proved needs WebAssembly, which this host does not have\n');
 });

@@ -6,20 +6,25 @@ import {
   decodeCanonical,
   decodeNumber,
   decodeUuid,
+  decodeUuidCanonical,
   digitCount,
   encode,
   encodeFixed,
   encodeKey,
   encodeUuid,
   fixedRange,
+  keyBounds,
   keyRange,
+  type Integer,
   type Text,
 } from 'base62-proved';
 
 const alphabet: Alphabet = new Alphabet('0123');
 const letters: string = Alphabet.standard.letters + Alphabet.alternative.letters;
 const bytes: Text = new Uint8Array(16);
+const flag: Integer = true;
 const texts: string[] = [
+  encode(flag),
   encode(5),
   encode(5n, alphabet),
   encode(5, undefined),
@@ -27,10 +32,12 @@ const texts: string[] = [
   encodeKey(5n),
   encodeUuid(bytes, alphabet),
   decodeUuid('5', alphabet),
+  decodeUuidCanonical('5', alphabet),
 ];
 const numbers: bigint[] = [decode('5'), decode(bytes, alphabet), decodeCanonical('5', alphabet)];
 const small: number = decodeNumber('5', alphabet) + digitCount(5n);
 const range: [bigint, bigint] | null = fixedRange(7, '5', alphabet) ?? keyRange(bytes);
+const bounds: [string, string] | null = keyBounds('5');
 
 function told(fault: unknown): string {
   if (!(fault instanceof Base62Error)) return '';
@@ -55,6 +62,8 @@ encode(5, { letters: '0123' });
 encode(5, null);
 // @ts-expect-error
 encodeKey(5, alphabet);
+// @ts-expect-error
+keyBounds('5', alphabet);
 // @ts-expect-error
 encodeFixed(5);
 // @ts-expect-error
@@ -92,4 +101,4 @@ new Base62Error('5');
 // @ts-expect-error
 import { version } from 'base62-proved';
 
-export { ends, letters, number, numbers, range, small, texts, told };
+export { bounds, ends, letters, number, numbers, range, small, texts, told };

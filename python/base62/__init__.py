@@ -1,3 +1,5 @@
+# SPDX-License-Identifier: MIT
+# Copyright (c) 2026 the maintainers of base62 for Rattle
 """Whole numbers below 2**128 and UUIDs as short texts in base 62, and back.
 
 >>> encode(1337)

@@ -1,3 +1,6 @@
+/* SPDX-License-Identifier: MIT */
+/* Copyright (c) 2026 the maintainers of base62 for Rattle */
+
 /* The calls of base62.h for Python: numbers and texts in and out, alphabets, and exceptions. */
 #define Py_LIMITED_API 0x030b0000
 #include <Python.h>
@@ -156,8 +159,9 @@ static int number_of(struct state *state, PyObject *given, base62_number *number
     return fault;
 }
 
+/* A width above PY_SSIZE_T_MAX is taken as PY_SSIZE_T_MAX: no text is so long, so no call tells them apart. */
 static int width_of(PyObject *given, size_t *width) {
-    Py_ssize_t found = PyNumber_AsSsize_t(given, PyExc_OverflowError);
+    Py_ssize_t found = PyNumber_AsSsize_t(given, NULL);
     *width = (size_t)found;
     if (found < 0 && PyErr_Occurred() == NULL)
         PyErr_SetString(PyExc_ValueError, "the width is negative");

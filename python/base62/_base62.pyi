@@ -1,3 +1,5 @@
+# SPDX-License-Identifier: MIT
+# Copyright (c) 2026 the maintainers of base62 for Rattle
 from typing import ClassVar, Self, SupportsIndex, final
 
 from base62 import AnyAlphabet

@@ -1,3 +1,5 @@
+# SPDX-License-Identifier: MIT
+# Copyright (c) 2026 the maintainers of base62 for Rattle
 """What the extension has in Python: its exceptions, and the conversions of arguments of rarer types."""
 
 from __future__ import annotations
@@ -97,7 +99,7 @@ class InvalidByteError(_BadByteError, DecodeError):
 def whole_of(number: Number) -> int:
     """Return the int of a number that is not exactly an int."""
     if isinstance(number, UUID):
-        return operator.index(number.int)
+        return number.int
     if not hasattr(type(number), "__index__"):
         raise TypeError(f"a number is an int, has __index__, or is a uuid.UUID, not {type(number)}")
     return operator.index(number)

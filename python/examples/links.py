@@ -1,3 +1,5 @@
+# SPDX-License-Identifier: MIT
+# Copyright (c) 2026 the maintainers of base62 for Rattle
 """Short links in a table of SQLite.
 
 >>> links = opened(":memory:")

@@ -1,3 +1,5 @@
+# SPDX-License-Identifier: MIT
+# Copyright (c) 2026 the maintainers of base62 for Rattle
 """Calls, and calls that are refused, with what they are given: the tests of memory make each many times."""
 
 from __future__ import annotations
@@ -65,7 +67,7 @@ def refusals() -> Iterator[Made]:
         (base62.decode, [("",), ("-",), (b"-",), (bytearray(b"-"),), ("é",), ("\ud800",), ("z" * 22,), (5,)]),
         (base62.decode, [(array("H", [48]),), (memoryview(array("H", [48])),), ("1", None), ("1", REPEATED)]),
         (base62.decode_canonical, [("00LZ",), ("",), ("é",), (5,), ("1", None), ("1", REPEATED)]),
-        (base62.encode_fixed, [(1337, 1), (1, -1), (1, 2**64), (1, "1"), (-1, 5), (1,)]),
+        (base62.encode_fixed, [(1337, 1), (1, -1), (1, -(2**64)), (1, "1"), (-1, 5), (1,)]),
         (base62.encode_fixed, [(1, 5, None), (1, 5, REPEATED), (1, 5, HIGH)]),
         (base62.key_range, [("-",), (bytearray(b"-"),), (5,), ()]),
         (base62.fixed_range, [(5, "-"), (5, bytearray(b"-")), (5, 5), (-1, "0"), ("5", "0"), (5, "0", None)]),

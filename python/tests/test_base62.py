@@ -1,3 +1,5 @@
+# SPDX-License-Identifier: MIT
+# Copyright (c) 2026 the maintainers of base62 for Rattle
 """Tests of the calls, by Python's own integers."""
 
 from __future__ import annotations
@@ -129,8 +131,11 @@ class Texts(unittest.TestCase):
             def __index__(self) -> int:
                 return LARGEST
 
+            def __int__(self) -> int:
+                return 0
+
         kinds = enum.IntEnum("kinds", {"one": 1337})
-        self.assertEqual(base62.encode(True), "1")
+        self.assertEqual((base62.encode(False), base62.encode(True)), ("0", "1"))
         self.assertEqual(base62.encode(kinds(1337)), "LZ")
         largest: list[SupportsIndex] = [Own(LARGEST), Indexed()]
         for number in largest:
@@ -194,6 +199,20 @@ class Threads(unittest.TestCase):
         ]
         for call in calls:
             self.assertFalse(all(self.ends_alone(call) for _ in range(200)))
+
+    def test_length(self) -> None:
+        """Others run from the length on that the page names."""
+        self.addCleanup(sys.setswitchinterval, sys.getswitchinterval())
+        sys.setswitchinterval(1000)
+        for length in (4095, 4096):
+            zeros = "0" * length
+            calls: list[Call] = [
+                lambda: [base62.decode(zeros) for _ in range(1000)],
+                lambda: [base62.encode_fixed(1337, len(zeros)) for _ in range(1000)],
+            ]
+            for call in calls:
+                alone = all(self.ends_alone(call) for _ in range(100))
+                self.assertEqual(alone, length == 4095)
 
 
 class Alphabets(Refusing):
@@ -286,7 +305,9 @@ class Widths(Refusing):
 
     def test_wide_ranges(self) -> None:
         for alphabet, letters in ALPHABETS:
-            self.assertEqual(base62.fixed_range(sys.maxsize, letters[0] * 5000, alphabet), (0, LARGEST))
+            for width in (sys.maxsize, sys.maxsize + 1, 2**64 + 4, 2**70):
+                self.assertEqual(base62.fixed_range(width, letters[0] * 5000, alphabet), (0, LARGEST))
+                self.assertIsNone(base62.fixed_range(width, letters[1], alphabet))
 
     def test_widths(self) -> None:
         class Indexed:
@@ -299,15 +320,14 @@ class Widths(Refusing):
         ]
         for call, answer in calls:
             self.assertEqual(call(Indexed()), answer)
-            for width in (-1, -22, -sys.maxsize - 1):
+            for width in (-1, -22, -sys.maxsize - 1, -(2**64) + 4):
                 self.assertEqual(str(self.refused(ValueError, call, width)), "the width is negative")
-            for width in (sys.maxsize + 1, 2**64 + 4, -(2**64) + 4):
-                self.refused(OverflowError, call, width)
             for other in (4.0, "4", None, b"4"):
                 self.refused(TypeError, call, other)
 
     def test_no_memory(self) -> None:
-        self.refused(MemoryError, base62.encode_fixed, 1, sys.maxsize)
+        for width in (sys.maxsize, sys.maxsize + 1, 2**64 + 4, 2**70):
+            self.refused(MemoryError, base62.encode_fixed, 1, width)
 
 
 class Faults(Refusing):

@@ -1,3 +1,5 @@
+# SPDX-License-Identifier: MIT
+# Copyright (c) 2026 the maintainers of base62 for Rattle
 """Tests of the example by ten thousand links, against numbers in memory."""
 
 from __future__ import annotations
@@ -9,6 +11,8 @@ import unittest
 import uuid
 
 import base62
+import places  # The folder of the example is on the path then.
+
 import links
 
 LARGEST = 2**128 - 1

@@ -1,3 +1,5 @@
+# SPDX-License-Identifier: MIT
+# Copyright (c) 2026 the maintainers of base62 for Rattle
 """Tests of calls that are refused memory: each request in turn, alone and with all that follow."""
 
 from __future__ import annotations

@@ -1,3 +1,5 @@
+# SPDX-License-Identifier: MIT
+# Copyright (c) 2026 the maintainers of base62 for Rattle
 """Tests of the package: what it exports, what it keeps, and what it shares."""
 
 from __future__ import annotations
@@ -23,13 +25,13 @@ import base62
 import calls
 from base62 import _base62, _types
 from calls import OWN
+from places import PACKAGE, TOP
 
 EXPORTED = """
     Alphabet AlphabetError DecodeError EmptyInputError InvalidByteError NotCanonicalError TooLargeError
     decode decode_canonical decode_uuid decode_uuid_canonical digit_count encode encode_fixed encode_key encode_uuid
     fixed_range key_bounds key_range
 """.split()
-TOP = pathlib.Path(__file__).parents[2]
 
 
 class Package(unittest.TestCase):
@@ -54,7 +56,7 @@ class Package(unittest.TestCase):
         self.assertEqual(sorted(modules), ["__init__.py", extension, "_base62.pyi", "_types.py", "py.typed"])
         self.assertEqual(files["LICENSE"].read_text(), (TOP / "LICENSE").read_text())
         self.assertEqual(files["CHANGELOG.md"].read_text(), (TOP / "CHANGELOG.md").read_text())
-        self.assertEqual(package.metadata["Description"].strip(), (TOP / "python/README.md").read_text().strip())
+        self.assertEqual(package.metadata["Description"].strip(), (PACKAGE / "README.md").read_text().strip())
         self.assertEqual(package.metadata["License"], "MIT")
         self.assertEqual(package.metadata["Requires-Python"], ">=3.11")
         self.assertRegex(package.read_text("WHEEL") or "", "(?m)^Tag: cp311-abi3-")

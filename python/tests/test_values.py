@@ -1,11 +1,9 @@
-"""Tests of each call by the values of tests/values.tsv at the top, whose head tells what its rows are.
-
-The folder of that file has to be on the path, for its model.
-"""
+# SPDX-License-Identifier: MIT
+# Copyright (c) 2026 the maintainers of base62 for Rattle
+"""Tests of each call by the values of tests/values.tsv at the top, whose head tells what its rows are."""
 
 from __future__ import annotations
 
-import pathlib
 import random
 import sys
 import unittest
@@ -15,10 +13,10 @@ from typing import Any
 from urllib.parse import unquote_to_bytes
 
 import base62
-import model
 from base62 import Alphabet
+from places import VALUES
 
-VALUES = pathlib.Path(__file__).parents[2] / "tests/values.tsv"
+import model
 
 
 def rows(kind: str) -> list[list[str]]:

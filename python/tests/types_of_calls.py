@@ -1,3 +1,5 @@
+# SPDX-License-Identifier: MIT
+# Copyright (c) 2026 the maintainers of base62 for Rattle
 """What mypy finds in calls: exactly these types, and a fault in each line that is marked. Nothing here is run."""
 
 from __future__ import annotations

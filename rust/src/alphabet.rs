@@ -1,3 +1,6 @@
+// SPDX-License-Identifier: MIT
+// Copyright (c) 2026 the maintainers of base62 for Rattle
+
 // translate/rust has written this file from crates/base62/src/alphabet.rt. Edit that one.
 // Its functions are proved there. This translation of them is tested, not proved.
 
@@ -17,9 +20,9 @@ pub(crate) use tables::{Tables, alternative_tables, standard_tables};
 ///
 /// ```rust
 /// // Digits and letters, but none that look alike, and some marks.
-/// let letters = *b"23456789ABCDEFGHJKLMNPQRSTUVWXYZabcdefghijkmnpqrstuvwxyz-_.~!*";
-/// let alphabet = base62::Alphabet::new(letters).unwrap();
-/// assert_eq!(base62::decode_with(&alphabet, b"32"), Ok(62));
+/// const LETTERS: [u8; 62] = *b"23456789ABCDEFGHJKLMNPQRSTUVWXYZabcdefghijkmnpqrstuvwxyz-_.~!*";
+/// const OWN: base62::Alphabet = base62::Alphabet::of(LETTERS);
+/// assert_eq!(base62::decode_with(&OWN, b"32"), Ok(62));
 /// ```
 ///
 /// [`decode`]: crate::decode
@@ -43,17 +46,43 @@ impl Alphabet {
     /// let repeated = base62::Alphabet::new([b'a'; 62]);
     /// assert_eq!(repeated.err(), Some(base62::AlphabetError::Repeated(b'a', 1)));
     /// ```
-    pub fn new(letters: [u8; 62]) -> Result<Alphabet, AlphabetError> {
+    pub const fn new(letters: [u8; 62]) -> Result<Alphabet, AlphabetError> {
         let mut digits = [255u8; 256];
-        for (index, byte) in letters.iter().enumerate() {
-            if digits[*byte as usize] != 255 {
-                return Err(AlphabetError::Repeated(*byte, index));
+        let mut index = 0;
+        while index < letters.len() {
+            let byte = letters[index];
+            if digits[byte as usize] != 255 {
+                return Err(AlphabetError::Repeated(byte, index));
             }
-            digits[*byte as usize] = index as u8;
+            digits[byte as usize] = index as u8;
+            index += 1;
         }
         Ok(Alphabet {
             tables: Tables { letters, digits },
         })
+    }
+
+    /// The alphabet of letters that are written out in the program.
+    ///
+    /// It requires 62 distinct bytes. Letters that come as input go to [`new`](Alphabet::new). The
+    /// call takes no memory.
+    ///
+    /// ```rust
+    /// const LETTERS: [u8; 62] = *b"ABCDEFGHIJKLMNOPQRSTUVWXYZabcdefghijklmnopqrstuvwxyz0123456789";
+    /// const OWN: base62::Alphabet = base62::Alphabet::of(LETTERS);
+    /// assert_eq!(base62::decode_with(&OWN, b"BA"), Ok(62));
+    /// ```
+    ///
+    /// # Panics
+    ///
+    /// If a byte is repeated. In a constant, the build fails.
+    #[track_caller]
+    #[must_use]
+    pub const fn of(letters: [u8; 62]) -> Alphabet {
+        match Alphabet::new(letters) {
+            Ok(alphabet) => alphabet,
+            Err(_) => panic!("the alphabet repeats a letter"),
+        }
     }
 
     /// The standard alphabet: `0` to `9`, `A` to `Z`, `a` to `z`.
@@ -63,7 +92,7 @@ impl Alphabet {
     /// assert_eq!(base62::decode_with(&alphabet, b"LZ"), Ok(1337));
     /// ```
     #[must_use]
-    pub fn standard() -> Alphabet {
+    pub const fn standard() -> Alphabet {
         Alphabet {
             tables: *standard_tables(),
         }
@@ -76,7 +105,7 @@ impl Alphabet {
     /// assert_eq!(base62::decode_with(&alphabet, b"lz"), Ok(1337));
     /// ```
     #[must_use]
-    pub fn alternative() -> Alphabet {
+    pub const fn alternative() -> Alphabet {
         Alphabet {
             tables: *alternative_tables(),
         }
@@ -88,7 +117,7 @@ impl Alphabet {
     /// assert_eq!(base62::Alphabet::standard().letters()[10], b'A');
     /// ```
     #[must_use]
-    pub fn letters(&self) -> &[u8; 62] {
+    pub const fn letters(&self) -> &[u8; 62] {
         &self.tables.letters
     }
 
@@ -98,8 +127,16 @@ impl Alphabet {
     /// assert!(base62::Alphabet::standard().is_ascii());
     /// ```
     #[must_use]
-    pub fn is_ascii(&self) -> bool {
-        self.tables.letters.is_ascii()
+    pub const fn is_ascii(&self) -> bool {
+        let letters = self.letters();
+        let mut is_ascii = true;
+        let mut index = 0;
+        while index < letters.len() {
+            // Without a branch, the compiler tests several letters at once.
+            is_ascii &= letters[index] < 128;
+            index += 1;
+        }
+        is_ascii
     }
 
     /// Whether each letter is a greater byte than the one before it. Then the lexicographic order
@@ -110,9 +147,16 @@ impl Alphabet {
     /// assert!(!base62::Alphabet::alternative().is_ascending());
     /// ```
     #[must_use]
-    pub fn is_ascending(&self) -> bool {
-        // The letters are distinct, so no two in a row are equal.
-        self.tables.letters.is_sorted()
+    pub const fn is_ascending(&self) -> bool {
+        let letters = self.letters();
+        let mut index = 1;
+        while index < letters.len() {
+            if letters[index] <= letters[index - 1] {
+                return false;
+            }
+            index += 1;
+        }
+        true
     }
 
     // The tables that calls read.

@@ -1,3 +1,6 @@
+// SPDX-License-Identifier: MIT
+// Copyright (c) 2026 the maintainers of base62 for Rattle
+
 //! What the contracts of the source require, and the `unsafe` of the source.
 //!
 //! All `unsafe` of the crate is here. With the feature `checked` there is none.
@@ -20,14 +23,9 @@ macro_rules! requires {
     };
 }
 
-/// An index that is in bounds, or bytes that are UTF-8. The source has the same `unsafe`, and proves it.
+/// Bytes that are UTF-8. The source has the same `unsafe`, and proves it.
 #[cfg(not(feature = "checked"))]
 macro_rules! proved {
-    ($self:ident.$array:ident[$index:expr]) => {{
-        debug_assert!($index < $self.$array.len());
-        // SAFETY: the source is proved to use no other index.
-        unsafe { *$self.$array.get_unchecked($index) }
-    }};
     ($of:ident::from_utf8($bytes:expr)) => {{
         // SAFETY: the source is proved to have nothing but ASCII here.
         unsafe { $of::from_utf8_unchecked($bytes) }
@@ -36,12 +34,32 @@ macro_rules! proved {
 
 #[cfg(feature = "checked")]
 macro_rules! proved {
-    ($self:ident.$array:ident[$index:expr]) => {
-        $self.$array[$index]
-    };
     ($of:ident::from_utf8($bytes:expr)) => {
         $of::from_utf8($bytes).unwrap()
     };
+}
+
+/// If the string has room for the text of any number, writes that of this one to its place, and returns. In the source
+/// a string lends its bytes to no writer: what comes after this copies the text.
+#[cfg(all(feature = "alloc", not(feature = "checked")))]
+macro_rules! in_place {
+    ($tables:ident, $num:ident, $buf:ident) => {
+        if $buf.capacity() - $buf.len() >= crate::MAX_DIGITS {
+            let n: u128 = $num.into();
+            let (at, len) = ($buf.len(), crate::digit_count(n));
+            // SAFETY: by the clause `ascii` of the function the letters are ASCII, and so are the zeros.
+            let bytes = unsafe { $buf.as_mut_vec() };
+            bytes.extend_from_slice(&[0; crate::MAX_DIGITS]);
+            crate::codec::encoder::write_text($tables, n, len, &mut bytes[at..]);
+            bytes.truncate(at + len);
+            return;
+        }
+    };
+}
+
+#[cfg(all(feature = "alloc", feature = "checked"))]
+macro_rules! in_place {
+    ($tables:ident, $num:ident, $buf:ident) => {};
 }
 
 /// Asserts what the contract of a public call requires, since callers in Rust do not prove it.

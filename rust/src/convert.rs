@@ -1,3 +1,6 @@
+// SPDX-License-Identifier: MIT
+// Copyright (c) 2026 the maintainers of base62 for Rattle
+
 //! Traits of Rust that the source does not implement.
 
 use crate::{Alphabet, AlphabetError};

@@ -1,3 +1,6 @@
+// SPDX-License-Identifier: MIT
+// Copyright (c) 2026 the maintainers of base62 for Rattle
+
 // translate/rust has written this file from crates/base62/src/count.rt. Edit that one.
 // Its functions are proved there. This translation of them is tested, not proved.
 

@@ -1,3 +1,6 @@
+// SPDX-License-Identifier: MIT
+// Copyright (c) 2026 the maintainers of base62 for Rattle
+
 // translate/rust has written this file from crates/base62/src/fault.rt. Edit that one.
 // Its functions are proved there. This translation of them is tested, not proved.
 
@@ -154,7 +157,7 @@ fn hex_digit(digit: u8) -> u8 {
 
 fn append_decimal(text: InlineText<MAX_FAULT_TEXT>, number: usize) -> InlineText<MAX_FAULT_TEXT> {
     // From the last digit to the first.
-    let mut digits = [0; 20];
+    let mut digits = [0u8; 20];
     let mut start = 19;
     let mut left = number;
     while left >= 10 {

@@ -1,3 +1,6 @@
+// SPDX-License-Identifier: MIT
+// Copyright (c) 2026 the maintainers of base62 for Rattle
+
 //! A text of at most `N` bytes, without an allocator, in the place of `InlineText` of Rattle's `std`.
 
 #[derive(Clone, Copy)]

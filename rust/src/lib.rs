@@ -1,3 +1,6 @@
+// SPDX-License-Identifier: MIT
+// Copyright (c) 2026 the maintainers of base62 for Rattle
+
 //! Whole numbers below 2^128 as short texts of `0` to `9`, `A` to `Z` and `a` to `z`, and back.
 //!
 //! The calls of the crate `base62` 2.2.6 have their names, types, features and answers here. The codec is written in
@@ -21,7 +24,20 @@
 //!
 //! In the standard alphabet the letters are `0` to `9`, `A` to `Z`, `a` to `z`, and in the alternative one `0` to `9`,
 //! `a` to `z`, `A` to `Z`. An [`Alphabet`] has 62 letters of your own, and the calls over it end in `_with`. Make one
-//! once and keep it: to make it takes much longer than a call.
+//! once and keep it: to make it takes much longer than a call. A constant is made at compile time.
+//!
+//! ```
+//! use base62::Alphabet;
+//!
+//! const OWN: Alphabet = Alphabet::of(*b"ABCDEFGHIJKLMNOPQRSTUVWXYZabcdefghijklmnopqrstuvwxyz0123456789");
+//! assert_eq!(base62::decode_with(&OWN, "BA"), Ok(62));
+//! ```
+//!
+//! A repeated letter is then a compile error:
+//!
+//! ```compile_fail,E0080
+//! const REPEATED: base62::Alphabet = base62::Alphabet::of([b'A'; 62]);
+//! ```
 //!
 //! | for | call |
 //! |---|---|
@@ -37,12 +53,12 @@
 //! # Features
 //!
 //! `alloc`, the default, adds the calls that make or grow a `String`. `std` adds the calls that write to an
-//! `io::Write`, and includes `alloc`. With neither, the crate needs `core` alone. `checked` leaves out all `unsafe`,
-//! and tests again what the proofs show.
+//! `io::Write`, and includes `alloc`. With neither, the crate needs `core` alone. `checked` leaves out all `unsafe`:
+//! the code tests each index, and that letters are UTF-8.
 //!
-//! Only the calls of `alloc` allocate. If memory is refused, they end the program, as a `String` does. Only
-//! `encode_with`, `encode_buf_with` and [`encode_fmt_with`] panic, on letters that are not ASCII. The time of a
-//! call depends on its number or text.
+//! Only the calls of `alloc` allocate. If memory is refused, they end the program, as a `String` does. These calls
+//! panic: [`Alphabet::of`] over a repeated letter, and `encode_with`, `encode_buf_with` and [`encode_fmt_with`] over
+//! letters that are not ASCII. The time of a call depends on its number or text.
 
 #![no_std]
 // docs.rs then says of each call which feature it needs.

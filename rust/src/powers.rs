@@ -1,3 +1,6 @@
+// SPDX-License-Identifier: MIT
+// Copyright (c) 2026 the maintainers of base62 for Rattle
+
 // translate/rust has written this file from crates/base62/src/powers.rt. Edit that one.
 // Its functions are proved there. This translation of them is tested, not proved.
 
@@ -12,8 +15,6 @@ pub(crate) const POWER_4: u32 = 14776336;
 pub(crate) const POWER_5: u64 = 916132832;
 
 pub(crate) const POWER_10: u64 = 839299365868340224;
-
-pub(crate) const POWER_20: u128 = 704423425546998022968330264616370176;
 
 static POWERS: [u64; 11] = [
     1,

@@ -1,3 +1,6 @@
+// SPDX-License-Identifier: MIT
+// Copyright (c) 2026 the maintainers of base62 for Rattle
+
 // translate/rust has written this file from crates/base62/src/target.rt. Edit that one.
 // Its functions are proved there. This translation of them is tested, not proved.
 
@@ -59,7 +62,7 @@ pub fn encode_with<T: Into<u128>>(alphabet: &Alphabet, num: T) -> String {
 /// Appends the standard text of `num`, which has 1 to 22 letters, to `buf`.
 ///
 /// If the spare capacity of `buf` is too small, room for the whole text is requested once, before
-/// any of it is appended. If that is refused, `buf` stays as it was. 22 spare bytes are always
+/// any of it is appended. If that is refused, the program ends. 22 spare bytes are always
 /// enough. The capacity never shrinks. The call takes no other memory.
 ///
 /// ```rust
@@ -110,10 +113,20 @@ fn string_over<T: Into<u128>>(tables: &Tables, num: T) -> String {
     String::from(text.as_str())
 }
 
-// Appends the text over the alphabet of the tables.
+// Appends the text over the alphabet of the tables. A string of Rattle lends its bytes to no
+// writer. In Rust `in_place!`, which is written by hand, writes the text to its place and returns,
+// if there is room for any text.
+#[inline]
 fn append_over<T: Into<u128>>(tables: &Tables, num: T, buf: &mut String) {
+    in_place!(tables, num, buf);
+    append_copy(tables, num.into(), buf)
+}
+
+// Appends a copy of the text.
+#[inline(never)]
+fn append_copy(tables: &Tables, n: u128, buf: &mut String) {
     let mut text = Text::new();
-    text.set(tables, num);
+    text.set(tables, n);
     let letters = text.as_str();
     buf.reserve(letters.len());
     // There is room now.

@@ -1,3 +1,6 @@
+// SPDX-License-Identifier: MIT
+// Copyright (c) 2026 the maintainers of base62 for Rattle
+
 //! Buffers, and decoding.
 
 mod support;
@@ -100,6 +103,26 @@ fn each_byte_alone() {
         assert_eq!(base62::decode_alternative([byte]), read(ALTERNATIVE, byte));
         assert_eq!(base62::decode_with(&own, [byte]), read(own.letters(), byte));
     }
+}
+
+#[test]
+fn alphabets_of_constants() {
+    const OWN: Alphabet = Alphabet::of(*ALTERNATIVE);
+    const REPEATED: Result<Alphabet, AlphabetError> = Alphabet::new([7; 62]);
+    const STANDARD_IS: [bool; 2] = [
+        Alphabet::standard().is_ascii(),
+        Alphabet::standard().is_ascending(),
+    ];
+    const OWN_IS: [bool; 2] = [OWN.is_ascii(), OWN.is_ascending()];
+    static LETTERS: &[u8; 62] = Alphabet::alternative().letters();
+    for number in borders() {
+        encodes(ALTERNATIVE, number, |buf| {
+            base62::encode_bytes_with(&OWN, number, buf)
+        });
+    }
+    assert_eq!(REPEATED, Err(AlphabetError::Repeated(7, 1)));
+    assert_eq!((STANDARD_IS, OWN_IS), ([true, true], [true, false]));
+    assert_eq!(LETTERS, ALTERNATIVE);
 }
 
 #[test]

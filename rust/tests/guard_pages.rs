@@ -1,3 +1,6 @@
+// SPDX-License-Identifier: MIT
+// Copyright (c) 2026 the maintainers of base62 for Rattle
+
 //! No call reads or writes beyond what it is handed: each stands at the edge of a page that can't be touched.
 #![cfg(target_os = "linux")]
 

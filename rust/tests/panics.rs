@@ -1,5 +1,8 @@
-//! A panic over letters that are not ASCII says so, and tells the place of the call in the caller's code. It changes no
-//! string.
+// SPDX-License-Identifier: MIT
+// Copyright (c) 2026 the maintainers of base62 for Rattle
+
+//! A panic over letters that are repeated or not ASCII says so, and tells the place of the call in the caller's code. It
+//! changes no string.
 #![cfg(feature = "alloc")]
 
 mod support;
@@ -12,12 +15,11 @@ static TOLD: Mutex<Option<(String, u32, String)>> = Mutex::new(None);
 
 /// Runs a call that stands in the line of this one.
 #[track_caller]
-fn panics_here(call: impl FnOnce()) {
+fn panics_here<T>(said: &str, call: impl FnOnce() -> T) {
     let line = std::panic::Location::caller().line();
     assert!(catch_unwind(AssertUnwindSafe(call)).is_err());
     // What is compared holds no lock, which the next panic would wait for.
     let told = TOLD.lock().unwrap().take();
-    let said = "the letters of the alphabet are not all ASCII";
     assert_eq!(told, Some((file!().into(), line, said.into())));
 }
 
@@ -28,13 +30,21 @@ fn the_caller_is_told() {
         let said = panic.payload().downcast_ref::<&str>().unwrap_or(&"");
         *TOLD.lock().unwrap() = Some((place.file().into(), place.line(), (*said).into()));
     }));
-    let own = Alphabet::new(support::high_letters()).unwrap();
-    panics_here(|| drop(base62::encode_with(&own, 7_u8)));
-    panics_here(|| drop(base62::encode_fmt_with(&own, 7_u8).to_string()));
+    for place in 1..62 {
+        let mut letters = support::high_letters();
+        letters[place] = letters[place - 1];
+        let said = "the alphabet repeats a letter";
+        panics_here(said, || Alphabet::of(letters));
+    }
+    let own = Alphabet::of(support::high_letters());
+    let said = "the letters of the alphabet are not all ASCII";
+    panics_here(said, || base62::encode_with(&own, 7_u8));
+    panics_here(said, || base62::encode_fmt_with(&own, 7_u8).to_string());
     for room in [0, 30] {
         let mut buf = String::with_capacity(room);
         buf.push('é');
-        panics_here(|| base62::encode_buf_with(&own, 7_u8, &mut buf));
-        assert_eq!(buf, "é");
+        let capacity = buf.capacity();
+        panics_here(said, || base62::encode_buf_with(&own, 7_u8, &mut buf));
+        assert_eq!((buf.as_str(), buf.capacity()), ("é", capacity));
     }
 }

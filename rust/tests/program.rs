@@ -1,34 +1,48 @@
-//! The program, if its input, output or memory fails, and if all goes well. `BASE62_CLI` names another program to test,
-//! which `.ci/failed-runs` sets.
+// SPDX-License-Identifier: MIT
+// Copyright (c) 2026 the maintainers of base62 for Rattle
+
+//! The program without arguments, if its input, output or memory fails, and if all goes well. `BASE62_CLI` names another
+//! program to test, which `.ci/failed-runs` sets.
 #![cfg(all(feature = "std", unix))]
 
-use std::env;
-use std::process::Command;
+mod support;
 
-/// The stored run.
-const INPUT: &str = include_str!("../../crates/base62_cli/stdin");
-const OUTPUT: &str = include_str!("../../crates/base62_cli/stdout");
+use std::env;
+use support::shared;
+
+/// The input of the stored run.
+fn input() -> String {
+    shared("crates/base62_cli/stdin")
+}
+
+/// What it writes.
+fn output() -> String {
+    shared("crates/base62_cli/stdout")
+}
 
 /// The other program.
 fn other() -> Option<String> {
     env::var("BASE62_CLI").ok()
 }
 
-/// What a line of a shell, in which `$program` is the program and `$input` the stored run, ends with: its status, and
-/// what it has written to standard output and standard error.
+/// What a line ends with, in which `$program` is the program and `$input` the stored run.
 fn run(line: &str) -> (Option<i32>, String, String) {
-    let mut shell = Command::new("bash");
-    shell.args(["-c", line]).env("input", INPUT).env(
-        "program",
-        other().unwrap_or(env!("CARGO_BIN_EXE_base62").into()),
-    );
-    let ended = shell.output().unwrap();
-    let text = |bytes| String::from_utf8(bytes).unwrap();
-    (ended.status.code(), text(ended.stdout), text(ended.stderr))
+    let program = other().unwrap_or(env!("CARGO_BIN_EXE_base62").into());
+    support::run(line, &[("program", &program), ("input", &input())])
+}
+
+/// What the program writes to standard error.
+fn told(fault: &str) -> String {
+    let name = if other().is_some() {
+        "base62_cli"
+    } else {
+        "base62"
+    };
+    format!("{name}: {fault}\n")
 }
 
 fn fails(line: &str, fault: &str, output: &str) {
-    let said = format!("base62_cli: {fault}\n");
+    let said = told(fault);
     assert_eq!(run(line), (Some(1), output.into(), said), "{line}");
     // The status alone tells it then.
     assert_eq!(
@@ -44,18 +58,21 @@ fn ends_well(line: &str, output: &str) {
 
 #[test]
 fn the_stored_run() {
+    let output = output();
     ends_well(
         r#""$program" <<<"$input""#,
-        &[OUTPUT, "fault: unknown command\n"].concat(),
+        &[&output, "fault: unknown command\n"].concat(),
     );
-    ends_well(r#"printf %s "$input" | "$program""#, OUTPUT);
-    ends_well(r#"printf %s "$input" | "$program" 2>&-"#, OUTPUT);
+    ends_well(r#"printf %s "$input" | "$program""#, &output);
+    ends_well(r#"printf %s "$input" | "$program" 2>&-"#, &output);
     ends_well(
         r#"printf %s "$input" | dd bs=1 status=none | "$program""#,
-        OUTPUT,
+        &output,
     );
-    // Arguments are ignored.
-    ends_well(r#"printf %s "$input" | "$program" dec LZ --help"#, OUTPUT);
+    // It ignores arguments.
+    if other().is_some() {
+        ends_well(r#"printf %s "$input" | "$program" dec LZ --help"#, &output);
+    }
 }
 
 #[test]
@@ -71,13 +88,14 @@ fn output_that_fails() {
     let output = ["fault: unknown command\n"; 44].concat() + "fault: unkno";
     let line = r#"trap "" XFSZ; ulimit -f 1; printf 'foo\n%.0s' {1..100} | "$program" >$file"#;
     let line = in_a_file(&format!("{line}; status=$?; cat $file; exit $status"));
-    assert_eq!(
-        run(&line),
-        (Some(1), output, "base62_cli: write failed\n".into())
-    );
+    assert_eq!(run(&line), (Some(1), output, told("write failed")));
     // The one reader of the pipe is gone before the program writes.
     let line = r#"mkfifo $file; exec 3<>$file 4>$file 3<&-; "$program" <<<"$input" >&4"#;
-    fails(&in_a_file(line), "write failed", "");
+    if other().is_some() {
+        fails(&in_a_file(line), "write failed", "");
+    } else {
+        ends_well(&in_a_file(line), "");
+    }
 }
 
 /// The line, with a name for a new file, which is removed.
@@ -90,10 +108,7 @@ fn in_a_file(line: &str) -> String {
 #[test]
 fn no_memory_for_a_line() {
     let line = r#"{ echo enc 1337; exec cat /dev/zero; } 2>/dev/null | (ulimit -v 65536; exec "$program")"#;
-    assert_eq!(
-        run(line),
-        (Some(1), "LZ\n".into(), "base62_cli: out of memory\n".into())
-    );
+    assert_eq!(run(line), (Some(1), "LZ\n".into(), told("out of memory")));
 }
 
 /// The runtime of Rust opens a standard input or output that is closed as /dev/null.

@@ -1,3 +1,5 @@
+-- SPDX-License-Identifier: MIT
+-- Copyright (c) 2026 the maintainers of base62 for Rattle
 \echo Use "CREATE EXTENSION base62" to load this file. \quit
 
 -- Keys sort as their numbers by bytes alone, so they have the collation that compares bytes.

@@ -1,8 +1,12 @@
+/* SPDX-License-Identifier: MIT */
+/* Copyright (c) 2026 the maintainers of base62 for Rattle */
+
 /* The calls of base62.h as functions of PostgreSQL: datums to numbers and texts and back, and errors. */
 #include <postgres.h>
 
 #include <fmgr.h>
 #include <utils/builtins.h>
+#include <utils/numeric.h>
 #include <utils/uuid.h>
 #if PG_VERSION_NUM >= 160000
 #include <varatt.h>
@@ -135,18 +139,51 @@ static Datum decoded_uuid(FunctionCallInfo fcinfo, bool canonical) {
     PG_RETURN_UUID_P(answer);
 }
 
-/* The first or the last text of a width that begins with the prefix, or null. */
-static Datum end_of_prefix(FunctionCallInfo fcinfo, bool last) {
+/* By parts of 32 bits, since PostgreSQL makes a numeric of an int8 alone. */
+static Datum numeric_of(base62_number number) {
+    const uint64_t parts[] = {number.high >> 32, number.high & UINT32_MAX, number.low >> 32, number.low & UINT32_MAX};
+    Datum span = NumericGetDatum(int64_to_numeric(INT64CONST(1) << 32));
+    Datum sum = NumericGetDatum(int64_to_numeric(0));
+    for (size_t i = 0; i < lengthof(parts); i++) {
+        sum = DirectFunctionCall2(numeric_mul, sum, span);
+        sum = DirectFunctionCall2(numeric_add, sum, NumericGetDatum(int64_to_numeric((int64_t)parts[i])));
+    }
+    return sum;
+}
+
+/* The numbers with a prefix, the first argument, among texts of a width, the second, over an alphabet, the third.
+ * Answers whether there are any. */
+static bool range_at(FunctionCallInfo fcinfo, base62_range *range) {
     const text *prefix = PG_GETARG_TEXT_PP(0);
     size_t width = width_at(fcinfo, 1);
-    base62_range range;
+    const base62_alphabet *alphabet = alphabet_at(fcinfo, 2);
     bool none;
     refusal why;
-    if (!range_of_prefix(VARDATA_ANY(prefix), VARSIZE_ANY_EXHDR(prefix), width, &range, &none, &why))
+    if (!range_of_prefix(alphabet, VARDATA_ANY(prefix), VARSIZE_ANY_EXHDR(prefix), width, range, &none, &why))
         refuse(&why);
-    if (none)
+    return !none;
+}
+
+static Datum end_of_keys(FunctionCallInfo fcinfo, bool last) {
+    base62_range range;
+    if (!range_at(fcinfo, &range))
         PG_RETURN_NULL();
-    return fixed(last ? range.greatest : range.least, width, NULL);
+    return fixed(last ? range.greatest : range.least, width_at(fcinfo, 1), NULL);
+}
+
+static Datum end_of_range_int8(FunctionCallInfo fcinfo, bool last) {
+    base62_range range;
+    int64_t whole;
+    if (!range_at(fcinfo, &range) || !int64_end_of_range(range, last, &whole))
+        PG_RETURN_NULL();
+    PG_RETURN_INT64(whole);
+}
+
+static Datum end_of_range_numeric(FunctionCallInfo fcinfo, bool last) {
+    base62_range range;
+    if (!range_at(fcinfo, &range))
+        PG_RETURN_NULL();
+    return numeric_of(last ? range.greatest : range.least);
 }
 
 /* Functions */
@@ -218,10 +255,30 @@ Datum pg_base62_encode_fixed_uuid(PG_FUNCTION_ARGS) {
 
 PG_FUNCTION_INFO_V1(pg_base62_key_first);
 Datum pg_base62_key_first(PG_FUNCTION_ARGS) {
-    return end_of_prefix(fcinfo, false);
+    return end_of_keys(fcinfo, false);
 }
 
 PG_FUNCTION_INFO_V1(pg_base62_key_last);
 Datum pg_base62_key_last(PG_FUNCTION_ARGS) {
-    return end_of_prefix(fcinfo, true);
+    return end_of_keys(fcinfo, true);
+}
+
+PG_FUNCTION_INFO_V1(pg_base62_range_first_int8);
+Datum pg_base62_range_first_int8(PG_FUNCTION_ARGS) {
+    return end_of_range_int8(fcinfo, false);
+}
+
+PG_FUNCTION_INFO_V1(pg_base62_range_last_int8);
+Datum pg_base62_range_last_int8(PG_FUNCTION_ARGS) {
+    return end_of_range_int8(fcinfo, true);
+}
+
+PG_FUNCTION_INFO_V1(pg_base62_range_first_numeric);
+Datum pg_base62_range_first_numeric(PG_FUNCTION_ARGS) {
+    return end_of_range_numeric(fcinfo, false);
+}
+
+PG_FUNCTION_INFO_V1(pg_base62_range_last_numeric);
+Datum pg_base62_range_last_numeric(PG_FUNCTION_ARGS) {
+    return end_of_range_numeric(fcinfo, true);
 }

@@ -1,3 +1,6 @@
+/* SPDX-License-Identifier: MIT */
+/* Copyright (c) 2026 the maintainers of base62 for Rattle */
+
 /* The calls of base62.h as functions of SQLite: values to numbers and texts and back, and errors. */
 #include "common.h"
 
@@ -66,8 +69,11 @@ static int alphabet_at(sqlite3_context *context, int place, int count, sqlite3_v
     size_t length;
     base62_alphabet *kept;
     refusal why;
-    *alphabet = place < count ? sqlite3_get_auxdata(context, place) : NULL;
-    if (place >= count || *alphabet != NULL)
+    *alphabet = NULL;
+    if (place >= count)
+        return 1;
+    *alphabet = sqlite3_get_auxdata(context, place);
+    if (*alphabet != NULL)
         return 1;
     if (!text_of(context, given[place], &letters, &length))
         return 0;
@@ -189,20 +195,39 @@ static void encode_fixed(sqlite3_context *context, int count, sqlite3_value **gi
         result_fixed(context, alphabet, number, width);
 }
 
-/* The last key if the function has data, and otherwise the first. */
-static void key_end(sqlite3_context *context, int count, sqlite3_value **given) {
+/* The numbers with a prefix among texts of a width over an alphabet; a key if there is no width. The answer is 0 if
+ * there are none, or the result is an error or null. */
+static int range_of(sqlite3_context *context, int count, sqlite3_value **given, size_t *width, base62_range *range) {
     const char *prefix;
-    size_t length, width = BASE62_KEY_LENGTH;
-    base62_range range;
+    size_t length;
+    base62_alphabet own;
+    const base62_alphabet *alphabet;
     bool none;
     refusal why;
+    *width = BASE62_KEY_LENGTH;
     if (any_null(count, given) || !text_of(context, given[0], &prefix, &length) ||
-        (count > 1 && !width_of(context, given[1], &width)))
-        return;
-    if (!range_of_prefix(prefix, length, width, &range, &none, &why))
-        refuse(context, &why);
-    else if (!none)
+        (count > 1 && !width_of(context, given[1], width)) || !alphabet_at(context, 2, count, given, &own, &alphabet))
+        return 0;
+    if (!range_of_prefix(alphabet, prefix, length, *width, range, &none, &why))
+        return refuse(context, &why);
+    return !none;
+}
+
+/* A function that has data answers the last key or number, and otherwise the first. */
+static void key_end(sqlite3_context *context, int count, sqlite3_value **given) {
+    size_t width;
+    base62_range range;
+    if (range_of(context, count, given, &width, &range))
         result_fixed(context, NULL, sqlite3_user_data(context) == NULL ? range.least : range.greatest, width);
+}
+
+static void range_end(sqlite3_context *context, int count, sqlite3_value **given) {
+    size_t width;
+    base62_range range;
+    int64_t whole;
+    if (range_of(context, count, given, &width, &range) &&
+        int64_end_of_range(range, sqlite3_user_data(context) != NULL, &whole))
+        sqlite3_result_int64(context, whole);
 }
 
 /* The extension */
@@ -236,6 +261,10 @@ static int create_functions(sqlite3 *db) {
         {"base62_key_first", 2, NULL, key_end},
         {"base62_key_last", 1, &last, key_end},
         {"base62_key_last", 2, &last, key_end},
+        {"base62_range_first", 2, NULL, range_end},
+        {"base62_range_first", 3, NULL, range_end},
+        {"base62_range_last", 2, &last, range_end},
+        {"base62_range_last", 3, &last, range_end},
     };
     int status = SQLITE_OK;
     for (size_t i = 0; status == SQLITE_OK && i < sizeof functions / sizeof *functions; i++)

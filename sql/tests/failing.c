@@ -1,3 +1,6 @@
+/* SPDX-License-Identifier: MIT */
+/* Copyright (c) 2026 the maintainers of base62 for Rattle */
+
 /* Refuses each request of SQLite for memory in turn, in each of the queries below and as the module that is named is
  * loaded. A query has to do what stands beside it or to be out of memory, takes little, and leaves nothing behind. The
  * last query asks for less memory than an alphabet for each of its rows would take. */
@@ -69,6 +72,8 @@ static const struct {
     {"SELECT base62_encode(n, " OWN ") || base62_encode(61, " OWN ") FROM stored", "eQ0"},
     {"SELECT base62_key_first(t, 3) FROM stored", "LZ0"},
     {"SELECT base62_key_last(t, 3) FROM stored", "LZz"},
+    {"SELECT base62_range_first(t, 3) FROM stored", "82894"},
+    {"SELECT base62_range_last('e', 3, own) FROM stored", "84567"},
 };
 
 /* Steps a statement with one request refused. Answers whether a request was. */

@@ -1,3 +1,5 @@
+# SPDX-License-Identifier: MIT
+# Copyright (c) 2026 the maintainers of base62 for Rattle
 """Runs the queries of README.md in a database, and compares what they print with what the page says.
 
     python3 page.py sqlite MODULE    in the shell of SQLite

@@ -1,3 +1,5 @@
+# SPDX-License-Identifier: MIT
+# Copyright (c) 2026 the maintainers of base62 for Rattle
 """Tests of the functions of SQLite, of the module that BASE62_SQLITE names, by the values that all tests read."""
 
 from __future__ import annotations
@@ -170,6 +172,17 @@ class Values(Case):
             if width == KEY:
                 self.assertEqual(self.answer(f"{name}(CAST(? AS TEXT))", prefix), wanted)
 
+    def test_ranges(self) -> None:
+        for alphabet, width, prefix, *found in (row for row in rows("range") if row[0] in ALPHABETS):
+            if 0 < int(width) <= WIDEST:
+                self.check_range(alphabet, int(width), as_text(prefix), found)
+
+    def check_range(self, alphabet: str, width: int, prefix: Any, found: list[str]) -> None:
+        first, last = (int(found[1]), int(found[2])) if found[0] == "numbers" else (BIGINT + 1, 0)
+        for name, number in (("base62_range_first", first), ("base62_range_last", min(last, BIGINT))):
+            wanted = said(found) if found[0] == "byte" else number if first <= BIGINT else None
+            self.assertEqual(self.over(alphabet, f"{name}(CAST(? AS TEXT), ?, ?)", prefix, width), wanted)
+
     def test_uuids(self) -> None:
         for _, name, encoded in rows("uuid"):
             self.assertEqual(self.answer("base62_encode(?)", bytes.fromhex(name.replace("-", ""))), encoded)
@@ -205,6 +218,10 @@ CALLS = [
     ("base62_key_first", ("1", 7)),
     ("base62_key_last", ("1",)),
     ("base62_key_last", ("1", 7)),
+    ("base62_range_first", ("1", 7)),
+    ("base62_range_first", ("1", 7, OWN)),
+    ("base62_range_last", ("1", 7)),
+    ("base62_range_last", ("1", 7, OWN)),
 ]
 
 
@@ -323,6 +340,8 @@ CREATE VIEW shown AS SELECT base62_encode(u) AS t, base62_decode('LZ') AS n, bas
 PLANS = [
     ("SELECT * FROM link WHERE slug = 'LZ'", "SEARCH link USING INDEX sqlite_autoindex_link_1 (slug=?)"),
     ("SELECT * FROM link WHERE id = base62_decode('LZ')", "SEARCH link USING INTEGER PRIMARY KEY (rowid=?)"),
+    ("SELECT * FROM link WHERE id BETWEEN base62_range_first('A', 11) AND base62_range_last('A', 11)",
+     "SEARCH link USING INTEGER PRIMARY KEY (rowid>? AND rowid<?)"),
     ("SELECT u FROM item WHERE u = base62_decode_blob('LZ')",
      "SEARCH item USING COVERING INDEX sqlite_autoindex_item_1 (u=?)"),
     ("SELECT code FROM item WHERE base62_encode(u) = 'LZ'", "SEARCH item USING INDEX item_text (<expr>=?)"),
@@ -362,6 +381,10 @@ class Tables(Case):
                 " AND base62_decode_blob(base62_key_last(?1)) ORDER BY u",
             ):
                 self.assertEqual(self.db.execute(query, (prefix,)).fetchall(), wanted)
+        for prefix in ("", "0", "00000000", "A", "AzL8n0Y58m7", "B"):
+            query = "SELECT id FROM link WHERE id BETWEEN base62_range_first(?1, 11) AND base62_range_last(?1, 11)"
+            wanted = [(n,) for n in self.numbers if n <= BIGINT and text(n).rjust(11, "0").startswith(prefix)]
+            self.assertEqual(self.db.execute(query + " ORDER BY id", (prefix,)).fetchall(), wanted)
 
     def test_view(self) -> None:
         some = text(self.numbers[1])

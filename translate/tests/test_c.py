@@ -13,8 +13,9 @@ import tempfile
 import unittest
 
 ROOT = pathlib.Path(__file__).resolve().parents[2]
-sys.path.insert(0, str(ROOT / "translate"))
+sys.path[:0] = [str(ROOT / "translate"), str(ROOT / "translate" / "tests")]
 
+from cases import CASES, CLAUSES, modules_of_case, modules_of_clause  # noqa: E402: it is in the folder of the tests
 from to_c.file import written  # noqa: E402: it is found by the line before
 
 HEADER = next(path for path in (ROOT / "c" / "base62.h", ROOT / "include" / "base62.h") if path.exists())
@@ -52,8 +53,8 @@ REFUSALS = [
     ("an attribute", DECODER, "#[inline(always)]\nfn read_5", "#[target_feature(enable = \"avx2\")]\nfn read_5"),
     ("a comment in a value", DECODER, ".checked_mul(weight)", "\n// Here.\n.checked_mul(weight)"),
     ("a bound", FIXED, "<T: Number>", "<T: Display>"),
-    ("a division of u128", ENCODER, "(n >> 96) as u64", "(n / 7) as u64"),
-    ("a shift of a literal", ENCODER, "(n >> 96) as u64", "(1 << 96) as u64"),
+    ("a division of u128", ENCODER, "(n >> 56) as u64", "(n / 7) as u64"),
+    ("a shift of a literal", ENCODER, "(n >> 56) as u64", "(1 << 96) as u64"),
     ("a number that its type does not hold", ENCODER, "places > 4", "places > 4294967296"),
     ("a guard", FAULT, "        32..=126 =>", "        x if x > 31 =>"),
     ("an escape of a byte", FAULT, r"b'\\' =>", r"b'\x41' =>"),
@@ -68,9 +69,19 @@ REFUSALS = [
     ("a match that does not return", ENCODER, "    if count < 10 {",
      "    match n { 0 => write_5(tables, 0, buf, work), _ => () }\n    if count < 10 {"),
     ("the base of a struct", "alphabet.rt", "Tables { letters, digits }", "Tables { letters, ..*standard_tables() }"),
-    ("an array of numbers", ENCODER, "    let upper = (n >> 96) as u64;", "    let upper = [1u64, 2, 3];"),
+    ("an array of numbers", ENCODER, "    let upper = (n >> 56) as u64;", "    let upper = [1u64, 2, 3];"),
     ("a lifetime", DECODER, "fn read_10(", "fn read_10<'a>("),
     ("an impl of many types", "alphabet.rt", "impl Alphabet {", "impl<T> Alphabet {"),
+    ("a comment between two marks", DECODER, "    let mut done = 0;", "    let mut done = 0; /* The rest. */"),
+    ("a raw text", FAULT, "\"Encoded input is an empty", "r\"Encoded input is an empty"),
+    ("a module in its place", "codec.rt", "pub(crate) mod decoder;", "pub(crate) mod decoder {}"),
+    ("another name for what is used", "codec.rt", "use crate::number::Number;", "use crate::number::Number as Whole;"),
+    ("an item for some machines", "powers.rt", "pub(crate) const POWER_3", "#[cfg(unix)]\npub(crate) const POWER_3"),
+    ("a second item of a name", "powers.rt", "pub(crate) const POWER_3", "pub(crate) const POWER_4"),
+    ("a group without an end", DECODER, "    let mut done = 0;", "    let mut done = (0;"),
+    ("a file without an end", DECODER, "    let mut done = 0;", "    let mut done = 0;\n}\npub"),
+    ("a type that C does not have", DECODER, "    let mut done = 0;", "    let mut done: u16 = 0;"),
+    ("a slice in an answer", "canonical.rt", "Result<Option<u128>, DecodeError>", "Result<Option<&[u8]>, DecodeError>"),
     ("another result in the header", "base62.h", "size_t base62_digit_count(", "int base62_digit_count("),
     ("another parameter in the header", "base62.h", "char *buffer, size_t size)", "char *buffer, int size)"),
     ("a parameter less in the header", "base62.h", ", base62_range *range, base62_bad_byte *bad);",
@@ -95,9 +106,9 @@ MISTAKES = [
      "return self.text"),
     ("a negation is left out", "gcc", "values.py", "f\"!{self.text(node.value, BOOL, UNARY)}\"",
      "f\"{self.text(node.value, BOOL, UNARY)}\""),
-    ("an index is one more", "gcc", "values.py", "[{value.text}]\", behind", "[{value.text} + 1]\", behind"),
-    ("a range begins one late", "gcc", "values.py", "f\"{found.text} + {start}\", of",
-     "f\"{found.text} + {start} + 1\", of"),
+    ("an index is one more", "gcc", "values.py", "[{value.text}]\", of)", "[{value.text} + 1]\", of)"),
+    ("a range begins one late", "gcc", "values.py", "} + {start}\", of",
+     "} + {start} + 1\", of"),
     ("a range keeps the length of the whole", "gcc", "values.py", "f\"{end} - {start}\"", "end"),
     ("a slice is handed over without its length", "gcc", "values.py",
      "[found.text] + [self.count(found)] * with_length", "[found.text] + [\"0\"] * with_length"),
@@ -106,11 +117,11 @@ MISTAKES = [
     ("a ? of an Option goes on", "gcc", "values.py", "self.emit(f\"if (!{name}.is_some) return",
      "(f\"if (!{name}.is_some) return"),
     ("a ? ends in the other case", "gcc", "values.py", "if (!{name}.is_ok) return", "if ({name}.is_ok) return"),
-    ("unwrap_or exchanges its cases", "gcc", "values.py", ".is_ok ? {place}.ok : {self.alone(node.args[0], of[1])}",
-     ".is_ok ? {self.alone(node.args[0], of[1])} : {place}.ok"),
+    ("unwrap_or exchanges its cases", "gcc", "values.py", ".is_ok ? {place}.ok : {other}",
+     ".is_ok ? {other} : {place}.ok"),
     ("ok_or never fails", "gcc", "values.py", "{place}.is_some ? {ok}", "true ? {ok}"),
-    ("an array is copied without its last byte", "gcc", "values.py", "memcpy({to}, {text}, {of[2]})",
-     "memcpy({to}, {text}, {of[2] - 1})"),
+    ("an array is copied without its last byte", "gcc", "values.py", "copy_bytes({to}, {text}, {of[2]})",
+     "copy_bytes({to}, {text}, {of[2] - 1})"),
     ("a large number loses its high half", "gcc", "file.py", "f\"U128({high:#x}, {low:#x})\"",
      "f\"U128(0x0, {low:#x})\""),
     ("the branches of an if are exchanged", "gcc", "writer.py",
@@ -122,16 +133,19 @@ MISTAKES = [
      "\"answer\"), node.arms[len(node.arms) > 2:]"),
     ("what a variant holds is bound in reverse", "gcc", "writer.py", "f\"{dot}{name}._{i}\"",
      "f\"{dot}{name}._{1 - i}\""),
-    ("a range of values leaves out its end", "gcc", "writer.py", "{text} <= {high}", "{text} < {high}"),
-    ("a loop goes on by one", "gcc", "writer.py", "{index.c} < {end}", "{index.c} <= {end}"),
+    ("a range of values leaves out its end", "gcc", "writer.py", "(\"<=\", high)", "(\"<\", high)"),
+    ("a loop goes on by one", "gcc", "writer.py", "{index.c} < {count}", "{index.c} <= {count}"),
     ("a loop begins at 1", "gcc", "writer.py", "for (size_t {index.c} = 0;", "for (size_t {index.c} = 1;"),
-    ("a buffer does not begin with its byte", "gcc", "writer.py", "memset({local.c}, {byte},", "memset({local.c}, 0,"),
+    ("a buffer does not begin with its byte", "gcc", "writer.py", "fill_bytes({local.c}, {byte},",
+     "fill_bytes({local.c}, 0,"),
     ("the second part of a split keeps the whole length", "gcc", "writer.py", "f\"{self.count(found)} - {start}\"",
      "self.count(found)"),
-    ("the parts of a split begin alike", "gcc", "writer.py", "f\"{found.text} + {start}\"", "found.text"),
+    ("the parts of a split begin alike", "gcc", "writer.py", "} + {start}\", f\"", "}\", f\""),
     ("a compound assignment is a plain one", "gcc", "writer.py", "{found.text} {node.op} {value}",
      "{found.text} = {value}"),
     ("all operators bind alike", "gcc", "syntax.py", '"*": 9, "/": 9, "%": 9', '"*": 8, "/": 8, "%": 8'),
+    ("two twins have one body", "gcc", "writer.py", "definitions.get(str(node.callee.path[0]))",
+     "definitions.get(str(node.callee.path[0]).replace(\"alternative_\", \"\"))"),
     ("a variable of 64 bits is as wide as an address", "32 bits", "values.py", "declared(of, name)} = {text};\")",
      "declared(of, name)} = {text};\".replace(\"uint64_t\", \"size_t\"))"),
     ("saturating_add wraps", "gcc", "prelude.c", "u128_less(sum, a) ? u128_sub(u128_of(0), u128_of(1)) : sum", "sum"),
@@ -140,7 +154,7 @@ MISTAKES = [
     ("checked_mul passes over the carry", "gcc", "prelude.c", " && u128_high(product) >= u128_high(low)", ""),
     ("wrapping_add has no carry", "gcc", "prelude.c", "return a + b; }\n\n/*", "return a ^ b; }\n\n/*"),
     ("checked_add never overflows", "gcc", "prelude.c", ".is_some = !u128_less(sum, a)", ".is_some = true"),
-    ("the bytes of a number begin with the lowest", "gcc", "prelude.c", "120 - 8 * i", "8 * i"),
+    ("the bytes of a number begin with the lowest", "gcc", "prelude.c", "bytes[i - 1] =", "bytes[16 - i] ="),
     ("a text does not grow", "gcc", "prelude.c", "text.length += part_length;", "text.length += 0;"),
     ("the lesser of two is the greater", "gcc", "prelude.c", "return a < b ? a : b;", "return a < b ? b : a;"),
     ("the sum of structs has no carry", "a struct for u128", "prelude.c", "a.high + b.high + (low < a.low)",
@@ -224,7 +238,62 @@ class Refusals(unittest.TestCase):
                 written(folder)
         finally:
             path.write_text(text)
-        self.assertRegex(str(ended.exception), r"\.rt:\d+: |^base62\.h: ")
+        self.assertRegex(str(ended.exception), r"^[^\n]*\.(rt|h):\d+: [^\n]*$")
+
+
+class Cases(unittest.TestCase):
+    HEADER = "#include <stdint.h>\nuint64_t base62_run(uint64_t n);\n"
+    MAIN = ('#include <stdio.h>\n#include "base62.h"\n'
+            'int main(void) { printf("%llu", (unsigned long long)base62_run(5)); }\n')
+
+    def setUp(self):
+        folder = tempfile.TemporaryDirectory()
+        self.addCleanup(folder.cleanup)
+        self.folder = pathlib.Path(folder.name)
+
+    def library(self, texts):
+        """The C of a crate of these modules, of which `case` has the function `run`."""
+        shutil.rmtree(self.folder / "crates", ignore_errors=True)
+        for name in ("crates/base62/src", "crates/base62_c/src", "c"):
+            (self.folder / name).mkdir(parents=True, exist_ok=True)
+        for name, text in {**texts, "lib": "".join(f"pub mod {name};\n" for name in texts)}.items():
+            (self.folder / f"crates/base62/src/{name}.rt").write_text(text)
+        (self.folder / "crates/base62_c/src/lib.rt").write_text(
+            'pub extern "C" fn base62_run(n: u64) -> u64 {\n    base62::case::run(n)\n}\n')
+        (self.folder / "c/base62.h").write_text(self.HEADER)
+        return written(self.folder)
+
+    def answer(self, flags, text):
+        (self.folder / "base62.c").write_text(text)
+        (self.folder / "main.c").write_text(self.MAIN)
+        command = ["gcc", *flags, "-std=c99", "-Werror", "-Wno-unused", "-Ic", "base62.c", "main.c", "-o", "main"]
+        subprocess.run(command, cwd=self.folder, check=True)
+        return int(subprocess.run(["./main"], cwd=self.folder, check=True, capture_output=True).stdout)
+
+    def assert_refused(self, texts):
+        with self.assertRaises(SystemExit) as ended:
+            self.library(texts)
+        self.assertRegex(str(ended.exception), r"^[^\n]*\.rt:\d+: [^\n]*$")
+
+    def test_cases(self):
+        for what, answer, is_known, before, body in CASES:
+            with self.subTest(what):
+                if not is_known:
+                    self.assert_refused(modules_of_case(before, body))
+                    continue
+                text = self.library(modules_of_case(before, body))
+                for flags in (["-fsanitize=undefined"], ["-DBASE62_NO_INT128"])[:1 + ("u128" in before + body)]:
+                    self.assertEqual(self.answer(flags, text), answer)
+
+    def test_clauses(self):
+        for clause, parameter, said, _ in CLAUSES:
+            with self.subTest(clause):
+                texts = modules_of_clause(clause, parameter)
+                if said is None:
+                    self.assert_refused(texts)
+                    continue
+                found = re.findall("//@ assert requires: (.*);", self.library(texts))
+                self.assertEqual(found, [said] * bool(said))
 
 
 class Mistakes(unittest.TestCase):

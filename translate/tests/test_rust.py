@@ -1,5 +1,6 @@
 """Tests of translate/rust: what it writes, what it refuses, and that a mistake in it is found by what is tested."""
 import os
+import re
 import shutil
 import subprocess
 import sys
@@ -9,6 +10,9 @@ from concurrent.futures import ThreadPoolExecutor
 from pathlib import Path
 
 TOP = Path(__file__).resolve().parents[2]
+sys.path.insert(0, str(TOP / "translate/tests"))
+
+from cases import CASES, CLAUSES, modules_of_case, modules_of_clause  # noqa: E402: it is found by the line before
 
 # Edits of the source: a file of crates, what stands there, and what comes in its place. Each is refused.
 REFUSED = [
@@ -17,13 +21,17 @@ REFUSED = [
     ("base62/src/codec/encoder.rt", "    let quotient = x / POWER_2;", "    let quotient = x.wrapping_div(POWER_2);"),
     ("base62/src/codec/encoder.rt", "    let quotient = x / POWER_2;", "    ghost let y = { x };"),
     ("base62/src/codec/encoder.rt", "    let quotient = x / POWER_2;", "    let quotient = unsafe { x };"),
-    ("base62/src/codec/encoder.rt", "(estimate + whole as u32, fraction, low)", "(estimate + whole as i32, fraction, low)"),
+    ("base62/src/codec/encoder.rt", "    (top as u32, high, low)", "    (top as i32, high, low)"),
     ("base62/src/codec/encoder.rt", "    requires fits { x < 62 ^ 2 }", "    decreases { x }"),
     ("base62/src/codec/encoder.rt", "fn write_2(", "#[cycle(a)]\nfn write_2("),
     ("base62/src/codec/decoder.rt", "            return i;", "            continue;"),
     ("base62/src/codec/decoder.rt", "    for i in 0..part.len() {", "    'digits: for i in 0..part.len() {"),
     ("base62/src/codec/decoder.rt", "    let mut total = number;", "    let mut total ≔ number;"),
     ("base62/src/codec/decoder.rt", "    for i in 0..part.len() {", "    for i in 0..part.len() invariant { total } {"),
+    ("base62/src/codec/decoder.rt", "    let mut done = 0;", "    let mut done = 0; /* The rest. */"),
+    ("base62/src/codec/decoder.rt", "    let mut done = 0;", "    let mut done = 0; let work = done;"),
+    ("base62/src/codec/decoder.rt", "    let mut done = 0;", "    let mut done = (0;"),
+    ("base62/src/codec/decoder.rt", "number { number < 62 ^ 5 }", "number { number < length part.now }"),
     ("base62/src/fault.rt", "use std::fmt::InlineText;", "use std::collections::HashMap;"),
     ("base62/src/fault.rt", "#[derive(Clone, Copy,", "#[derive(Clone, Copy, Default,"),
     ("base62/src/fault.rt", "impl error::Error for DecodeError {}", "trait Shown {}"),
@@ -33,8 +41,12 @@ REFUSED = [
     ("base62/src/alphabet.rt", "    ghost Value = { List ℕ };", "    fn value(&self) {}"),
     ("base62/src/alphabet.rt", "    ghost eq = { pointwise nat_eq };", "    ghost fn eq() { }"),
     ("base62/src/alphabet.rt", "prove!(size_of::<Alphabet>", "prove!(align_of::<Alphabet>"),
+    ("base62/src/alphabet.rt", "requires { IsTrue (is_alphabet letters) }", "requires { IsTrue (is_ascending letters) }"),
+    ("base62/src/alphabet.rt", "            return Err(", "            unreachable!(), return Err("),
+    ("base62/src/alphabet.rt", "    pub const fn letters(", "    pub const unsafe fn letters("),
     ("base62/src/target.rt", "    buf.reserve(letters.len())?;", "    buf.try_reserve(letters.len())?;"),
     ("base62/src/target.rt", "    Ok(())\n", "    buf.push(1)\n"),
+    ("base62/src/target.rt", "If that is refused, `buf` stays as it was.", "If that is refused, `buf` stays."),
     ("base62/src/target.rt", 'assert_eq!(rt; text.as_str(), "1LY7VK");', "rt.run();"),
     ("base62/src/codec.rt", "encode_bytes_counted(num, buf, &mut", "encode_bytes_counted(buf, num, &mut"),
     ("base62/src/codec.rt", "    ensures { EncodesInto", "    requires { 5 ≤ num }\n    ensures { EncodesInto"),
@@ -42,7 +54,7 @@ REFUSED = [
     ("base62/src/text.rt", "use std::str;", "use std::snapshot::Snapshot;"),
     ("base62/src/show.rt", "fmt<W: fmt::Write>", "fmt<V: fmt::Write>"),
     ("base62/src/powers.rt", "    POWER_10,\n];", "    Natural::of(1),\n];"),
-    ("base62_cli/src/main.rt", "&mut rt.stdin()", "&mut rt.arguments()"),
+    ("base62_cli/src/tool.rt", "writer.flush()", "writer.close()"),
     ("base62_cli/src/reply.rt", "use std::str;", "use std::env;"),
 ]
 
@@ -52,12 +64,12 @@ MISTAKES = {
     "an attribute of the prover stays": (r'text = re.sub(rf"\n? *({GHOST_ATTRIBUTE})(?=\n)", "", text)', "pass"),
     "a clause stays": ('{back}".rstrip()', '{back} requires {{}}".rstrip()'),
     "a module is skipped": ('{"laws", "model", "number", "work"}, ', '{"laws", "model", "number", "work", "show"}, '),
-    "a function is skipped": ('"letters_are_distinct", "of"}', '"letters_are_distinct", "of", "greatest"}'),
+    "a function is skipped": ('"letters_are_distinct"}', '"letters_are_distinct", "greatest"}'),
     "the members of impls are lost": ('if body.strip() else " {}"', 'if 0 else " {}"'),
     "a call is dropped": (r"base62::laws::\w+)\(\w*\)", r"base62::laws::\w+|write_2)\([^;]*\)"),
     "what is appended is dropped": (r'(r"(\.push_str\(\w+\))\.unwrap\(\);", r"\1;")', r'(r"\w+\.push_str.*", "")'),
-    "a test of an alphabet is dropped": ('return ["crate::contract::assert_ascii(alphabet);"] if', "return [] if"),
-    "the place of a panic is lost": ('["#[track_caller]"] if item.requires', "[] if 1"),
+    "a test of an alphabet is dropped": ("self.panic_of(item)[1] if", "[] if"),
+    "the place of a panic is lost": ('attributes.append("#[track_caller]")', "pass"),
     "parameters are exchanged": ("({', '.join(kept)})", "({', '.join(kept[::-1])})"),
     "two twins have one body": ("self.counted.get(call[1])", 'self.counted.get(call[1].replace("alternative_", ""))'),
     "a cast is narrowed": (ANOTHER_RULE, ANOTHER_RULE + ', ("as u32", "as u8 as u32")'),
@@ -66,7 +78,7 @@ MISTAKES = {
     "a remainder is a quotient": (ANOTHER_RULE, ANOTHER_RULE + ', (" % 10", " / 10")'),
     "a power is another": (ANOTHER_RULE, ANOTHER_RULE + ', ("POWER_4", "POWER_3")'),
     "an error is another": (ANOTHER_RULE, ANOTHER_RULE + ', ("EmptyInput", "ArithmeticOverflow")'),
-    "an index is one too great": (r"proved!(\1[\2])", r"proved!(\1[\2 + 1])"),
+    "an index is one too great": (ANOTHER_RULE, ANOTHER_RULE + ', ("digit as usize", "digit as usize + 1")'),
     "a text loses its first byte": (r"proved!(\1(\2))", r"proved!(\1(&\2[1..]))"),
     "an input loses its first byte": ("{name}.as_ref()", "{name}.as_ref().split_at(1).1"),
     "a range loses its end": (r'r"Some(\1..=\2)")]' + "\n# Where", r'r"Some(\1..=\1)")]' + "\n# Where"),
@@ -77,7 +89,17 @@ MISTAKES = {
     "a clause is too strong": ('("≤", "<=")', '("≤", "<")'),
     "a writer has to have a size": (r'("W: Write", r"\g<0> + ?Sized"),', ""),
     "a feature is wanted nowhere": ("""['#[cfg(feature = "std")]'] if""", "[] if"),
-    "a fault goes to standard output": ("writeln!(io::stderr(), ", "writeln!(io::stdout(), "),
+}
+
+
+# What the judge takes: forms of the prover that the compiler refuses, and what users would miss.
+NOT_JUDGED = {
+    "an attribute of the prover stays",
+    "a module is skipped",
+    "a test of an alphabet is dropped",
+    "the place of a panic is lost",
+    "a writer has to have a size",
+    "a feature is wanted nowhere",
 }
 
 
@@ -101,6 +123,11 @@ def edit(file, old, new):
     text = file.read_text()
     assert old in text, f"{file} has no {old}"
     file.write_text(text.replace(old, new, 1))
+
+
+def plant(folder, mistake):
+    file = folder / "translate/rust"
+    edit(file if mistake[0] in file.read_text() else folder / "translate/reader.py", *mistake)
 
 
 class Tree(unittest.TestCase):
@@ -127,6 +154,9 @@ class Writes(Tree):
         self.assertEqual(translate(self.folder).returncode, 0)
         self.assertEqual(modules(self.folder), written)
 
+    def test_the_line_by_hand(self):
+        self.assertIn("    in_place!(tables, num, buf);\n", (TOP / "rust/src/target.rs").read_text())
+
     def test_arguments(self):
         self.assertIn("translate/rust --check", translate(self.folder, "--nope").stderr)
 
@@ -150,16 +180,86 @@ class Refuses(Tree):
                 file.write_text(text)
 
 
+REQUIRES = "macro_rules! requires { ($clause:expr) => { assert!($clause); }; }\n"
+
+
+class Cases(unittest.TestCase):
+    """Small functions, whose Rust is compiled with checks of overflow."""
+
+    def setUp(self):
+        folder = tempfile.TemporaryDirectory()
+        self.addCleanup(folder.cleanup)
+        self.folder = Path(folder.name)
+        shutil.copytree(TOP / "translate", self.folder / "translate", ignore=shutil.ignore_patterns("__pycache__"))
+        (self.folder / "rust/src").mkdir(parents=True)
+        (self.folder / "rust/src/lib.rs").write_text("")
+
+    def translate(self, texts):
+        """What translate/rust writes of these modules, or else how it refuses them."""
+        source = self.folder / "crates/base62/src"
+        shutil.rmtree(source, ignore_errors=True)
+        source.mkdir(parents=True)
+        for name, text in texts.items():
+            (source / f"{name}.rt").write_text(text)
+        done = translate(self.folder)
+        if done.returncode:
+            self.assertRegex(done.stderr, r"^crates/base62/src/\w+\.rt:\d+: [^\n]*\n$")
+            return None
+        return {name: (self.folder / f"rust/src/{name}.rs").read_text() for name in texts}
+
+    def test_cases(self):
+        texts = {f"{name}_{at}": text.replace("crate::other::", f"crate::other_{at}::")
+                 for at, (*_, before, body) in enumerate(CASES) for name, text in modules_of_case(before, body).items()}
+        texts = self.translate(texts)
+        mods, runs = "".join(f"mod {name};\n" for name in texts), range(len(CASES))
+        lines = "".join(f'    println!("{{}}", case_{at}::run(5));\n' for at in runs)
+        for name, text in {**texts, "main": f"{REQUIRES}{mods}fn main() {{\n{lines}}}\n"}.items():
+            (self.folder / f"{name}.rs").write_text(text)
+        build = ["rustc", "--edition=2021", "-Awarnings", "-Coverflow-checks=on", "main.rs"]
+        subprocess.run(build, cwd=self.folder, check=True)
+        said = subprocess.run(["./main"], cwd=self.folder, check=True, capture_output=True, text=True).stdout.split()
+        for (what, answer, *_), found in zip(CASES, said, strict=True):
+            with self.subTest(what):
+                self.assertEqual(int(found), answer)
+
+    def test_clauses(self):
+        said = {f"clause_{at}": (said, modules_of_clause(clause, parameter)["case"])
+                for at, (clause, parameter, _, said) in enumerate(CLAUSES)}
+        texts = self.translate({name: text for name, (wanted, text) in said.items() if wanted is not None})
+        for name, (wanted, text) in said.items():
+            with self.subTest(text):
+                if wanted is None:
+                    self.assertIsNone(self.translate({name: text}))
+                else:
+                    self.assertEqual(re.findall(r"requires!\((.*)\);", texts[name]), [wanted] * bool(wanted))
+
+
+class Judged(unittest.TestCase):
+    """The judge finds each mistake but those of NOT_JUDGED."""
+
+    def judge(self, folder):
+        return subprocess.run([sys.executable, folder / "translate/judge"], cwd=folder, capture_output=True, text=True)
+
+    def test_what_is_committed(self):
+        ran = self.judge(TOP)
+        self.assertEqual((ran.returncode, ran.stderr), (0, ""))
+
+    def test_mistakes(self):
+        for name, mistake in MISTAKES.items():
+            with self.subTest(name), tempfile.TemporaryDirectory() as folder:
+                tree = copy(Path(folder))
+                plant(tree, mistake)
+                if translate(tree).returncode == 0:
+                    self.assertEqual(bool(self.judge(tree).stderr), name not in NOT_JUDGED)
+
+
 class FindsMistakes(unittest.TestCase):
     """With each of them the translator refuses, or what it writes does not pass a compiler or a test."""
 
     def is_found(self, mistake):
         with tempfile.TemporaryDirectory() as name:
             folder = copy(Path(name))
-            file = folder / "translate/rust"
-            if mistake[0] not in file.read_text():
-                file = folder / "translate/reader.py"
-            edit(file, *mistake)
+            plant(folder, mistake)
             written = modules(folder)
             translated = translate(folder)
             assert "Traceback" not in translated.stderr, translated.stderr
@@ -169,7 +269,7 @@ class FindsMistakes(unittest.TestCase):
                 return False
             cargo = {**os.environ, "CARGO_NET_OFFLINE": "true", "CARGO_TARGET_DIR": str(folder / "target"),
                      "CARGO_PROFILE_DEV_DEBUG": "0", "CARGO_INCREMENTAL": "0", "CARGO_BUILD_JOBS": "2"}
-            tests = [part for test in ("values", "show", "panics", "program") for part in ("--test", test)]
+            tests = [part for test in ("append", "values", "show", "panics", "program") for part in ("--test", test)]
             commands = ["cargo", "build"], ["cargo", "test", "--features=std", *tests]
             return any(subprocess.run(command, cwd=folder / "rust", env=cargo, capture_output=True).returncode
                        for command in commands)

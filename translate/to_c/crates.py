@@ -1,6 +1,11 @@
 """The modules of the crates, what is defined in them, and what a name in them means."""
-from reader import code_of, items_of, refuse, seek, tokens_of
+import re
+
+from reader import code_of, items_of, refuse, refusing, seek, tokens_of
 from .syntax import Parser
+
+# What may stand before an item. Of functions, the writer reads them.
+ATTRIBUTE = re.compile(r"#!?\[(inline(\(always\))?|unsafe\(no_mangle\)|repr\(C\)|derive\([\w, ]*\)|tactic\(.*\))\]")
 
 
 class Definition:
@@ -26,14 +31,23 @@ class Module:
         tokens = tokens_of(file)
         self.head = [t for t in tokens if t.kind == "comment" and t.startswith("//!")]
         for item in items_of(tokens):
-            self.add(item)
+            with refusing(item.first):
+                self.add(item)
 
     def add(self, item):
         name = str(item.name)
+        if unknown := [it for it in item.attributes if not ATTRIBUTE.fullmatch(it)]:
+            if unknown == ["#[cfg(test)]"]:
+                return
+            refuse(item.first, f"an attribute that is not known, {unknown[0]}, of")
+        if name in self.definitions and item.kind not in ("use", "mod", "impl", "ghost", ""):
+            refuse(item.name, "a second item of this name")
         if item.kind == "use":
-            self.add_import(Parser(item.tokens).behind(item.kind), [])
+            parser = Parser(item.tokens).behind(item.kind)
+            self.add_import(parser, [])
+            parser.expect(";")
         elif item.kind == "mod":
-            self.children[name] = None
+            self.children[name] = item.name
         elif item.kind == "impl":
             head = code_of(item.signature)
             owner = Parser(head[1 + (seek(head, 0, ("for",)) if "for" in head else 0):]).type()
@@ -52,16 +66,17 @@ class Module:
             self.imports[before[-1] if name == "self" else name] = before + [name] * (name != "self")
 
     def child(self, name):
-        if self.children[name] is None:
+        if not isinstance(self.children[name], Module):
             folder = self.file.parent if self.file.name == "lib.rt" else self.file.with_suffix("")
-            self.children[name] = Module(self.crates, self.path + [name], folder / f"{name}.rt")
+            with refusing(self.children[name]):
+                self.children[name] = Module(self.crates, self.path + [name], folder / f"{name}.rt")
         return self.children[name]
 
     def below(self):
         """This module, and those below it that have been read."""
         yield self
-        for child in filter(None, self.children.values()):
-            yield from child.below()
+        for child in self.children.values():
+            yield from child.below() if isinstance(child, Module) else ()
 
     def find(self, names, seen=()):
         """What a path means: a module, a definition, a definition and a name in it, or else a path of names."""

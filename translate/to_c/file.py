@@ -2,14 +2,16 @@
 import pathlib
 import re
 
-from reader import Refusal, refuse
+from reader import refuse, refusing
 from .crates import Module
 from .layout import documentation, wrapped
 from .library import Header, Library
-from .types import INTS, U128, parts_of
+from .types import BITS, INTS, U128, USIZE, parts_of
 from .values import POSTFIX, Values
 from .writer import Writer
 
+# The names that the prelude has.
+NAMED = re.compile(r"^(?:#define (\w+)|static [^(]*\b(\w+)\(|(?:typedef .*|__extension__ .*|}) (\w+);)", re.M)
 FORMS = {"u8": "%s", "u32": "UINT32_C(%s)", "u64": "UINT64_C(%s)", "usize": "((size_t)%s)"}
 
 
@@ -18,8 +20,14 @@ class Constant(Values):
     def write(self, of, value):
         name = self.library.name(self.definition)
         self.types.append(of)
+        if of == USIZE and self.library.number(value, self.definition) >> BITS["usize"]:
+            refuse(self.definition.token, "a number that 32 bits do not hold, of")
         if of[0] in INTS and of != U128:
-            text = FORMS[of[0]] % value.number if value.kind == "number" else self.text(value, of, POSTFIX)
+            for part in value.walk():
+                if part.kind not in ("number", "path", "cast", "binary", "name"):
+                    refuse(part.token, "no static value")
+            text = self.text(value, of, POSTFIX)
+            text = FORMS[of[0]] % value.number if value.kind == "number" else text
             return self.emit(f"#define {name} {text}")
         head = f"static const {self.library.declared(of, name)} = "
         if value.kind != "struct":
@@ -38,7 +46,9 @@ class Constant(Values):
         if node.kind == "number" and of == U128:
             high, low = divmod(node.number, 1 << 64)
             return f"U128({high:#x}, {low:#x})" if high else f"U128(0, {f'UINT64_C({low})' if low >> 31 else low})"
-        return self.text(node, of) if node.kind in ("number", "cast", "path") else refuse(node.token, "no static value")
+        if node.kind in ("number", "bool") or node.kind in ("cast", "path") and of[0] in INTS and of != U128:
+            return self.text(node, of)
+        refuse(node.token, "no static value")
 
 
 class File:
@@ -60,19 +70,21 @@ class File:
 
     def visit(self, definition, by, earlier):
         """Writes a definition, and those of which it speaks."""
-        self.library.name(definition)
+        with refusing(definition.token):
+            self.library.name(definition)
         if by.module is not definition.module:
             self.needs.setdefault(by.module, set()).add(definition.module)
         if definition in self.writers or definition.is_declared:
             return
         is_function, is_type = definition.kind == "fn", definition.kind in ("struct", "enum")
         self.writers[definition] = writer = (Writer if is_function else Constant)(self.library, definition)
-        if is_type:
-            writer.types = list(self.library.parts(definition).values())
-        elif is_function:
-            writer.write(earlier[definition].uses if definition in earlier else [])
-        else:
-            writer.write(*self.library.constant(definition))
+        with refusing(definition.token):
+            if is_type:
+                writer.types = list(self.library.parts(definition).values())
+            elif is_function:
+                writer.write(earlier[definition].uses if definition in earlier else [])
+            else:
+                writer.write(*self.library.constant(definition))
         for other in [part[1] for of in writer.types for part in parts_of(of) if part[0] == "defined"] + writer.uses:
             self.visit(other, definition, earlier)
 
@@ -86,7 +98,9 @@ class File:
 
     def arrange(self, module, modules, above):
         """A module comes after those whose items it needs."""
-        if module not in modules and module not in above:
+        if module in above:
+            refuse(next(d.token for d in self.writers if d.module is module), "a module that needs itself, with")
+        if module not in modules:
             for other in sorted(self.needs.get(module, ()), key=lambda m: m.path):
                 self.arrange(other, modules, above + [module])
             modules.append(module)
@@ -101,8 +115,9 @@ class File:
             if definition.kind != "fn":
                 self.add(definition)
         for definition in functions:
-            for of in writers[definition].types:
-                self.add_type(of)
+            with refusing(definition.token):
+                for of in writers[definition].types:
+                    self.add_type(of)
         heads = [writers[d].head for at, d in enumerate(functions)
                  if any(d in writers[other].uses for other in functions[:at])]
         self.out += [""] * bool(heads) + [line for head in heads for line in wrapped(head + ";")]
@@ -113,6 +128,10 @@ class File:
         if definition in self.done or definition.is_declared:
             return
         self.done.add(definition)
+        with refusing(definition.token):
+            self.add_lines(definition)
+
+    def add_lines(self, definition):
         notes = documentation(definition.comments)
         if definition.kind in ("struct", "enum"):
             for of in self.library.parts(definition).values():
@@ -181,7 +200,9 @@ def written(root):
         crates[name] = Module(crates, [name], root / "crates" / name / "src" / "lib.rt")
     header = Header((root / "c/base62.h").read_text())
     exported = [d for d in crates["base62_c"].definitions.values() if d.kind == "fn" and d.item.is_exported]
-    if alone := set(header.functions) ^ {definition.name for definition in exported}:
-        raise Refusal(f"base62.h: in the header or in the source alone: {', '.join(sorted(alone))}")
+    tokens = {definition.name: definition.token for definition in exported}
+    for name in sorted(header.tokens.keys() ^ tokens.keys()):
+        refuse(header.tokens.get(name) or tokens[name], "a call that the header or the source alone has")
     prelude = (pathlib.Path(__file__).parent / "prelude.c").read_text()
-    return prelude + File(Library(crates, header), exported).write()
+    names = ["".join(found) for found in NAMED.findall(prelude)]
+    return prelude + File(Library(crates, header, names), exported).write()

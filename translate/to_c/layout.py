@@ -9,7 +9,7 @@ WIDTH = 116
 def wrapped(line):
     """The line, or several: cut after commas and semicolons in the fewest parentheses, or before && and ||."""
     lines, indent = [], re.match(" *", line)[0]
-    while len(line) > WIDTH and not re.match(" *//[^@]", line):
+    while len(line) > WIDTH and not re.match(" *(//|#)", line):
         code = re.sub(r'"(\\.|[^"\\])*"', lambda text: "x" * len(text[0]), line)
         spots = [(code[:at].count("(") - code[:at].count(")"), -at) for at in range(len(indent) + 8, WIDTH)
                  if code[at - 2:at] in (", ", "; ") or code[at:at + 3] in ("&& ", "|| ")]

@@ -1,10 +1,21 @@
 """All that is written: what the source says of it, and the names and types that it has in C."""
+import operator
 import re
 
-from reader import plain, refuse, split_list
+from reader import plain, refuse, split_list, token_at
 from .crates import Definition
 from .syntax import Parser
-from .types import GHOST, INLINE_TEXT, INTS, STR, U8, U128, UNIT, WORK
+from .types import BOOL, GHOST, INLINE_TEXT, INTS, STR, U8, U128, UNIT, WORK
+
+WHOLE = {"+": operator.add, "-": operator.sub, "*": operator.mul, "/": operator.floordiv, "%": operator.mod}
+# Words that are no names in C, or that its headers have defined, and functions that its headers declare.
+WORDS_OF_C = set("""auto bool break case char const continue default do double else enum extern false float for goto if
+    inline int long register restrict return short signed sizeof static struct switch true typedef union unsigned void
+    volatile while asm typeof linux unix offsetof ptrdiff_t size_t wchar_t int8_t int16_t int32_t int64_t intptr_t
+    intmax_t uint8_t uint16_t uint32_t uint64_t uintptr_t uintmax_t NULL memcpy memset""".split())
+FUNCTIONS_OF_C = set("""bcmp bcopy bzero ffs ffsl ffsll index main memccpy memchr memcmp memmem memmove mempcpy rindex
+    strcasecmp strcat strchr strcmp strcoll strcpy strcspn strdup strerror strlen strncasecmp strncat strncmp strncpy
+    strndup strnlen strpbrk strrchr strsep strsignal strspn strstr strtok strxfrm""".split())
 
 
 class Local:
@@ -28,7 +39,9 @@ class Function:
         parser.expect("(")
         self.parameters = parser.many(")", lambda: self.read_parameter(library, parser))
         self.kept = [p for p in self.parameters if p.type not in (GHOST, WORK)]
+        token = parser.peek(1)
         self.result = library.read(parser.type(), definition) if parser.accept("->") else UNIT
+        library.check(self.result, token, "result")
         self.changes = any(p.type[0] == "ref" and p.type[2] for p in self.kept)
         parser.end()
         parser = Parser(definition.item.body)
@@ -36,21 +49,30 @@ class Function:
         parser.end()
 
     def read_parameter(self, library, parser):
-        is_borrowed, is_mutable, name = parser.accept("&"), bool(parser.accept("mut")), str(parser.name())
+        is_borrowed, is_mutable, name = parser.accept("&"), bool(parser.accept("mut")), parser.name()
         if name == "self":
             of = library.owner_type(self.definition)
-            return Local("self", ("ref", of, is_mutable) if is_borrowed else of)
-        parser.expect(":")
-        return Local(name, library.read(parser.type(), self.definition))
+            of = ("ref", of, is_mutable) if is_borrowed else of
+        elif is_borrowed or name[0].isupper():
+            refuse(name, "a pattern that is not known")
+        else:
+            parser.expect(":")
+            of = library.read(parser.type(), self.definition)
+        library.check(of, name, "parameter")
+        if of[0] == "array" and is_mutable:
+            refuse(name, "an array of its own, where C has that of the caller")
+        return Local(str(name), of)
 
 
 class Header:
     """What the header declares: the results, parameters and texts of functions, and the fields of structs."""
     def __init__(self, text):
-        text = re.sub(r"/\*.*?\*/|(?m:^#[^\n]*$)", "", text, flags=re.S)
-        self.functions = {}
-        for back, name, raw in re.findall(r"(\w+)\s+(base62_\w+)\(([^()]*)\);", text):
-            raw = " ".join(raw.split())
+        self.names = re.findall(r"\bbase62_\w+|\bBASE62_\w+", text)
+        text = re.sub(r"/\*.*?\*/|(?m:^#[^\n]*$)", lambda left_out: "\n" * left_out[0].count("\n"), text, flags=re.S)
+        self.functions, self.tokens = {}, {}
+        for found in re.finditer(r"(\w+)\s+(base62_\w+)\(([^()]*)\);", text):
+            back, name, raw = found[1], found[2], " ".join(found[3].split())
+            self.tokens[name] = token_at("base62.h", text.count("\n", 0, found.start(2)) + 1, name)
             parts = re.findall(r"([\w ]+[ *])(\w+)(\[\w+\])?(?:, |$)", raw)
             self.functions[name] = back, [(of.strip() + " *" * bool(array), part) for of, part, array in parts], raw
         self.structs = {name: [" ".join(field.split()) for field in fields.split(";") if field.strip()]
@@ -73,10 +95,12 @@ class Header:
 
 class Library:
     """The definitions that are needed."""
-    def __init__(self, crates, header):
+    def __init__(self, crates, header, prelude):
         self.crates, self.header = crates, header
         self.functions, self.constants, self.held, self.notes, self.names, self.answers = {}, {}, {}, {}, {}, {}
         self.lengths, self.learned, self.unknown = set(), 0, []
+        self.claimed = dict.fromkeys(header.names + prelude, "the header or the prelude")
+        self.claimed["option_u128"] = ("Option", U128)  # The prelude has it as the writer would write it.
 
     def function(self, definition):
         if definition not in self.functions:
@@ -113,10 +137,33 @@ class Library:
             return GHOST if self.is_ghost(found) else ("defined", found)
         refuse(node.token, "a type that is not known")
 
+    def check(self, of, at, place):
+        """Refuses a type that C does not have in a place: a parameter, a result, a field, the value of an `Ok`, another
+        part of an answer, an element, or what a reference points to, that of a parameter (lent) or any other."""
+        kind, parts, inner = of[0], [], []
+        if kind in ("Result", "Option", "tuple"):
+            fits, parts, inner = True, of[1:], ["ok" if kind == "Result" else "part", "part"]
+        elif kind in ("array", "slice", "str"):
+            fits = place == "lent" or kind == "array" and place in ("parameter", "result", "field", "target")
+            parts, inner = of[1:2], ["element"]
+        elif kind == "ref" and of != WORK:
+            fits = place in ("parameter", "result") or place in ("field", "ok", "part") and not of[2]
+            parts, inner = [of[1]], ["lent" if place == "parameter" else "target"]
+        else:
+            places = {UNIT: ("result", "ok"), GHOST: ("parameter",), WORK: ("parameter",)}
+            fits = place in places.get(of, (place,)) and (
+                of in places or kind in (*INTS, "defined") or of in (BOOL, INLINE_TEXT))
+        if not fits:
+            refuse(at, f"a type that C does not have there ({kind}), of")
+        for at_, part in enumerate(parts):
+            self.check(part, at, inner[min(at_, len(inner) - 1)])
+
     def number(self, node, by):
         """The value of a constant."""
         if node.kind == "number":
             return node.number
+        if node.kind == "binary" and node.op in WHOLE:
+            return WHOLE[node.op](self.number(node.left, by), self.number(node.right, by))
         found = by.module.find(node.path) if node.kind in ("path", "name") else None
         if isinstance(found, Definition) and found.kind == "const":
             return self.number(self.constant(found)[1], found)
@@ -135,14 +182,21 @@ class Library:
         comments = parser.comments()
         if parser.accept("pub") and parser.accept("("):
             parser.next(), parser.expect(")")
-        name = str(parser.name())
+        token = parser.name()
+        name, is_field = str(token), definition.kind == "struct"
+        if name in WORDS_OF_C or name[0].isupper() == is_field or not name[0].isalpha():
+            refuse(token, "a name that C has, or of another case,")
         self.notes[definition][name] = comments
-        if definition.kind == "struct":
+        if is_field:
             parser.expect(":")
-            self.held[definition][name] = self.read(parser.type(), definition)
+            self.held[definition][name] = of = self.read(parser.type(), definition)
+            self.check(of, token, "field")
         else:
-            held = parser.many(")", parser.type) if parser.accept("(") else []
-            self.held[definition][name] = ("held", *(self.read(of, definition) for of in held))
+            held = [self.read(of, definition) for of in parser.many(")", parser.type)] if parser.accept("(") else []
+            self.held[definition][name] = ("held", *held)
+            self.claim(name, "a member of a struct")
+            for of in held:
+                self.check(of, token, "part")
 
     def is_ghost(self, definition):
         """Whether it is a struct that holds nothing in a run."""
@@ -156,6 +210,7 @@ class Library:
             parser = definition.parser()
             parser.expect(":")
             of = self.read(parser.type(), definition)
+            self.check(of, definition.token, "field")
             parser.expect("=")
             self.constants[definition] = of, parser.expression()
             parser.expect(";")
@@ -164,13 +219,25 @@ class Library:
 
     # Names and types in C
 
+    def claim(self, name, by):
+        """Takes a name at the level of the file. Each is taken once."""
+        if name in WORDS_OF_C | FUNCTIONS_OF_C or name[0] == "_" or self.claimed.setdefault(name, by) != by:
+            raise ValueError(f"something else has the name {name} in C")
+
     def name(self, definition):
         if definition not in self.names:
-            name = self.header.name(self, definition) or definition.name
+            self.names[definition] = name = self.header.name(self, definition) or definition.name
             if definition.owner:
                 of = self.owner_type(definition)
-                name = f"{self.short(of) if of[0] != 'array' else f'bytes_{of[2]}'}_{name}"
-            self.names[definition] = name
+                of = self.short(of) if of[0] != "array" else f"bytes_{of[2]}"
+                self.names[definition] = name = f"{of}_{name}"
+            if definition.kind in ("const", "static") and not re.fullmatch("[A-Z][A-Z0-9_]*", name, re.A):
+                refuse(definition.token, "a constant in small letters")
+            if not definition.is_declared and not definition.item.is_exported:
+                self.claim(name, definition)
+            for variant in self.parts(definition) if definition.kind == "enum" else ():
+                self.claim(f"{name}_{variant}", definition)
+                self.claim(f"{name}_{variant}_tag", definition)
         return self.names[definition]
 
     def short(self, of):
@@ -182,7 +249,10 @@ class Library:
         name += parts[0] if of[0] == "Result" else "_".join(parts)
         if self.answers.setdefault(name, of) != of:
             name += "_" + parts[-1]
-            self.answers[name] = of
+        if self.answers.setdefault(name, of) != of:
+            raise ValueError(f"{name} is the name of two types")
+        for made in (name, *(maker[0] for maker in self.makers(name))):
+            self.claim(made, of)
         return name
 
     def made(self, kind, of):
@@ -193,6 +263,8 @@ class Library:
         if of[0] == "ref":
             inner = of[1][1] if of[1][0] in ("slice", "array") else U8 if of[1] == STR else of[1]
             return f"{'' if of[2] else 'const '}{self.c_type(inner)} *"
+        if of[0] not in (*INTS, "()", "bool", "InlineText", "defined", "Result", "Option", "tuple"):
+            raise ValueError(f"no type of C: {of[0]}")
         return INTS.get(of[0]) or ("void" if of == UNIT else self.short(of))
 
     def declared(self, of, name):

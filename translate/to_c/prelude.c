@@ -1,3 +1,6 @@
+/* SPDX-License-Identifier: MIT */
+/* Copyright (c) 2026 the maintainers of base62 for Rattle */
+
 /*
  * Numbers below 2^128 as short texts in base 62, and back: the functions that base62.h declares.
  *
@@ -24,7 +27,6 @@
 #include <stdbool.h>
 #include <stddef.h>
 #include <stdint.h>
-#include <string.h>
 
 #if CHAR_BIT != 8
 #error "base62.c is for bytes of 8 bits"
@@ -127,7 +129,10 @@ static ALWAYS_INLINE u128 u128_from_be_bytes(const uint8_t bytes[16]) {
 }
 
 static ALWAYS_INLINE void u128_to_be_bytes(u128 a, uint8_t bytes[16]) {
-    for (unsigned i = 0; i < 16; i++) bytes[i] = (uint8_t)u128_low(u128_shift_right(a, 120 - 8 * i));
+    for (unsigned i = 16; i > 0; i--) {
+        bytes[i - 1] = (uint8_t)u128_low(a);
+        a = u128_shift_right(a, 8);
+    }
 }
 
 static ALWAYS_INLINE u128 u128_saturating_add(u128 a, u128 b) {
@@ -154,13 +159,13 @@ static ALWAYS_INLINE uint32_t u64_ilog2(uint64_t n) {
 
 static ALWAYS_INLINE size_t usize_min(size_t a, size_t b) { return a < b ? a : b; }
 
-/* Copies bytes, if there are any: C does not clearly allow a copy of none to the end of an array. */
+/* Compilers make memcpy and memset of these loops. Provers understand them, and no bytes are fine too. */
 static inline void copy_bytes(uint8_t *restrict to, const uint8_t *restrict from, size_t length) {
-    if (length != 0) memcpy(to, from, length);
+    for (size_t i = 0; i < length; i++) to[i] = from[i];
 }
 
 static inline void fill_bytes(uint8_t *to, uint8_t byte, size_t length) {
-    if (length != 0) memset(to, byte, length);
+    for (size_t i = 0; i < length; i++) to[i] = byte;
 }
 
 /* The bytes of a text, and how many they are. */

@@ -1,7 +1,7 @@
 """Parses the part of Rust that the source uses: statements, expressions, patterns and written types."""
 import re
 
-from reader import Token, code_of, refuse
+from reader import Token, code_of, refuse, refusing
 
 # How closely the operators of Rust bind.
 BINARY = {"||": 1, "&&": 2, "==": 3, "!=": 3, "<": 3, ">": 3, "<=": 3, ">=": 3, "|": 4, "^": 5, "&": 6, "<<": 7,
@@ -13,7 +13,8 @@ TEXT_OF_BOTH = re.compile(r"""b?"([ !#->@-\[\]-~]|\?(?!\?)|\\[nrt"'\\])*\"""")
 
 class Node:
     """A statement, an expression, a pattern or a written type, and the token that it begins with or is named by."""
-    local = function = call = value = None  # What the names in it are found to be.
+    local = function = call = value = type = None  # What the names in it are found to be.
+    is_lent = is_static = False  # Whether it is a call that changes its receiver, or the name of a static.
     comments = ()
 
     def __init__(self, kind, token, **parts):
@@ -110,7 +111,7 @@ class Parser:
             return Node("wild", token, items=[])
         if self.accept("("):
             return Node("tuple", token, items=self.many(")", self.pattern))
-        if token.kind in ("number", "char"):
+        if token.kind in ("number", "char") or token in ("true", "false"):
             low = self.literal()
             return Node("values", token, low=low, high=self.literal() if self.accept("..=") else low, items=[])
         is_mutable, names = bool(self.accept("mut")), self.path()
@@ -170,7 +171,7 @@ class Parser:
     def primary(self, structs):
         token = self.peek()
         known = {"(": self.parenthesized, "[": self.array, "{": self.block, "if": self.condition, "match": self.match}
-        if token.kind in ("number", "string", "char"):
+        if token.kind in ("number", "string", "char") or token in ("true", "false"):
             return self.literal()
         if token in known:
             return known[token]()
@@ -178,6 +179,8 @@ class Parser:
             block = self.block()
             return block.tail if block.tail and not block.statements else refuse(token, "not one value")
         if self.accept("return"):
+            if self.peek() in (";", "}", ","):
+                return Node("return", token, value=Node("tuple", token, items=[]))
             return Node("return", token, value=self.expression(0, structs))
         names = self.path()
         if structs and self.peek() == "{" and names[-1][0].isupper():
@@ -187,6 +190,8 @@ class Parser:
 
     def literal(self):
         token = self.next()
+        if token in ("true", "false"):
+            return Node("bool", token)
         if token.kind == "string" and TEXT_OF_BOTH.fullmatch(token) and not (token[0] == "b" and "\\" in token):
             return Node("string", token)
         text = token[2:-1]
@@ -196,7 +201,8 @@ class Parser:
         match = re.fullmatch(r"(0x[0-9a-fA-F_]+|\d[\d_]*?)_?(u8|u32|u64|u128|usize)?", token)
         if token.kind != "number" or not match:
             refuse(token, "a literal that is not known or not the same in C")
-        return Node("number", token, number=int(match[1].replace("_", ""), 0), suffix=match[2])
+        base = 16 if match[1].startswith("0x") else 10
+        return Node("number", token, number=int(match[1][(base == 16) * 2:].replace("_", ""), base), suffix=match[2])
 
     def parenthesized(self):
         token, items = self.next(), self.many(")", self.expression)
@@ -249,6 +255,10 @@ class Parser:
 
     def statement(self):
         token = self.peek()
+        with refusing(token):
+            return self.statement_at(token)
+
+    def statement_at(self, token):
         if self.accept("let"):
             return self.let(token)
         if self.accept("for"):
@@ -257,7 +267,10 @@ class Parser:
             return Node("for", token, pattern=pattern, value=self.expression(0, False), body=self.block())
         if self.accept("while"):
             return Node("while", token, condition=self.expression(0, False), body=self.block())
-        value = self.expression()
+        # A condition that begins a statement also ends it: `if a { .. } *x = 1;`.
+        value = self.primary(True) if token in ("if", "match") else self.expression()
+        if token in ("if", "match") and self.peek() in (".", "?"):
+            refuse(self.peek(), "a statement that is not known")
         if op := self.accept("=", "+=", "-=", "*=", "/=", "%="):
             value = Node("assign", op, op=str(op), place=value, value=self.expression())
             self.expect(";")

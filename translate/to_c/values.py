@@ -5,12 +5,12 @@ What has to be done before a value is known stands in statements before it.
 import re
 from typing import NamedTuple
 
-from reader import refuse
+from reader import refuse, refusing
 from .crates import Definition
 from .layout import wrapped
-from .library import Local
-from .types import (BITS, BOOL, HELD, INTS, STANDARD, STR, TEXT, U8, U32, U64, U128, UNIT, USIZE, WORK, behind,
-                    fits, is_slice)
+from .library import WORDS_OF_C, Local
+from .types import (BITS, BOOL, BYTES, HELD, INLINE_TEXT, INTS, STANDARD, STR, TEXT, U8, U32, U64, U128, UNIT, USIZE,
+                    WORK, behind, fits, is_slice)
 
 # How closely the operators of C bind.
 LEVEL = {"||": 4, "&&": 5, "|": 6, "^": 7, "&": 8, "==": 9, "!=": 9, "<": 10, ">": 10, "<=": 10, ">=": 10, "<<": 11,
@@ -19,6 +19,7 @@ UNARY, POSTFIX = 14, 15
 U128_CALLS = {"+": "add", "-": "sub", "*": "mul", ">>": "shift_right", "<<": "shift_left", "|": "or", "&": "and",
               "<": "less", "==": "equal"}
 CHANGING = ("fill", "copy_from_slice")
+WITHOUT_RECEIVER = ("u128_from_be_bytes", "InlineText_new")
 
 
 class Value(NamedTuple):
@@ -45,8 +46,9 @@ class Values:
 
     def fresh(self, name):
         """A name that no variable here has, nor what the function speaks of."""
-        base, count = name, 1
-        while any(name in taken for taken in self.taken):
+        base, count, claimed = name, 1, self.library.claimed
+        while (any(name in taken for taken in self.taken) or name in WORDS_OF_C
+               or not isinstance(claimed.get(name, self.definition), Definition)):
             count += 1
             name = f"{base}_{count}"
         self.taken[-1].add(name)
@@ -82,9 +84,11 @@ class Values:
 
     def value(self, node, want=None):
         known = getattr(self, "value_" + node.kind, None)
-        found = known(node, want) if known else refuse(node.token, "a form that is not known")
+        with refusing(node.token):
+            found = known(node, want) if known else refuse(node.token, "a form that is not known")
         if want and not fits(found.type, want):
             refuse(node.token, f"{found.type[0]} for {want[0]}")
+        node.type = found.type
         self.types.append(found.type)
         return found
 
@@ -99,6 +103,8 @@ class Values:
 
     def constant(self, of, name, text):
         """Declares what does not change. A reference may be const already, of what it points to."""
+        if of[0] in ("()", "slice") or of[0] == "array" and text[0] != "{":
+            raise ValueError(f"no value of C: {of[0]}")
         self.emit(f"{'' if of[0] == 'ref' else 'const '}{self.library.declared(of, name)} = {text};")
 
     def named(self, value, node, name, always=False):
@@ -127,25 +133,46 @@ class Values:
         is_call = node.kind in ("call", "method")
         self.place = to if is_call else None
         text = self.text(node, of)
-        self.emit(f"{text};" if is_call else f"memcpy({to}, {text}, {of[2]});")
+        if of[1] != U8 or self.place:
+            refuse(node.token, "an array that is not known")
+        self.emit(f"{text};" if is_call else f"copy_bytes({to}, {text}, {of[2]});")
 
     # C does not say in which order it evaluates operands, so at most one may change what no other reads.
 
     def changes(self, node):
-        return any(n.kind in ("try", "return") or n.function and n.function.changes or n.call in CHANGING
+        return any(n.kind in ("try", "return", "assign") or n.function and n.function.changes or n.call in CHANGING
                    for n in node.walk())
+
+    def lent(self, node):
+        """The variables that it may change: those behind a `&mut`, which a receiver does not say."""
+        parts = [n.value for n in node.walk() if n.kind == "borrow" and n.is_mutable or n.is_lent]
+        found = {n.local for part in parts for n in part.walk() if n.local}
+        return found | {n.local for n in node.walk() if n.local and n.local.type and n.local.type[0] == "ref"
+                        and n.local.type[2]}
 
     def in_any_order(self, nodes):
         changing = [n for n in nodes if self.changes(n)]
         if len(changing) > 1:
             refuse(changing[1].token, "an order that matters")
         for node in changing:
-            lent = {n.local for n in node.walk() if n.local and n.local.type[0] == "ref" and n.local.type[2]}
-            lent |= {m.local for n in node.walk() if n.kind == "borrow" and n.is_mutable for m in n.walk() if m.local}
+            lent = self.lent(node)
             for other in nodes:
-                lengths = [n.value for n in other.walk() if n.kind == "method" and n.name == "len"]
+                lengths = [n.value for n in other.walk() if n.kind == "method" and n.name == "len"
+                           and behind(n.value.type)[0] in ("array", "slice", "str")]
                 if other is not node and any(n.local in lent and n not in lengths for n in other.walk() if n.local):
                     refuse(other.token, "an order that matters")
+
+    def without_effect(self, *nodes):
+        """Refuses effects in what C has several times, or not at all."""
+        for node in nodes:
+            if node and self.changes(node):
+                refuse(node.token, "an effect in what C may do twice or never")
+
+    def is_place(self, node):
+        """Whether it is a variable or a part of one, and not a value that was just made."""
+        if node.kind in ("field", "index"):
+            return node.value.type[0] == "ref" or self.is_place(node.value)
+        return node.kind == "dereference" or bool(node.local or node.is_static)
 
     # Literals, names and places
 
@@ -158,6 +185,9 @@ class Values:
         text = f"{node.number:#x}" if node.token.startswith("0x") else str(node.number)
         text = f"UINT{64 if BITS[of[0]] > 32 else 32}_C({text})" if node.number >> 31 else text
         return Value(f"u128_of({text})" if of == U128 else text, of)
+
+    def value_bool(self, node, want):
+        return Value(str(node.token), BOOL)
 
     def value_string(self, node, want):
         if node.token[0] == "b":
@@ -178,7 +208,9 @@ class Values:
         if is_variant and self.library.parts(found[0]).get(found[1]) == ("held",):
             return Value(f"{self.use(found[0])}_{found[1]}()", ("defined", found[0]))
         if isinstance(found, Definition) and found.kind in ("const", "static"):
-            return Value(self.use(found), self.library.constant(found)[0])
+            of = self.library.constant(found)[0]
+            node.is_static = of[0] not in INTS or of == U128
+            return Value(self.use(found), of)
         refuse(node.token, "a name that is not known")
 
     def learn(self, local, of):
@@ -200,26 +232,40 @@ class Values:
         return Value(f"!{self.text(node.value, BOOL, UNARY)}", BOOL, UNARY)
 
     def value_dereference(self, node, want):
-        if node.value.kind == "method" and node.value.name == "get_unchecked":
-            return self.element(node.value.value, node.value.args[0])
         found = self.value(node.value)
         if found.type[0] != "ref":
             refuse(node.token, "no reference")
         inner = found.type[1]
-        return Value(found.text, inner) if inner[0] == "array" else Value(f"*{found.closed(UNARY)}", inner, UNARY)
+        if inner[0] in ("array", "slice", "str"):
+            return found._replace(type=inner)
+        return Value(f"*{found.closed(UNARY)}", inner, UNARY)
 
     def value_borrow(self, node, want):
-        found = self.value(node.value)
-        of = ("ref", found.type, node.is_mutable)
-        if found.type[0] in ("array", "slice"):
-            return Value(found.text, of, found.level, found.count)
-        return Value(f"&{found.closed(UNARY)}", of, UNARY)
+        is_written = node.value.kind == "array" and not node.is_mutable
+        to = ("array", behind(want)[1], len(node.value.items)) if want and is_written else None
+        found = self.value(node.value, to)
+        of, is_list = ("ref", found.type, node.is_mutable), found.type[0] in ("array", "slice", "str")
+        if found.type[0] == "ref" or is_list and not is_written and not self.is_place(node.value):
+            refuse(node.token, "a reference that is not known")
+        if is_list:
+            return found._replace(type=of)
+        return Value(f"&{self.lvalue(found, node.value, node.is_mutable).closed(UNARY)}", of, UNARY)
+
+    def lvalue(self, found, node, is_mutable):
+        """What a reference can point to: a place, or a variable that is made for a value."""
+        if self.is_place(node):
+            return found
+        if is_mutable or found.type[0] == "array":
+            refuse(node.token, "a reference to what has no place")
+        return found._replace(text=self.named(found, node, "value"), level=POSTFIX)
 
     def value_field(self, node, want):
         found = self.value(node.value)
-        of = behind(found.type)
+        of = found.type[1] if found.type[0] == "ref" else found.type
         fields = self.library.parts(of[1]) if of[0] == "defined" and of[1].kind == "struct" else {}
         part = fields.get(node.name) or refuse(node.token, "a field that is not known")
+        if part[0] == "array" and found.type[0] != "ref" and not self.is_place(node.value):
+            refuse(node.token, "an array of what has no place")
         return Value(f"{found.closed(POSTFIX)}{'->' if found.type[0] == 'ref' else '.'}{node.name}", part)
 
     def value_index(self, node, want):
@@ -227,29 +273,36 @@ class Values:
 
     def element(self, node, index):
         found = self.value(node)
-        if behind(found.type)[0] not in ("array", "slice"):
-            refuse(node.token, "an index of neither an array nor a slice")
+        of = self.element_type(node, found)
         # An index of C has any type of integers, and is proved to be below the length.
         is_cast = index.kind == "cast" and self.library.read(index.to, self.definition) == USIZE
         value = self.value(index.value if is_cast else index, None if is_cast else USIZE)
         if value.type not in (U8, U32, U64, USIZE):
             refuse(index.token, "an index that is not known, of")
         self.in_any_order([node, index])
-        return Value(f"{found.closed(POSTFIX)}[{value.text}]", behind(found.type)[1])
+        return Value(f"{found.closed(POSTFIX)}[{value.text}]", of)
 
     def range(self, node):
         found, low, high = self.value(node.value), node.index.low, node.index.high
-        of = ("slice", behind(found.type)[1])
-        if low is None:
-            return Value(found.text, of, found.level, self.text(high, USIZE))
-        start, end = self.text(low, USIZE, UNARY), self.text(high, USIZE, LEVEL["-"]) if high else self.count(found)
-        return Value(f"{found.text} + {start}", of, LEVEL["+"], f"{end} - {start}")
+        of = ("slice", self.element_type(node, found))
+        start = low and self.text(low, USIZE, UNARY)
+        end = self.text(high, USIZE, LEVEL["-"]) if high else self.count(found)
+        self.without_effect(node.value, low, high)
+        if not low:
+            return Value(found.text, of, found.level, end)
+        return Value(f"{found.closed(LEVEL['+'])} + {start}", of, LEVEL["+"], f"{end} - {start}")
+
+    def element_type(self, node, found):
+        of = behind(found.type)
+        return of[1] if of[0] in ("array", "slice") else refuse(node.token, "neither an array nor a slice")
 
     def count(self, value):
         """The length of a slice or an array."""
         return value.count or str(behind(value.type)[2])
 
     def value_array(self, node, want):
+        if not want and all(item.kind == "number" and not item.suffix for item in node.items):
+            refuse(node.token, "an array of numbers of no type that is known")
         items = ", ".join(self.text(item, U8) for item in node.items)
         self.in_any_order(node.items)
         return Value(f"(const uint8_t[]){{{items}}}", ("array", U8, len(node.items)))
@@ -277,7 +330,7 @@ class Values:
             elif of[0] == "array":
                 self.copy(to, field.value, of)
             else:
-                refuse(field.token, "a field that is not known")
+                self.emit(f"{to} = {self.text(field.value, of)};")
 
     # Operators. C computes below `int` in `int`, which holds each value of a u8, so those are cast back.
 
@@ -290,10 +343,13 @@ class Values:
                 refuse(node.token, "an order that matters")
             return Value(text, BOOL, level)
         is_comparison, is_shift = LEVEL["=="] <= level <= LEVEL["<"], op in ("<<", ">>")
-        left = self.value(node.left, None if is_comparison else want)
+        if is_comparison:  # Of no type, if that of a variable is not known yet: then it is that of the other side.
+            local = self.local(str(node.left.path[0])) if node.left.kind == "path" else None
+            want = self.value(node.right).type if local and local.type is None else None
+        left = self.value(node.left, want)
         right = self.value(node.right, U32 if is_shift else left.type)
         self.in_any_order([node.left, node.right])
-        if left.type[0] not in INTS or node.left.kind == "number" and (op == "<<" or node.right.kind == "number"):
+        if left.type[0] not in INTS or node.left.kind == "number" and (is_shift or node.right.kind == "number"):
             refuse(node.token, "an operator that is not known")
         of = BOOL if is_comparison else left.type
         if left.type == U128:
@@ -318,9 +374,9 @@ class Values:
     def converted(self, node, to):
         found = self.value(node)
         of = found.type
-        if to == of:
+        if to == of and (node.kind != "number" or to == U128):  # A number is an int in C.
             return found
-        if to[0] not in INTS or of[0] not in (*INTS, "bool") or to == USIZE and of not in (U8, U32, BOOL):
+        if to[0] not in INTS or of[0] not in (*INTS, "bool") or to == USIZE and of not in (U8, U32, BOOL, USIZE):
             refuse(node.token, "a cast that is not known, of")
         if to == U128:
             return Value(f"u128_of({found.text})", to)
@@ -337,14 +393,17 @@ class Values:
         if len(path) == 1 and name in HELD:
             self.expect(node, want, HELD[name][0])
             of = want[HELD[name][1]]
+            if of == UNIT and (args[0].kind != "tuple" or args[0].items):
+                refuse(args[0].token, "a value that is not written out")
             value = [self.text(args[0], of)] if of != UNIT else []
             return Value(f"{self.library.made(name, want)}({', '.join(value)})", want)
         if name == "from" and len(path) == 2 and str(path[0]) in INTS:
             return self.converted(args[0], (str(path[0]),))
         found = self.module.find(path)
         if found == ["std", "str", "from_utf8_unchecked"]:
-            return self.value(args[0])._replace(type=TEXT)
-        if isinstance(found, list) and "_".join(found[-2:]) in STANDARD:
+            found = self.value(args[0], BYTES)
+            return found._replace(type=TEXT, count=self.count(found))
+        if isinstance(found, list) and found[:-2] in ([], ["std", "fmt"]) and "_".join(found[-2:]) in STANDARD:
             return self.standard(node, "_".join(found[-2:]), [])
         if isinstance(found, Definition) and found.kind == "fn":
             return self.own(node, found, args)
@@ -363,25 +422,31 @@ class Values:
         receiver, name, node.call = self.value(node.value), node.name, node.name
         of = behind(receiver.type)
         if name in ("len", "is_empty") and of[0] in ("array", "slice", "str"):
+            self.without_effect(node.value)
             count = self.count(receiver)
             count = Value(count, USIZE, POSTFIX if re.fullmatch(r"\w+", count) else LEVEL["-"])
             return count if name == "len" else Value(f"{count.text} == 0", BOOL, LEVEL["=="])
         if name == "as_bytes" and of == STR:
             return receiver._replace(type=("ref", ("slice", U8), False))
-        if name == "as_str" and of[0] == "InlineText":
-            place = self.named(receiver, node.value, "text")
-            return Value(f"{place}.bytes", TEXT, POSTFIX, f"{place}.length")
-        if name in CHANGING and of[0] == "slice":
-            arg = self.value(node.args[0], U8 if name == "fill" else ("ref", of, False))
+        if name in CHANGING and of == ("slice", U8):
+            arg, node.is_lent = self.value(node.args[0], U8 if name == "fill" else ("ref", of, False)), True
+            self.in_any_order([node.value, *node.args])
             call = "fill_bytes" if name == "fill" else "copy_bytes"
             return Value(f"{call}({receiver.text}, {arg.text}, {receiver.count})", UNIT)
+        if receiver.type != of and (name in ("unwrap_or", "ok_or", "as_str") or f"{of[0]}_{name}" in STANDARD):
+            refuse(node.token, "a receiver behind a reference")
+        if name == "as_str" and of == INLINE_TEXT:
+            place = self.named(receiver, node.value, "text")
+            return Value(f"{place}.bytes", TEXT, POSTFIX, f"{place}.length")
         if name == "unwrap_or" and of[0] == "Result":
-            place = self.named(receiver, node.value, "answer")
-            return Value(f"{place}.is_ok ? {place}.ok : {self.alone(node.args[0], of[1])}", of[1], 0)
+            place, other = self.named(receiver, node.value, "answer"), self.alone(node.args[0], of[1])
+            self.without_effect(*node.args)
+            return Value(f"{place}.is_ok ? {place}.ok : {other}", of[1], 0)
         if name == "ok_or" and of[0] == "Option":
             self.expect(node, want, "Result")
             place, fault = self.named(receiver, node.value, "answer"), self.alone(node.args[0], want[2])
             ok, err = self.library.made("ok", want), self.library.made("err", want)
+            self.without_effect(*node.args)
             return Value(f"{place}.is_some ? {ok}({place}.some) : {err}({fault})", want, 0)
         if f"{of[0]}_{name}" in STANDARD:
             return self.standard(node, f"{of[0]}_{name}", [receiver.text])
@@ -390,10 +455,13 @@ class Values:
     def standard(self, node, name, texts):
         """A call of the prelude. Where `and_str` cuts is not handed over: the contracts say that the parts fit."""
         parameters, result = STANDARD[name]
+        if len(node.args) != len(parameters) or (node.kind == "method") == (name in WITHOUT_RECEIVER):
+            refuse(node.token, "a call that is not known")
         for arg, of in zip(node.args, parameters[:1]):
             found = self.value(arg, of)
             texts += self.slice_args(arg, found) if is_slice(of) else [found.text]
         self.in_any_order([node.value] * (node.kind == "method") + node.args)
+        self.without_effect(*node.args[1:])
         return Value(f"{name}({', '.join(texts + self.out(node, result))})", result)
 
     def out(self, node, result):
@@ -412,15 +480,36 @@ class Values:
                 self.is_ghost(arg) or refuse(arg.token, "not known to be of size 0")
                 continue
             kept.append(arg)
-            found = receiver if receiver and arg is args[0] else self.value(arg, parameter.type)
+            found = self.received(receiver, arg, parameter.type) if receiver and arg is args[0] else self.value(
+                arg, parameter.type)
             if is_slice(parameter.type):
                 texts += self.slice_args(arg, found, (definition, parameter.name) in self.library.lengths)
-            elif parameter.type[0] == "ref" and found.type[0] != "ref":
-                texts.append(f"&{self.named(found, arg, 'value')}")
             else:
                 texts.append(found.text)
+        first = node.function.parameters[:1]
+        node.is_lent = node.kind == "method" and any(p.type[0] == "ref" and p.type[2] for p in first)
         self.in_any_order(kept)
+        self.without_alias(node, args)
         return Value(f"{self.use(definition)}({', '.join(texts + out)})", node.function.result)
+
+    def received(self, found, node, want):
+        """What a method gets of its receiver, which is borrowed or copied by itself."""
+        if want[0] == "ref" and found.type[0] != "ref":
+            place = self.lvalue(found, node, want[2])
+            found = found._replace(type=("ref", found.type, True))
+            if found.type[1][0] != "array":
+                found = found._replace(text=f"&{place.closed(UNARY)}", level=UNARY)
+        elif want[0] != "ref" and found.type[0] == "ref":
+            found = Value(f"*{found.closed(UNARY)}", found.type[1], UNARY) if want[0] != "array" else found._replace(
+                type=found.type[1])
+        return found if fits(found.type, want) else refuse(node.token, "a receiver that is not known")
+
+    def without_alias(self, node, args):
+        """Refuses an array that is handed over as a value, and so by where it stands, to a call that may change it."""
+        lent = self.lent(node) if node.function.changes else ()
+        for arg, parameter in zip(args, node.function.parameters):
+            if parameter.type[0] == "array" and any(n.local in lent for n in arg.walk() if n.local):
+                refuse(arg.token, "an array that the call may change")
 
     def slice_args(self, node, found, with_length=True):
         """A slice as arguments: its start, and its length if the function reads it."""

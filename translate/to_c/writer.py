@@ -1,11 +1,12 @@
 """Writes a function in C: its head, its statements and its patterns."""
 import re
 
-from reader import refuse
+from reader import refuse, refusing
 from .crates import Definition
-from .layout import WIDTH, comment_of, wrapped
-from .types import HELD, INTS, U8, U32, U64, UNIT, USIZE, WORK, behind, is_slice
-from .values import UNARY, Values
+from .layout import WIDTH, comment_of
+from .library import Local
+from .types import HELD, INTS, STR, U8, U32, U64, U128, UNIT, USIZE, WORK, behind, is_slice
+from .values import LEVEL, UNARY, Values
 
 STORAGE = {"#[inline]": "inline ", "#[inline(always)]": "ALWAYS_INLINE "}
 # A length, a power or a name in a contract.
@@ -17,7 +18,7 @@ class Writer(Values):
     def __init__(self, library, definition):
         super().__init__(library, definition)
         self.function, self.is_exported = library.function(definition), definition.item.is_exported
-        self.cast, self.out_name, self.optional = "", None, []
+        self.cast, self.out_name, self.optional = "", None, []  # What stands before a result, its place, and lines.
 
     def write(self, uses):
         """Writes all of the function, which speaks of these."""
@@ -26,7 +27,7 @@ class Writer(Values):
         self.types += [p.type for p in self.function.kept] + [self.function.result]
         self.emit(self.head + " {")
         begin = len(self.lines)
-        self.block(self.function.body, "return")
+        self.block(self.body(), "return")
         self.emit("}")
         self.leave_out()
         text = "\n".join(self.lines[begin:])
@@ -35,38 +36,70 @@ class Writer(Values):
                 self.library.lengths.add((self.definition, local.name))
             if not re.search(rf"\b{local.c}\b", text):
                 self.lines.insert(begin, f"    (void){local.c};")
-        required = self.requirement()
-        self.lines[begin:begin] = wrapped(f"    //@ assert requires: {required};") if required else []
+        self.lines[begin:begin] = self.requirements()
 
-    def requirement(self):
-        """The clauses that compare sums of numbers, constants, parameters and lengths, as ACSL. Others are left out."""
-        def term(match):
-            length, base, exponent = match.groups()
-            local = self.scopes[0].get(length or match[0])
-            if base:
-                return str(int(base) ** int(exponent))
-            if length:
-                return local.count if local and (self.definition, length) in self.library.lengths else "?"
-            if local:
-                return local.c if local.type in (U8, U32, U64, USIZE) else "?"
-            # A contract knows constants of the whole crate, by ghost names.
-            modules = self.library.crates[self.module.path[0]].below()
-            constants = [m.definitions[match[0]] for m in modules if match[0] in m.definitions]
-            is_constant = len(constants) == 1 and constants[0].kind == "const"
-            return str(self.library.constant(constants[0])[1].number) if is_constant else "?"
+    def body(self):
+        """The body. That of a call that hands its parameters on to a counted call is the body of that one."""
+        function, node = self.function, self.function.body.tail
+        if function.body.statements or not node or node.kind != "call" or not node.args or node.callee.kind != "path":
+            return function.body
+        found, handed = self.module.definitions.get(str(node.callee.path[0])), node.args[:-1]
+        if not found or found.kind != "fn" or not found.item.is_public or not self.is_ghost(node.args[-1]):
+            return function.body
+        twin = self.library.function(found)
+        *others, work = twin.parameters
+        names = [arg.path for arg in handed if arg.kind == "path"]
+        if not [p.type for p in others] == [p.type for p in function.parameters] or any(
+                names != [[p.name] for p in parameters] for parameters in (others, function.parameters)):
+            return function.body
+        self.scopes[0][work.name] = work
+        return twin.body
 
+    def requirements(self):
+        """The clauses that compare sums of numbers, constants, parameters and lengths, as ACSL. All others are left out.
+        So is one that always holds, and one that subtracts: ACSL has numbers below 0."""
         said = []
         for clause in self.definition.item.requires:
-            text = WORD.sub(term, " ".join(clause.stated).replace(" . ", ".")).replace("≤", "<=").replace("≡", "==")
+            if clause.holds(self.ends):
+                continue
+            text = WORD.sub(self.term, " ".join(clause.stated).replace(" . ", "."))
+            text = text.replace("≤", "<=").replace("≡", "==")
             is_small = all(int(number) >> 64 == 0 for number in re.findall(r"\b\d+", text))
-            said += [text] if is_small and re.fullmatch(r"[\w ()+*-]+(<|<=|==)[\w ()+*-]+", text) else []
-        return " && ".join(said)
+            said += [text] if is_small and re.fullmatch(r"[\w ()+*]+(<|<=|==)[\w ()+*]+", text) else []
+        line = f"    //@ assert requires: {' && '.join(said)};"
+        return [line] * bool(said) if len(line) <= WIDTH else [f"    //@ assert requires: {it};" for it in said]
+
+    def term(self, match):
+        """A length, a power or a name of a clause in ACSL, or else a question mark."""
+        length, base, exponent = match.groups()
+        local = self.scopes[0].get(length or match[0])
+        if base:
+            return str(int(base) ** int(exponent))
+        if length:
+            return local.count if local and (self.definition, length) in self.library.lengths else "?"
+        if local:
+            return local.c if local.type in (U8, U32, U64, USIZE) else "?"
+        # A contract knows constants of the whole crate, by ghost names.
+        modules = self.library.crates[self.module.path[0]].below()
+        constants = [m.definitions[match[0]] for m in modules if match[0] in m.definitions]
+        if len(constants) != 1 or constants[0].kind != "const":
+            return "?"
+        return str(self.library.number(self.library.constant(constants[0])[1], constants[0]))
+
+    def ends(self, name, bits):
+        """The least and the greatest value of a number or a length, where a usize has so many bits."""
+        local = self.scopes[0].get(name.removeprefix("length "))
+        if local and name.startswith("length "):
+            return (0, 2 ** bits - 1) if is_slice(local.type) else None
+        widths = {U8: 8, U32: 32, U64: 64, U128: 128, USIZE: bits}
+        return (0, 2 ** widths[local.type] - 1) if local and local.type in widths else None
 
     def leave_out(self):
         """Leaves out what nothing reads: lengths and starts of parts of slices."""
-        for line, name in reversed(self.optional):
+        for lines, name in reversed(self.optional):
             if len(re.findall(rf"\b{name}\b", "\n".join(self.lines))) == 1:
-                self.lines.remove(line)
+                at = self.lines.index(lines[0])
+                del self.lines[at:at + len(lines)]
 
     def own_head(self):
         library, result = self.library, self.function.result
@@ -146,14 +179,21 @@ class Writer(Values):
 
     def put(self, node, into):
         """Writes what the expression does, and where its value goes."""
+        with refusing(node.token):
+            known = getattr(self, "write_" + node.kind, self.write_value)
+            known(node, into)
+
+    def write_do(self, node, into):
+        self.put(node.value, None)
+
+    def write_return(self, node, into):
+        self.put(node.value, "return")
+        if self.out_name or self.function.result == UNIT:
+            self.emit("return;")
+
+    def write_value(self, node, into):
         result = self.function.result
-        if hasattr(self, "write_" + node.kind):
-            getattr(self, "write_" + node.kind)(node, into)
-        elif node.kind == "do":
-            self.put(node.value, None)
-        elif node.kind == "return":
-            self.put(node.value, "return")
-        elif node.kind == "tuple" and not node.items or node.kind == "method" and self.is_ghost(node.value):
+        if node.kind == "tuple" and not node.items or node.kind == "method" and self.is_ghost(node.value):
             pass
         elif into == "return" and self.out_name:
             self.copy(self.out_name, node, result)
@@ -162,7 +202,7 @@ class Writer(Values):
         elif node.kind == "try":
             self.value(node)
         elif node.kind in ("call", "method"):
-            self.emit(f"{self.text(node, UNIT)};")
+            self.emit(f"{self.text(node, UNIT if into else None)};")
         else:
             refuse(node.token, "a statement that is not known")
 
@@ -182,26 +222,37 @@ class Writer(Values):
         self.emit("}")
 
     def write_for(self, node, into):
-        over, pattern, names = node.value, node.pattern, []
-        self.enter(0)
-        while over.kind == "method" and not over.args and len(names) < 2:
-            names, over = names + [over.name], over.value
-        is_range = (over.kind == "range" and over.low and over.low.token == "0"
-                    and getattr(over.high, "name", None) == "len")
-        if is_range and pattern.kind == "binding":
-            index, end = self.bind(pattern.name, USIZE), self.alone(over.high, USIZE)
-        elif names == ["enumerate", "iter"] and [p.kind for p in pattern.items] == ["binding", "binding"]:
-            found = self.value(over)
-            index, end = self.bind(pattern.items[0].name, USIZE), self.count(found)
-            item = self.bind(pattern.items[1].name, ("ref", behind(found.type)[1], False))
-        else:
+        """A loop over the indexes of a slice, or over these and its elements. None of them changes in the body."""
+        over, names = node.value, [node.pattern] if node.pattern.kind == "binding" else node.pattern.items
+        is_range = over.kind == "range" and over.low and over.low.token == "0"
+        over = over.high if is_range else over
+        for method in ("len",) if is_range else ("enumerate", "iter"):
+            if not over or over.kind != "method" or over.name != method or over.args:
+                refuse(node.token, "a loop that is not known")
+            over = over.value
+        if [(p.kind, getattr(p, "is_mutable", True)) for p in names] != [("binding", False)] * (2 - is_range):
             refuse(node.token, "a loop that is not known")
-        self.emit(f"for (size_t {index.c} = 0; {index.c} < {end}; {index.c}++) {{")
-        if names:
-            self.emit(f"    {self.library.declared(item.type, item.c)} = {found.text} + {index.c};")
+        of, start, count = self.list_of(over)
+        self.enter(0)
+        index = self.bind(names[0].name, USIZE)
+        self.emit(f"for (size_t {index.c} = 0; {index.c} < {count}; {index.c}++) {{")
+        if not is_range:
+            item = self.bind(names[1].name, ("ref", of, False))
+            self.emit(f"    {self.library.declared(item.type, item.c)} = {start} + {index.c};")
         self.block(node.body, None)
         self.emit("}")
         self.leave(0)
+
+    def list_of(self, node):
+        """The type of the elements of a list, its start and its length: names and numbers, which nothing changes."""
+        found = self.value(node)
+        of = self.element_type(node, found) if behind(found.type) != STR else U8
+        self.without_effect(node)
+        if node.kind == "path":
+            return of, found.text, self.count(found)
+        local = Local("part", ("ref", ("slice", of), False), self.fresh("part"))
+        self.part(local, found.text, self.count(found))
+        return of, local.c, local.count
 
     def write_assign(self, node, into):
         place, local = node.place, self.local(str(node.place.path[0])) if node.place.kind == "path" else None
@@ -211,14 +262,17 @@ class Writer(Values):
             self.learn(local, self.value(node.value).type)
         found = self.value(place)
         of = found.type
+        if of[0] in ("ref", "slice", "str"):
+            refuse(node.token, "a reference that is assigned anew")
         if of[0] == "array":
-            self.copy(found.text, node.value, of)
+            self.assign_array(node, found)
         elif of[0] == "defined" and of[1].opaque:
             if place.kind != "dereference" or not (place.value.local and place.value.local.opaque):
                 refuse(place.token, "a place that is not known")
             # What the header declares as bytes is no object of this type.
             value = self.named(self.value(node.value, of), node.value, "made")
-            self.emit(f"memcpy({place.value.local.opaque}, &{value}, sizeof({self.library.c_type(of)}));")
+            self.emit(f"copy_bytes((uint8_t *){place.value.local.opaque}, (const uint8_t *)&{value},"
+                      f" sizeof({self.library.c_type(of)}));")
         elif node.op == "=" or of in (U32, U64, USIZE):
             value = self.text(node.value, of)
             self.in_any_order([place, node.value])
@@ -226,37 +280,57 @@ class Writer(Values):
         else:
             refuse(node.token, "an assignment that is not known")
 
-    # Variables
+    def assign_array(self, node, found):
+        """A call that gives an array writes it to its place, so it may not read it from there."""
+        self.copy(found.text, node.value, found.type)
+        self.without_effect(node.place)
+        places = {n.local for n in node.place.walk() if n.local}
+        if node.op != "=" or any(n.local in places for n in node.value.walk() if n.local):
+            refuse(node.token, "an array that is made of itself")
+
+    # Variables. In patterns none is `mut`, so none of these is assigned anew.
 
     def write_let(self, node, into):
         pattern, value = node.pattern, node.value
         if self.is_ghost(value):
             self.bind(pattern.name, WORK)
-        elif pattern.kind == "binding":
-            self.write_variable(node, pattern, value)
+        elif pattern.kind == "binding" and not node.other:
+            self.variable(node, pattern, value)
         elif pattern.kind == "tuple" and value.kind == "method" and value.name in ("split_at", "split_at_mut"):
-            self.write_split(pattern, value)
+            self.split(pattern, value)
         else:
-            names = "_".join(p.name for p in pattern.items if p.kind == "binding")
-            found = self.value(value)
-            name = self.named(found, value, names or "answer", bool(node.other))
-            conditions, bound = self.fit(pattern, name, found.type)
-            if not node.other and not conditions:
-                return self.bind_all(bound)
-            if not node.other or len(conditions) != 1 or len(bound) != 1:
-                refuse(node.token, "a pattern that may not fit")
-            self.emit(f"if (!{conditions[0]}) {{")
-            self.block(node.other, None)
-            self.emit("}")
-            self.bind(bound[0][0].name, bound[0][2], bound[0][1])
+            self.taken_apart(node, pattern, value)
 
-    def write_variable(self, node, pattern, value):
-        want = self.library.read(node.written, self.definition) if node.written else None
+    def taken_apart(self, node, pattern, value):
+        """The variables of a pattern."""
+        names = "_".join(p.name for p in pattern.items if p.kind == "binding")
+        want = self.written_type(node)
+        found = self.value(value, want)
+        name = self.named(found, value, names or "answer", bool(node.other))
+        conditions, bound = self.fit(pattern, name, found.type)
+        if not node.other and not conditions:
+            return self.bind_all(bound)
+        if not node.other or len(conditions) != 1 or len(bound) != 1:
+            refuse(node.token, "a pattern that may not fit")
+        self.emit(f"if (!{conditions[0]}) {{")
+        self.block(node.other, None)
+        self.emit("}")
+        self.bind(bound[0][0].name, bound[0][2], bound[0][1])
+
+    def written_type(self, node):
+        """The type that a `let` writes, if it does."""
+        of = self.library.read(node.written, self.definition) if node.written else None
+        if of:
+            self.library.check(of, node.token, "parameter")
+        return of
+
+    def variable(self, node, pattern, value):
+        want = self.written_type(node)
         if value.kind == "try" and not pattern.is_mutable:
-            found = self.value_try(value, None, pattern.name)
+            found = self.value_try(value, want, pattern.name)
             self.bind(pattern.name, found.type, found.text)
         elif value.kind in ("array", "repeat"):
-            self.write_array(pattern, value)
+            self.bytes(pattern, value, want)
         elif value.kind == "number" and not value.suffix and not want:
             # Its type is learned from what is done with it.
             of = getattr(pattern, "learned", None)
@@ -267,38 +341,55 @@ class Writer(Values):
         else:
             found = self.value(value, want)
             local = self.bind(pattern.name, found.type)
-            if pattern.is_mutable:
+            if is_slice(found.type):
+                self.part(local, found.text, self.count(found), False)
+            elif pattern.is_mutable and found.type[0] not in ("()", "array", "slice"):
                 self.emit(f"{self.library.declared(found.type, local.c)} = {found.text};")
             else:
                 self.constant(found.type, local.c, found.text)
 
-    def write_array(self, pattern, value):
+    def bytes(self, pattern, value, want):
         """Bytes that are written out, or the same byte everywhere."""
+        items = value.items if value.kind == "array" else [value.value]
+        if not want and all(item.kind == "number" and not item.suffix for item in items):
+            refuse(value.token, "an array of numbers of no type that is written")
+        texts = [self.text(item, U8) for item in items]
+        self.in_any_order(items)
+        count = len(items) if value.kind == "array" else self.library.number(value.count, self.definition)
+        local = self.bind(pattern.name, ("array", U8, count))
+        if want not in (None, local.type):
+            refuse(value.token, "an array of another type")
         if value.kind == "array":
-            items = [self.text(item, U8) for item in value.items]
-            self.in_any_order(value.items)
-            local = self.bind(pattern.name, ("array", U8, len(items)))
-            return self.constant(local.type, local.c, f"{{{', '.join(items)}}}")
-        byte = self.text(value.value, U8) if value.value.kind == "number" else refuse(value.token, "no list of bytes")
-        local = self.bind(pattern.name, ("array", U8, self.library.number(value.count, self.definition)))
+            const = "const " * (not pattern.is_mutable)
+            self.emit(f"{const}{self.library.declared(local.type, local.c)} = {{{', '.join(texts)}}};")
+            return
+        byte = texts[0] if value.value.kind == "number" else refuse(value.token, "no list of bytes")
         self.emit(f"{self.library.declared(local.type, local.c)}{' = {0}' if byte == '0' else ''};")
         if byte != "0":
-            self.emit(f"memset({local.c}, {byte}, sizeof {local.c});")
+            self.emit(f"fill_bytes({local.c}, {byte}, sizeof {local.c});")
 
-    def write_split(self, pattern, value):
-        """The start and the length of each part of a slice. They are kept if something reads them."""
+    def split(self, pattern, value):
+        """The parts of a slice."""
         found = self.value(value.value)
         end, start = self.alone(value.args[0], USIZE), self.alone(value.args[0], USIZE, UNARY)
-        ends = ((found.text, end), (f"{found.text} + {start}", f"{self.count(found)} - {start}"))
+        self.without_effect(value.value, *value.args)
+        ends = ((found.text, end), (f"{found.closed(LEVEL['+'])} + {start}", f"{self.count(found)} - {start}"))
+        of = ("ref", ("slice", self.element_type(value, found)), value.name == "split_at_mut")
         for part, (begin, length) in zip(pattern.items, ends):
-            if part.kind != "binding":
-                continue
-            local = self.bind(part.name, ("ref", ("slice", found.type[1][1]), value.name == "split_at_mut"))
-            local.count = self.fresh(local.c + "_length")
-            self.emit(f"{self.library.declared(local.type, local.c)} = {begin};")
-            self.optional.append((self.lines[-1], local.c))
-            self.emit(f"const size_t {local.count} = {length};")
-            self.optional.append((self.lines[-1], local.count))
+            if part.kind == "binding":
+                self.part(self.bind(part.name, of), begin, length)
+            elif part.kind != "wild":
+                refuse(part.token, "a pattern that is not known")
+
+    def part(self, local, begin, length, is_optional=True):
+        """Declares the start and the length of a slice. They are left out if nothing reads them."""
+        local.count = self.fresh(local.c + "_length")
+        before = len(self.lines)
+        self.emit(f"{self.library.declared(local.type, local.c)} = {begin};")
+        self.optional += [(self.lines[before:], local.c)] * is_optional
+        before = len(self.lines)
+        self.emit(f"const size_t {local.count} = {length};")
+        self.optional.append((self.lines[before:], local.count))
 
     # Match. Each arm returns, so that what follows an arm is its else.
 
@@ -341,10 +432,13 @@ class Writer(Values):
         pointer = re.fullmatch(r"\(?\*(\w+)\)?", text)
         dot = f"{pointer[1]}->" if pointer else f"{text}."
         if pattern.kind == "binding":
+            if pattern.is_mutable or getattr(self.module.find([pattern.name]), "kind", "") in ("const", "static"):
+                refuse(pattern.token, "a constant in small letters, or a variable of a pattern that changes,")
             return [], [(pattern, text, of)]
         if pattern.kind == "values":
             low, high = self.text(pattern.low, of), self.text(pattern.high, of)
-            return [f"{text} == {low}"] if low == high else [f"{text} >= {low}", f"{text} <= {high}"], []
+            ends = [("==", low)] if low == high else [(">=", low), ("<=", high)]
+            return [self.compared(text, op, end, of, pattern) for op, end in ends], []
         conditions, bound, held = [], [], [(f"{dot}_{i}", part) for i, part in enumerate(of[1:])]
         if pattern.kind == "variant":
             conditions, held = self.fit_variant(pattern, text, dot, of)
@@ -355,6 +449,11 @@ class Writer(Values):
             conditions, bound = conditions + inner[0], bound + inner[1]
         return conditions, bound
 
+    def compared(self, text, op, other, of, node):
+        if of == U128:
+            return self.wide(op, text, other, of, node).text
+        return f"{text} {op} {other}" if of[0] in (*INTS, "bool") else refuse(node.token, "a pattern that is not known")
+
     def fit_variant(self, pattern, text, dot, of):
         """What has to hold for a variant or a constant, and the places and types of what it holds."""
         name = str(pattern.path[-1])
@@ -363,8 +462,8 @@ class Writer(Values):
             held = [(dot + name.lower(), part) for part in of[HELD[name][1]:][:1]]
             return [f"{'!' if name in ('Err', 'None') else ''}{dot}{flag}"], held if name != "None" else []
         found = self.module.find(pattern.path)
-        if isinstance(found, Definition) and found.kind == "const":
-            return [f"{text} == {self.use(found)}"], []
+        if isinstance(found, Definition) and found.kind == "const" and self.library.constant(found)[0] == of:
+            return [self.compared(text, "==", self.use(found), of, pattern)], []
         if not isinstance(found, tuple) or of != ("defined", found[0]) or name not in self.library.parts(found[0]):
             refuse(pattern.token, "a pattern that is not known")
         variants = self.library.parts(found[0])

@@ -53,3 +53,11 @@ list(SORT wanted)
 if(NOT "${found}" STREQUAL "${wanted}")
     message(FATAL_ERROR "these are installed:\n${found}\nand not\n${wanted}")
 endif()
+
+# The pages name files of the repository, and link to none.
+foreach(page IN ITEMS CHANGELOG README)
+    file(READ "${PREFIX}/share/doc/base62/${page}.md" text)
+    if(text MATCHES "\\]\\([^#:)]+[#)]")
+        message(FATAL_ERROR "${page}.md, as installed, has the link ${CMAKE_MATCH_0}")
+    endif()
+endforeach()

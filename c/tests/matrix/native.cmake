@@ -25,6 +25,8 @@ foreach(pair IN ITEMS gcc:g++ clang:clang++)
 endforeach()
 
 if(gcc)
+    # CMake itself does not name a folder with a comma to the programs over a shared library in it.
+    add_build("gcc in a folder, with a comma" "${c}" -O2 -DCMAKE_C_COMPILER=gcc -DBASE62_TEST=OFF)
     add_build(gcc-shared-alone "${c}" -O2 -DCMAKE_C_COMPILER=gcc -DBUILD_SHARED_LIBS=ON)
     add_build(gcc-threads "${c}" "${sanitized}thread" -DCMAKE_C_COMPILER=gcc -DBUILD_SHARED_LIBS=OFF -DBASE62_UNMADE=5)
     # The optimizer of -O2 leaves out writes that nothing reads, and the analyzer then asks for them.

@@ -32,3 +32,10 @@ foreach(way IN ITEMS subdirectory fetch)
     add_consumer(${way} ${way} STATIC_LIBRARY -DBASE62=${c})
     add_consumer(${way}-shared ${way} SHARED_LIBRARY -DBASE62=${c} -DBUILD_SHARED_LIBS=ON)
 endforeach()
+
+# Installed with a project that it is a part of.
+set(prefix "${CMAKE_BINARY_DIR}/installed-with-project")
+add_consumer(with-project install SHARED_LIBRARY -DBASE62=${c} -DBUILD_SHARED_LIBS=ON -DINSTALLED=${prefix})
+set_tests_properties(with-project-consumer PROPERTIES FIXTURES_SETUP with-project)
+add_consumer(package-with-project package SHARED_LIBRARY -DCMAKE_PREFIX_PATH=${prefix})
+set_tests_properties(package-with-project-consumer PROPERTIES FIXTURES_REQUIRED with-project)

@@ -1,9 +1,8 @@
 -- Texts over an alphabet whose letters ascend compare as the numbers that they denote.
-use Rattle.std.proofs.Common.{Bool, true, false, Ordering, ◌≡◌, ◌↔◌, ℕ, ◌+◌, ◌-◌, ◌*◌, ◌^◌, ◌<◌, ◌≤◌, ltb, List, [], ◌∷◌, length, get_or, refl, sym, ap, ◌∙◌, subst, inl, inr, Some, arith}
-use Rattle.std.specs.Prelude.{IsTrue, MatchBool}
-use Rattle.std.specs.List.{IsAllAdjacentAnswer, range_with_len}
-use Rattle.std.specs.List.Sorted.{IsNonDecreasing}
-use Rattle.std.specs.Ordering.{is_le, is_some_and, nat_cmp, ordering_then, MatchOrdering}
+use Rattle.std.proofs.Common.{Bool, true, Ordering, ◌≡◌, ◌↔◌, ℕ, ◌+◌, ◌-◌, ◌*◌, ◌^◌, ◌<◌, ◌≤◌, ltb, List, [], ◌∷◌, length, get_or, refl, sym, ap, ◌∙◌, subst, inl, inr, Some, arith}
+use Rattle.std.specs.Prelude.{IsTrue}
+use Rattle.std.specs.List.{range_with_len}
+use Rattle.std.specs.Ordering.{is_le, nat_cmp, ordering_then, MatchOrdering}
 use Rattle.std.specs.Cmp.{nat_cmp_is}
 use Rattle.std.specs.Cmp.Lexicographic.{lists_agrees}
 use Rattle.std.specs.declared.cmp.Ordering.TheVariants.{Less, Equal, Greater}
@@ -12,7 +11,6 @@ use Rattle.std.proofs.lemmas.Bool.{cases_order, ltb-true}
 use Rattle.std.proofs.lemmas.List.Elements.{All-head, All-tail}
 use Rattle.std.proofs.lemmas.List.Sums.{AllPass-from_list_all}
 use Rattle.std.proofs.lemmas.List.FromFn.{length-range_with_len, get_or-range_with_len}
-use Rattle.std.proofs.lemmas.List.Sorted.{non_decreasing_from_is_sorted}
 use Rattle.std.proofs.lemmas.Map.Keys.{le_from_is_le, sorted_from_strictly_increasing, below_from_sorted}
 use Rattle.base62.specs.Alphabet.{IsAlphabet, AreLetters, standard, is_letter}
 use Rattle.base62.specs.Value.{value, digit_or_zero}
@@ -82,27 +80,6 @@ at_most_iff m n = (
 )
 
 module _ (B : List ℕ) (ok : IsAlphabet B) where
-  -- the letters of an alphabet are distinct, so they ascend if they do not fall
-  ascends_where_sorted : (r : Bool)
-      → MatchBool r (IsNonDecreasing B)
-      ((k : ℕ) × (k + 1 < length B) × ((d : ℕ) → get_or B (k + 1) d < get_or B k d))
-      → (r ≡ true) ↔ Ascends B
-  ascends_where_sorted true steps =
-      let above : Ascends B = λ d h. elim (cases_order (get_or B d 0) (get_or B (d + 1) 0)) [
-        | inl e ↦ let same : d ≡ d + 1 = ok.distinct d (d + 1) (omega arith) (omega arith) e in omega (arith, same)
-        | inr (inl less) ↦ less
-        | inr (inr greater) ↦ let most = steps d (d + 1) 0 (omega arith) (omega (arith, h, ok.size)) in omega (arith, most, greater)
-      ] in
-      (λ _. above, λ _. refl)
-  ascends_where_sorted false falls =
-      (λ e. cc, λ ascends. absurd (let above = ascends falls.0 (omega (arith, falls.1, ok.size)) in omega (arith, above, falls.2 0)))
-
-  -- that is what a test whether they are sorted answers
-  pub is_sorted_ascends : (r : Bool)
-      → IsAllAdjacentAnswer (λ x y b. is_some_and is_le (Some (nat_cmp x y)) ≡ b) B r
-      → (r ≡ true) ↔ Ascends B
-  is_sorted_ascends r cases = ascends_where_sorted r (non_decreasing_from_is_sorted B r cases)
-
   -- the shorter of two canonical texts has the smaller number
   shorter-lt : (a b : List ℕ) (m n : ℕ) → IsCanonical B a m → IsCanonical B b n
       → length a < length b → m < n

@@ -67,18 +67,21 @@ impl Alphabet {
     /// let repeated = base62::Alphabet::new([b'a'; 62]);
     /// assert_eq!(rt; repeated.err(), Some(base62::AlphabetError::Repeated(b'a', 1)));
     /// ```
-    pub fn new(letters: [u8; 62]) -> Result<Alphabet, AlphabetError>
+    pub const fn new(letters: [u8; 62]) -> Result<Alphabet, AlphabetError>
         ensures ok { IfOk result (λ alphabet. alphabet ≡ letters) }
         ensures accepted { IsOk result ↔ IsAlphabet letters }
         ensures named { (byte index : ℕ) → result ≡ Err (Repeated byte index)
             → RepeatsFirst letters byte index }
     {
         let mut digits = [255u8; 256];
-        for (index, byte) in letters.iter().enumerate() {
-            if digits[*byte as usize] != 255 {
-                return Err(AlphabetError::Repeated(*byte, index));
+        let mut index = 0;
+        while index < letters.len() {
+            let byte = letters[index];
+            if digits[byte as usize] != 255 {
+                return Err(AlphabetError::Repeated(byte, index));
             }
-            digits[*byte as usize] = index as u8;
+            digits[byte as usize] = index as u8;
+            index += 1;
         }
         Ok(Alphabet {
             tables: Tables { letters, digits },
@@ -87,9 +90,8 @@ impl Alphabet {
 
     /// The alphabet of letters that are written out in the program.
     ///
-    /// It requires 62 distinct bytes, which the prover checks by computing. So it finds whether
-    /// they ascend, and whether they are ASCII. The call refuses nothing and takes no memory.
-    /// Letters that come as input go to [`new`](Alphabet::new).
+    /// It requires 62 distinct bytes. Letters that come as input go to [`new`](Alphabet::new). The
+    /// call takes no memory.
     ///
     /// ```rust
     /// let letters = *b"ABCDEFGHIJKLMNOPQRSTUVWXYZabcdefghijklmnopqrstuvwxyz0123456789";
@@ -97,13 +99,16 @@ impl Alphabet {
     /// assert_eq!(rt; base62::decode_with(&alphabet, b"BA"), Ok(62));
     /// ```
     #[tactic(auto, using(crate::proofs::OrderLemmas::letters_by_test))]
-    pub fn of(letters: [u8; 62]) -> Alphabet
+    pub const fn of(letters: [u8; 62]) -> Alphabet
         requires { IsTrue (is_alphabet letters) }
         ensures letters { result ≡ letters }
         ensures ascends { IsTrue (is_ascending letters) → Ascends result }
         ensures ascii { IsTrue (is_ascii letters) → IsAscii result }
     {
-        Alphabet::new(letters).unwrap()
+        match Alphabet::new(letters) {
+            Ok(alphabet) => alphabet,
+            Err(_) => unreachable!("the alphabet repeats a letter"),
+        }
     }
 
     /// The standard alphabet: `0` to `9`, `A` to `Z`, `a` to `z`.
@@ -112,7 +117,7 @@ impl Alphabet {
     /// let alphabet = base62::Alphabet::standard();
     /// assert_eq!(rt; base62::decode_with(&alphabet, b"LZ"), Ok(1337));
     /// ```
-    pub fn standard() -> Alphabet
+    pub const fn standard() -> Alphabet
         ensures { result ≡ standard }
     {
         Alphabet {
@@ -126,7 +131,7 @@ impl Alphabet {
     /// let alphabet = base62::Alphabet::alternative();
     /// assert_eq!(rt; base62::decode_with(&alphabet, b"lz"), Ok(1337));
     /// ```
-    pub fn alternative() -> Alphabet
+    pub const fn alternative() -> Alphabet
         ensures { result ≡ alternative }
     {
         Alphabet {
@@ -139,7 +144,7 @@ impl Alphabet {
     /// ```rust
     /// assert_eq!(rt; base62::Alphabet::standard().letters()[10], b'A');
     /// ```
-    pub fn letters(&self) -> &[u8; 62]
+    pub const fn letters(&self) -> &[u8; 62]
         ensures letters { result.now ≡ self.now }
         ensures alphabet { IsAlphabet self.now }
     {
@@ -151,10 +156,18 @@ impl Alphabet {
     /// ```rust
     /// assert!(rt; base62::Alphabet::standard().is_ascii());
     /// ```
-    pub fn is_ascii(&self) -> bool
+    pub const fn is_ascii(&self) -> bool
         ensures { IsTrue result ↔ IsAscii self.now }
     {
-        self.tables.letters.is_ascii()
+        let letters = self.letters();
+        let mut is_ascii = true;
+        let mut index = 0;
+        while index < letters.len() {
+            // Without a branch, the compiler tests several letters at once.
+            is_ascii &= letters[index] < 128;
+            index += 1;
+        }
+        is_ascii
     }
 
     /// Whether each letter is a greater byte than the one before it. Then the lexicographic order
@@ -164,12 +177,18 @@ impl Alphabet {
     /// assert!(rt; base62::Alphabet::standard().is_ascending());
     /// assert!(rt; !base62::Alphabet::alternative().is_ascending());
     /// ```
-    #[tactic(auto, using(crate::proofs::OrderLemmas::is_sorted_ascends))]
-    pub fn is_ascending(&self) -> bool
+    pub const fn is_ascending(&self) -> bool
         ensures { IsTrue result ↔ Ascends self.now }
     {
-        // The letters are distinct, so no two in a row are equal.
-        self.tables.letters.is_sorted()
+        let letters = self.letters();
+        let mut index = 1;
+        while index < letters.len() {
+            if letters[index] <= letters[index - 1] {
+                return false;
+            }
+            index += 1;
+        }
+        true
     }
 
     // The tables that calls read.

@@ -218,7 +218,7 @@ fn append_decimal(text: InlineText<MAX_FAULT_TEXT>, number: usize) -> InlineText
     ensures { inline_text result ≡ inline_text text ++ decimal number }
 {
     // From the last digit to the first.
-    let mut digits = [0; 20];
+    let mut digits = [0u8; 20];
     let mut start = 19;
     let mut left = number;
     while left >= 10 {

@@ -131,15 +131,28 @@ fn string_over<T: Number>(alloc: Global, tables: &Tables, num: T) -> Result<Stri
     String::from_str(alloc, text.as_str())
 }
 
-// Appends the text over the alphabet of the tables.
-#[tactic(auto, using(crate::proofs::CanonicalLemmas::ascii_texts, crate::proofs::CanonicalLemmas::canonical_fits))]
+// Appends the text over the alphabet of the tables. A string of Rattle lends its bytes to no
+// writer. In Rust `in_place!`, which is written by hand, writes the text to its place and returns,
+// if there is room for any text.
+#[inline]
 fn append_over<T: Number>(tables: &Tables, num: T, buf: &mut String) -> Result<(), AllocError>
     requires tables { AreTables tables.now }
     requires ascii { IsAscii tables.now.letters }
     ensures { AppendsTo tables.now.letters (T.meaning num) buf.old buf.new result }
 {
+    append_copy(tables, num.number(), buf)
+}
+
+// Appends a copy of the text.
+#[inline(never)]
+#[tactic(auto, using(crate::proofs::CanonicalLemmas::ascii_texts, crate::proofs::CanonicalLemmas::canonical_fits))]
+fn append_copy(tables: &Tables, n: u128, buf: &mut String) -> Result<(), AllocError>
+    requires tables { AreTables tables.now }
+    requires ascii { IsAscii tables.now.letters }
+    ensures { AppendsTo tables.now.letters n buf.old buf.new result }
+{
     let mut text = Text::new();
-    text.set(tables, num);
+    text.set(tables, n);
     let letters = text.as_str();
     buf.reserve(letters.len())?;
     // There is room now.

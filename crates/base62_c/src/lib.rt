@@ -254,7 +254,7 @@ pub extern "C" fn base62_fault_text(status: u32, bad: BadByte, buf: &mut [u8]) -
 
 #[unsafe(no_mangle)]
 pub extern "C" fn base62_version_number() -> u32
-    ensures { result ≡ 30100 }
+    ensures { result ≡ 30200 }
 {
-    30100
+    30200
 }

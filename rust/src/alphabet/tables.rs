@@ -1,3 +1,6 @@
+// SPDX-License-Identifier: MIT
+// Copyright (c) 2026 the maintainers of base62 for Rattle
+
 // translate/rust has written this file from crates/base62/src/alphabet/tables.rt. Edit that one.
 // Its functions are proved there. This translation of them is tested, not proved.
 
@@ -38,9 +41,8 @@ impl Tables {
     pub(crate) fn pair_of_digits(&self, first_digit: u64, second_digit: u64) -> (u8, u8) {
         requires!(first_digit < 62);
         requires!(second_digit < 62);
-        // SAFETY: a digit is below 62.
-        let first = proved!(self.letters[first_digit as usize]);
-        let second = proved!(self.letters[second_digit as usize]);
+        let first = self.letters[first_digit as usize];
+        let second = self.letters[second_digit as usize];
         (first, second)
     }
 
@@ -48,12 +50,11 @@ impl Tables {
     #[inline(always)]
     pub(crate) fn letter(&self, digit: u64) -> u8 {
         requires!(digit < 62);
-        // SAFETY: a digit is below 62.
-        proved!(self.letters[digit as usize])
+        self.letters[digit as usize]
     }
 }
 
-static STANDARD: Tables = Tables {
+const STANDARD: Tables = Tables {
     letters: *b"0123456789ABCDEFGHIJKLMNOPQRSTUVWXYZabcdefghijklmnopqrstuvwxyz",
     digits: [
         255, 255, 255, 255, 255, 255, 255, 255, 255, 255, 255, 255, 255, 255, 255, 255, 255, 255,
@@ -73,7 +74,7 @@ static STANDARD: Tables = Tables {
     ],
 };
 
-static ALTERNATIVE: Tables = Tables {
+const ALTERNATIVE: Tables = Tables {
     letters: *b"0123456789abcdefghijklmnopqrstuvwxyzABCDEFGHIJKLMNOPQRSTUVWXYZ",
     digits: [
         255, 255, 255, 255, 255, 255, 255, 255, 255, 255, 255, 255, 255, 255, 255, 255, 255, 255,
@@ -95,12 +96,12 @@ static ALTERNATIVE: Tables = Tables {
 
 // The tables of the standard alphabet.
 #[inline(always)]
-pub(crate) fn standard_tables() -> &'static Tables {
+pub(crate) const fn standard_tables() -> &'static Tables {
     &STANDARD
 }
 
 // The tables of the alternative alphabet.
 #[inline(always)]
-pub(crate) fn alternative_tables() -> &'static Tables {
+pub(crate) const fn alternative_tables() -> &'static Tables {
     &ALTERNATIVE
 }

@@ -1,9 +1,14 @@
+// SPDX-License-Identifier: MIT
+// Copyright (c) 2026 the maintainers of base62 for Rattle
+
 //! Values from outside this code, and texts by plain division.
 #![allow(dead_code)]
 
 use base62::{Alphabet, DecodeError};
 use std::collections::HashMap;
+use std::fs;
 use std::path::Path;
+use std::process::Command;
 use std::sync::OnceLock;
 
 pub const STANDARD: &[u8; 62] = b"0123456789ABCDEFGHIJKLMNOPQRSTUVWXYZabcdefghijklmnopqrstuvwxyz";
@@ -15,11 +20,20 @@ pub fn high_letters() -> [u8; 62] {
     std::array::from_fn(|digit| 194 + digit as u8)
 }
 
+/// A file of the clone. In a packed crate it is beside the tests.
+pub fn shared(file: &str) -> String {
+    let (_, name) = file.rsplit_once('/').unwrap();
+    let folder = Path::new(env!("CARGO_MANIFEST_DIR"));
+    let packed = folder.join("tests").join(name);
+    let clone = folder.join("..").join(file);
+    let file = if packed.exists() { packed } else { clone };
+    fs::read_to_string(&file).unwrap_or_else(|fault| panic!("{}: {fault}", file.display()))
+}
+
 /// The values that the tests of all packages share.
 fn values() -> &'static str {
     static VALUES: OnceLock<String> = OnceLock::new();
-    let file = Path::new(env!("CARGO_MANIFEST_DIR")).join("../tests/values.tsv");
-    VALUES.get_or_init(|| std::fs::read_to_string(file).unwrap())
+    VALUES.get_or_init(|| shared("tests/values.tsv"))
 }
 
 /// The rows of a kind in tests/values.tsv, whose head tells of them, without the kind.
@@ -101,4 +115,14 @@ pub fn fixed(letters: &[u8; 62], number: u128, width: usize) -> Option<Vec<u8>> 
     let text = digits(letters, number);
     let zeros = width.checked_sub(text.len())?;
     Some([vec![letters[0]; zeros], text].concat())
+}
+
+/// What a line of bash with these variables ends with: its status, and what it has written to standard output and to
+/// standard error.
+pub fn run(line: &str, variables: &[(&str, &str)]) -> (Option<i32>, String, String) {
+    let mut bash = Command::new("bash");
+    bash.args(["-c", line]).envs(variables.iter().copied());
+    let ended = bash.output().unwrap();
+    let text = |bytes| String::from_utf8(bytes).unwrap();
+    (ended.status.code(), text(ended.stdout), text(ended.stderr))
 }

@@ -62,9 +62,8 @@ impl Tables {
         ensures step { work.new ≡ work.old + 1 }
     {
         work.tick();
-        // SAFETY: a digit is below 62.
-        let first = unsafe { *self.letters.get_unchecked(first_digit as usize) };
-        let second = unsafe { *self.letters.get_unchecked(second_digit as usize) };
+        let first = self.letters[first_digit as usize];
+        let second = self.letters[second_digit as usize];
         (first, second)
     }
 
@@ -76,12 +75,11 @@ impl Tables {
         ensures step { work.new ≡ work.old + 1 }
     {
         work.tick();
-        // SAFETY: a digit is below 62.
-        unsafe { *self.letters.get_unchecked(digit as usize) }
+        self.letters[digit as usize]
     }
 }
 
-static STANDARD: Tables = Tables {
+const STANDARD: Tables = Tables {
     letters: *b"0123456789ABCDEFGHIJKLMNOPQRSTUVWXYZabcdefghijklmnopqrstuvwxyz",
     digits: [
         255, 255, 255, 255, 255, 255, 255, 255, 255, 255, 255, 255, 255, 255, 255, 255, 255, 255,
@@ -101,7 +99,7 @@ static STANDARD: Tables = Tables {
     ],
 };
 
-static ALTERNATIVE: Tables = Tables {
+const ALTERNATIVE: Tables = Tables {
     letters: *b"0123456789abcdefghijklmnopqrstuvwxyzABCDEFGHIJKLMNOPQRSTUVWXYZ",
     digits: [
         255, 255, 255, 255, 255, 255, 255, 255, 255, 255, 255, 255, 255, 255, 255, 255, 255, 255,
@@ -123,7 +121,7 @@ static ALTERNATIVE: Tables = Tables {
 
 // The tables of the standard alphabet.
 #[inline(always)]
-pub(crate) fn standard_tables() -> &'static Tables
+pub(crate) const fn standard_tables() -> &'static Tables
     ensures tables { AreTables result.now }
     ensures letters { result.now.letters ≡ standard }
 {
@@ -132,7 +130,7 @@ pub(crate) fn standard_tables() -> &'static Tables
 
 // The tables of the alternative alphabet.
 #[inline(always)]
-pub(crate) fn alternative_tables() -> &'static Tables
+pub(crate) const fn alternative_tables() -> &'static Tables
     ensures tables { AreTables result.now }
     ensures letters { result.now.letters ≡ alternative }
 {

@@ -17,7 +17,7 @@ ghost use Rattle.base62.specs.Tables.{AreTables};
 use crate::alphabet::{Tables, Work};
 use crate::count::digit_count;
 use crate::fault::EncodeError;
-use crate::powers::{POWER_2, POWER_4, POWER_5, POWER_10, POWER_20};
+use crate::powers::{POWER_2, POWER_4, POWER_5, POWER_10};
 
 // The encoder over any alphabet.
 #[inline(always)]
@@ -86,31 +86,61 @@ fn write_wide(tables: &Tables, n: u128, count: usize, buf: &mut [u8], work: &mut
         let (top, high, low) = cut_by_20(n);
         write_1_or_2(tables, top, count - 20, buf, work);
         write_20(tables, high, low, &mut buf[count - 20..], work);
+    } else if count == 20 {
+        let (_, high, low) = cut_by_20(n);
+        write_20(tables, high, low, buf, work);
     } else {
         let (high, low) = cut_by_10(n);
         write_10(tables, low, &mut buf[count - 10..], work);
-        if count == 20 {
-            let (_, fraction) = fraction_of(high);
-            write_10(tables, fraction, buf, work);
-        } else {
-            write_up_to_9(tables, high, count - 10, buf, work);
-        }
+        write_up_to_9(tables, high, count - 10, buf, work);
     }
 }
 
-// Divides by 62^20, and gives the remainder as two fractions. The upper bits times 2^136 / 62^20 give
-// the quotient, or one less: then the first fraction has a whole too many.
+// Divides by 62^20, and gives the remainder as two fractions, of which neither waits for a remainder.
+// The number in units of 62^20 / 2^64 is the quotient and a fraction of all twenty letters. The last
+// ten add up to 22 units to it. 16 times their own fraction is taken off, which leaves few enough, as
+// in `fraction_of`.
 #[inline(always)]
 fn cut_by_20(n: u128) -> (u32, u64, u64)
     ensures quotient { result.0 ≡ n / 62 ^ 20 }
     ensures remainder { result.1 * 62 ^ 10 / 2 ^ 64 * 62 ^ 10 + result.2 * 62 ^ 10 / 2 ^ 64 ≡ n % 62 ^ 20 }
 {
-    let upper = (n >> 96) as u64;
-    let estimate = ((upper * 123664) >> 40) as u32;
-    let remainder = n - estimate as u128 * POWER_20;
-    let (high, low) = cut_by_10(remainder);
-    let (whole, fraction) = fraction_of(high);
-    (estimate + whole as u32, fraction, low)
+    let low = last_10(n);
+    let (top, high) = whole_and_fraction(scaled_by_20(n) - (low >> 60) as u128);
+    (top as u32, high, low)
+}
+
+// The fraction of the last ten letters. It is the number in units of 62^10 / 2^64, at most eight above,
+// and its wholes wrap around. 2^64 has 2^128 / 62^10 of these units: 21 wholes, the first factor, and
+// the second times 2^-64, rounded up. The third factor is 2^123 / 62^10, rounded up.
+#[inline(always)]
+fn last_10(n: u128) -> u64
+    ensures { result * 62 ^ 10 / 2 ^ 64 ≡ n % 62 ^ 10 }
+{
+    let upper = (n >> 64) as u64;
+    let lower = (n & 0xffffffff_ffffffff) as u64;
+    let product = upper as u128 * 18054599902933494364;
+    let first = (product & 0xffffffff_ffffffff) as u64;
+    let second = ((upper as u128 * 2913576609842229563) >> 64) as u64;
+    let of_lower = (lower as u128 * 12669882045338564947) >> 59;
+    let third = (of_lower & 0xffffffff_ffffffff) as u64;
+    first
+        .wrapping_add(second)
+        .wrapping_add(third)
+        .wrapping_add(2)
+}
+
+// A number in units of 62^20 / 2^64, at most five above. 2^64 has 2^128 / 62^20 of these units: the
+// second factor, and the first times 2^-64, rounded up.
+#[inline(always)]
+fn scaled_by_20(n: u128) -> u128
+    ensures least { n * 2 ^ 64 ≤ result * 62 ^ 20 }
+    ensures most { result * 62 ^ 20 ≤ n * 2 ^ 64 + 5 * 62 ^ 20 }
+{
+    let upper = (n >> 64) as u64;
+    let lower = (n & 0xffffffff_ffffffff) as u64;
+    let rest = ((upper as u128 * 1200736830183971319) >> 64) as u64;
+    upper as u128 * 483 + (rest + (((lower >> 32) * 483) >> 32) + 4) as u128
 }
 
 // Divides by 62^10, and gives the remainder as a fraction. The upper bits times 2^120 / 62^10 give

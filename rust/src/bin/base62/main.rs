@@ -1,31 +1,79 @@
-// translate/rust has written this file from crates/base62_cli/src/main.rt. Edit that one.
-// Its functions are proved there. This translation of them is tested, not proved.
+// SPDX-License-Identifier: MIT
+// Copyright (c) 2026 the maintainers of base62 for Rattle
 
-//! A line program over `base62`. It reads lines such as `enc 1337` and `dec LZ`, and for each
-//! writes the text, the number or what is wrong.
+//! The command `base62`, which answers operands or lines. Without arguments it is the translated program `base62_cli`.
 
+mod answers;
+mod arguments;
 mod fault;
+mod help;
 mod line_end;
 mod memory;
 mod reply;
+mod task;
 #[cfg(test)]
 mod tests;
 mod tool;
 
+use arguments::Request;
 use fault::ToolFault;
-use std::io::{self, Write};
-use std::process::ExitCode;
-use tool::run;
+use std::fmt::Display;
+use std::io::{self, ErrorKind, IsTerminal, Write};
+use std::process::{self, ExitCode};
+use std::{env, ffi::OsString};
 
 fn main() -> ExitCode {
-    match run(&mut io::stdin(), &mut io::stdout()) {
-        Ok(()) => ExitCode::SUCCESS,
-        Err(fault) => fail(fault),
+    let outcome = match arguments::read(env::args_os().skip(1).map(OsString::into_encoded_bytes)) {
+        _ if env::args_os().len() < 2 => run_protocol(),
+        Ok(Request::Answers(task)) => answers::answer_all(&task),
+        Ok(Request::Print(text)) => Output
+            .write_all(text.as_bytes())
+            .map_or(Err(ToolFault::Write), |()| Ok(ExitCode::SUCCESS)),
+        Err(wrong) => {
+            tell(format_args!("{wrong}: try base62 --help"));
+            return ExitCode::from(2);
+        }
+    };
+    outcome.unwrap_or_else(|fault| {
+        tell(fault.to_string().trim_start_matches("base62_cli: "));
+        ExitCode::FAILURE
+    })
+}
+
+fn run_protocol() -> Result<ExitCode, ToolFault> {
+    let mut input = io::stdin();
+    if input.is_terminal() {
+        tell("it answers lines such as `enc 1337` and `dec LZ`: try base62 --help");
+    }
+    tool::run(&mut input, &mut Output).map(|()| ExitCode::SUCCESS)
+}
+
+/// Standard output. If its reader has gone, the program ends, as by SIGPIPE, but with status 0.
+struct Output;
+
+impl Write for Output {
+    fn write(&mut self, bytes: &[u8]) -> io::Result<usize> {
+        io::stdout().write(bytes).inspect_err(end_if_gone)
+    }
+
+    fn flush(&mut self) -> io::Result<()> {
+        io::stdout().flush().inspect_err(end_if_gone)
     }
 }
 
-// If standard error takes nothing, the exit status alone tells the fault.
-fn fail(fault: ToolFault) -> ExitCode {
-    let _ = writeln!(io::stderr(), "{fault}");
-    ExitCode::FAILURE
+fn end_if_gone(error: &io::Error) {
+    if error.kind() == ErrorKind::BrokenPipe {
+        process::exit(0);
+    }
+}
+
+/// Writes one line to standard error. If that takes nothing, the exit status alone tells.
+fn tell(what: impl Display) {
+    let _ = io::stderr().write_all(format!("base62: {what}\n").as_bytes());
+}
+
+/// An argument in ASCII, which a terminal shows and does not obey.
+fn shown(argument: &[u8]) -> String {
+    let quotes = if argument.is_empty() { "''" } else { "" };
+    format!("{}{quotes}", argument.escape_ascii())
 }

@@ -1,3 +1,6 @@
+// SPDX-License-Identifier: MIT
+// Copyright (c) 2026 the maintainers of base62 for Rattle
+
 //! Bytes that grow, and say if memory is refused. With a `Vec` of Rust the program would end then.
 
 use std::io::{self, ErrorKind, Write};

@@ -1,3 +1,6 @@
+// SPDX-License-Identifier: MIT
+// Copyright (c) 2026 the maintainers of base62 for Rattle
+
 //! Runs over readers and writers that move one byte a call, that fail, and that watch when they are called.
 
 use crate::fault::ToolFault;

@@ -1,3 +1,5 @@
+-- SPDX-License-Identifier: MIT
+-- Copyright (c) 2026 the maintainers of base62 for Rattle
 -- Keys in a database that sorts by a language, of a user who is no superuser.
 SET client_min_messages = warning;
 DROP DATABASE IF EXISTS contrib_regression_language;

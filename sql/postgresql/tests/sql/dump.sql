@@ -1,3 +1,5 @@
+-- SPDX-License-Identifier: MIT
+-- Copyright (c) 2026 the maintainers of base62 for Rattle
 -- A dump comes back, with what is generated.
 SET client_min_messages = warning;
 DROP DATABASE IF EXISTS contrib_regression_restored;

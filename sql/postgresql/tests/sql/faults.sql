@@ -1,3 +1,5 @@
+-- SPDX-License-Identifier: MIT
+-- Copyright (c) 2026 the maintainers of base62 for Rattle
 -- What is refused, and how, beside what values.sql has.
 \set ECHO none
 \pset format unaligned
@@ -37,14 +39,20 @@ SELECT call, refusal(call) FROM (VALUES
     ($$base62_encode_fixed_uuid('00000000-0000-0000-0000-000000000539', 1001, own())$$),
     ($$base62_key_first('', 0)$$),
     ($$base62_key_last('', -1)$$),
-    ($$base62_key_last('', 1001)$$)
+    ($$base62_key_last('', 1001)$$),
+    ($$base62_range_first('-', 0, '01')$$),
+    ($$base62_range_last('-', 1001)$$),
+    ($$base62_range_first_numeric('-', -1)$$),
+    ($$base62_range_last_numeric('-', 1001, own())$$)
 ) calls (call);
 \echo Texts and prefixes
 SELECT call, refusal(call) FROM (VALUES
     ($$base62_decode('AzL8n0Y58m8')$$),
     ($$base62_decode('7n42DGM5Tflk9n8mt7Fhc8')$$),
     ($$base62_decode_canonical('AzL8n0Y58m8')$$),
-    ($$base62_key_last('0é', 1)$$)
+    ($$base62_key_last('0é', 1)$$),
+    ($$base62_range_last('0é', 1)$$),
+    ($$base62_range_first_numeric('0é', 1, own())$$)
 ) calls (call);
 \echo Alphabets, and arguments of other types
 SELECT call, refusal(call) FROM (VALUES
@@ -57,6 +65,8 @@ SELECT call, refusal(call) FROM (VALUES
     ($$base62_decode('LZ', repeated())$$),
     ($$base62_encode_fixed(1, 1, repeated())$$),
     ($$base62_is_text('-', repeated())$$),
+    ($$base62_range_first('-', 1, repeated())$$),
+    ($$base62_range_last_numeric('-', 1, accented())$$),
     ($$base62_is_bigint('LZ', '01')$$),
     ($$base62_encode(1.5)$$),
     ($$base62_encode('LZ'::text)$$)

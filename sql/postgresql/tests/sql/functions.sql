@@ -1,3 +1,5 @@
+-- SPDX-License-Identifier: MIT
+-- Copyright (c) 2026 the maintainers of base62 for Rattle
 -- Functions, their attributes, and the names of their arguments.
 CREATE VIEW functions AS SELECT p.*
     FROM pg_proc p JOIN pg_depend d ON (d.classid, d.objid, d.deptype) = ('pg_proc'::regclass, p.oid, 'e')
@@ -19,17 +21,20 @@ SELECT num_nonnulls(base62_encode(NULL), base62_encode(1, NULL), base62_encode_u
     base62_encode_fixed(1, NULL), base62_encode_fixed(NULL, 0), base62_key_first(NULL), base62_key_last('-', NULL),
     base62_key_first('8'), base62_key_last('8'), base62_is_text(NULL), base62_is_bigint('1', NULL),
     base62_decode_canonical(NULL), base62_decode_uuid_canonical('-', NULL),
-    base62_encode_fixed_uuid('00000000-0000-0000-0000-000000000539', NULL));
+    base62_encode_fixed_uuid('00000000-0000-0000-0000-000000000539', NULL), base62_range_first(NULL, 11),
+    base62_range_last('A', NULL), base62_range_first_numeric('A', 11, NULL), base62_range_last('8', 22),
+    base62_range_last_numeric('8', 22));
 SELECT base62_encode('1337'), base62_encode(1337::smallint), base62_encode(number => 1337),
     base62_decode(encoded => 'LZ'), base62_encode_uuid('00000000-0000-0000-0000-000000000539') uuid;
 SELECT base62_encode_fixed('1337', '3') fixed,
     base62_encode_fixed_uuid('00000000-0000-0000-0000-000000000539', '3') fixed_uuid,
-    base62_is_text(alphabet => :own, encoded => 'eQ');
+    base62_is_text(alphabet => :own, encoded => 'eQ'),
+    base62_range_last(prefix => 'e', width => 3, alphabet => :own) last;
 PREPARE untyped AS SELECT base62_encode($1) t, base62_encode_uuid($2) u, base62_encode_fixed($3, $4) f,
     base62_encode_fixed_uuid($5, $6) fu, base62_key_last($7, $8) l, base62_is_text($9) i,
-    base62_decode_uuid_canonical($9) d;
+    base62_decode_uuid_canonical($9) d, base62_range_last($10, $11) n;
 EXECUTE untyped (1337, '00000000-0000-0000-0000-000000000539', 1337, 3, '00000000-0000-0000-0000-000000000539', 4, 'L',
-    2, 'LZ');
+    2, 'LZ', 'L', 3);
 
 -- A text that is stored packed.
 CREATE TABLE long (t text);
@@ -37,8 +42,22 @@ INSERT INTO long VALUES (repeat('0', 1000000) || 'LZ');
 SELECT pg_column_size(t) < 100000 packed, base62_decode(t), base62_decode_uuid(t), base62_key_first(t),
     base62_is_text(t) FROM long;
 
+-- Each call asks of its own text alone.
+SELECT base62_is_bigint(a), base62_is_bigint(b), base62_is_text(a), base62_is_text(b)
+    FROM (VALUES ('LZ', '-'), ('-', 'LZ'), ('LZ', ''), ('AzL8n0Y58m8', 'LZ')) v (a, b);
+
 -- Letters that change from row to row, from call to call, and after a refusal.
 SELECT base62_encode(1337, letters) FROM (VALUES (:own), (:alternative), (:own), (:alternative)) v (letters);
+-- Any two of these as rows of one query: four pairs are of alphabets.
+CREATE FUNCTION of_rows(VARIADIC given text[]) RETURNS text LANGUAGE plpgsql AS $$
+BEGIN
+    RETURN (SELECT string_agg(base62_encode(1337, letters), ' ') FROM unnest(given) letters);
+EXCEPTION WHEN invalid_parameter_value THEN
+    RETURN sqlerrm;
+END $$;
+WITH given (letters) AS
+    (VALUES (:own), (:alternative), (left(:alternative, 61)), (left(:alternative, 10)), (''), (:alternative || '!'))
+    SELECT of_rows(a.letters, b.letters) COLLATE "C" answer, count(*) FROM given a, given b GROUP BY 1 ORDER BY 1;
 CREATE FUNCTION with_each(VARIADIC given text[]) RETURNS SETOF text LANGUAGE plpgsql AS $$
 DECLARE
     one text;
@@ -61,3 +80,9 @@ SET client_min_messages = debug1;
 SELECT count(base62_encode_fixed(n, 22, :own)) FROM generate_series(1, 1000) n;
 EXECUTE with_one (:own);
 RESET client_min_messages;
+-- Those that change take no more memory with each row.
+WITH taken AS MATERIALIZED (SELECT base62_encode(n, CASE n % 2 WHEN 0 THEN :own ELSE :alternative END) t,
+        CASE n WHEN 1 THEN (SELECT sum(used_bytes) FROM pg_backend_memory_contexts WHERE n > 0)
+            WHEN 10000 THEN (SELECT sum(used_bytes) FROM pg_backend_memory_contexts WHERE n > 0) END bytes
+        FROM generate_series(1, 10000) n)
+    SELECT count(t), count(bytes), max(bytes) - min(bytes) < 2000000 little FROM taken;

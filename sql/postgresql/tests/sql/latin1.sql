@@ -1,3 +1,5 @@
+-- SPDX-License-Identifier: MIT
+-- Copyright (c) 2026 the maintainers of base62 for Rattle
 -- In an encoding in which é is one byte. No text of an alphabet is lost by a conversion.
 SET client_min_messages = warning;
 DROP DATABASE IF EXISTS contrib_regression_latin1;

@@ -1,8 +1,11 @@
+-- SPDX-License-Identifier: MIT
+-- Copyright (c) 2026 the maintainers of base62 for Rattle
 -- Generated columns, constraints and indexes, and the plans that use them.
 CREATE TABLE link (id bigint PRIMARY KEY, slug text GENERATED ALWAYS AS (base62_encode(id)) STORED UNIQUE);
 CREATE TABLE item (u uuid PRIMARY KEY, key base62_key GENERATED ALWAYS AS (base62_encode_key_uuid(u)) STORED UNIQUE,
     CHECK (base62_is_text(key) AND length(key) = 22 AND base62_decode_uuid(key) = u));
 CREATE TABLE code (id bigint PRIMARY KEY, code base62_key GENERATED ALWAYS AS (base62_encode_fixed(id, 11)) STORED);
+CREATE TABLE wide (id numeric(39) PRIMARY KEY);
 CREATE UNIQUE INDEX item_text ON item (base62_encode_uuid(u));
 CREATE INDEX item_prefix ON item (u) WHERE key < base62_key_last('3');
 CREATE INDEX code_code ON code (code);
@@ -10,7 +13,8 @@ INSERT INTO link SELECT i * 461168601842738 FROM generate_series(0, 20000) i;
 INSERT INTO code SELECT id FROM link;
 INSERT INTO item SELECT md5(i::text)::uuid FROM generate_series(1, 20000) i;
 INSERT INTO item SELECT lpad(to_hex(i), 32, '0')::uuid FROM generate_series(0, 100) i;
-ANALYZE link, item, code;
+INSERT INTO wide SELECT i * 17014118346046923173168730371588410 FROM generate_series(0, 20000) i;
+ANALYZE link, item, code, wide;
 SET enable_bitmapscan = off;
 EXPLAIN (COSTS off) SELECT * FROM link WHERE slug = 'LZ';
 EXPLAIN (COSTS off) SELECT * FROM link WHERE slug = base62_encode(1337);
@@ -24,6 +28,18 @@ EXPLAIN (COSTS off) SELECT * FROM item
 EXPLAIN (COSTS off) SELECT * FROM item
     WHERE u BETWEEN base62_decode_uuid(base62_key_first('2aU')) AND base62_decode_uuid(base62_key_last('2aU'));
 EXPLAIN (COSTS off) SELECT * FROM code WHERE code BETWEEN base62_key_first('0001', 11) AND base62_key_last('0001', 11);
+EXPLAIN (COSTS off) SELECT * FROM link WHERE id BETWEEN base62_range_first('Az', 11) AND base62_range_last('Az', 11);
+EXPLAIN (COSTS off) SELECT * FROM wide
+    WHERE id BETWEEN base62_range_first_numeric('7n4', 22) AND base62_range_last_numeric('7n4', 22);
+
+-- How many ids have a prefix, and how many more or fewer a range finds: also over letters that do not ascend.
+SELECT p prefix, count(*) FILTER (WHERE starts_with(code, p)) standard, count(*) FILTER (WHERE starts_with(code, p))
+    - count(*) FILTER (WHERE id BETWEEN base62_range_first(p, 11) AND base62_range_last(p, 11)) "by range",
+    count(*) FILTER (WHERE starts_with(o, p)) own, count(*) FILTER (WHERE starts_with(o, p))
+    - count(*) FILTER (WHERE id BETWEEN base62_range_first(p, 11, own) AND base62_range_last(p, 11, own)) "by range"
+    FROM (SELECT *, base62_encode_fixed(id, 11, own) o FROM code,
+        (VALUES ('zyxwvutsrqponmlkjihgfedcbaZYXWVUTSRQPONMLKJIHGFEDCBA9876543210')) letters (own)) codes,
+    (VALUES (''), ('0'), ('A'), ('Az'), ('B'), ('p'), ('z')) prefixes (p) GROUP BY p ORDER BY p COLLATE "C";
 
 -- Partitions without such keys are left out.
 CREATE TABLE part (key base62_key PRIMARY KEY) PARTITION BY RANGE (key);

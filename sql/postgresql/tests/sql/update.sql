@@ -1,3 +1,5 @@
+-- SPDX-License-Identifier: MIT
+-- Copyright (c) 2026 the maintainers of base62 for Rattle
 -- From the first version to this one, with what stands in tables.
 SET client_min_messages = warning;
 CREATE EXTENSION base62 VERSION '1.0';
@@ -9,11 +11,12 @@ SELECT base62_encode_fixed(1337, 3), base62_key_first('L', 3), base62_key_last('
 SELECT base62_is_text('LZ');
 SELECT base62_encode_fixed_uuid('00000000-0000-0000-0000-000000000539', 3);
 SELECT base62_decode_canonical('LZ');
+SELECT base62_range_last('L', 3);
 \set VERBOSITY default
 ALTER EXTENSION base62 UPDATE;
 SELECT extversion FROM pg_extension WHERE extname = 'base62';
 SELECT base62_is_text('LZ'), base62_encode_fixed_uuid('00000000-0000-0000-0000-000000000539', 3),
-    base62_decode_canonical('LZ');
+    base62_decode_canonical('LZ'), base62_range_last('L', 3);
 INSERT INTO item VALUES ('00000000-0000-0000-0000-00000000053a');
 SELECT key, base62_encode_uuid(u) FROM item ORDER BY key;
 

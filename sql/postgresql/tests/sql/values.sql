@@ -1,3 +1,5 @@
+-- SPDX-License-Identifier: MIT
+-- Copyright (c) 2026 the maintainers of base62 for Rattle
 -- The answers to the values that the tests of every language read. Of these only the rows are shown that differ.
 \set ECHO none
 \pset format unaligned
@@ -136,3 +138,21 @@ SELECT * FROM prefix WHERE NOT has_range
 SELECT * FROM prefix WHERE NOT has_range AND w = 22
     AND (answer('base62_key_first(%L)', p) IS DISTINCT FROM said
         OR answer('base62_key_last(%L)', p) IS DISTINCT FROM said);
+
+\echo The first and the last number of a prefix, and whether enough ranges are below 2^63, across it and above it
+CREATE TABLE span AS
+    SELECT name, letters, f[3]::integer w, text_of(f[4]) p, said(VARIADIC f[5:]) said,
+        CASE WHEN f[5] = 'numbers' THEN f[6]::numeric END low, CASE WHEN f[5] = 'numbers' THEN f[7]::numeric END high
+    FROM line JOIN alphabet ON name = f[2]
+    WHERE f[1] = 'range' AND f[3]::bigint BETWEEN 1 AND 1000 AND text_of(f[4]) IS NOT NULL;
+UPDATE span SET said = NULL WHERE said = said('none');
+SELECT count(*) FILTER (WHERE bigint_of(high) IS NOT NULL) > 50 below,
+    count(*) FILTER (WHERE bigint_of(low) IS NOT NULL AND bigint_of(high) IS NULL) > 50 across,
+    count(*) FILTER (WHERE bigint_of(low) IS NULL AND low IS NOT NULL) > 50 above,
+    count(*) FILTER (WHERE said IS NOT NULL) > 50 refused FROM span;
+SELECT * FROM span, LATERAL (VALUES ('first', bigint_of(low)::text), ('first_numeric', low::text),
+    ('last', CASE WHEN bigint_of(low) IS NOT NULL THEN least(high, 9223372036854775807)::text END),
+    ('last_numeric', high::text)) ends (which, number)
+    WHERE answer('base62_range_' || which || '(%L, %s, %L)', p, w::text, letters) IS DISTINCT FROM coalesce(said, number)
+    OR name = 'standard'
+    AND answer('base62_range_' || which || '(%L, %s)', p, w::text) IS DISTINCT FROM coalesce(said, number);

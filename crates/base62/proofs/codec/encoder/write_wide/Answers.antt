@@ -36,21 +36,15 @@ returns-then-count-gt20-clause-steps c =
 pub returns-then-count-eq20-clause-written : goal.returns-then-count-eq20-clause-written
 returns-then-count-eq20-clause-written c =
     let n = c.args.n in
-    let count = c.args.count in
-    let cut = c.cut_by_10-high in
-    let part = c.fraction_of-fraction in
-    let few : n < 62 ^ 20 = fits_more n count 20 c.requires.fits (omega (arith, c.if-count-eq20.true)) in
-    let whole : part.result.1 * 62 ^ 10 / 2 ^ 64 ≡ cut.result.0 = omega (arith, few, cut.ensures.quotient, part.ensures.number) in
-    let ten : count - 10 ≡ 10 = omega (arith, c.if-count-eq20.true) in
-    let both : count - 10 + 10 ≡ count = omega (arith, c.if-count-eq20.true) in
-    let back = c.write_10 in
-    let front = c.write_10-then-count-eq20 in
-    let join = back_on c.args.tables.now.letters (count - 10) 10 count n _ _ both cut.ensures.quotient cut.ensures.remainder in
-    join c.args.buf.now back.new.buf front.new.buf c.requires.room back.ensures.written (rw ten (rw (ten, whole) at front.ensures.written))
+    let twenty = c.if-count-eq20.true in
+    let few : n < 62 ^ 20 = fits_more n c.args.count 20 c.requires.fits (omega (arith, twenty)) in
+    let cut = c.cut_by_20-high in
+    let whole : cut.result.1 * 62 ^ 10 / 2 ^ 64 * 62 ^ 10 + cut.result.2 * 62 ^ 10 / 2 ^ 64 ≡ n = omega (arith, few, cut.ensures.remainder) in
+    rw twenty (rw whole at c.write_20-then-count-eq20.ensures.written)
 
 pub returns-then-count-eq20-clause-steps : goal.returns-then-count-eq20-clause-steps
 returns-then-count-eq20-clause-steps c =
-    rw (c.if-count-eq20.true, steps_of_20) (omega (arith, c.write_10.ensures.steps, c.write_10-then-count-eq20.ensures.steps))
+    rw (c.if-count-eq20.true, steps_of_20) c.write_20-then-count-eq20.ensures.steps
 
 pub returns-else-count-eq20-clause-written : goal.returns-else-count-eq20-clause-written
 returns-else-count-eq20-clause-written c =

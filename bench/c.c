@@ -1,0 +1,114 @@
+/* Times base62.c and, with WITH_GMP, GMP's calls for base 62, which has the same letters. bench/run runs it. */
+#define _POSIX_C_SOURCE 199309L
+#include <base62.h>
+#include <stdio.h>
+#include <stdlib.h>
+#include <string.h>
+#include <time.h>
+#ifdef WITH_GMP
+#include <gmp.h>
+#endif
+
+enum { MOST = 1000, REPEATS = 20 };
+
+static struct {
+    base62_number number;
+    char text[BASE62_MAX_DIGITS + 1];
+#ifdef WITH_GMP
+    mpz_t large;
+#endif
+} values[MOST];
+static int count;
+static volatile size_t sink;
+
+static void encode_by_base62(int i) {
+    char buffer[BASE62_MAX_DIGITS];
+    sink = base62_encode(values[i].number, buffer, sizeof buffer) + (size_t)buffer[0];
+}
+
+static void decode_by_base62(int i) {
+    base62_number number;
+    base62_bad_byte bad;
+    sink = base62_decode(values[i].text, strlen(values[i].text), &number, &bad) + number.low;
+}
+
+#ifdef WITH_GMP
+static mpz_t read;
+
+static void encode_by_gmp(int i) {
+    char buffer[BASE62_MAX_DIGITS + 2];
+    mpz_get_str(buffer, 62, values[i].large);
+    sink = (size_t)buffer[0];
+}
+
+static void decode_by_gmp(int i) {
+    sink = (size_t)mpz_set_str(read, values[i].text, 62) + mpz_get_ui(read);
+}
+#endif
+
+static const struct {
+    const char *who, *call;
+    void (*run)(int);
+} calls[] = {
+    {"base62.c", "encode", encode_by_base62},
+    {"base62.c", "decode", decode_by_base62},
+#ifdef WITH_GMP
+    {"GMP", "encode", encode_by_gmp},
+    {"GMP", "decode", decode_by_gmp},
+#endif
+};
+
+enum { CALLS = sizeof calls / sizeof *calls };
+
+static double now(void) {
+    struct timespec time;
+    clock_gettime(CLOCK_MONOTONIC, &time);
+    return (double)time.tv_sec * 1e9 + (double)time.tv_nsec;
+}
+
+static void add(unsigned long long high, unsigned long long low) {
+    values[count].number = (base62_number){high, low};
+    values[count].text[base62_encode(values[count].number, values[count].text, BASE62_MAX_DIGITS)] = 0;
+#ifdef WITH_GMP
+    mpz_init(values[count].large);
+    mpz_set_str(values[count].large, values[count].text, 62);
+#endif
+    count++;
+}
+
+/* Prints the least time of each call in all rounds, over the numbers of so many bits. */
+static void measure(int bits, int rounds) {
+    double least[CALLS] = {0};
+    for (int round = 0; round < rounds; round++)
+        for (int c = 0; c < CALLS; c++) {
+            const double start = now();
+            for (int repeat = 0; repeat < REPEATS; repeat++)
+                for (int i = 0; i < count; i++)
+                    calls[c].run(i);
+            const double time = (now() - start) / REPEATS / count;
+            if (round == 0 || time < least[c])
+                least[c] = time;
+        }
+    for (int c = 0; c < CALLS; c++)
+        printf("%s\t%s\t%d\t%f\n", calls[c].who, calls[c].call, bits, least[c]);
+    count = 0;
+}
+
+int main(int arguments, char **given) {
+    FILE *numbers = arguments == 3 ? fopen(given[1], "r") : NULL;
+    if (numbers == NULL)
+        return 2;
+    unsigned long long high, low;
+    int bits, last = 0;
+#ifdef WITH_GMP
+    mpz_init(read);
+#endif
+    while (fscanf(numbers, "%d %llu %llu", &bits, &high, &low) == 3 && count < MOST) {
+        if (last != bits && count != 0)
+            measure(last, atoi(given[2]));
+        last = bits;
+        add(high, low);
+    }
+    measure(last, atoi(given[2]));
+    return fclose(numbers);
+}

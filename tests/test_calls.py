@@ -1,0 +1,55 @@
+#!/usr/bin/env python3
+"""Compares docs/CALLS.md with what each package exports: every name stands there, and no other."""
+
+import ast
+import re
+from pathlib import Path
+
+TOP = Path(__file__).resolve().parent.parent
+# What the name of a call over another alphabet has besides, in Rust and C.
+OF_ALPHABETS = re.compile(r"_(alternative|alt|with)(?=_|$)")
+
+
+def text(*names: str) -> str:
+    return "".join(file.read_text() for name in names for file in sorted(TOP.glob(name)))
+
+
+def python() -> list[str]:
+    lists = [it for it in ast.parse(text("python/base62/__init__.py")).body if isinstance(it, ast.Assign)]
+    return next(ast.literal_eval(it.value) for it in lists if ast.unparse(it.targets[0]) == "__all__")
+
+
+def exported() -> dict[str, set[str]]:
+    """The names by the languages of the page."""
+    of_rust = re.findall(r"(?m)^\w+ (?:constant|enum|fn|struct) (\w+)", text("rust/tests/items.txt"))
+    of_c = re.findall(r"(?m)^(?:static inline )?\w+ (base62_\w+)\(", text("c/base62.h"))
+    _, _, of_javascript = text("js/index.js").partition("\nexport {")
+    return {
+        "Rust": {OF_ALPHABETS.sub("", it) for it in of_rust},
+        "C": {OF_ALPHABETS.sub("", it) for it in of_c},
+        "Python": set(python()),
+        "JavaScript": set(re.findall(r"\w+", of_javascript)),
+        "SQLite": set(re.findall(r'\{"(\w+)",', text("sql/sqlite/functions.c"))),
+        "PostgreSQL": set(re.findall(r"CREATE FUNCTION (\w+)", text("sql/postgresql/*.sql"))),
+    }
+
+
+def listed() -> dict[str, set[str]]:
+    """The names by the columns of the page."""
+    rows = [line.strip("|").split("|") for line in text("docs/CALLS.md").splitlines() if line.startswith("|")]
+    head, _, *others = rows
+    return {name.strip(): {it for row in others for it in re.findall(r"`(\w+)`", row[i])} for i, name in enumerate(head) if i}
+
+
+def main() -> None:
+    here, there = exported(), listed()
+    if here.keys() != there.keys() or not all(here.values()):
+        raise SystemExit(f"docs/CALLS.md has the columns {', '.join(there)}")
+    faults = [f"{it} is exported, and not in docs/CALLS.md" for name in here for it in sorted(here[name] - there[name])]
+    faults += [f"{it} is in docs/CALLS.md, and not exported" for name in here for it in sorted(there[name] - here[name])]
+    if faults:
+        raise SystemExit("\n".join(faults))
+
+
+if __name__ == "__main__":
+    main()

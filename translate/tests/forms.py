@@ -1,6 +1,6 @@
 """Composes small functions in Rattle out of the forms that the translators know, at random but by a seed.
 
-A form is two modules: a kit of small functions (forms_parts/kit.rt), some of which change what they are lent, and
+A form is two modules: a kit of small functions (forms_parts/kit.rattle), some of which change what they are lent, and
 functions that call them. `run` is the one that is called. The bits of its numbers and the least lengths of its slices
 are known here, so that it neither overflows nor leaves a slice, also where a `usize` has 32 bits. Forms that a
 translator may refuse are rare, so that most functions are translated whole.
@@ -23,7 +23,7 @@ LEVEL = {"||": 1, "&&": 2, "==": 3, "!=": 3, "<": 3, ">": 3, "<=": 3, ">=": 3, "
 WHOLE = 12
 NAMES = "a b n at left part rest value index last x_length result count answer made".split()
 NAMES_OF_C = "int short default register auto memcpy errno uint8_t size_t u128 bool copy_bytes result_2".split()
-KIT = (pathlib.Path(__file__).parent / "forms_parts" / "kit.rt").read_text()
+KIT = (pathlib.Path(__file__).parent / "forms_parts" / "kit.rattle").read_text()
 ITEM = re.compile(r"(?m)^(?:pub\(crate\) )?(?:const|static|struct|enum|impl|fn) (\w+)")
 METHODS = [("wrapping_add", "u64"), ("saturating_add", "u128"), ("min", "usize")]
 LEAST = 16  # The length that the slices of `run` have at least, behind its first lines.

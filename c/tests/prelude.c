@@ -63,13 +63,13 @@ static uint64_t next(void) {
 
 /* A number of any count of bits. */
 static wide draw(void) {
-    const wide upper = next();
-    return (upper << 64 | next()) >> next() % 128;
+    const uint64_t upper = next(), lower = next();
+    return ((wide)upper << 64 | lower) >> next() % 128;
 }
 
 int main(int count, char **arguments) {
-    expect(count > 1, "its arguments are COUNT SEED");
-    const long rounds = strtol(arguments[1], NULL, 10);
+    const long rounds = count > 1 ? strtol(arguments[1], NULL, 10) : 0;
+    expect(rounds > 0, "its arguments are COUNT SEED");
     seed = state = count > 2 ? strtoull(arguments[2], NULL, 10) : (uint64_t)time(NULL);
     make_values();
     for (size_t i = 0; i < value_count; i++)

@@ -10,7 +10,7 @@ struct form {
     wide (*answer)(wide a, wide b);
 };
 
-/* In one order: the forms for a compiler with __int128 and __GNUC__, and those that c/proof proves. The last is empty. */
+/* The forms of a compiler with __int128 and __GNUC__, and those that c/proof proves. Both end in an empty one. */
 extern const struct form compiled[], proved[];
 
 #endif

@@ -13,7 +13,7 @@ LIBRARY = (FOLDER / "base62.c").read_text()
 COMPARED = (FOLDER / "tests" / "prelude_form.c").read_text()
 COMPILED = ["-D__SIZEOF_INT128__=16", "-D__GNUC__=4"]
 PROVED = ["-DBASE62_NO_INT128", "-U__SIZEOF_INT128__", "-U__GNUC__"]
-# On what a form may depend. The first three are the same for both forms.
+# What base62.c asks of a compiler. Only the last three choose a form.
 CONDITIONS = {"CHAR_BIT", "SIZE_MAX", "_MSC_VER", "BASE62_NO_INT128", "__SIZEOF_INT128__", "__GNUC__"}
 # The type itself, and an attribute that means nothing for the answer.
 OTHER = {"u128", "ALWAYS_INLINE"}

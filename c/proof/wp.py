@@ -1,6 +1,8 @@
-"""Runs Frama-C's WP, and reads what it says."""
+"""Runs Frama-C's WP, one function at a time, and reads what it says."""
 
+import concurrent.futures
 import os
+import pathlib
 import re
 import shutil
 import subprocess
@@ -11,37 +13,8 @@ C = annotate.FOLDER.parent
 SPECIFICATION = annotate.FOLDER / "base62.acsl"
 FLAGS = (f"-I{C} -I{annotate.FOLDER} -include {SPECIFICATION} -D__FC_MACHDEP_X86_64"
          " -DBASE62_NO_INT128 -U__SIZEOF_INT128__ -U__GNUC__")
-
-
-def frama_c(work, name, code, options=()):
-    """What Frama-C says of the code. The folder keeps both by the name."""
-    file, log = work / f"{name}.c", work / f"{name}.log"
-    file.write_text(code)
-    machdep = shutil.copy(annotate.FOLDER / "machdep.ml", work)
-    command = ["frama-c", "-load-script", machdep, "-machdep", "base62",
-               f"-cpp-extra-args={FLAGS}", file, "-wp", "-wp-rte", "-wp-split", "-wp-prover", "cvc4,z3",
-               "-wp-timeout", os.environ.get("LIMIT", "30"), "-wp-par", os.environ.get("CORES", str(os.cpu_count())),
-               *options]
-    if "CACHE" in os.environ:
-        command += ["-wp-cache", "update", "-wp-cache-dir", os.environ["CACHE"]]
-    environment = {**os.environ, "WHY3CONFIG": str(work / "why3.conf")}
-    subprocess.run(["why3", "config", "detect"], env=environment, check=True, capture_output=True)
-    with log.open("w") as said:
-        ended = subprocess.run(command, env=environment, stdout=said, stderr=subprocess.STDOUT)
-    if ended.returncode:
-        raise SystemExit(log.read_text())
-    return log.read_text()
-
-
-def goals(log):
-    """Each goal: its name, the prover or Failed, and the time of the prover in milliseconds."""
-    for prover, name, told in re.findall(r"^\[wp\] \[([\w. ]+)\] Goal (\w+)(.*)", log, re.M):
-        if prover in ("Cache",):
-            continue
-        times = re.findall(r"\(([\d.]+)(ms|s|')\)", told)
-        yield name, prover.split()[0], max((int(float(n) * {"ms": 1, "s": 1000, "'": 60000}[unit])
-                                            for n, unit in times), default=0)
-
+LIMIT = int(os.environ.get("LIMIT", "30"))
+CORES = int(os.environ.get("CORES", os.cpu_count()))
 
 # They read what stands in the tables. All others are proved without it, since it slows provers.
 READ_TABLES = {"standard_letter", "standard_byte", "alternative_letter", "alternative_byte", "power", "greatest",
@@ -52,15 +25,65 @@ ASSIGN_STRUCTS = {"tell_fault", "tell_repeat"}
 WHOLE = {"u64_ilog2"}
 
 
-def runs(chosen, without=frozenset()):
-    """The options of each run of WP for the chosen functions, or for all but some. One of all proves the lemmas too."""
-    for functions, options in ((READ_TABLES, []), (ASSIGN_STRUCTS, ["-wp-no-init-const", "-wp-no-filter"]),
-                               (WHOLE, ["-wp-no-init-const", "-wp-no-split"])):
-        some = functions & chosen if chosen else functions
-        if some:
-            yield ["-wp-fct", ",".join(sorted(some)), *options]
-    rest = chosen - READ_TABLES - ASSIGN_STRUCTS - WHOLE
-    if not chosen:
-        yield ["-wp-skip-fct", ",".join(sorted(without | READ_TABLES | ASSIGN_STRUCTS | WHOLE)), "-wp-no-init-const"]
-    elif rest:
-        yield ["-wp-fct", ",".join(sorted(rest)), "-wp-no-init-const"]
+def prepared(work, code):
+    """A folder with the code and what Frama-C needs."""
+    work.mkdir(parents=True, exist_ok=True)
+    shutil.copy(annotate.FOLDER / "machdep.ml", work)
+    library = subprocess.run(["frama-c", "-print-lib-path"], check=True, capture_output=True, text=True).stdout
+    for command in (["ocamlfind", "ocamlopt", "-shared", "-I", library, "-package", "zarith,ocamlgraph",
+                     "-o", "machdep.cmxs", "machdep.ml"], ["why3", "config", "detect"]):
+        subprocess.run(command, cwd=work, env=environment(work), check=True, capture_output=True)
+    file = work / "base62.c"
+    file.write_text(code)
+    return file
+
+
+def environment(work, **more):
+    return {**os.environ, "WHY3CONFIG": str(work / "why3.conf"), **more}
+
+
+def frama_c(file, name, options, **more):
+    """What Frama-C says of a file. The folder of the file keeps it by the name."""
+    work = file.parent
+    command = ["frama-c", "-load-module", work / "machdep.cmxs", "-machdep", "base62", f"-cpp-extra-args={FLAGS}", file,
+               *options]
+    with (work / f"{name}.log").open("w") as said:
+        ended = subprocess.run(command, env=environment(work, **more), stdout=said, stderr=subprocess.STDOUT)
+    log = (work / f"{name}.log").read_text()
+    if ended.returncode:
+        raise SystemExit(log)
+    return log
+
+
+def functions(file):
+    """The functions of a file that have a body, and those that have none, ghost functions too."""
+    log = frama_c(file, "functions", [], FUNCTIONS="1")
+    return tuple({*re.findall(rf"^\[kernel\] {kind} (\w+)$", log, re.M)} for kind in ("defined", "declared"))
+
+
+def proved(file, function, constants=False):
+    """What WP says of a function, without or with what stands in constant tables."""
+    options = ["-wp", "-wp-rte", "-wp-prover", "cvc4,z3", "-wp-timeout", str(LIMIT), "-wp-par", "1",
+               "-wp-fct", function]
+    options += [] if function in WHOLE else ["-wp-split"]
+    options += [] if constants or function in READ_TABLES else ["-wp-no-init-const"]
+    options += ["-wp-no-filter"] if function in ASSIGN_STRUCTS else []
+    if "CACHE" in os.environ:
+        options += ["-wp-cache", "update", "-wp-cache-dir", os.environ["CACHE"]]
+    return frama_c(file, function, options)
+
+
+def at_once(task, names):
+    """The answers of a task, with as many at once as there are cores."""
+    with concurrent.futures.ThreadPoolExecutor(CORES) as pool:
+        return [*pool.map(task, names)]
+
+
+def goals(log):
+    """Each goal: its name, the prover or Failed, and the time of the prover in milliseconds."""
+    for prover, name, told in re.findall(r"^\[wp\] \[([\w. ]+)\] Goal (\w+)(.*)", log, re.M):
+        if prover in ("Cache",):
+            continue
+        times = re.findall(r"\(([\d.]+)(ms|s|')\)", told)
+        yield name, prover.split()[0], max((int(float(n) * {"ms": 1, "s": 1000, "'": 60000}[unit])
+                                            for n, unit in times), default=0)

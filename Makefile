@@ -23,6 +23,7 @@ generated: ## write the generated files anew, after a change of crates/
 	tests/model.py
 	translate/rust
 	translate/c
+	translate/contracts
 	translate/wasm
 
 check-generated: ## fail if a generated file is not what a translator writes
@@ -30,6 +31,7 @@ check-generated: ## fail if a generated file is not what a translator writes
 	translate/rust --check
 	translate/judge
 	translate/c --check
+	translate/contracts --check
 	translate/wasm --check
 
 ROUNDS = 300

@@ -25,7 +25,8 @@ KINDS = (".", "lemmas", "steps", "contracts")
 
 
 def lists():
-    """The texts of all lists, in the order in which they go in."""
+    """The texts of all lists, in the order in which they go in. translate/contracts writes the first."""
+    yield (FOLDER / "contracts.acsl").read_text()
     for kind in KINDS:
         for notion in NOTIONS:
             path = FOLDER / kind / notion
@@ -107,18 +108,29 @@ def place(head, lines, functions):
     return hits[0] + (where == "after"), lambda body: clauses(body, indent)
 
 
+def placed():
+    """The sections of all lists, and then the contracts. All sections of a contract are one."""
+    contracts = {}
+    for text in lists():
+        for head, body in sections(text):
+            if head.startswith("contract "):
+                contracts.setdefault(head, []).extend(body)
+            else:
+                yield head, body
+    yield from contracts.items()
+
+
 def annotated(source):
     """base62.c with all lists, and the names of the functions with contracts."""
     lines = source.split("\n")
     functions = definitions(lines)
     before = {}
     contracts = set()
-    for text in lists():
-        for head, body in sections(text):
-            at, form = place(head, lines, functions)
-            before.setdefault(at, []).extend(form(body))
-            if head.startswith("contract "):
-                contracts.add(head.split()[1])
+    for head, body in placed():
+        at, form = place(head, lines, functions)
+        before.setdefault(at, []).extend(form(body))
+        if head.startswith("contract "):
+            contracts.add(head.split()[1])
     result = "\n".join(new for i, line in enumerate(lines) for new in [*before.get(i, []), line])
     if tokens(source) != tokens(result):
         raise SystemExit("the lists change the code")

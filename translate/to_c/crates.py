@@ -12,6 +12,7 @@ class Definition:
     """An item of a module, or of an `impl` in it, whose written type is `owner`."""
     is_declared = False  # Whether the header declares it.
     opaque, generics = None, {}  # Its name in the header, if that declares it as bytes, and its types by their names.
+    trait = None  # The `impl` of a trait in which it stands, and its head from the name of the trait on.
 
     def __init__(self, module, item, owner=None):
         self.module, self.item, self.owner = module, item, owner
@@ -51,7 +52,10 @@ class Module:
         elif item.kind == "impl":
             head = code_of(item.signature)
             owner = Parser(head[1 + (seek(head, 0, ("for",)) if "for" in head else 0):]).type()
-            self.methods += [Definition(self, member, owner) for member in item.members if member.kind == "fn"]
+            methods = [Definition(self, member, owner) for member in item.members if member.kind == "fn"]
+            for method in methods if "for" in head else ():
+                method.trait = item, head[1:]
+            self.methods += methods
         elif item.kind in ("const", "static", "fn", "struct", "enum", "trait"):
             self.definitions[name] = Definition(self, item)
 

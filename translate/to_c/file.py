@@ -193,8 +193,8 @@ class File:
             self.maker(f"{name}_{variant}", name, held, f"({name}){{{', '.join(values)}}}")
 
 
-def written(root):
-    """The file, of the crates and the header below a folder. The prelude has what C lacks."""
+def opened(root, form=File):
+    """The prelude, which has what C lacks, and the file, of the crates and the header below a folder."""
     crates = {}
     for name in ("base62", "base62_c"):
         crates[name] = Module(crates, [name], root / "crates" / name / "src" / "lib.rt")
@@ -205,4 +205,10 @@ def written(root):
         refuse(header.tokens.get(name) or tokens[name], "a call that the header or the source alone has")
     prelude = (pathlib.Path(__file__).parent / "prelude.c").read_text()
     names = ["".join(found) for found in NAMED.findall(prelude)]
-    return prelude + File(Library(crates, header, names), exported).write()
+    return prelude, form(Library(crates, header, names), exported)
+
+
+def written(root):
+    """The text of the file."""
+    prelude, file = opened(root)
+    return prelude + file.write()

@@ -61,10 +61,14 @@ def functions(file):
     return tuple({*re.findall(rf"^\[kernel\] {kind} (\w+)$", log, re.M)} for kind in ("defined", "declared"))
 
 
+# The lemmas of a file, in the place of a function.
+LEMMAS = "@lemma"
+
+
 def proved(file, function, constants=False):
-    """What WP says of a function, without or with what stands in constant tables."""
+    """What WP says of a function or of all lemmas, without or with what stands in constant tables."""
     options = ["-wp", "-wp-rte", "-wp-prover", "cvc4,z3", "-wp-timeout", str(LIMIT), "-wp-par", "1",
-               "-wp-fct", function]
+               "-wp-prop" if function == LEMMAS else "-wp-fct", function]
     options += [] if function in WHOLE else ["-wp-split"]
     options += [] if constants or function in READ_TABLES else ["-wp-no-init-const"]
     options += ["-wp-no-filter"] if function in ASSIGN_STRUCTS else []

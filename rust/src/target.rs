@@ -123,7 +123,6 @@ fn append_over<T: Into<u128>>(tables: &Tables, num: T, buf: &mut String) {
 }
 
 // Appends a copy of the text.
-#[inline(never)]
 fn append_copy(tables: &Tables, n: u128, buf: &mut String) {
     let mut text = Text::new();
     text.set(tables, n);

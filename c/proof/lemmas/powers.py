@@ -21,4 +21,14 @@ print(f"""/*@ logic integer pow62(integer k) =
         {cases(2, 128)};
 
     lemma powers: \\forall integer k; 0 <= k < 22 ==> pow62(k + 1) == 62 * pow62(k);
+*/
+/*@ ghost
+    // The highest bit of a number, case by case.
+    /@ requires {" || ".join(f"(bits == {k} && {2**k:#x} <= n < {2**(k + 1):#x})" for k in range(64))};
+       assigns \\nothing;
+       ensures two(bits) <= n && n < two(bits + 1);
+    @/
+    void highest_bit(uint64_t n, uint32_t bits) {{
+        {" ".join(f"if (bits == {k}) return;" for k in range(63))}
+    }}
 */""")

@@ -3,7 +3,7 @@
 
 def left(bits):
     """How n comes from the number at the call."""
-    return f"(bits == {bits} && n == \\at(n, Pre)" + (f" / {2**bits:#x})" if bits else ")")
+    return f"(bits == {bits} && n == whole" + (f" / {2**bits:#x})" if bits else ")")
 
 
 def joined(cases):
@@ -16,14 +16,15 @@ def joined(cases):
 
 
 print("""== in u64_ilog2 before for (uint32_t step = 32
+ghost uint64_t whole = n;
 loop pragma UNROLL "completely", 7;
 """)
 print("== in u64_ilog2 before if (n >> step != 0) {")
 for step in (32, 16, 8, 4, 2, 1):
     print(f"assert at_{step}: step == {step} ==> 0 < n < {4**step:#x} && ({joined(map(left, range(0, 64, 2 * step)))});")
 print("\n== in u64_ilog2 before return bits;")
-found = (f"(bits == {k} && {2**k:#x} <= \\at(n, Pre) < {2**(k + 1):#x})" for k in range(64))
-print(f"assert found: {joined(found)};")
+found = (f"(bits == {k} && {2**k:#x} <= whole < {2**(k + 1):#x})" for k in range(64))
+print(f"assert found: {joined(found)};\nghost highest_bit(whole, bits);")
 print("""
 == in narrow_count before return estimate + (size_t)(n > GREATEST_NARROW[estimate])
 // The powers of 62 about the number.
@@ -31,12 +32,13 @@ assert shift: estimate == highest * 43 / 256 + 1;
 ghost estimates(highest);
 assert below: pow62(estimate - 1) <= n && n < pow62(estimate + 1) && 1 <= estimate <= 11;
 assert table: GREATEST_NARROW[estimate] == (estimate == 11 ? ACSL_2_64 - 1 : pow62(estimate) - 1);
+ghost count_estimated((u128){0, n}, estimate);
 
 == in wide_count before return estimate + (size_t)u128_less
 // The same.
 assert shift: estimate == highest * 43 / 256 + 1;
-ghost two_64(highest - 64);
+ghost highest_above_64(n, highest - 64);
 ghost estimates(highest);
-assert bits: two(highest) <= value(n) < two(highest + 1);
 assert below: pow62(estimate - 1) <= value(n) && value(n) < pow62(estimate + 1) && 11 <= estimate <= 22;
-assert table: value(GREATEST[estimate]) == (estimate == 22 ? ACSL_2_128 - 1 : pow62(estimate) - 1);""")
+assert table: value(GREATEST[estimate]) == (estimate == 22 ? ACSL_2_128 - 1 : pow62(estimate) - 1);
+ghost count_estimated(n, estimate);""")

@@ -144,7 +144,6 @@ fn append_over<T: Number>(tables: &Tables, num: T, buf: &mut String) -> Result<(
 }
 
 // Appends a copy of the text.
-#[inline(never)]
 #[tactic(auto, using(crate::proofs::CanonicalLemmas::ascii_texts, crate::proofs::CanonicalLemmas::canonical_fits))]
 fn append_copy(tables: &Tables, n: u128, buf: &mut String) -> Result<(), AllocError>
     requires tables { AreTables tables.now }

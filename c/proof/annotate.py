@@ -19,8 +19,8 @@ import io
 FOLDER = pathlib.Path(__file__).parent
 
 # The notions of base62.c, each with up to three lists. A list in Python prints what a list would say.
-NOTIONS = ("numbers", "powers", "digits", "readers", "decoder", "alphabets", "tables", "texts", "canonical", "ranges",
-           "fractions", "parts", "writers", "counts", "encoders", "fixed", "uuids", "encodings", "answers")
+NOTIONS = ("numbers", "powers", "digits", "readers", "decoder", "alphabets", "texts", "canonical", "ranges",
+           "fractions", "parts", "writers", "counts", "tables", "encoders", "fixed", "uuids", "encodings", "answers")
 KINDS = (".", "lemmas", "steps", "contracts")
 
 

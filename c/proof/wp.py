@@ -18,7 +18,7 @@ CORES = int(os.environ.get("CORES", os.cpu_count()))
 
 # They read what stands in the tables. All others are proved without it, since it slows provers.
 READ_TABLES = {"standard_letter", "standard_byte", "alternative_letter", "alternative_byte", "power", "greatest",
-               "narrow_count", "wide_count", "cut_by_20"}
+               "greatest_wide", "greatest_narrow", "cut_by_20"}
 # WP's filter of hypotheses drops what their assignment of a struct has done.
 ASSIGN_STRUCTS = {"tell_fault", "tell_repeat"}
 # Each of its cases alone is harder than all of them, and they are many.

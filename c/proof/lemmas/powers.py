@@ -23,6 +23,19 @@ print(f"""/*@ logic integer pow62(integer k) =
     lemma powers: \\forall integer k; 0 <= k < 22 ==> pow62(k + 1) == 62 * pow62(k);
 */
 /*@ ghost
+    // The next number. Provers are slow where a sum may wrap around.
+    /@ requires k < 0xffffffffffffffff;
+       assigns \\nothing;
+       ensures \\result == k + 1;
+    @/
+    size_t after(size_t k) {{ return k + 1; }}
+
+    /@ requires b <= a;
+       assigns \\nothing;
+       ensures \\result == a - b;
+    @/
+    size_t minus(size_t a, size_t b) {{ return a - b; }}
+
     // The highest bit of a number, case by case.
     /@ requires {" || ".join(f"(bits == {k} && {2**k:#x} <= n < {2**(k + 1):#x})" for k in range(64))};
        assigns \\nothing;

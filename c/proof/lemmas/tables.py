@@ -1,4 +1,5 @@
-"""The constant tables are those of their alphabets: one case for each letter, since provers split no range of numbers."""
+"""The constant tables are those of their alphabets: one case for each letter, since provers split no range of numbers. So are
+the greatest numbers of k letters."""
 
 LETTERS = "0123456789ABCDEFGHIJKLMNOPQRSTUVWXYZabcdefghijklmnopqrstuvwxyz"
 
@@ -45,5 +46,32 @@ for tables, letters in (("STANDARD", "standard"), ("ALTERNATIVE", "alternative")
         @/
         for (size_t b = 0; b < 256; b++) {letters}_byte(b);
         tables_of_alphabet(&{tables}, {letters.upper()}_LETTERS);
+    }}""")
+print("*/")
+
+print("""
+== after static ALWAYS_INLINE size_t wide_count(u128 n);
+/*@ ghost""")
+for kind, number, read, most, end in (("wide", "u128", "value(GREATEST[{}])", 22, "ACSL_2_128"),
+                                      ("narrow", "uint64_t", "GREATEST_NARROW[{}]", 11, "ACSL_2_64")):
+    value, halves = ("value(n)", "n") if kind == "wide" else ("n", "(u128){0, n}")
+    print(f"""
+    /@ requires 1 <= k <= {most};
+       assigns \\nothing;
+       ensures {read.format("k")} == (k == {most} ? {end} : pow62(k)) - 1;
+    @/
+    void greatest_{kind}(size_t k) {{
+        {cases("k", range(1, most))}
+    }}
+
+    /@ requires h < {end[7:]} && two(h) <= {value} && {value} < two(h + 1) && e == h * 43 / 256 + 1;
+       assigns \\nothing;
+       ensures 1 <= e <= {most};
+       ensures count: {value} <= {read.format("e")} ==> count({value}, e);
+       ensures less: {value} > {read.format("e")} ==> count({value}, e + 1);
+    @/
+    void {kind}_estimated({number} n, uint32_t h, size_t e) {{
+        count_estimated({halves}, h, e);
+        greatest_{kind}(e);
     }}""")
 print("*/")

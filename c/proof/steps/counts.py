@@ -29,16 +29,10 @@ print("""
 == in narrow_count before return estimate + (size_t)(n > GREATEST_NARROW[estimate])
 // The powers of 62 about the number.
 assert shift: estimate == highest * 43 / 256 + 1;
-ghost estimates(highest);
-assert below: pow62(estimate - 1) <= n && n < pow62(estimate + 1) && 1 <= estimate <= 11;
-assert table: GREATEST_NARROW[estimate] == (estimate == 11 ? ACSL_2_64 - 1 : pow62(estimate) - 1);
-ghost count_estimated((u128){0, n}, estimate);
+ghost narrow_estimated(n, highest, estimate);
 
 == in wide_count before return estimate + (size_t)u128_less
 // The same.
 assert shift: estimate == highest * 43 / 256 + 1;
 ghost highest_above_64(n, highest - 64);
-ghost estimates(highest);
-assert below: pow62(estimate - 1) <= value(n) && value(n) < pow62(estimate + 1) && 11 <= estimate <= 22;
-assert table: value(GREATEST[estimate]) == (estimate == 22 ? ACSL_2_128 - 1 : pow62(estimate) - 1);
-ghost count_estimated(n, estimate);""")
+ghost wide_estimated(n, highest, estimate);""")

@@ -16,7 +16,7 @@ $(parts:%=check-%): check-%:
 prove: ## prove all crates, try all edits and run all tests, with the kit
 	rt ci
 
-prove-c: ## prove c/base62.c by Frama-C, as far as c/proof tells; MISTAKES=1 tries planted mistakes
+prove-c: ## prove c/base62.c by Frama-C; MISTAKES=1 tries planted mistakes
 	@$(if $(MISTAKES),c/proof/mistakes.py,c/proof/prove)
 
 generated: ## write the generated files anew, after a change of crates/

@@ -27,6 +27,9 @@ WHOLE = {"u64_ilog2"}
 
 def prepared(work, code):
     """A folder with the code and what Frama-C needs."""
+    missing = [tool for tool in ("frama-c", "ocamlfind", "why3", "z3", "cvc4", "cvc5") if not shutil.which(tool)]
+    if missing:
+        raise SystemExit(f"missing: {' '.join(missing)}: make setup installs all on Debian, as root")
     work.mkdir(parents=True, exist_ok=True)
     shutil.copy(annotate.FOLDER / "machdep.ml", work)
     library = subprocess.run(["frama-c", "-print-lib-path"], check=True, capture_output=True, text=True).stdout

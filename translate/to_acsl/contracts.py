@@ -15,6 +15,9 @@ HEAD = """// Written by translate/contracts from the clauses of the functions in
 """
 
 
+NOTHING = "\\nothing"
+
+
 def laid_out(line):
     return wrapped(line, ("==> ", "<==> ", "&& ", "|| "), ("== ",))
 
@@ -58,9 +61,17 @@ class Contract:
         if is_known == (name in RESULTS_BY_HAND):
             refuse(self.definition.token, "a result that no clause tells, or that is told by hand too, of")
         head, places = self.of_memory()
-        assigns = f"assigns {', '.join(places) or chr(92) + 'nothing'};"
-        return [f"== contract {name}", *(part for line in [*head, *requires, assigns, *ensures]
+        return [f"== contract {name}", *(part for line in [*head, *requires, self.assigns(places), *ensures]
                                          for part in laid_out(line)), ""]
+
+    def assigns(self, places):
+        """What the function writes, and of a pointer where it comes from, which WP asks for."""
+        if self.function.result[0] != "ref":
+            return f"assigns {', '.join(places) or NOTHING};"
+        if places:
+            refuse(self.definition.token, "a reference as the result of what writes")
+        sources = [local.c for local in self.function.parameters if local in self.function.kept]
+        return f"assigns \\result \\from {', '.join(sources) or NOTHING};"
 
     def clause(self, clause, node):
         """The lines of a clause. Some are left out: README.md says which."""
@@ -167,7 +178,7 @@ class Contracts(File):
         for field, text, held in re.findall(r"\.(\w+) = (?:\{([^}]*)\}|(\w+))", value):
             said += [f"\\result.{field}.{part} == {part}" for part in text.split(", ")] if text else [
                 f"\\result.{field} == {dict(true='1', false='0').get(held, held)}"]
-        self.sections += [f"== contract {name}", "assigns \\nothing;",
+        self.sections += [f"== contract {name}", f"assigns {NOTHING};",
                           *laid_out(f"ensures {' && '.join(said)};" if said else ""), ""]
 
 

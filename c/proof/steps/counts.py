@@ -18,6 +18,7 @@ def joined(cases):
 print("""== in u64_ilog2 before for (uint32_t step = 32
 ghost uint64_t whole = n;
 loop pragma UNROLL "completely", 7;
+loop assigns bits, n, step;
 """)
 print("== in u64_ilog2 before if (n >> step != 0) {")
 for step in (32, 16, 8, 4, 2, 1):

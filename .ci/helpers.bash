@@ -67,6 +67,8 @@ is_here() {
     case $1 in
         # Of the system's Python, if there is one: Debian's setuptools works with no other.
         build | ensurepip | gmpy2 | pip) PATH=/usr/bin:$PATH python3 -c "import $1" ;;
+        # 1.82 or later, as the crate asks for.
+        cargo) cargo --version && [[ $({ echo 1.82 && cargo --version | cut -d ' ' -f 2; } | sort -V | head -1) = 1.82 ]] ;;
         # Debian's file, which serves each Python without a network.
         wheel) compgen -G '/usr/share/python-wheels/wheel-*.whl' ;;
         gmp.h) printf '#include <gmp.h>\n' | gcc -fsyntax-only -xc - ;;

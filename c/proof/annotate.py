@@ -21,7 +21,7 @@ FOLDER = pathlib.Path(__file__).parent
 # The notions of base62.c, each with up to three lists. A list in Python prints what a list would say.
 NOTIONS = ("numbers", "powers", "digits", "readers", "decoder", "alphabets", "texts", "canonical", "ranges",
            "fractions", "parts", "writers", "counts", "tables", "encoders", "fixed", "uuids", "encodings", "answers")
-KINDS = (".", "lemmas", "steps", "contracts")
+KINDS = ("lemmas", "steps", "contracts")
 
 
 def lists():
@@ -81,6 +81,8 @@ def clauses(body, indent):
     groups = []
     for line in body:
         starts = re.match(r"(assert|check|loop|ghost|//)", line)
+        if not starts and not groups:
+            raise SystemExit(f"no clause that is known: {line}")
         if not starts or (groups and starts.group(1) == "loop" and groups[-1][0].startswith("loop")):
             groups[-1].append(line)
         else:

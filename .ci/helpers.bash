@@ -69,6 +69,7 @@ is_here() {
         build | ensurepip | gmpy2 | pip) PATH=/usr/bin:$PATH python3 -c "import $1" ;;
         # 1.82 or later, as the crate asks for.
         cargo) cargo --version && [[ $({ echo 1.82 && cargo --version | cut -d ' ' -f 2; } | sort -V | head -1) = 1.82 ]] ;;
+        cargo-clippy | rustfmt) is_here cargo && command -v "$1" ;;
         # Debian's file, which serves each Python without a network.
         wheel) compgen -G '/usr/share/python-wheels/wheel-*.whl' ;;
         gmp.h) printf '#include <gmp.h>\n' | gcc -fsyntax-only -xc - ;;

@@ -16,14 +16,15 @@ def joined(cases):
 
 
 print("""== in u64_ilog2 before for (uint32_t step = 32
+// The number at the call. WP follows each turn of the loop.
 ghost uint64_t whole = n;
 loop pragma UNROLL "completely", 7;
 loop assigns bits, n, step;
 """)
-print("== in u64_ilog2 before if (n >> step != 0) {")
+print("== in u64_ilog2 before if (n >> step != 0) {\n// How many bits are found before each step.")
 for step in (32, 16, 8, 4, 2, 1):
     print(f"assert at_{step}: step == {step} ==> 0 < n < {4**step:#x} && ({joined(map(left, range(0, 64, 2 * step)))});")
-print("\n== in u64_ilog2 before return bits;")
+print("\n== in u64_ilog2 before return bits;\n// All bits are found.")
 found = (f"(bits == {k} && {2**k:#x} <= whole < {2**(k + 1):#x})" for k in range(64))
 print(f"assert found: {joined(found)};\nghost highest_bit(whole, bits);")
 print("""

@@ -171,7 +171,7 @@ fn examples(text: &str) -> usize {
         let (line, output) = example.split_once('\n').unwrap();
         let output: String = output
             .lines()
-            .map(|line| format!("{}\n", line.trim_start()))
+            .flat_map(|line| [line.trim_start(), "\n"])
             .collect();
         answers(line, &output);
     }

@@ -94,6 +94,6 @@ fn uuid_number(text: &[u8]) -> Option<u128> {
     }
     let mut digits = bare.iter().filter(|byte| **byte != b'-');
     digits.try_fold(0, |number, byte| {
-        Some(number << 4 | u128::from(char::from(*byte).to_digit(16)?))
+        Some((number << 4) | u128::from(char::from(*byte).to_digit(16)?))
     })
 }

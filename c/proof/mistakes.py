@@ -16,6 +16,7 @@ import annotate
 import wp
 
 wp.LIMIT //= 3
+FAILED = "[wp] [Failed] Goal"
 
 # A name, the function, and what is exchanged for what there. The text stands once in the function.
 MISTAKES = {
@@ -202,7 +203,7 @@ def planted(code, function, old, new):
 def refused(work, code, name):
     function, old, new = MISTAKES[name]
     file = wp.prepared(work / name, planted(code, function, old, new))
-    return any(prover == "Failed" for _, prover, _ in wp.goals(wp.proved(file, function)))
+    return FAILED in wp.proved(file, function, last=FAILED)
 
 
 def main(names):

@@ -5,6 +5,7 @@ import os
 import pathlib
 import re
 import shutil
+import signal
 import subprocess
 
 import annotate
@@ -45,17 +46,23 @@ def environment(work, **more):
     return {**os.environ, "WHY3CONFIG": str(work / "why3.conf"), **more}
 
 
-def frama_c(file, name, options, **more):
-    """What Frama-C says of a file. The folder of the file keeps it by the name."""
+def frama_c(file, name, options, last=None, **more):
+    """What Frama-C says of a file, up to a line that has the last text. The folder of the file keeps it by the name."""
     work = file.parent
     command = ["frama-c", "-load-module", work / "machdep.cmxs", "-machdep", "base62", f"-cpp-extra-args={FLAGS}", file,
                *options]
-    with (work / f"{name}.log").open("w") as said:
-        ended = subprocess.run(command, env=environment(work, **more), stdout=said, stderr=subprocess.STDOUT)
-    log = (work / f"{name}.log").read_text()
-    if ended.returncode:
-        raise SystemExit(log)
-    return log
+    log = []
+    with subprocess.Popen(command, env=environment(work, **more), text=True, stdout=subprocess.PIPE,
+                          stderr=subprocess.STDOUT, start_new_session=True) as running:
+        for line in running.stdout:
+            log.append(line)
+            if last and last in line:
+                os.killpg(running.pid, signal.SIGKILL)
+                return "".join(log)
+    (work / f"{name}.log").write_text("".join(log))
+    if running.returncode:
+        raise SystemExit("".join(log))
+    return "".join(log)
 
 
 def functions(file):
@@ -68,7 +75,7 @@ def functions(file):
 LEMMAS = "@lemma"
 
 
-def proved(file, function, constants=False):
+def proved(file, function, constants=False, last=None):
     """What WP says of a function or of all lemmas, without or with what stands in constant tables."""
     options = ["-wp", "-wp-rte", "-wp-prover", "cvc4,z3", "-wp-timeout", str(LIMIT), "-wp-par", "1",
                "-wp-prop" if function == LEMMAS else "-wp-fct", function]
@@ -77,7 +84,7 @@ def proved(file, function, constants=False):
     options += ["-wp-no-filter"] if function in ASSIGN_STRUCTS else []
     if "CACHE" in os.environ:
         options += ["-wp-cache", "update", "-wp-cache-dir", os.environ["CACHE"]]
-    return frama_c(file, function, options)
+    return frama_c(file, function, options, last)
 
 
 def at_once(task, names):

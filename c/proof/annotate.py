@@ -123,7 +123,7 @@ def placed():
 
 
 def annotated(source):
-    """base62.c with all lists, and the names of the functions with contracts."""
+    """base62.c with all lists, and the names of the functions without contracts."""
     lines = source.split("\n")
     functions = definitions(lines)
     before = {}
@@ -136,7 +136,7 @@ def annotated(source):
     result = "\n".join(new for i, line in enumerate(lines) for new in [*before.get(i, []), line])
     if tokens(source) != tokens(result):
         raise SystemExit("the lists change the code")
-    return result, contracts, set(functions) - contracts
+    return result, set(functions) - contracts
 
 
 def tokens(text):

@@ -208,7 +208,7 @@ def refused(work, code, name):
 
 def main(names):
     names = names or [*MISTAKES]
-    code, _, _ = annotate.annotated((wp.C / "base62.c").read_text())
+    code, _ = annotate.annotated((wp.C / "base62.c").read_text())
     with tempfile.TemporaryDirectory() as folder:
         answers = wp.at_once(lambda name: refused(pathlib.Path(folder), code, name), names)
     accepted = [name for name, answer in zip(names, answers) if not answer]

@@ -96,8 +96,6 @@ def at_once(task, names):
 def goals(log):
     """Each goal: its name, the prover or Failed, and the time of the prover in milliseconds."""
     for prover, name, told in re.findall(r"^\[wp\] \[([\w. ]+)\] Goal (\w+)(.*)", log, re.M):
-        if prover in ("Cache",):
-            continue
         times = re.findall(r"\(([\d.]+)(ms|s|')\)", told)
         yield name, prover.split()[0], max((int(float(n) * {"ms": 1, "s": 1000, "'": 60000}[unit])
                                             for n, unit in times), default=0)

@@ -139,6 +139,19 @@ def annotated(source):
     return result, set(functions) - contracts
 
 
+def endless(code, without):
+    """The loops of annotated code without a variant, but for those of some functions. A ghost function that does not end
+    shows nothing."""
+    lines = code.split("\n")
+    for name, (first, last) in definitions(lines).items():
+        if name in without:
+            lines[first:last + 1] = [""] * (last + 1 - first)
+    parts = re.split(r"\b((?:for|while) \(.*|do \{.*|goto \w+;)", "\n".join(lines))
+    # The annotation of a loop stands between it and the loop before.
+    return [loop for before, loop in zip(parts[::2], parts[1::2])
+            if not re.search(r"loop variant|loop pragma UNROLL", before)]
+
+
 def tokens(text):
     text = re.sub(r"/\*.*?\*/|//[^\n]*", " ", text, flags=re.S)
     return re.sub(r"#define (ACSL_\w+)[^\n]*", " ", text).split()

@@ -140,8 +140,7 @@ def annotated(source):
 
 
 def endless(code, without):
-    """The loops of annotated code without a variant, but for those of some functions. A ghost function that does not end
-    shows nothing."""
+    """The loops without a variant, but for those of some functions. A ghost function that does not end shows nothing."""
     lines = code.split("\n")
     for name, (first, last) in definitions(lines).items():
         if name in without:

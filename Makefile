@@ -8,41 +8,54 @@ help: ## print this list
 
 check: ## test all packages without the kit, side by side
 	@$(MAKE) --jobs=$$(nproc) --keep-going --output-sync=target --no-print-directory \
-	    $(parts:%=check-%) 2>&1 | .ci/count $(parts)
+	    $(parts:%=check-%) 2>&1 | scripts/count $(parts)
 
 $(parts:%=check-%): check-%:
-	@.ci/check $*
+	@scripts/check $*
 
 prove: ## prove all crates, try all edits and run all tests, with the kit
 	rt ci
 
-prove-c: ## prove c/base62.c by Frama-C; MISTAKES=1 tries planted mistakes
-	@$(if $(MISTAKES),c/proof/mistakes.py,c/proof/prove)
+prove-c: ## prove c/base62.c by Frama-C, with BITS=32 for such machines; MISTAKES=1 tries planted mistakes
+	@$(if $(MISTAKES),c/proof/refusals.py && c/proof/mistakes.py,c/proof/prove)
 
-generated: ## write the generated files anew, after a change of crates/
+generated: generated-texts ## write the generated files anew, after a change of crates/
+	translate/wasm
+
+generated-texts: # all but the WebAssembly
 	tests/model.py
 	translate/rust
 	translate/c
-	translate/contracts
-	translate/wasm
 
-check-generated: ## fail if a generated file is not what a translator writes
-	tests/model.py --check
-	translate/rust --check
-	translate/judge
-	translate/c --check
-	translate/contracts --check
-	translate/wasm --check
+check-generated: ## fail if a generated file is not what its writer writes
+	scripts/check-generated
+
+version: ## give each place of the version another one: make version V=3.3.0
+	scripts/version '$(V)'
+	$(MAKE) --no-print-directory generated
 
 ROUNDS = 300
 
 bench: ## time the packages on this machine, beside other code for base 62
 	bench/run $(ROUNDS)
 
-dist: ## pack all packages into a folder: make dist FOLDER=..
-	.ci/dist '$(FOLDER)'
+PREFIX = /usr/local
 
-setup: ## install by apt-get what the checks need
+install-command: ## install the command, its page and completions: make install-command PREFIX=..
+	cargo install --quiet --force --no-track --path rust --features std --root '$(DESTDIR)$(PREFIX)'
+	cp -R rust/share '$(DESTDIR)$(PREFIX)'
+
+dist: ## pack all packages into a folder: make dist FOLDER=..
+	scripts/dist '$(FOLDER)'
+
+setup: ## install by apt-get what the packages and their tests need
 	.ci/setup
 
-.PHONY: help check $(parts:%=check-%) prove prove-c generated check-generated bench dist setup
+setup-all: ## install also browsers, Wine, cross compilers, emulators and provers
+	.ci/setup all
+
+check-on: ## try README's lines in a bare Debian, as root: make check-on SUITE=trixie
+	scripts/check-on '$(SUITE)'
+
+.PHONY: help check $(parts:%=check-%) prove prove-c generated generated-texts check-generated version bench install-command dist setup \
+    setup-all check-on

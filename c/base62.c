@@ -6,8 +6,7 @@
  *
  * Written by translate/c from crates/base62/src and crates/base62_c/src, and not edited by hand. There, in the language
  * Rattle, each function is proved to meet its contract. This file is a translation of that source. Frama-C proves it
- * again, with the struct u128 and a size_t of 64 bits, but for the functions that make the texts of errors. These, and
- * the other forms of u128 and of u64_ilog2, are tested.
+ * again, with the struct u128 and a size_t of 64 bits. The other forms of u128 and of u64_ilog2 are tested.
  *
  * It has the same functions in the same order, with the same names and comments. The contracts are left out, but for
  * what they require of numbers and lengths, which stands in lines that begin with "//@ assert", for Frama-C. What the
@@ -17,6 +16,7 @@
  *     Result, Option      the structs result_.. and option_.., which ok_.., err_.., some_.. and none_.. make
  *     (a, b)              the structs pair_..
  *     let x = f()?;       x = f(); if (!x.is_ok) return err_..(x.err); and then x.ok
+ *     InlineText          one place, to which each call that moves the text is lent a pointer
  *     u128                unsigned __int128 if the compiler has it, or else a struct, by the functions u128_..
  *
  * No index is tested, since the proofs show that each is in bounds. No memory is allocated, and no state is kept. It is
@@ -169,8 +169,8 @@ static inline void fill_bytes(uint8_t *to, uint8_t byte, size_t length) {
     for (size_t i = 0; i < length; i++) to[i] = byte;
 }
 
-/* The bytes of a text, and how many they are. */
-#define TEXT(text) (const uint8_t *)(text), sizeof(text) - 1
+/* The bytes of a constant text, and how many they are. */
+#define TEXT(text) text, sizeof(text) - 1
 
 /* A text of at most 77 bytes, held whole. */
 typedef struct InlineText {
@@ -178,13 +178,12 @@ typedef struct InlineText {
     uint8_t bytes[77];
 } InlineText;
 
-static inline InlineText InlineText_new(void) { return (InlineText){.length = 0}; }
+static inline void InlineText_new(InlineText *result) { result->length = 0; }
 
-/* The text with a part behind it. There is room for it, as is proved. */
-static inline InlineText InlineText_and_str(InlineText text, const uint8_t *part, size_t part_length) {
-    copy_bytes(text.bytes + text.length, part, part_length);
-    text.length += part_length;
-    return text;
+/* Writes a part behind the text. There is room for it, as is proved. */
+static inline void InlineText_and_str(InlineText *text, const uint8_t *part, size_t part_length) {
+    copy_bytes(text->bytes + text->length, part, part_length);
+    text->length += part_length;
 }
 
 
@@ -340,60 +339,105 @@ static ALWAYS_INLINE AlphabetError AlphabetError_Repeated(uint8_t _0, size_t _1)
     return (AlphabetError){.Repeated = {_0, _1}};
 }
 
-static InlineText append_byte_at_index(InlineText text, uint8_t byte, size_t index);
-static InlineText append_escaped(InlineText text, uint8_t byte);
+static void append_byte_at_index(InlineText *text, uint8_t byte, size_t index);
+static void append_escaped(InlineText *text, uint8_t byte);
 static uint8_t hex_digit(uint8_t digit);
-static InlineText append_decimal(InlineText text, size_t number);
-static InlineText append_bytes(InlineText text, const uint8_t *bytes, size_t bytes_length);
-static InlineText append(InlineText text, const uint8_t *part, size_t part_length);
+static void append_decimal(InlineText *text, size_t number);
+static void append_bytes(InlineText *text, const uint8_t *bytes, size_t bytes_length);
+static void append(InlineText *text, const uint8_t *part, size_t part_length);
 
 // What the fault says, in at most 77 characters of ASCII.
 //
 // A byte is shown in ASCII's default escape: `\t`, `\n`, `\r`, `\"`, `\'` or `\\`, any other
 // byte from 32 to 126 as itself, and the others as `\x` with two hexadecimal digits in lower
 // case. The call takes no memory and refuses nothing.
-static InlineText DecodeError_text(const DecodeError *self) {
+static void DecodeError_text(const DecodeError *self, InlineText *result) {
     if (self->tag == DecodeError_ArithmeticOverflow_tag) {
-        return append(InlineText_new(), TEXT("Decoded number cannot fit into a `u128`"));
+        static const uint8_t part[] = "Decoded number cannot fit into a `u128`";
+        InlineText_new(result);
+        append(result, TEXT(part));
+        return;
     }
     if (self->tag == DecodeError_EmptyInput_tag) {
-        return append(InlineText_new(), TEXT("Encoded input is an empty string"));
+        static const uint8_t part[] = "Encoded input is an empty string";
+        InlineText_new(result);
+        append(result, TEXT(part));
+        return;
     }
     const uint8_t byte = self->InvalidBase62Byte._0;
     const size_t index = self->InvalidBase62Byte._1;
-    return append_byte_at_index(append(InlineText_new(), TEXT("Encoded input contains the invalid ")), byte, index);
+    static const uint8_t part[] = "Encoded input contains the invalid ";
+    InlineText_new(result);
+    append(result, TEXT(part));
+    append_byte_at_index(result, byte, index);
 }
 
 // What the fault says, in 37 characters of ASCII. It takes no memory and refuses nothing.
-static InlineText EncodeError_text(const EncodeError *self) {
+static void EncodeError_text(const EncodeError *self, InlineText *result) {
     (void)self;
-    return append(InlineText_new(), TEXT("Buffer too small to encode the number"));
+    static const uint8_t part[] = "Buffer too small to encode the number";
+    InlineText_new(result);
+    append(result, TEXT(part));
 }
 
 // What the fault says, in at most 63 characters of ASCII for any index, with the byte shown as
 // by `DecodeError::text`. The call takes no memory and refuses nothing.
-static InlineText AlphabetError_text(const AlphabetError *self) {
+static void AlphabetError_text(const AlphabetError *self, InlineText *result) {
+    static const uint8_t part[] = "Alphabet repeats the ";
     const uint8_t byte = self->Repeated._0;
     const size_t index = self->Repeated._1;
-    return append_byte_at_index(append(InlineText_new(), TEXT("Alphabet repeats the ")), byte, index);
+    InlineText_new(result);
+    append(result, TEXT(part));
+    append_byte_at_index(result, byte, index);
 }
 
 // A byte that is named, and its index.
-static InlineText append_byte_at_index(InlineText text, uint8_t byte, size_t index) {
-    const InlineText named = append_escaped(append(text, TEXT("byte b'")), byte);
-    return append_decimal(append(named, TEXT("' at index ")), index);
+static void append_byte_at_index(InlineText *text, uint8_t byte, size_t index) {
+    static const uint8_t part[] = "byte b'";
+    static const uint8_t part_2[] = "' at index ";
+    append(text, TEXT(part));
+    append_escaped(text, byte);
+    append(text, TEXT(part_2));
+    append_decimal(text, index);
 }
 
-static InlineText append_escaped(InlineText text, uint8_t byte) {
-    if (byte == '\t') return append(text, TEXT("\\t"));
-    if (byte == '\n') return append(text, TEXT("\\n"));
-    if (byte == '\r') return append(text, TEXT("\\r"));
-    if (byte == '"') return append(text, TEXT("\\\""));
-    if (byte == '\'') return append(text, TEXT("\\'"));
-    if (byte == '\\') return append(text, TEXT("\\\\"));
-    if (byte >= 32 && byte <= 126) return append_bytes(text, (const uint8_t[]){byte}, 1);
+static void append_escaped(InlineText *text, uint8_t byte) {
+    if (byte == '\t') {
+        static const uint8_t part[] = "\\t";
+        append(text, TEXT(part));
+        return;
+    }
+    if (byte == '\n') {
+        static const uint8_t part[] = "\\n";
+        append(text, TEXT(part));
+        return;
+    }
+    if (byte == '\r') {
+        static const uint8_t part[] = "\\r";
+        append(text, TEXT(part));
+        return;
+    }
+    if (byte == '"') {
+        static const uint8_t part[] = "\\\"";
+        append(text, TEXT(part));
+        return;
+    }
+    if (byte == '\'') {
+        static const uint8_t part[] = "\\'";
+        append(text, TEXT(part));
+        return;
+    }
+    if (byte == '\\') {
+        static const uint8_t part[] = "\\\\";
+        append(text, TEXT(part));
+        return;
+    }
+    if (byte >= 32 && byte <= 126) {
+        append_bytes(text, (const uint8_t[]){byte}, 1);
+        return;
+    }
     const uint8_t escape[4] = {'\\', 'x', hex_digit((uint8_t)(byte / 16)), hex_digit((uint8_t)(byte % 16))};
-    return append_bytes(text, escape, 4);
+    append_bytes(text, escape, 4);
 }
 
 static uint8_t hex_digit(uint8_t digit) {
@@ -405,7 +449,7 @@ static uint8_t hex_digit(uint8_t digit) {
     }
 }
 
-static InlineText append_decimal(InlineText text, size_t number) {
+static void append_decimal(InlineText *text, size_t number) {
     // From the last digit to the first.
     uint8_t digits[20] = {0};
     size_t start = 19;
@@ -416,16 +460,16 @@ static InlineText append_decimal(InlineText text, size_t number) {
         start -= 1;
     }
     digits[start] = (uint8_t)('0' + (uint8_t)left);
-    return append_bytes(text, digits + start, 20 - start);
+    append_bytes(text, digits + start, 20 - start);
 }
 
-static InlineText append_bytes(InlineText text, const uint8_t *bytes, size_t bytes_length) {
+static void append_bytes(InlineText *text, const uint8_t *bytes, size_t bytes_length) {
     // SAFETY: the bytes are ASCII.
-    return append(text, bytes, bytes_length);
+    append(text, bytes, bytes_length);
 }
 
-static InlineText append(InlineText text, const uint8_t *part, size_t part_length) {
-    return InlineText_and_str(text, part, part_length);
+static void append(InlineText *text, const uint8_t *part, size_t part_length) {
+    InlineText_and_str(text, part, part_length);
 }
 
 
@@ -445,36 +489,35 @@ typedef struct Alphabet {
 } Alphabet;
 typedef char Alphabet_is_base62_alphabet[sizeof(Alphabet) == sizeof(base62_alphabet) ? 1 : -1];
 
-typedef struct result_Alphabet { bool is_ok; Alphabet ok; AlphabetError err; } result_Alphabet;
+typedef struct result_unit_AlphabetError { bool is_ok; AlphabetError err; } result_unit_AlphabetError;
 
-static ALWAYS_INLINE result_Alphabet ok_Alphabet(Alphabet ok) {
-    return (result_Alphabet){.is_ok = true, .ok = ok};
+static ALWAYS_INLINE result_unit_AlphabetError ok_unit_AlphabetError(void) {
+    return (result_unit_AlphabetError){.is_ok = true};
 }
 
-static ALWAYS_INLINE result_Alphabet err_Alphabet(AlphabetError err) {
-    return (result_Alphabet){.is_ok = false, .err = err};
+static ALWAYS_INLINE result_unit_AlphabetError err_unit_AlphabetError(AlphabetError err) {
+    return (result_unit_AlphabetError){.is_ok = false, .err = err};
 }
 
 // The alphabet of these letters, which may be any bytes, ASCII or not.
 //
 // `Err(Repeated(byte, index))` comes exactly if a byte is repeated. The index is the least one
 // whose byte stands at an earlier index too. The call takes no memory.
-static result_Alphabet Alphabet_new(const uint8_t letters[62]) {
+static result_unit_AlphabetError Alphabet_new(const uint8_t letters[62], Alphabet *made) {
     uint8_t digits[256];
     fill_bytes(digits, 255, sizeof digits);
     size_t index = 0;
     while (index < 62) {
         const uint8_t byte = letters[index];
         if (digits[byte] != 255) {
-            return err_Alphabet(AlphabetError_Repeated(byte, index));
+            return err_unit_AlphabetError(AlphabetError_Repeated(byte, index));
         }
         digits[byte] = (uint8_t)index;
         index += 1;
     }
-    Alphabet made;
-    copy_bytes(made.tables.letters, letters, 62);
-    copy_bytes(made.tables.digits, digits, 256);
-    return ok_Alphabet(made);
+    copy_bytes(made->tables.letters, letters, 62);
+    copy_bytes(made->tables.digits, digits, 256);
+    return ok_unit_AlphabetError();
 }
 
 // The tables that calls read.
@@ -1495,37 +1538,50 @@ static size_t tell_text(const uint8_t *text, size_t text_length, uint8_t *restri
 
 // The texts of faults.
 
-static InlineText whole(const uint8_t *text, size_t text_length);
+static void whole(const uint8_t *text, size_t text_length, InlineText *result);
 
-static InlineText text_of(uint32_t status, base62_bad_byte bad) {
+static void text_of(uint32_t status, base62_bad_byte bad, InlineText *result) {
     if (status == BUFFER_TOO_SMALL) {
         const EncodeError value = EncodeError_BufferTooSmall();
-        return EncodeError_text(&value);
+        EncodeError_text(&value, result);
+        return;
     }
     if (status == EMPTY_INPUT) {
         const DecodeError value = DecodeError_EmptyInput();
-        return DecodeError_text(&value);
+        DecodeError_text(&value, result);
+        return;
     }
     if (status == INVALID_BYTE) {
         const DecodeError value = DecodeError_InvalidBase62Byte(bad.byte, bad.index);
-        return DecodeError_text(&value);
+        DecodeError_text(&value, result);
+        return;
     }
     if (status == OVERFLOW) {
         const DecodeError value = DecodeError_ArithmeticOverflow();
-        return DecodeError_text(&value);
+        DecodeError_text(&value, result);
+        return;
     }
-    if (status == NO_KEY) return whole(TEXT("No text of so many letters begins with the prefix"));
+    if (status == NO_KEY) {
+        static const uint8_t part[] = "No text of so many letters begins with the prefix";
+        whole(TEXT(part), result);
+        return;
+    }
     if (status == REPEATED_LETTER) {
         const AlphabetError value = AlphabetError_Repeated(bad.byte, bad.index);
-        return AlphabetError_text(&value);
+        AlphabetError_text(&value, result);
+        return;
     }
-    if (status == NOT_CANONICAL) return whole(TEXT("Encoded input begins with a needless zero"));
-    return InlineText_new();
+    if (status == NOT_CANONICAL) {
+        static const uint8_t part[] = "Encoded input begins with a needless zero";
+        whole(TEXT(part), result);
+        return;
+    }
+    InlineText_new(result);
 }
 
-static InlineText whole(const uint8_t *text, size_t text_length) {
-    //@ assert requires: text_length <= 77;
-    return InlineText_and_str(InlineText_new(), text, text_length);
+static void whole(const uint8_t *text, size_t text_length, InlineText *result) {
+    InlineText_new(result);
+    InlineText_and_str(result, text, text_length);
 }
 
 
@@ -1535,6 +1591,9 @@ static InlineText whole(const uint8_t *text, size_t text_length) {
 //
 // In C a `&[u8]` is a pointer and then a length. Any other reference is a pointer, and a struct is
 // a value.
+
+// The major version times 10000, the minor one times 100, and the patch.
+#define VERSION_NUMBER UINT32_C(30300)
 
 size_t base62_encode(base62_number number, char *buffer, size_t size) {
     const result_usize answer = encode_bytes(joined(number), (uint8_t *)buffer, size);
@@ -1623,9 +1682,9 @@ base62_status base62_fixed_range_with(const base62_alphabet *alphabet, size_t wi
 // written.
 base62_status base62_make_alphabet(const char letters[BASE62_ALPHABET_LENGTH], base62_alphabet *alphabet,
     base62_bad_byte *bad) {
-    const result_Alphabet answer = Alphabet_new((const uint8_t *)letters);
+    Alphabet made;
+    const result_unit_AlphabetError answer = Alphabet_new((const uint8_t *)letters, &made);
     if (answer.is_ok) {
-        const Alphabet made = answer.ok;
         copy_bytes((uint8_t *)alphabet, (const uint8_t *)&made, sizeof(Alphabet));
         return (base62_status)OK;
     }
@@ -1642,10 +1701,11 @@ void base62_uuid_of_number(base62_number number, unsigned char uuid[BASE62_UUID_
 }
 
 size_t base62_fault_text(base62_status status, base62_bad_byte bad, char *buffer, size_t size) {
-    const InlineText text = text_of((uint32_t)status, bad);
+    InlineText text;
+    text_of((uint32_t)status, bad, &text);
     return tell_text(text.bytes, text.length, (uint8_t *)buffer, size);
 }
 
 uint32_t base62_version_number(void) {
-    return 30200;
+    return VERSION_NUMBER;
 }

@@ -14,6 +14,12 @@ export type Integer = number | bigint | boolean;
 export type Text = string | Uint8Array;
 
 /**
+ * What a UUID can be: 16 bytes, or a string of 32 hexadecimal digits, in either case. They may have hyphens as in
+ * `550e8400-e29b-41d4-a716-446655440000`, and stand in braces or after `urn:uuid:`.
+ */
+export type Uuid = string | Uint8Array;
+
+/**
  * Returns the text of a number. It is the shortest one, with 1 to 22 letters.
  *
  * @example encode(1337) === 'LZ'
@@ -25,34 +31,34 @@ export type Text = string | Uint8Array;
 export function encode(number: Integer, alphabet?: Alphabet): string;
 
 /**
- * Returns the text of a number in exactly `width` letters, with leading zeros. Texts of one width sort as their
- * numbers, if each letter is a greater byte than the one before it, as the standard letters are.
+ * Returns the text of a number, or of a UUID's number, in exactly `width` letters, with leading zeros. Texts of one
+ * width sort as their numbers, if each letter is a greater byte than the one before it, as the standard letters are.
  *
  * @example encodeFixed(1337, 4) === '00LZ'
- * @param number as of {@link encode}
+ * @param value a number as of {@link encode}, or a UUID as of {@link encodeUuid}. A string is a UUID, and no number.
  * @param width an integer from 1 on. Each number has a text of 22 letters.
- * @throws {Base62Error} `BUFFER_TOO_SMALL` if the width is 0 or the number needs more letters, and `OUT_OF_RANGE`.
- *   If the host has no memory for the text, it throws an error of its own.
+ * @throws {Base62Error} `BUFFER_TOO_SMALL` if the width is 0 or the number needs more letters, `OUT_OF_RANGE`, and
+ *   `INVALID_UUID`. If the host has no memory for the text, it throws an error of its own.
  */
-export function encodeFixed(number: Integer, width: number, alphabet?: Alphabet): string;
+export function encodeFixed(value: Integer | Uuid, width: number, alphabet?: Alphabet): string;
 
 /**
- * Returns the key of a number: its text in 22 standard letters. Keys sort as their numbers.
+ * Returns the key of a number or a UUID: its text in 22 standard letters. Keys sort as their numbers, and as the bytes
+ * of their UUIDs.
  *
  * @example encodeKey(1337) === '00000000000000000000LZ'
- * @param number as of {@link encode}
- * @throws {Base62Error} `OUT_OF_RANGE`
+ * @param value as of {@link encodeFixed}
+ * @throws {Base62Error} `OUT_OF_RANGE` and `INVALID_UUID`
  */
-export function encodeKey(number: Integer): string;
+export function encodeKey(value: Integer | Uuid): string;
 
 /**
  * Returns the text of a UUID, which is the text of the number with the same 16 bytes, the highest first.
  *
  * @example encodeUuid('550e8400-e29b-41d4-a716-446655440000') === '2aUyqjCzEIiEcYMKj7TZtw'
- * @param uuid 36 characters, with hyphens and with letters of either case, or 16 bytes
  * @throws {Base62Error} `INVALID_UUID`
  */
-export function encodeUuid(uuid: string | Uint8Array, alphabet?: Alphabet): string;
+export function encodeUuid(uuid: Uuid, alphabet?: Alphabet): string;
 
 /** Returns the length of the text of a number, from 1 to 22. Throws what {@link encode} throws. */
 export function digitCount(number: Integer): number;
@@ -81,6 +87,13 @@ export function decodeNumber(text: Text, alphabet?: Alphabet): number;
  * @throws {Base62Error} what {@link decode} throws, and `NOT_CANONICAL` for a needless zero
  */
 export function decodeCanonical(text: Text, alphabet?: Alphabet): bigint;
+
+/**
+ * Returns the number of a text as a `number`, as {@link decodeCanonical} does.
+ *
+ * @throws {Base62Error} what {@link decodeCanonical} throws, and `UNSAFE_INTEGER` if the number is above 2**53 - 1
+ */
+export function decodeNumberCanonical(text: Text, alphabet?: Alphabet): number;
 
 /**
  * Returns the UUID of a text's number, in small letters and with hyphens. Each number has one.

@@ -3,8 +3,7 @@
 # Copyright (c) 2026 the maintainers of base62 for Rattle
 """What each call has to answer, by whole numbers, and the file of such values that the tests of every language read.
 
-    python3 tests/model.py            writes tests/values.tsv
-    python3 tests/model.py --check    fails if the file is not what it would write
+    python3 tests/model.py    writes tests/values.tsv
 
 The functions follow docs/DEFINITIONS.md and know nothing of the library. As this file is imported, they are checked by
 values that are known from outside. An answer is a word and its numbers, as in the rows.
@@ -481,14 +480,9 @@ def written() -> str:
 
 
 def main() -> None:
-    path = Path(__file__).with_name("values.tsv")
-    if sys.argv[1:] == ["--check"]:
-        if not path.exists() or path.read_bytes() != written().encode():
-            raise SystemExit(f"{path} is not what {__file__} writes: run it")
-    elif sys.argv[1:]:
+    if sys.argv[1:]:
         raise SystemExit(__doc__)
-    else:
-        path.write_bytes(written().encode())
+    Path(__file__).with_name("values.tsv").write_bytes(written().encode())
 
 
 if __name__ == "__main__":

@@ -11,7 +11,7 @@ OF_ALPHABETS = re.compile(r"_(alternative|alt|with)(?=_|$)")
 
 
 def text(*names: str) -> str:
-    return "".join(file.read_text() for name in names for file in sorted(TOP.glob(name)))
+    return "".join(file.read_bytes().decode() for name in names for file in sorted(TOP.glob(name)))
 
 
 def python() -> list[str]:
@@ -21,9 +21,9 @@ def python() -> list[str]:
 
 def exported() -> dict[str, set[str]]:
     """The names by the languages of the page."""
-    of_rust = re.findall(r"(?m)^\w+ (?:constant|enum|fn|struct) (\w+)", text("rust/tests/items.txt"))
-    of_c = re.findall(r"(?m)^(?:static inline )?\w+ (base62_\w+)\(", text("c/base62.h"))
-    _, _, of_javascript = text("js/index.js").partition("\nexport {")
+    of_rust = re.findall(r"\w+", "".join(re.findall(r"\npub (?:use \w+::)?([^;]*;)", text("rust/src/lib.rs"))))
+    of_c = re.findall(r"\b(base62_\w+)\(", re.sub(r"(?s)/\*.*?\*/", "", text("c/base62.h")))
+    of_javascript = "".join(re.findall(r"(?ms)^export (?:const )?(.*?)[;}]", text("js/index.js")))
     return {
         "Rust": {OF_ALPHABETS.sub("", it) for it in of_rust},
         "C": {OF_ALPHABETS.sub("", it) for it in of_c},

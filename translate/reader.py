@@ -52,10 +52,19 @@ def token_at(file, line, text="", kind="space"):
     return token
 
 
+def text_of(file):
+    """The text of a file, byte by byte. A character that no reader sees is refused: rustc ends no comment at a CR."""
+    with refusing(token_at(file, 1)):
+        text = file.read_bytes().decode()
+    for line, it in enumerate(text.split("\n"), 1):
+        if not it.isprintable():
+            refuse(token_at(file, line, ascii(it)), "a character that is not known")
+    return text
+
+
 def tokens_of(file, text=None, line=1):
     """All tokens of a file, or of a text from a line of it on."""
-    with refusing(token_at(file, line)):
-        text = file.read_text() if text is None else text
+    text = text_of(file) if text is None else text
     found = []
     for match in TOKEN.finditer(text):
         found.append(token_at(file, line, match[0], match.lastgroup))
@@ -224,6 +233,31 @@ class Item:
     def members(self):
         """The items of an `impl` or a `trait`."""
         return items_of(self.body[1:-1])
+
+
+def parts_of(item):
+    """Of a function: what stands before its parameters, these, and what stands after them."""
+    with refusing(item.first):
+        at = item.signature.index("(", item.signature.index("fn"))
+        end = after(item.signature, at)
+        parameters = [plain(part) for part in split_list(item.signature[at + 1:end - 1])]
+        return plain(item.signature[:at]), parameters, plain(item.signature[end:])
+
+
+def is_counted(item):
+    return item.kind == "fn" and item.is_public and "work: &mut Work" in parts_of(item)[1]
+
+
+def twin_of(item, items):
+    """The counted call to which a function hands its parameters, and nothing else. Both have the same ones in order."""
+    call = re.fullmatch(r"\{ (\w+)\( ?(.*?), &mut Work::new\(\),? ?\) \}", plain(item.body))
+    twin = next((other for other in items if call and other.name == call[1] and is_counted(other)), None)
+    if twin:
+        front, parameters, back = parts_of(item)
+        counted = front.replace(item.name, twin.name, 1), [*parameters, "work: &mut Work"], back
+        if counted != parts_of(twin) or call[2] != ", ".join(part.split(":")[0] for part in parameters):
+            refuse(item.name, "a counted call of other parameters, in")
+    return twin
 
 
 def items_of(tokens):

@@ -1,52 +1,65 @@
-"""Puts the contracts, the lemmas and the steps of this folder into base62.c, as comments.
+"""Puts the contracts, the lemmas and the steps of notions/ into base62.c, as comments.
 
-A list is text. A line that begins with "==" says where the lines after it go, up to the next such line:
+Each notion is a list. A line that begins with "==" says where the lines after it go, up to the next such line:
 
     == after TEXT                   after the first line that contains the text, as they stand
-    == contract NAME                before the definition of the function
+    == contract NAME, ..            before the definition of each function
     == in NAME before TEXT          before the only line of that function that contains the text
     == in NAME after TEXT           after it
 
-The text @end is the last line of the function. A line that begins with "//" says why, and goes in as well.
+The text @end is the last line of the function. A line that begins with "//" says why, and goes in as well. Heads one
+under the other have the same lines.
 """
 
 import pathlib
 import re
-import runpy
-import contextlib
-import io
+import subprocess
+import sys
 
 FOLDER = pathlib.Path(__file__).parent
 
-# The notions of base62.c, each with up to three lists. A list in Python prints what a list would say.
-NOTIONS = ("numbers", "powers", "digits", "readers", "decoder", "alphabets", "texts", "canonical", "ranges",
-           "fractions", "parts", "writers", "counts", "tables", "encoders", "fixed", "uuids", "encodings", "answers")
-KINDS = ("lemmas", "steps", "contracts")
+# In the order in which they need each other. A list in Python prints what a list would say.
+NOTIONS = ("numbers", "faults", "powers", "results", "digits", "alphabets", "tables", "readers", "decoder", "texts",
+           "canonical", "ranges", "fractions", "parts", "writers", "counts", "encoders", "fixed", "uuids", "answers")
+
+
+def text_of(path):
+    """A file of lines of printable characters. Others, as a carriage return, compilers and this program may read
+    otherwise."""
+    text = path.read_bytes().decode()
+    if not text.replace("\n", "").isprintable():
+        raise SystemExit(f"a character that is not printable: {path}")
+    return text
+
+
+def laws():
+    """The text of all laws and examples."""
+    return text_of(FOLDER / "laws.c") + text_of(FOLDER / "examples.c")
 
 
 def lists():
-    """The texts of all lists, in the order in which they go in. translate/contracts writes the first."""
-    yield (FOLDER / "contracts.acsl").read_text()
-    for kind in KINDS:
-        for notion in NOTIONS:
-            path = FOLDER / kind / notion
-            if path.with_suffix(".py").exists():
-                with contextlib.redirect_stdout(io.StringIO()) as said:
-                    runpy.run_path(str(path.with_suffix(".py")), run_name="__main__")
-                yield said.getvalue()
-            if path.with_suffix(".acsl").exists():
-                yield path.with_suffix(".acsl").read_text()
+    """The texts of all lists."""
+    for notion in NOTIONS:
+        path = FOLDER / "notions" / notion
+        if path.with_suffix(".py").exists():
+            ran = subprocess.run([sys.executable, path.with_suffix(".py")], check=True, capture_output=True)
+            yield ran.stdout.decode()
+        else:
+            yield text_of(path.with_suffix(".acsl"))
 
 
 def sections(text):
-    """The places of a list, and the lines for each."""
+    """The places of a list, and the lines for each. A contract of several functions is one for each."""
     found = []
     for line in text.split("\n"):
         if line.startswith("=="):
             found.append((line[2:].strip(), []))
         elif found:
             found[-1][1].append(line.rstrip())
-    return [(head, "\n".join(body).strip("\n").split("\n")) for head, body in found]
+    for i, (head, body) in enumerate(found):
+        body = "\n".join(next(lines for _, lines in found[i:] if lines)).strip("\n").split("\n")
+        for name in head.split(", ") if head.startswith("contract ") else [head]:
+            yield name if name.startswith(("after ", "in ", "contract ")) else f"contract {name}", body
 
 
 def definitions(lines):
@@ -110,47 +123,12 @@ def place(head, lines, functions):
     return hits[0] + (where == "after"), lambda body: clauses(body, indent)
 
 
-def placed():
-    """The sections of all lists, and then the contracts. All sections of a contract are one."""
-    contracts = {}
-    for text in lists():
-        for head, body in sections(text):
-            if head.startswith("contract "):
-                contracts.setdefault(head, []).extend(body)
-            else:
-                yield head, body
-    yield from contracts.items()
-
-
-def annotated(source):
-    """base62.c with all lists, and the names of the functions without contracts."""
+def annotated(source, *more):
+    """base62.c with all lists, and with more."""
     lines = source.split("\n")
     functions = definitions(lines)
     before = {}
-    contracts = set()
-    for head, body in placed():
+    for head, body in (section for text in [*lists(), *more] for section in sections(text)):
         at, form = place(head, lines, functions)
         before.setdefault(at, []).extend(form(body))
-        if head.startswith("contract "):
-            contracts.add(head.split()[1])
-    result = "\n".join(new for i, line in enumerate(lines) for new in [*before.get(i, []), line])
-    if tokens(source) != tokens(result):
-        raise SystemExit("the lists change the code")
-    return result, set(functions) - contracts
-
-
-def endless(code, without):
-    """The loops without a variant, but for those of some functions. A ghost function that does not end shows nothing."""
-    lines = code.split("\n")
-    for name, (first, last) in definitions(lines).items():
-        if name in without:
-            lines[first:last + 1] = [""] * (last + 1 - first)
-    parts = re.split(r"\b((?:for|while) \(.*|do \{.*|goto \w+;)", "\n".join(lines))
-    # The annotation of a loop stands between it and the loop before.
-    return [loop for before, loop in zip(parts[::2], parts[1::2])
-            if not re.search(r"loop variant|loop pragma UNROLL", before)]
-
-
-def tokens(text):
-    text = re.sub(r"/\*.*?\*/|//[^\n]*", " ", text, flags=re.S)
-    return re.sub(r"#define (ACSL_\w+)[^\n]*", " ", text).split()
+    return "\n".join(new for i, line in enumerate(lines) for new in [*before.get(i, []), line])

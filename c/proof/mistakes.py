@@ -1,9 +1,10 @@
 #!/usr/bin/env python3
-"""Plants one mistake after the other in base62.c: c/proof/mistakes.py [NAMES..]
+"""Plants one mistake after the other in base62.c and in base62.acsl: c/proof/mistakes.py [NAMES..]
 
-WP has to leave a goal without a proof in each function that a mistake touches. It prints those that WP proves all the
-same, and how many are refused. A goal that is false uses all of its time. So a goal has a third of the time that it has
-in prove, which no goal of base62.c needs.
+WP has to leave a goal without a proof: in the function of base62.c that a mistake touches, or in a law that breaks with
+a weaker specification. If Frama-C warns, or if its tree has what is refused, the mistake is planted badly, and fails
+too. It prints the mistakes that WP proves all the same, and how many are refused. A goal that is false uses all of its
+time. So a goal has a third of the time that it has in prove, which no goal needs.
 """
 
 import pathlib
@@ -18,7 +19,8 @@ import wp
 wp.LIMIT //= 3
 FAILED = "[wp] [Failed] Goal"
 
-# A name, the function, and what is exchanged for what there. The text stands once in the function.
+# A name, the function, and what is exchanged for what there. The text stands once in the function, or in the table
+# that is named last.
 MISTAKES = {
     # Numbers of 128 bits, and bytes.
     "sum_carry": ("u128_add", "a.high + b.high + (low < a.low)", "a.high + b.high"),
@@ -41,6 +43,35 @@ MISTAKES = {
     "bytes_last": ("u128_to_be_bytes", "i > 0", "i > 1"),
     "bytes_all": ("u128_from_be_bytes", "i < 16", "i < 15"),
     "joined_halves": ("joined", "u128_of(number.low)", "u128_of(number.high)"),
+    # Texts of errors.
+    "text_new": ("InlineText_new", "result->length = 0", "result->length = 1"),
+    "text_place": ("InlineText_and_str", "text->bytes + text->length", "text->bytes"),
+    "text_length": ("InlineText_and_str", "+= part_length", "= part_length"),
+    "text_more": ("InlineText_and_str", "part, part_length)", "part, part_length + 1)"),
+    "text_word": ("EncodeError_text", "too small", "too smal"),
+    "text_letter": ("EncodeError_text", "Buffer", "buffer"),
+    "text_exchanged": ("DecodeError_text", "Decoded number cannot", "Encoded number cannot"),
+    "text_quote": ("append_byte_at_index", "byte b'", "byte b\\\""),
+    "text_order": ("append_byte_at_index", "append(text, TEXT(part));\n    append_escaped(text, byte);",
+                   "append_escaped(text, byte);\n    append(text, TEXT(part));"),
+    "text_repeated": ("AlphabetError_text", "self->Repeated._1;", "self->Repeated._1 + 1;"),
+    "escape_tab": ("append_escaped", '"\\\\t"', '"\\\\n"'),
+    "escape_quote": ("append_escaped", "if (byte == '\\'') {", "if (byte == '`') {"),
+    "escape_bound": ("append_escaped", "byte <= 126", "byte <= 127"),
+    "escape_space": ("append_escaped", "byte >= 32", "byte > 32"),
+    "escape_digits": ("append_escaped", "byte / 16", "byte % 16"),
+    "hex_letter": ("hex_digit", "'a' + (uint8_t)(digit - 10)", "'A' + (uint8_t)(digit - 10)"),
+    "decimal_order": ("append_decimal", "start -= 1;", "start += 1;"),
+    "decimal_first": ("append_decimal", "left >= 10", "left > 10"),
+    "decimal_rest": ("append_decimal", "digits + start, 20 - start", "digits + start, 19 - start"),
+    "decimal_index": ("append_decimal", "size_t left = number", "size_t left = number + 1"),
+    "whole_text": ("whole", "InlineText_new(result);", ""),
+    "text_status": ("text_of", "status == OVERFLOW", "status == OK"),
+    "text_index": ("text_of", "AlphabetError_Repeated(bad.byte, bad.index)", "AlphabetError_Repeated(bad.byte, 0)"),
+    "tell_room": ("tell_text", "buf_length < text_length", "buf_length <= text_length"),
+    "tell_short": ("tell_text", "return 0;", "if (buf_length > 0) buf[0] = 0;\n        return 0;"),
+    "tell_length": ("tell_text", "return text_length;", "return buf_length;"),
+    "fault_size": ("base62_fault_text", "buffer, size)", "buffer, text.length)"),
     # Counts.
     "narrow_estimate": ("narrow_count", "highest * 43", "highest * 42"),
     "narrow_greatest": ("narrow_count", "n > GREATEST_NARROW", "n >= GREATEST_NARROW"),
@@ -131,14 +162,11 @@ MISTAKES = {
     "zeros_found": ("count_zeros", "return i;", "return i + 1;"),
     "after_bound": ("decode_after", "after_zeros_length > MAX_DIGITS", "after_zeros_length >= MAX_DIGITS"),
     "after_longer": ("decode_after", "after_zeros_length > MAX_DIGITS", "after_zeros_length > MAX_DIGITS + 1"),
-    "after_zeros": ("decode_after", "read_long(tables, after_zeros, after_zeros_length, zeros)",
-                    "read_long(tables, after_zeros, after_zeros_length, 0)"),
+    "after_zeros": ("decode_after", "_length, zeros);\n}", "_length, 0);\n}"),
     "long_unchecked": ("read_long", "if (!high.is_some) {", "if (false) {"),
     "long_later": ("read_long", "after_zeros + 10", "after_zeros + 9"),
-    "long_low": ("read_long", "read_11_or_12(tables, later, later_length, zeros + 10)",
-                 "read_11_or_12(tables, later, later_length, zeros)"),
-    "long_sum": ("read_long", "answer.is_some ? ok_u128(answer.some) : err_u128(DecodeError_ArithmeticOverflow())",
-                 "ok_u128(answer.some)"),
+    "long_low": ("read_long", "12(tables, later, later_length, zeros + 10", "12(tables, later, later_length, zeros"),
+    "long_sum": ("read_long", "answer.is_some ?", "true ?"),
     "over_empty": ("decode_over", "DecodeError_EmptyInput()", "DecodeError_ArithmeticOverflow()"),
     "decode_tables": ("decode", "standard_tables()", "alternative_tables()"),
     "alternative_tables": ("decode_alternative", "alternative_tables()", "standard_tables()"),
@@ -163,17 +191,15 @@ MISTAKES = {
     # Alphabets.
     "alphabet_digit": ("Alphabet_new", "(uint8_t)index", "(uint8_t)(index + 1)"),
     "alphabet_count": ("Alphabet_new", "index < 62", "index < 61"),
-    "alphabet_repeat": ("Alphabet_new", "AlphabetError_Repeated(byte, index)",
-                        "AlphabetError_Repeated(byte, digits[byte])"),
+    "alphabet_repeat": ("Alphabet_new", "Repeated(byte, index)", "Repeated(byte, digits[byte])"),
+    "alphabet_last": ("Alphabet_new", "digits, 256)", "digits, 255)"),
     "alphabet_beyond": ("Alphabet_new", "letters, 62)", "letters, 63)"),
     "alphabet_none": ("Alphabet_new", "fill_bytes(digits, 255, sizeof digits)", "fill_bytes(digits, 0, sizeof digits)"),
     # How answers are told, and the calls.
     "fault_status": ("tell_fault", "return OVERFLOW", "return INVALID_BYTE"),
-    "fault_writes": ("tell_fault", "if (fault.tag == DecodeError_EmptyInput_tag) return EMPTY_INPUT;",
-                     "*bad = (base62_bad_byte){.index = 0, .byte = 0};\n"
-                     "    if (fault.tag == DecodeError_EmptyInput_tag) return EMPTY_INPUT;"),
+    "fault_writes": ("tell_fault", "return EMPTY_INPUT", "return bad->index = 0, EMPTY_INPUT"),
     "fault_byte": ("tell_fault", ".byte = byte", ".byte = 0"),
-    "number_writes": ("tell_number", "return tell_fault(fault, bad)", "*number = halves(u128_of(0)); return tell_fault(fault, bad)"),
+    "number_writes": ("tell_number", "return tell_fault(", "return number->high = 0, tell_fault("),
     "number_halves": ("halves", ".high = u128_low(u128_shift_right(n, 64))", ".high = u128_low(n)"),
     "canonical_status": ("tell_canonical", "return NOT_CANONICAL", "return OK"),
     "range_exchanged": ("tell_range", ".least = halves(least), .greatest = halves(greatest)",
@@ -182,37 +208,189 @@ MISTAKES = {
     "repeat_status": ("tell_repeat", "return REPEATED_LETTER", "return INVALID_BYTE"),
     "filled_refused": ("count_filled", "return 0", "return places"),
     "make_all": ("base62_make_alphabet", "copy_bytes((uint8_t *)alphabet", "copy_bytes((uint8_t *)bad"),
+    "make_last": ("base62_make_alphabet", "sizeof(Alphabet)", "sizeof(Alphabet) - 1"),
+    "make_refused_last": ("base62_make_alphabet", "(base62_status)t", "alphabet->bytes[317] = 0, (base62_status)t"),
+    "make_refused_letter": ("base62_make_alphabet", "(base62_status)t", "alphabet->bytes[5] = 0, (base62_status)t"),
+    "make_changed": ("base62_make_alphabet", "(base62_status)OK", "alphabet->bytes[317] = 0, (base62_status)OK"),
     "call_alphabet": ("base62_decode_alternative", "decode_alternative((const", "decode((const"),
-    "call_strict": ("base62_decode_canonical", "tell_canonical(decode_canonical((const uint8_t *)text, length)",
-                    "tell_number(decode((const uint8_t *)text, length)"),
+    "call_strict": ("base62_decode_canonical", "tell_canonical(decode_canonical(", "tell_number(decode("),
     "call_width": ("base62_fixed_range", "fixed_range(width,", "fixed_range(length,"),
+    # What C leaves undefined, and nothing else.
+    "pointer_beyond": ("decode_after", "= input + zeros;", "= input + zeros + 1 - 1;"),
+    "restrict_same": ("encode_key", "result, key, 22);", "result, key, 22); copy_bytes(result, result, 22);"),
+    "signed_sum": ("u64_ilog2", "return bits;", "int most = 2147483647; most += bits != 0; return bits;"),
+    # Functions of one line, and tables.
+    "or_halves": ("u128_or", "a.low | b.low", "a.high | b.low"),
+    "difference_carry": ("u128_sub", " - (a.low < b.low)", ""),
+    "less_low": ("u128_less", "a.low < b.low", "a.low <= b.low"),
+    "equal_high": ("u128_equal", "a.high == b.high && ", ""),
+    "lesser": ("usize_min", "a < b", "b < a"),
+    "table_power": ("power", "218340105584896", "218340105584895", "POWERS"),
+    "table_greatest": ("greatest_wide", "U128(0, 3843)", "U128(0, 3844)", "GREATEST"),
+    "table_narrow": ("greatest_narrow", "238327", "238328", "GREATEST_NARROW"),
+    "table_letter": ("standard_letter", "'A', 'B'", "'B', 'A'", "STANDARD"),
+}
+
+# A name, the law that it breaks, and what is exchanged for what in base62.acsl: the first such text after another one.
+WEAKER = {
+    # Numbers and alphabets.
+    "power_base": ("begins_with", "logic integer shifted", "62 *", "61 *"),
+    "letter_order": ("letter", "standard_letters", "AB", "BA"),
+    "other_letter_order": ("letter", "alternative_letters[62]", "ab", "ba"),
+    "place_bound": ("digit_told", "logic integer place_from", "i < 62", "i < 61"),
+    "repeat_index": ("makes", "predicate is_first_repeat", "index < 62 && ", ""),
+    "repeat_first": ("makes", "predicate is_first_repeat", "are_distinct(letters, index)", "\\true"),
+    "repeat_equal": ("makes", "predicate is_first_repeat", "letters[i] == letters[index]", "\\true"),
+    # Texts.
+    "value_base": ("begins_with", "logic integer value", "* 62", "* 61"),
+    "bad_bound": ("bad_told", "logic integer bad_index", "< 62 ? n", "<= 62 ? n"),
+    "zero_letter": ("zeros_told", "logic integer leading_zeros", "letters[0]", "letters[1]"),
+    "denotes_empty": ("is_decoded", "predicate denotes", "n > 0 && ", ""),
+    "denotes_letters": ("is_decoded", "predicate denotes", "bad_index(letters, text, n) == n && ", ""),
+    "denotes_value": ("is_decoded", "predicate denotes", " && value(letters, text, n) == number", ""),
+    "count_bound": ("count_told", "logic integer count_from", "c < 22", "c < 21"),
+    "count_equal": ("count_told", "logic integer count_from", ">=", ">"),
+    "count_first": ("count_told", "logic integer digit_count", "number, 1)", "number, 0)"),
+    "count_result": ("count_told", "\\result == digit_count(", "\\result ==", "\\result >="),
+    # Encoding.
+    "encodes_room": ("writes", "predicate encodes", "<= size", "< size"),
+    "encodes_text": ("back_again", "predicate encodes", "length > 0 ==>", "length > 22 ==>"),
+    "encodes_stay": ("writes", "predicate encodes", "length <= i", "length < i"),
+    "encodes_none": ("writes", "define ACSL_ENCODES", "requires", "requires size < size &&"),
+    "encodes_more": ("writes", "define ACSL_ENCODES", "assigns buffer[0 .. size - 1]", "assigns buffer[0 .. size]"),
+    "encodes_made": ("writes", "define ACSL_ENCODES", "made ==>", "!made ==>"),
+    "encodes_with": ("back_again_with", "ACSL_ENCODES(is_made", "is_made{Pre}(alphabet)", "\\false"),
+    "encodes_no_room": ("writes_with", "ACSL_ENCODES(is_made", "is_made{", "size > 0 && is_made{"),
+    "encodes_letters": ("is_alternative_letter", "ACSL_ENCODES(\\true, ALT", "ALTERNATIVE", "STANDARD"),
+    "fills_room": ("writes", "predicate fills", "<= width", "< width"),
+    "fills_text": ("fixed_back_again", "predicate fills", "length > 0 ==>", "length > 22 ==>"),
+    "fills_stay": ("writes", "predicate fills", "length <= i", "length < i"),
+    "fills_none": ("writes", "define ACSL_FILLS", "requires", "requires width < width &&"),
+    "fills_made": ("writes", "define ACSL_FILLS", "made ==>", "!made ==>"),
+    "fills_with": ("fixed_back_again_with", "ACSL_FILLS(is_made", "is_made{Pre}(alphabet)", "\\false"),
+    "fills_letters": ("alternative_fixed_back_again", "ACSL_FILLS(\\true, ALT", "ALTERNATIVE", "STANDARD"),
+    "key_value": ("key_back_again", "key[0 .. 21];", "ensures", "ensures \\true ||"),
+    "key_text": ("key_back_again", "key[0 .. 21];", "22, number_of(number)", "21, number_of(number)"),
+    # Decoding.
+    "rows_empty": ("decoding_by_example", "logic integer decoding", "n == 0 ?", "n < 0 ?"),
+    "rows_long": ("is_decoded", "logic integer decoding", "> 22", ">= 22"),
+    "rows_early": ("decoding_by_example", "logic integer decoding", "bad < zeros + 10", "bad < 10"),
+    "rows_exchanged": ("decoding_by_example", "logic integer decoding", "bad < n && bad < zeros + 10", "bad < n"),
+    "rows_shown": ("decoding_by_example", "logic integer decoding", "n - zeros == 22 && ", ""),
+    "rows_great": ("decoding_by_example", ": bad < n ? BASE62", ">= ACSL", "> ACSL"),
+    "rows_needless": ("status_told", "logic integer canonical_decoding", "n > 1", "n > 2"),
+    "rows_zero": ("fixed_back_again", "logic integer canonical_decoding", "text[0] == letters[0]", "\\false"),
+    "bad_index": ("is_read", "predicate tells_bad_byte", "\\at(bad->index, After) == index && ", ""),
+    "bad_byte": ("is_read", "predicate tells_bad_byte", " && \\at(bad->byte, After) == \\at(text[index], Before)", ""),
+    "bad_stays": ("is_read", "predicate tells_bad_byte", "\\at(*bad, After) == \\at(*bad, Before)", "\\true"),
+    "number_value": ("back_again", "predicate tells_number", "== value", ">= value"),
+    "number_stays": ("is_read", "predicate tells_number", "\\at(*number, After) == \\at(*number, Before)", "\\true"),
+    "number_bad": ("is_read", "predicate tells_number", "&& tells_bad_byte{", "|| tells_bad_byte{"),
+    "decodes_none": ("is_read", "define ACSL_DECODES", "requires", "requires length < length &&"),
+    "decodes_text": ("is_read", "define ACSL_DECODES", "assigns", "assigns text[0 .. length - 1],"),
+    "decodes_status": ("back_again", "define ACSL_DECODES", "made ==>", "!made ==>"),
+    "decodes_number": ("back_again", "made ==> \\result == decoding_of", "ensures made", "ensures !made"),
+    "decodes_letters": ("alternative_back_again", "ACSL_DECODES(\\true, ALT", "ALTERNATIVE", "STANDARD"),
+    "decodes_with": ("back_again_with", "ACSL_DECODES(is_made", "is_made{Pre}(alphabet)", "\\false"),
+    "decodes_refusal": ("is_read_with", "ACSL_DECODES(is_made", "is_made{",
+                        "decoding{Pre}(LETTERS(alphabet), BYTES(text), length) == BASE62_OK && is_made{"),
+    "decodes_empty": ("is_alternative_read", "ACSL_DECODES(\\true, ALT", "\\true", "length > 0"),
+    "strict_loose": ("fixed_back_again", "STANDARD_LETTERS, canonical", "canonical_decoding", "decoding"),
+    "strict_letters": ("alternative_back_again", "ALTERNATIVE_LETTERS, canonical", "ALTERNATIVE", "STANDARD"),
+    "strict_with": ("fixed_back_again_with", "LETTERS(alphabet), canonical", "canonical_decoding", "decoding"),
+    # Ranges.
+    "least_width": ("range_of_prefix", "logic integer least_of", "width - n", "width"),
+    "next_number": ("range_of_prefix", "logic integer next_of", "+ 1", "+ 2"),
+    "range_bad": ("range_by_example", "logic integer range_status", "< n ?", "< n - 1 ?"),
+    "range_none": ("range_by_example", "logic integer range_status", "width == 0 || ", ""),
+    "range_long": ("is_in_range", "logic integer range_status", "n > width", "n >= width"),
+    "range_part": ("is_in_range", "logic integer range_status", "least_of", "next_of"),
+    "range_least": ("key_range_is_exact", "predicate tells_range", "== least_of", ">= least_of"),
+    "range_greatest": ("key_range_is_exact", "predicate tells_range", "== \\min", "<= \\min"),
+    "range_end": ("key_range_is_exact", "predicate tells_range", "ACSL_2_128) - 1", "ACSL_2_128 - 1)"),
+    "range_stays": ("writes_range", "predicate tells_range", "\\at(*range, After) == \\at(*range, Before)", "\\true"),
+    "range_tells_bad": ("writes_range", "predicate tells_range", "&& tells_bad_byte{", "|| tells_bad_byte{"),
+    "finds_none": ("key_range_is_exact", "define ACSL_FINDS_RANGE", "requires", "requires length < length &&"),
+    "finds_status": ("key_range_is_exact", "define ACSL_FINDS_RANGE", "ensures made", "ensures !made"),
+    "finds_range": ("key_range_is_exact", "made ==> \\result == range_status", "ensures made", "ensures !made"),
+    "finds_width": ("key_range_is_exact", "ACSL_FINDS_RANGE(\\true, STANDARD_LETTERS, 22", "22", "21"),
+    "finds_with": ("fixed_range_is_exact_with", "ACSL_FINDS_RANGE(is_made", "is_made{Pre}(alphabet)", "\\false"),
+    # Alphabets, UUIDs, halves and the version.
+    "make_none": ("makes", "requires \\valid_read(letters", "requires", "requires 1 < 0 &&"),
+    "make_status": ("makes", "behavior alphabet:", "\\result == BASE62_OK && ", ""),
+    "make_made": ("own_back_again", "behavior alphabet:", "is_made(alphabet) && ", ""),
+    "make_bad_stays": ("makes", "behavior alphabet:", " && *bad == \\old(*bad)", ""),
+    "make_letters": ("is_own_letter", "behavior alphabet:", "i < 62 ==>", "i < 61 ==>"),
+    "refuse_status": ("makes", "behavior repeated:", "== BASE62_REPEATED_LETTER", "!= BASE62_OK"),
+    "refuse_stays": ("makes", "behavior repeated:", "i < 318", "i < 317"),
+    "refuse_index": ("makes", "behavior repeated:", "is_first_repeat(BYTES(letters), bad->index) && ", ""),
+    "refuse_byte": ("makes", "behavior repeated:", " && bad->byte == BYTES(letters)[bad->index]", ""),
+    "uuid_base": ("number_back_again", "logic integer uuid_value", "256", "255"),
+    "uuid_number": ("uuid_back_again", "number_of(\\result) == uuid_value", "==", ">="),
+    "uuid_bytes": ("uuid_back_again", "ensures uuid_value(uuid, 16)", "==", ">="),
+    "escape_two": ("escapes_by_example", "logic integer escape_length", "byte == '\\r' || ", ""),
+    "escape_last": ("escapes_by_example", "logic integer escape_length", "126", "127"),
+    "escape_case": ("escapes_by_example", "logic integer hexadecimal", "'a'", "'A'"),
+    "escape_half": ("escapes_by_example", "logic integer escape_byte", "i == 2 ?", "i == 3 ?"),
+    "decimal_reversed": ("decimals_by_example", "logic integer decimal_byte", "decimal_length(number) - 1 - i", "i"),
+    "decimal_least": ("decimals_by_example", "logic integer decimal_length", "number, 1)", "number, 0)"),
+    "text_named": ("text_of_bad_byte_by_example", "logic integer named_length", "18", "17"),
+    "text_none": ("texts_by_example", "logic integer fault_length", "? 41 : 0", "? 41 : 1"),
+    "text_overflow": ("texts_by_example", "define ACSL_SAYS", "BASE62_OVERFLOW", "BASE62_NO_KEY"),
+    "text_room": ("text_of_bad_byte_by_example", "\\let length = fault", "length <= size", "length < size"),
+    "text_stays": ("text_of_bad_byte_by_example", "\\let length = fault", "\\result <= i", "\\result < i"),
+    "text_repeated": ("text_of_bad_byte_by_example", "define ACSL_SAYS", "status == BASE62_REPEATED_LETTER", "\\false"),
+    "text_longest": ("texts_by_example", "\nsize_t base62_digit_count", "/*@ requires \\valid(buffer",
+                     "/*@ requires size <= 77 && \\valid(buffer"),
+    "text_any": ("texts_by_example", "\nsize_t base62_digit_count", "/*@ requires \\valid(buffer",
+                 "/*@ requires status <= 8 && \\valid(buffer"),
+    "text_told": ("texts_by_example", "ensures ACSL_SAYS", "\\result > 0", "\\result > 77"),
+    "half_number": ("half_back_again", "number_of(\\result) == value", "==", ">="),
+    "half_bound": ("half", "number_of(number) < ACSL_2_64", "ACSL_2_64", "ACSL_2_64 - 1"),
+    "half_value": ("half", "ensures *value", "== (", ">= ("),
+    "half_stays": ("half", "ensures *value", "\\old(*value)", "*value"),
+    "version_number": ("version", "BASE62_VERSION_NUMBER", "BASE62_VERSION_NUMBER", "\\result"),
 }
 
 
-def planted(code, function, old, new):
-    """The code with the mistake in the definition of the function. Comments stay as they are."""
+def planted(code, place, old, new):
+    """The code with the mistake in the definition of the function or the table. Comments stay as they are."""
     bare = re.sub(r"/\*.*?\*/|//[^\n]*", lambda found: re.sub(r"[^\n]", " ", found.group()), code, flags=re.S)
-    found = [*re.finditer(rf"^\w[^\n;]*\b{function}\([^;{{]*\{{\n.*?^\}}$", bare, re.M | re.S)]
+    body, table = r"\([^;{]*\{(?:\n.*?^\}|[^\n]*\})", r"[^\n;=(]*= \{.*?\};"
+    found = [*re.finditer(rf"^\w[^\n;]*\b{place}\b(?:{body}|{table})$", bare, re.M | re.S)]
     start, end = found[-1].span()
     if bare.count(old, start, end) != 1:
-        raise SystemExit(f"{bare.count(old, start, end)} places in {function}: {old}")
+        raise SystemExit(f"{bare.count(old, start, end)} places in {place}: {old}")
     at = bare.index(old, start)
     return code[:at] + new + code[at + len(old):]
 
 
+def weaker(text, after, old, new):
+    """The specification with the mistake."""
+    at = text.index(old, text.index(after))
+    return text[:at] + new + text[at + len(old):]
+
+
 def refused(work, code, name):
-    function, old, new = MISTAKES[name]
-    file = wp.prepared(work / name, planted(code, function, old, new))
-    return FAILED in wp.proved(file, function, last=FAILED)
+    """Whether WP leaves a goal without a proof, and nothing else is wrong."""
+    if name in WEAKER:
+        function, *mistake = WEAKER[name]
+        specification = weaker(annotate.text_of(wp.SPECIFICATION), *mistake)
+        file = wp.prepared(work / name, annotate.laws(), specification)
+    else:
+        function, old, new, *table = MISTAKES[name]
+        file = wp.prepared(work / name, planted(code, *table or [function], old, new))
+    log = wp.proved(file, function, last=FAILED)
+    return FAILED in log and not wp.checked(file)[1] and not [*wp.warnings(log)]
 
 
 def main(names):
-    names = names or [*MISTAKES]
-    code, _ = annotate.annotated((wp.C / "base62.c").read_text())
+    names = names or [*MISTAKES, *WEAKER]
+    code = annotate.annotated(annotate.text_of(wp.CODE))
     with tempfile.TemporaryDirectory() as folder:
         answers = wp.at_once(lambda name: refused(pathlib.Path(folder), code, name), names)
     accepted = [name for name, answer in zip(names, answers) if not answer]
-    print("".join(f"not refused: {name} in {MISTAKES[name][0]}\n" for name in accepted), end="")
+    print("".join(f"not refused: {name} in {(MISTAKES | WEAKER)[name][0]}\n" for name in accepted), end="")
     print(f"{len(names) - len(accepted)} passed, {len(accepted)} failed")
     return 1 if accepted else 0
 

@@ -46,7 +46,7 @@ class Forms(unittest.TestCase):
 
     def test_counts(self):
         """It shifts by each count that the contracts allow."""
-        contracts = (FOLDER / "proof" / "contracts" / "numbers.acsl").read_text()
+        contracts = (FOLDER / "proof" / "notions" / "numbers.acsl").read_text()
         for way in ("left", "right"):
             allowed = re.search(rf"== contract u128_shift_{way}\nrequires (.*);", contracts)[1]
             counts = re.search(rf"\b{way}\[\] = {{(.*?)}}", COMPARED)[1]

@@ -65,6 +65,13 @@ function uuidOf(number) {
   return number.toString(16).padStart(32, '0').replace(/^(.{8})(.{4})(.{4})(.{4})/, '$1-$2-$3-$4-');
 }
 
+// A UUID in each form that calls take.
+function formsOfUuid(uuid) {
+  const cores = [uuid, uuid.replaceAll('-', '')].flatMap((it) => [it, it.toUpperCase()]);
+  const strings = cores.flatMap((it) => [it, `{${it}}`, `urn:uuid:${it}`, `URN:UUID:${it}`]);
+  return [...strings, Uint8Array.from(cores[2].match(/../g), (it) => parseInt(it, 16))];
+}
+
 // The codes of 62 different letters, none of which has this one.
 function codesWithout(code) {
   return Array.from({ length: 63 }, (_, it) => it).filter((it) => it !== code).slice(0, 62);
@@ -112,6 +119,11 @@ const faults = {
   repeated: 'REPEATED_LETTER',
 };
 
+function decodersOf({ decode, decodeCanonical, ...others }) {
+  const { decodeNumber, decodeNumberCanonical, decodeUuid, decodeUuidCanonical } = others;
+  return [decode, decodeCanonical, decodeNumber, decodeNumberCanonical, decodeUuid, decodeUuidCanonical];
+}
+
 // What refuses takes of a fault.
 function wantedOf([kind, ...numbers], message) {
   return [faults[kind], message, ...numbers.map(Number)];
@@ -142,9 +154,11 @@ const tests = {
         same(base62.encode(number, alphabet), text);
         same(base62.digitCount(number), text.length);
         same(base62.decodeNumber(text, alphabet), number);
+        same(base62.decodeNumberCanonical(text, alphabet), number);
       } else {
         refused(() => base62.encode(number, alphabet), 'OUT_OF_RANGE');
         refused(() => base62.decodeNumber(text, alphabet), 'UNSAFE_INTEGER');
+        refused(() => base62.decodeNumberCanonical(text, alphabet), 'UNSAFE_INTEGER');
       }
     }
   },
@@ -170,16 +184,18 @@ const tests = {
       for (const text of formsOf(textOf(field))) {
         same(base62.decode(text, alphabets[name]), BigInt(digits));
         refused(() => base62.decodeCanonical(text, alphabets[name]), 'NOT_CANONICAL');
+        refused(() => base62.decodeNumberCanonical(text, alphabets[name]), 'NOT_CANONICAL');
       }
     }
   },
 
   'a UUID has the text of its number'({ base62, rows, rowsOf, alphabets, refused }) {
     for (const [digits, uuid, text] of rows.uuid) {
-      const bytes = Uint8Array.from(uuid.replaceAll('-', '').match(/../g), (it) => parseInt(it, 16));
-      same(base62.encodeUuid(uuid), text);
-      same(base62.encodeUuid(uuid.toUpperCase()), text);
-      same(base62.encodeUuid(bytes), text);
+      for (const form of formsOfUuid(uuid)) {
+        same(base62.encodeUuid(form), text);
+        same(base62.encodeKey(form), text.padStart(22, '0'));
+        same(base62.encodeFixed(form, 23), text.padStart(23, '0'));
+      }
       same(base62.decodeUuid(text), uuid);
       same(base62.decodeUuidCanonical(text), uuid);
       same(uuidOf(BigInt(digits)), uuid);
@@ -187,6 +203,8 @@ const tests = {
     for (const [name, digits, field] of rowsOf('encode')) {
       const uuid = uuidOf(BigInt(digits));
       same(base62.encodeUuid(uuid, alphabets[name]), textOf(field));
+      const fixed = base62.encodeFixed(BigInt(digits), 22, alphabets[name]);
+      same(base62.encodeFixed(uuid, 22, alphabets[name]), fixed);
       same(base62.decodeUuid(textOf(field), alphabets[name]), uuid);
       same(base62.decodeUuidCanonical(textOf(field), alphabets[name]), uuid);
     }
@@ -215,15 +233,20 @@ const tests = {
   },
 
   'numbers that are none are refused'({ base62, refused }) {
-    const calls = [base62.encode, base62.encodeKey, base62.digitCount];
     // No memory has room for the second width.
-    for (const width of [22, 2 ** 40]) calls.push((number) => base62.encodeFixed(number, width));
+    const ofUuids = [base62.encodeKey, ...[22, 2 ** 40].map((width) => (it) => base62.encodeFixed(it, width))];
+    const calls = [base62.encode, base62.digitCount, ...ofUuids];
     const rounded = [2 ** 53, 1.5, 5e-324, NaN, Infinity, -Infinity, -1];
     const wide = [-1n, 2n ** 128n, -(2n ** 200n), 2n ** 200n];
-    const others = ['5', '', undefined, null, [], {}, Symbol('5'), Object(5), Object(5n), convertible, trap];
+    const objects = [null, [], {}, Object(5), Object(5n), Object(''), new Uint8ClampedArray(16), convertible, trap];
+    const others = [undefined, Symbol('5'), ...objects];
     for (const call of calls) {
       for (const number of [...rounded, ...wide]) refused(() => call(number), 'OUT_OF_RANGE');
       for (const number of others) refusesType(() => call(number));
+    }
+    for (const wrong of ['', '5', '1337', new Uint8Array(15)]) {
+      for (const call of [base62.encode, base62.digitCount]) refusesType(() => call(wrong));
+      for (const call of ofUuids) refused(() => call(wrong), 'INVALID_UUID');
     }
     same([false, true].map((it) => base62.encode(it)).join(), '0,1');
     same(base62.encode(-0), '0');
@@ -246,8 +269,8 @@ const tests = {
   },
 
   'faults of a text are named'({ base62, rowsOf, alphabets, refused }) {
-    const { decode, decodeCanonical, decodeNumber, decodeUuid, decodeUuidCanonical } = base62;
-    for (const call of [decode, decodeCanonical, decodeNumber, decodeUuid, decodeUuidCanonical]) {
+    const { decodeNumber } = base62;
+    for (const call of decodersOf(base62)) {
       for (const [name, field, ...fault] of rowsOf('refused')) {
         for (const text of formsOf(textOf(field))) {
           refused(() => call(text, alphabets[name]), ...wantedOf(fault));
@@ -292,8 +315,8 @@ const tests = {
   'what is no text, UUID or alphabet is refused'({ base62, alphabet, Alphabet, standard }) {
     const others = [undefined, null, 5, 5n, true, [], ['LZ'], {}, Symbol('LZ'), Object('LZ'), convertible, trap];
     const arrays = [new Uint8ClampedArray(2), new Int8Array(2), new ArrayBuffer(2), new DataView(new ArrayBuffer(2))];
-    const { decode, decodeCanonical, decodeNumber, decodeUuid, decodeUuidCanonical, keyRange, keyBounds } = base62;
-    const decoders = [decode, decodeCanonical, decodeNumber, decodeUuid, decodeUuidCanonical];
+    const { keyRange, keyBounds } = base62;
+    const decoders = decodersOf(base62);
     for (const other of [...others, ...arrays, new Proxy(new Uint8Array(2), {})]) {
       for (const call of [...decoders, keyRange, keyBounds, base62.encodeUuid]) refusesType(() => call(other));
       refusesType(() => new Alphabet(other));
@@ -308,21 +331,36 @@ const tests = {
     }
   },
 
-  'an index in the place of an alphabet is named'({ base62 }) {
-    const said = 'an alphabet is an Alphabet, not 0: give map a function such as (n) => encode(n)';
-    for (const call of [() => [1, 2, 3].map(base62.encode), () => ['LZ'].map(base62.decode)]) {
-      same(faultOf(call) instanceof TypeError && faultOf(call).message, said);
-    }
+  'what stands in the place of an alphabet is named'({ base62, own }) {
+    const index = 'an alphabet is an Alphabet, not 0: give map a function such as (n) => encode(n)';
+    const letters = 'an alphabet is an Alphabet, not a string: make one by new Alphabet(..)';
+    const calls = [
+      [() => [1, 2, 3].map(base62.encode), index],
+      [() => ['LZ'].map(base62.decode), index],
+      [() => base62.encode(1337, own), letters],
+      [() => base62.encodeFixed(1337, 7, own), letters],
+      [() => base62.fixedRange(7, 'Pd', own), letters],
+    ];
+    for (const [call, said] of calls) same(faultOf(call) instanceof TypeError && faultOf(call).message, said);
   },
 
   'UUIDs that are none are refused'({ base62, refused }) {
     const uuid = '550e8400-e29b-41d4-a716-446655440000';
-    const longer = [`${uuid}0`, `0${uuid}`, `${uuid}\n`, `{${uuid}}`];
-    const others = ['', uuid.slice(1), uuid.replaceAll('-', ''), uuid.replace('-', '_')];
-    const digits = [uuid.replace('5', 'g'), uuid.replace('5', '\u0665')];
-    for (const wrong of [...longer, ...others, ...digits, new Uint8Array(15), new Uint8Array(17)]) {
-      refused(() => base62.encodeUuid(wrong), 'INVALID_UUID');
+    const plain = uuid.replaceAll('-', '');
+    const longer = [`${uuid}0`, `0${uuid}`, `${uuid}\n`, ` ${uuid}`, `${plain}0`, `${plain}-`];
+    const others = ['', '1337', uuid.slice(1), plain.slice(1), uuid.replace('-', '_')];
+    const hyphens = [uuid.replace('-', ''), uuid.replace('-e29b', 'e-29b'), `${plain.slice(0, 8)}-${plain.slice(8)}`];
+    const braces = [`{${uuid}`, `${uuid}}`, `{{${uuid}}}`, `(${uuid})`, '{}', `{urn:uuid:${uuid}}`, `{${plain}0}`];
+    const urns = [`urn:uuid:{${uuid}}`, `uuid:${uuid}`, `urn:${uuid}`, `urn:uuid:${uuid}}`, `urn:uu\u0131d:${uuid}`];
+    const digits = [uuid.replace('5', 'g'), uuid.replace('5', '\u0665'), uuid.replace('0', '\uff10')];
+    const strings = [...longer, ...others, ...hyphens, ...braces, ...urns, ...digits];
+    for (const wrong of [...strings, new Uint8Array(0), new Uint8Array(15), new Uint8Array(17)]) {
+      for (const call of [base62.encodeUuid, base62.encodeKey, (it) => base62.encodeFixed(it, 22)]) {
+        refused(() => call(wrong), 'INVALID_UUID');
+      }
     }
+    const forms = 'with hyphens or without, in braces or after urn:uuid:, or 16 bytes';
+    refused(() => base62.encodeUuid(''), 'INVALID_UUID', `a UUID is 32 hexadecimal digits, ${forms}`);
     same(base62.encodeUuid(uuid), '2aUyqjCzEIiEcYMKj7TZtw');
   },
 

@@ -30,6 +30,7 @@ function answers() {
     [encode(1337, new Alphabet(own)), 'Pd'],
     [decode('LZ'), 1337n],
     [base62.decodeNumber('LZ'), 1337],
+    [base62.decodeNumberCanonical('LZ'), 1337],
     [base62.decodeCanonical('LZ', Alphabet.standard), 1337n],
     [decode('7n42DGM5Tflk9n8mt7Fhc7'), 2n ** 128n - 1n],
     [base62.digitCount(62), 2],
@@ -37,6 +38,8 @@ function answers() {
     [base62.encodeFixed(1337, 100).length, 100],
     [base62.encodeUuid(uuid), '2aUyqjCzEIiEcYMKj7TZtw'],
     [base62.encodeUuid('550E8400-e29b-41d4-a716-446655440000'), '2aUyqjCzEIiEcYMKj7TZtw'],
+    [base62.encodeKey('{550E8400e29b41d4a716446655440000}'), '2aUyqjCzEIiEcYMKj7TZtw'],
+    [base62.encodeFixed('urn:uuid:550E8400-e29b-41d4-a716-446655440000', 22), '2aUyqjCzEIiEcYMKj7TZtw'],
     [base62.decodeUuid('2aUyqjCzEIiEcYMKj7TZtw'), '550e8400-e29b-41d4-a716-446655440000'],
     [range[0], 1302n],
     [range[1], 1363n],
@@ -48,6 +51,8 @@ function answers() {
     [faultOf(() => encode(-1)).code, 'OUT_OF_RANGE'],
     [faultOf(() => encode('5')) instanceof kept.TypeError, true],
     [faultOf(() => encode(5, {})) instanceof kept.TypeError, true],
+    [faultOf(() => encode(5, own)) instanceof kept.TypeError, true],
+    [faultOf(() => base62.encodeUuid(own)).code, 'INVALID_UUID'],
     [long(), 1337n],
   ];
 }

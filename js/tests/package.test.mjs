@@ -6,37 +6,47 @@ import { createRequire } from 'node:module';
 import { test } from 'node:test';
 import { fileURLToPath } from 'node:url';
 import * as module from '../index.js';
-import { load } from '../module.js';
+import { load } from '../load.js';
 import { wasm } from '../wasm.js';
 
 const read = (name) => readFileSync(new URL(`../${name}`, import.meta.url), 'utf8');
 
-test('its version and its licence are those of the project', () => {
-  assert.equal(JSON.parse(read('package.json')).version, read('../VERSION').trim());
+test('its licence is that of the project', () => {
   assert.equal(read('LICENSE'), read('../LICENSE'));
 });
 
 test('npm packs what a program needs, and nothing else', () => {
   const options = { cwd: fileURLToPath(new URL('..', import.meta.url)), encoding: 'utf8' };
-  const [{ files }] = JSON.parse(execFileSync('npm', ['pack', '--dry-run', '--json'], options));
-  const code = ['base62.wasm', 'index.cjs', 'index.d.cts', 'index.d.ts', 'index.js'];
-  const module = ['module.d.ts', 'module.js', 'package.json', 'wasm.js'];
+  // A list, or from npm 12 on an object by the names of packages.
+  const [{ files }] = Object.values(JSON.parse(execFileSync('npm', ['pack', '--dry-run', '--json'], options)));
+  const code = ['base62.wasm', 'constants.js', 'index.cjs', 'index.d.cts', 'index.d.ts', 'index.js', 'load.cjs'];
+  const module = ['load.js', 'module.d.cts', 'module.d.ts', 'package.json', 'wasm.js'];
   assert.deepEqual(files.map(({ path }) => path).sort(), ['LICENSE', 'README.md', ...code, ...module]);
 });
 
-test('the other forms are the module and its WebAssembly', () => {
+test('the other forms are the modules and their WebAssembly', () => {
   const stale = 'run translate/wasm at the top of the repository';
-  const form = read('index.cjs');
-  const [, body] = read('index.js').match(/\n\} from '.\/wasm.js';\n(.*)\nexport \{\n/s);
-  assert.ok(form.includes(body), stale);
-  assert.ok(form.includes(read('wasm.js').replace(/^.*?\n\n/s, '').replaceAll(/^export /gm, '')), stale);
-  const [head, tail] = body.split(/const code = .*?\n\}\n/s);
-  for (const part of [head, tail]) assert.ok(read('module.js').includes(part.replaceAll(/^(?=.)/gm, '  ')), stale);
+  const bodyOf = (name) =>
+    read(name)
+      .replace(/^.*?\n\n/s, '')
+      .replace(/^export const \{.*?\n\} =/ms, 'module.exports =')
+      .replace(/^const \{.*?\n\} = header;\n/ms, '')
+      .replace(/^import .*\n|^\/\/ Hosts read their own .*\n|^export /gm, '')
+      .replace(/\n{3,}/g, '\n\n');
+  for (const [form, names] of [
+    ['load.cjs', ['constants.js', 'load.js']],
+    ['index.cjs', ['constants.js', 'load.js', 'wasm.js', 'index.js']],
+  ]) {
+    for (const name of names) assert.ok(read(form).includes(bodyOf(name)), stale);
+  }
   const code = readFileSync(new URL('../base62.wasm', import.meta.url));
   assert.ok(code.equals(Buffer.from(wasm, 'base64')), stale);
-  const names = Object.keys(module);
-  assert.deepEqual(Object.keys(createRequire(import.meta.url)('../index.cjs')).sort(), names);
-  assert.deepEqual(Object.keys(load(new WebAssembly.Module(code))).sort(), names);
+  const require = createRequire(import.meta.url);
+  const compiled = new WebAssembly.Module(code);
+  for (const base62 of [require('../index.cjs'), load(compiled), require('../load.cjs').load(compiled)]) {
+    assert.deepEqual(Object.keys(base62).sort(), Object.keys(module));
+    assert.equal(base62.encode(1337), 'LZ');
+  }
 });
 
 test('the WebAssembly is small, and takes nothing of its host', () => {

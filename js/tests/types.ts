@@ -5,6 +5,7 @@ import {
   decode,
   decodeCanonical,
   decodeNumber,
+  decodeNumberCanonical,
   decodeUuid,
   decodeUuidCanonical,
   digitCount,
@@ -17,25 +18,31 @@ import {
   keyRange,
   type Integer,
   type Text,
+  type Uuid,
 } from 'base62-proved';
 
 const alphabet: Alphabet = new Alphabet('0123');
 const letters: string = Alphabet.standard.letters + Alphabet.alternative.letters;
 const bytes: Text = new Uint8Array(16);
 const flag: Integer = true;
+const uuid: Uuid = '550e8400-e29b-41d4-a716-446655440000';
 const texts: string[] = [
   encode(flag),
   encode(5),
   encode(5n, alphabet),
   encode(5, undefined),
   encodeFixed(5, 7, alphabet),
+  encodeFixed(uuid, 22, alphabet),
   encodeKey(5n),
+  encodeKey(uuid),
+  encodeKey(bytes),
+  encodeUuid(uuid),
   encodeUuid(bytes, alphabet),
   decodeUuid('5', alphabet),
   decodeUuidCanonical('5', alphabet),
 ];
 const numbers: bigint[] = [decode('5'), decode(bytes, alphabet), decodeCanonical('5', alphabet)];
-const small: number = decodeNumber('5', alphabet) + digitCount(5n);
+const small: number = decodeNumber('5', alphabet) + decodeNumberCanonical('5', alphabet) + digitCount(5n);
 const range: [bigint, bigint] | null = fixedRange(7, '5', alphabet) ?? keyRange(bytes);
 const bounds: [string, string] | null = keyBounds('5');
 
@@ -69,6 +76,8 @@ encodeFixed(5);
 // @ts-expect-error
 encodeFixed(5, 7n);
 // @ts-expect-error
+encodeKey([1, 2]);
+// @ts-expect-error
 encodeUuid(5n);
 // @ts-expect-error
 encodeUuid([1, 2]);
@@ -99,6 +108,6 @@ Alphabet.standard = alphabet;
 // @ts-expect-error
 new Base62Error('5');
 // @ts-expect-error
-import { version } from 'base62-proved';
+import { load } from 'base62-proved';
 
 export { bounds, ends, letters, number, numbers, range, small, texts, told };

@@ -28,13 +28,16 @@ from base62._base62 import (
 )
 from base62._types import (
     AlphabetError,
+    AnyUUID as AnyUUID,
     DecodeError,
     EmptyInputError,
     InvalidByteError,
     NotCanonicalError,
     Number as Number,
+    OutOfRangeError,
     Text as Text,
     TooLargeError,
+    uuid_of as _uuid_of,
 )
 
 AnyAlphabet = Alphabet | str | bytes
@@ -46,6 +49,7 @@ __all__ = [
     "EmptyInputError",
     "InvalidByteError",
     "NotCanonicalError",
+    "OutOfRangeError",
     "TooLargeError",
     "decode",
     "decode_canonical",
@@ -62,15 +66,18 @@ __all__ = [
 ]
 
 
-def encode_uuid(value: uuid.UUID, alphabet: AnyAlphabet = Alphabet.STANDARD) -> str:
+def encode_uuid(value: AnyUUID, alphabet: AnyAlphabet = Alphabet.STANDARD) -> str:
     """Return the text of the number of a UUID, as encode does.
+
+    A UUID is a uuid.UUID, its 16 bytes, or its 32 hexadecimal digits as a str: with hyphens or without, in
+    braces or after urn:uuid:, in either case. Raises ValueError for any other str or bytes.
 
     >>> encode_uuid(uuid.UUID("12345678-1234-5678-1234-567812345678"))
     'YLmNWW2NwaipfRR50HIPA'
+    >>> encode_uuid("{12345678-1234-5678-1234-567812345678}")
+    'YLmNWW2NwaipfRR50HIPA'
     """
-    if not isinstance(value, uuid.UUID):
-        raise TypeError(f"a UUID is a uuid.UUID, not {type(value)}")
-    return encode(value, alphabet)
+    return encode(_uuid_of(value), alphabet)
 
 
 def decode_uuid(text: Text, alphabet: AnyAlphabet = Alphabet.STANDARD) -> uuid.UUID:

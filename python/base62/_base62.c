@@ -16,6 +16,7 @@ enum {
     TOO_LARGE,
     NOT_CANONICAL,
     REPEATED_LETTER,
+    OUT_OF_RANGE,
     HALF_WIDTH,
     OF_TYPES,
     ALPHABET = OF_TYPES,
@@ -121,10 +122,15 @@ static inline int unpack(const struct parameters *of, PyObject *const *given, Py
     return 0;
 }
 
-static int out_of_range(void) {
-    PyErr_SetString(PyExc_OverflowError, "the number is not from 0 to 2**128 - 1");
+static int out_of_range(struct state *state, const char *said) {
+    PyObject *text = PyUnicode_FromString(said), *type = text == NULL ? NULL : held(state, OUT_OF_RANGE);
+    if (type != NULL)
+        PyErr_SetObject(type, text);
+    Py_DecRef(text);
     return -1;
 }
+
+static const char no_number[] = "the number is not from 0 to 2**128 - 1";
 
 /* A number of 2^63 or more. */
 static int wide_number_of(struct state *state, PyObject *whole, base62_number *number) {
@@ -134,7 +140,7 @@ static int wide_number_of(struct state *state, PyObject *whole, base62_number *n
     number->high = PyLong_AsUnsignedLongLong(high);
     Py_DecRef(high);
     if (number->high == UINT64_MAX && PyErr_Occurred() != NULL)
-        return PyErr_ExceptionMatches(PyExc_OverflowError) ? out_of_range() : -1;
+        return PyErr_ExceptionMatches(PyExc_OverflowError) ? out_of_range(state, no_number) : -1;
     number->low = PyLong_AsUnsignedLongLongMask(whole);
     return number->low == UINT64_MAX && PyErr_Occurred() != NULL ? -1 : 0;
 }
@@ -145,7 +151,7 @@ static int number_of_int(struct state *state, PyObject *whole, base62_number *nu
     if (beyond > 0)
         return wide_number_of(state, whole, number);
     if (narrow < 0)
-        return PyErr_Occurred() == NULL ? out_of_range() : -1;
+        return PyErr_Occurred() == NULL ? out_of_range(state, no_number) : -1;
     *number = base62_from_u64((uint64_t)narrow);
     return 0;
 }
@@ -435,7 +441,7 @@ static int add_built_in(PyObject *module, int which, const char *name,
 
 PyDoc_STRVAR(encode_doc, "encode($module, /, number, alphabet=Alphabet.STANDARD)\n--\n\n"
                          "Return the text of a number: the shortest one that denotes it.\n\n"
-                         "Raises OverflowError if the number is negative, or 2**128 or more.\n\n"
+                         "Raises OutOfRangeError if the number is negative, or 2**128 or more.\n\n"
                          ">>> encode(1337), encode(1337, Alphabet.ALTERNATIVE), encode(0)\n"
                          "('LZ', 'lz', '0')\n"
                          ">>> encode(uuid.UUID(\"12345678-1234-5678-1234-567812345678\"))\n"
@@ -457,7 +463,7 @@ static PyObject *encode(PyObject *module, PyObject *const *given, Py_ssize_t cou
     return PyUnicode_DecodeASCII(text, (Py_ssize_t)length, NULL);
 }
 
-static PyObject *fixed_text(const base62_alphabet *alphabet, base62_number number, size_t width) {
+static PyObject *fixed_text(struct state *state, const base62_alphabet *alphabet, base62_number number, size_t width) {
     char few[64], *places = width <= sizeof few ? few : PyMem_Malloc(width);
     if (places == NULL)
         return PyErr_NoMemory();
@@ -466,7 +472,7 @@ static PyObject *fixed_text(const base62_alphabet *alphabet, base62_number numbe
     size_t length = base62_encode_fixed_with(alphabet, number, places, width);
     run_on(saved);
     if (length == 0)
-        PyErr_SetString(PyExc_OverflowError, "the number has more letters than the width");
+        out_of_range(state, "the number has more letters than the width");
     else
         answer = PyUnicode_DecodeASCII(places, (Py_ssize_t)length, NULL);
     if (places != few)
@@ -478,7 +484,7 @@ PyDoc_STRVAR(encode_fixed_doc,
              "encode_fixed($module, /, number, width, alphabet=Alphabet.STANDARD)\n--\n\n"
              "Return the text of a number with leading zeros, of exactly width letters.\n\n"
              "Texts of one width sort as their numbers, if each letter of the alphabet is a greater byte than the one\n"
-             "before it, as in Alphabet.STANDARD. decode reads them. Raises OverflowError if the number has more\n"
+             "before it, as in Alphabet.STANDARD. decode reads them. Raises OutOfRangeError if the number has more\n"
              "letters, or as encode does, and ValueError if the width is negative.\n\n"
              ">>> encode_fixed(1337, 4)\n"
              "'00LZ'");
@@ -494,13 +500,13 @@ static PyObject *encode_fixed(PyObject *module, PyObject *const *given, Py_ssize
         width_of(found[1], &width) != 0)
         return NULL;
     const struct made *made = lend_to_encode(state, found[2], &place);
-    return made == NULL ? NULL : fixed_text(&made->alphabet, number, width);
+    return made == NULL ? NULL : fixed_text(state, &made->alphabet, number, width);
 }
 
 PyDoc_STRVAR(encode_key_doc,
              "encode_key($module, /, number)\n--\n\n"
              "Return the key of a number: its standard text with leading zeros, of 22 letters.\n\n"
-             "Keys sort as their numbers. decode reads them. Raises OverflowError as encode does.\n\n"
+             "Keys sort as their numbers. decode reads them. Raises OutOfRangeError as encode does.\n\n"
              ">>> encode_key(1337)\n"
              "'00000000000000000000LZ'");
 
@@ -518,7 +524,7 @@ static PyObject *encode_key(PyObject *module, PyObject *const *given, Py_ssize_t
 
 PyDoc_STRVAR(digit_count_doc, "digit_count($module, /, number)\n--\n\n"
                               "Return the length of the text of a number, from 1 to 22.\n\n"
-                              "Raises OverflowError as encode does.\n\n"
+                              "Raises OutOfRangeError as encode does.\n\n"
                               ">>> digit_count(61), digit_count(62)\n"
                               "(1, 2)");
 
@@ -674,7 +680,7 @@ static int add_calls(PyObject *module) {
 static int take_types(PyObject **own) {
     static const char *const names[OF_TYPES] = {
         "whole_of",      "bytes_of",          "letters_of",    "EmptyInputError", "InvalidByteError",
-        "TooLargeError", "NotCanonicalError", "AlphabetError", "HALF_WIDTH",
+        "TooLargeError", "NotCanonicalError", "AlphabetError", "OutOfRangeError", "HALF_WIDTH",
     };
     PyObject *types = PyImport_ImportModule("base62._types");
     int ok = types != NULL;

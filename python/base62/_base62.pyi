@@ -28,7 +28,7 @@ class Alphabet(bytes):
 def encode(number: Number, alphabet: AnyAlphabet = Alphabet.STANDARD) -> str:
     """Return the text of a number: the shortest one that denotes it.
 
-    Raises OverflowError if the number is negative, or 2**128 or more.
+    Raises OutOfRangeError if the number is negative, or 2**128 or more.
 
     >>> encode(1337), encode(1337, Alphabet.ALTERNATIVE), encode(0)
     ('LZ', 'lz', '0')
@@ -40,7 +40,7 @@ def encode_fixed(number: Number, width: SupportsIndex, alphabet: AnyAlphabet = A
     """Return the text of a number with leading zeros, of exactly width letters.
 
     Texts of one width sort as their numbers, if each letter of the alphabet is a greater byte than the one
-    before it, as in Alphabet.STANDARD. decode reads them. Raises OverflowError if the number has more
+    before it, as in Alphabet.STANDARD. decode reads them. Raises OutOfRangeError if the number has more
     letters, or as encode does, and ValueError if the width is negative.
 
     >>> encode_fixed(1337, 4)
@@ -50,7 +50,7 @@ def encode_fixed(number: Number, width: SupportsIndex, alphabet: AnyAlphabet = A
 def encode_key(number: Number) -> str:
     """Return the key of a number: its standard text with leading zeros, of 22 letters.
 
-    Keys sort as their numbers. decode reads them. Raises OverflowError as encode does.
+    Keys sort as their numbers. decode reads them. Raises OutOfRangeError as encode does.
 
     >>> encode_key(1337)
     '00000000000000000000LZ'
@@ -59,7 +59,7 @@ def encode_key(number: Number) -> str:
 def digit_count(number: Number) -> int:
     """Return the length of the text of a number, from 1 to 22.
 
-    Raises OverflowError as encode does.
+    Raises OutOfRangeError as encode does.
 
     >>> digit_count(61), digit_count(62)
     (1, 2)

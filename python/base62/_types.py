@@ -10,6 +10,7 @@ from uuid import UUID
 
 Number = SupportsIndex | UUID
 Text = str | bytes | bytearray | memoryview
+AnyUUID = UUID | str | bytes
 
 # The library has a number in two halves of so many bits.
 HALF_WIDTH = 64
@@ -96,6 +97,17 @@ class InvalidByteError(_BadByteError, DecodeError):
     """Its index among the bytes, counted from 0. If all letters are ASCII, its character in a str has that index."""
 
 
+class OutOfRangeError(OverflowError, ValueError):
+    """A number is negative, or 2**128 or more, or has more letters than the width.
+
+    >>> encode(-1)
+    Traceback (most recent call last):
+    base62.OutOfRangeError: the number is not from 0 to 2**128 - 1
+    """
+
+    __module__ = "base62"
+
+
 def whole_of(number: Number) -> int:
     """Return the int of a number that is not exactly an int."""
     if isinstance(number, UUID):
@@ -103,6 +115,21 @@ def whole_of(number: Number) -> int:
     if not hasattr(type(number), "__index__"):
         raise TypeError(f"a number is an int, has __index__, or is a uuid.UUID, not {type(number)}")
     return operator.index(number)
+
+
+def uuid_of(value: AnyUUID) -> UUID:
+    """Return the UUID of an argument."""
+    if isinstance(value, UUID):
+        return value
+    if isinstance(value, bytes):
+        return UUID(bytes=value)
+    if not isinstance(value, str):
+        raise TypeError(f"a UUID is a uuid.UUID, a str or 16 bytes, not {type(value)}")
+    found = UUID(value)
+    # int, which uuid.UUID calls, also takes a sign, blanks, underscores and 0x.
+    if found.hex not in value.lower().replace("-", ""):
+        raise ValueError("badly formed hexadecimal UUID string")
+    return found
 
 
 def bytes_of(text: Text) -> bytes:

@@ -144,6 +144,13 @@ class Texts(unittest.TestCase):
             self.assertEqual(value(base62.encode_key(number)), LARGEST)
 
 
+    def test_kinds_of_uuids(self) -> None:
+        name = uuid.UUID("12345678-9abc-def0-1234-56789abcdef0")
+        kinds: list[Any] = [str(name), name.hex, f"{{{name}}}", name.urn, str(name).upper(), name.hex.upper(), name.bytes, name]
+        for given in kinds:
+            self.assertEqual(value(base62.encode_uuid(given)), name.int)
+
+
 class Threads(unittest.TestCase):
     def test_four(self) -> None:
         wrong: list[int] = []
@@ -334,14 +341,22 @@ class Faults(Refusing):
     def test_numbers(self) -> None:
         for call in OF_NUMBERS:
             for number in (-1, -(2**63) - 1, -(2**64), -(10**100), LARGEST + 1, 10**100):
-                error = self.refused(OverflowError, call, number)
+                error = self.refused(base62.OutOfRangeError, call, number)
                 self.assertEqual(str(error), "the number is not from 0 to 2**128 - 1")
             for other in (1.0, "1", None, b"1", uuid.UUID):
                 error = self.refused(TypeError, call, other)
                 self.assertRegex(str(error), r"^a number is an int, has __index__, or is a uuid\.UUID, not <class")
-        for given in (5, "12345678-1234-5678-1234-567812345678", None):
+        for given in (5, bytearray(16), None):
             error = self.refused(TypeError, base62.encode_uuid, given)
-            self.assertRegex(str(error), r"^a UUID is a uuid\.UUID, not <class '\w+'>$")
+            self.assertRegex(str(error), r"^a UUID is a uuid\.UUID, a str or 16 bytes, not <class '\w+'>$")
+
+    def test_uuids(self) -> None:
+        """What int passes over is refused too: a sign, blanks, underscores and 0x."""
+        digits = "12345678123456781234567812345678"
+        for front in ("+", " ", "1_", "0x", "0X", "\u0661", "g"):
+            self.refused(ValueError, base62.encode_uuid, front + digits[len(front) :])
+        for given in ("", "LZ", digits[1:], digits + "0", digits[:-1] + " ", b"", bytes(15), bytes(17), digits.encode()):
+            self.refused(ValueError, base62.encode_uuid, given)
 
     def test_own_index(self) -> None:
         class Failing:
@@ -396,6 +411,7 @@ class Faults(Refusing):
             (base62.NotCanonicalError, ["DecodeError"]),
             (base62.InvalidByteError, [bad_byte, "DecodeError"]),
             (base62.AlphabetError, [bad_byte]),
+            (base62.OutOfRangeError, ["OverflowError", "ArithmeticError"]),
         ]
         for kind, above in kinds:
             names = [kind.__name__, *above, "ValueError", "Exception", "BaseException", "object"]

@@ -16,7 +16,7 @@ import calls
 from calls import LETTERS, WIDE, Call
 
 # More requests than any of the calls makes.
-BEYOND = 120
+BEYOND = 240
 
 try:
     memory: Any = importlib.import_module("_testcapi")
@@ -107,7 +107,8 @@ class Refused(Refusing):
 
 class Asked(Refusing):
     def test_alphabet(self) -> None:
-        """A call over an Alphabet asks for the memory of its answer, and makes no object of letters."""
+        """A call over an Alphabet asks for the memory of its answer at most, which an int may take of CPython's stores.
+        It makes no object of letters."""
         kept: list[tuple[Call, tuple[Any, ...]]] = [
             (base62.encode, (1337,)),
             (base62.encode_fixed, (1337, 22)),
@@ -120,4 +121,4 @@ class Asked(Refusing):
                 self.sweep(call, *given, alphabet)
                 self.told = 0
                 self.sweep(call, *given, alphabet)
-                self.assertEqual(self.told, 2, call)
+                self.assertIn(self.told, (0, 2) if call.__name__.startswith("decode") else (2,), call)

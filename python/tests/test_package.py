@@ -28,7 +28,8 @@ from calls import OWN
 from places import PACKAGE, TOP
 
 EXPORTED = """
-    Alphabet AlphabetError DecodeError EmptyInputError InvalidByteError NotCanonicalError TooLargeError
+    Alphabet AlphabetError DecodeError EmptyInputError InvalidByteError NotCanonicalError OutOfRangeError
+    TooLargeError
     decode decode_canonical decode_uuid decode_uuid_canonical digit_count encode encode_fixed encode_key encode_uuid
     fixed_range key_bounds key_range
 """.split()
@@ -120,7 +121,7 @@ class Package(unittest.TestCase):
         self.assertRaises(TypeError, base62.encode, 1, number=1)
         wide: list[Any] = [base62.encode_fixed, base62.fixed_range]
         for call in wide:
-            for placed, named in (
+            for given, named in (
                 ((), {}),
                 (("1",), {}),
                 (("1",), {"alphabet": OWN}),
@@ -128,7 +129,7 @@ class Package(unittest.TestCase):
                 (("1", "1"), {"other": 1}),
             ):
                 with self.assertRaisesRegex(TypeError, call.__name__ + r"\(\)"):
-                    call(*placed, **named)
+                    call(*given, **named)
 
     def test_private_library(self) -> None:
         """The library's own calls are not seen by other libraries of the process."""
@@ -178,7 +179,7 @@ class Modules(unittest.TestCase):
         """The collector sees what the module holds, and what an alphabet does."""
         seen = gc.get_referents(_base62)
         errors = [base62.AlphabetError, base62.EmptyInputError, base62.InvalidByteError]
-        errors += [base62.NotCanonicalError, base62.TooLargeError]
+        errors += [base62.NotCanonicalError, base62.OutOfRangeError, base62.TooLargeError]
         alphabets = [base62.Alphabet, base62.Alphabet.STANDARD, base62.Alphabet.ALTERNATIVE]
         conversions = [_types.whole_of, _types.bytes_of, _types.letters_of, _types.HALF_WIDTH]
         for held in (*errors, *alphabets, *conversions):
@@ -235,7 +236,7 @@ class Kept(unittest.TestCase):
     SHARED: list[object] = [None, False, True, 0, 64, uuid.UUID, base62.Alphabet]
     SHARED += [base62.Alphabet.STANDARD, base62.Alphabet.ALTERNATIVE]
     SHARED += [base62.AlphabetError, base62.EmptyInputError, base62.InvalidByteError, base62.TooLargeError]
-    SHARED += [base62.NotCanonicalError]
+    SHARED += [base62.NotCanonicalError, base62.OutOfRangeError]
 
     def kept(self, call: Callable[..., object], *given: object, **named: object) -> None:
         def run(times: int) -> None:

@@ -30,6 +30,8 @@ def right(number: int, name: UUID, text: str, packed: bytes, own: Alphabet) -> N
     assert_type(base62.fixed_range(number, text), tuple[int, int] | None)
     assert_type(base62.fixed_range(width=number, prefix=packed, alphabet=own), tuple[int, int] | None)
     assert_type(base62.encode_uuid(name, own), str)
+    assert_type(base62.encode_uuid(text), str)
+    assert_type(base62.encode_uuid(packed, alphabet=text), str)
     assert_type(base62.decode_uuid(text, own), UUID)
     assert_type(base62.decode_uuid_canonical(text, alphabet=packed), UUID)
     assert_type(Alphabet(text), Alphabet)
@@ -86,7 +88,7 @@ def wrong(number: int, name: UUID, text: str, own: Alphabet) -> None:
     base62.key_bounds(number)  # type: ignore[arg-type]
     base62.key_bounds(text)[0]  # type: ignore[index]
     base62.encode_uuid(number)  # type: ignore[arg-type]
-    base62.encode_uuid(text)  # type: ignore[arg-type]
+    base62.encode_uuid([text])  # type: ignore[arg-type]
     base62.encode_uuid(name, number)  # type: ignore[arg-type]
     base62.decode_uuid(name)  # type: ignore[arg-type]
     base62.decode_uuid(text, number)  # type: ignore[arg-type]

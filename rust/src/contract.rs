@@ -27,6 +27,7 @@ macro_rules! requires {
 #[cfg(not(feature = "checked"))]
 macro_rules! proved {
     ($of:ident::from_utf8($bytes:expr)) => {{
+        debug_assert!($of::from_utf8($bytes).is_ok());
         // SAFETY: the source is proved to have nothing but ASCII here.
         unsafe { $of::from_utf8_unchecked($bytes) }
     }};
@@ -52,6 +53,7 @@ macro_rules! in_place {
             bytes.extend_from_slice(&[0; crate::MAX_DIGITS]);
             crate::codec::encoder::write_text($tables, n, len, &mut bytes[at..]);
             bytes.truncate(at + len);
+            debug_assert!(bytes[at..].is_ascii());
             return;
         }
     };
@@ -70,4 +72,37 @@ pub(crate) fn assert_ascii(alphabet: &crate::Alphabet) {
         alphabet.is_ascii(),
         "the letters of the alphabet are not all ASCII"
     );
+}
+
+// In a release build a clause that does not hold may do anything.
+#[cfg(all(test, debug_assertions))]
+mod tests {
+    #[test]
+    #[should_panic(expected = "assertion failed: n < 5")]
+    fn a_false_clause_panics() {
+        fn asks(n: u8) -> u8 {
+            requires!(n < 5);
+            n
+        }
+        assert_eq!(asks(4), 4);
+        asks(5);
+    }
+
+    #[test]
+    #[should_panic(expected = "assertion failed: k <= 10")]
+    fn a_false_clause_of_the_source_panics() {
+        crate::powers::power(11);
+    }
+
+    #[test]
+    #[cfg(not(feature = "checked"))]
+    #[should_panic(expected = "assertion failed: str::from_utf8(")]
+    fn a_text_that_is_not_utf8_panics() {
+        fn text(bytes: &[u8]) -> &str {
+            use core::str;
+            proved!(str::from_utf8(bytes))
+        }
+        assert_eq!(text(b"LZ"), "LZ");
+        text(&[255]);
+    }
 }

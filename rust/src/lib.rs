@@ -42,7 +42,7 @@
 //! | for | call |
 //! |---|---|
 //! | a buffer | [`encode_bytes`] |
-//! | a `String` | [`encode`], [`encode_buf`], with the feature `alloc` |
+//! | a `String` | [`encode`], [`encode_uuid`], [`encode_buf`], with the feature `alloc` |
 //! | a format string | [`encode_fmt`] |
 //! | a writer | [`encode_io`], with the feature `std` |
 //! | a number | [`decode`], or [`decode_canonical`] to accept one text for each number |
@@ -57,8 +57,8 @@
 //! the code tests each index, and that letters are UTF-8.
 //!
 //! Only the calls of `alloc` allocate. If memory is refused, they end the program, as a `String` does. These calls
-//! panic: [`Alphabet::of`] over a repeated letter, and `encode_with`, `encode_buf_with` and [`encode_fmt_with`] over
-//! letters that are not ASCII. The time of a call depends on its number or text.
+//! panic: [`Alphabet::of`] over a repeated letter, and `encode_with`, `encode_uuid_with`, `encode_buf_with` and
+//! [`encode_fmt_with`] over letters that are not ASCII. The time of a call depends on its number or text.
 
 #![no_std]
 // docs.rs then says of each call which feature it needs.
@@ -107,7 +107,8 @@ pub use key::{encode_key, key_range};
 pub use show::{encode_fmt, encode_fmt_alt, encode_fmt_with};
 #[cfg(feature = "alloc")]
 pub use target::{
-    encode, encode_alternative, encode_alternative_buf, encode_buf, encode_buf_with, encode_with,
+    encode, encode_alternative, encode_alternative_buf, encode_alternative_uuid, encode_buf,
+    encode_buf_with, encode_uuid, encode_uuid_with, encode_with,
 };
 #[cfg(feature = "std")]
 pub use target::{encode_alternative_io, encode_io, encode_io_with};

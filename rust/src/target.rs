@@ -59,6 +59,58 @@ pub fn encode_with<T: Into<u128>>(alphabet: &Alphabet, num: T) -> String {
     string_over(alphabet.as_tables(), num)
 }
 
+/// The standard text of a UUID: that of the number of its sixteen bytes, the highest first.
+///
+/// [`decode_uuid`] reads it back. The version and variant are not looked at. Memory is requested
+/// once, for just the text. For a UUID that is a `u128`, such as `as_u128` of the crate `uuid`
+/// answers, call [`encode`].
+///
+/// ```rust
+/// let uuid = [0, 0, 0, 0, 0, 0, 0, 0, 0, 0, 0, 0, 0, 0, 5, 57];
+/// let text = base62::encode_uuid(uuid);
+/// assert_eq!(text.as_str(), "LZ");
+/// ```
+///
+/// [`decode_uuid`]: crate::decode_uuid
+#[must_use = "this allocates a new `String`"]
+pub fn encode_uuid(uuid: [u8; 16]) -> String {
+    string_over(standard_tables(), number_of_uuid(uuid))
+}
+
+/// As [`encode_uuid`], over the alternative alphabet.
+///
+/// ```rust
+/// let uuid = [0, 0, 0, 0, 0, 0, 0, 0, 0, 0, 0, 0, 0, 0, 5, 57];
+/// let text = base62::encode_alternative_uuid(uuid);
+/// assert_eq!(text.as_str(), "lz");
+/// ```
+#[must_use = "this allocates a new `String`"]
+pub fn encode_alternative_uuid(uuid: [u8; 16]) -> String {
+    string_over(alternative_tables(), number_of_uuid(uuid))
+}
+
+/// As [`encode_uuid`], over an alphabet of the caller's. Its letters have to be ASCII, as for
+/// [`encode_with`].
+///
+/// ```rust
+/// let alphabet = base62::Alphabet::alternative();
+/// if alphabet.is_ascii() {
+///     let uuid = [0, 0, 0, 0, 0, 0, 0, 0, 0, 0, 0, 0, 0, 0, 5, 57];
+///     let text = base62::encode_uuid_with(&alphabet, uuid);
+///     assert_eq!(text.as_str(), "lz");
+/// }
+/// ```
+///
+/// # Panics
+///
+/// If a letter is not ASCII.
+#[track_caller]
+#[must_use = "this allocates a new `String`"]
+pub fn encode_uuid_with(alphabet: &Alphabet, uuid: [u8; 16]) -> String {
+    crate::contract::assert_ascii(alphabet);
+    string_over(alphabet.as_tables(), number_of_uuid(uuid))
+}
+
 /// Appends the standard text of `num`, which has 1 to 22 letters, to `buf`.
 ///
 /// If the spare capacity of `buf` is too small, room for the whole text is requested once, before
@@ -104,6 +156,11 @@ pub fn encode_alternative_buf<T: Into<u128>>(num: T, buf: &mut String) {
 pub fn encode_buf_with<T: Into<u128>>(alphabet: &Alphabet, num: T, buf: &mut String) {
     crate::contract::assert_ascii(alphabet);
     append_over(alphabet.as_tables(), num, buf)
+}
+
+// The number of sixteen bytes, the highest first.
+fn number_of_uuid(uuid: [u8; 16]) -> u128 {
+    u128::from_be_bytes(uuid)
 }
 
 // The text over the alphabet of the tables, in a string.

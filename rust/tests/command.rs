@@ -31,9 +31,15 @@ fn answers(line: &str, output: &str) {
     ends(line, 0, output, "");
 }
 
-/// The error is all that it writes.
+/// The text is bad: it gives an empty line.
 #[track_caller]
 fn refuses(line: &str, error: &str) {
+    ends(line, 1, "\n", &format!("base62: {error}\n"));
+}
+
+/// The error is all that it writes.
+#[track_caller]
+fn fails(line: &str, error: &str) {
     ends(line, 1, "", &format!("base62: {error}\n"));
 }
 
@@ -58,6 +64,7 @@ fn operands() {
         &format!("{0} {0}\n", u128::MAX),
     );
     answers("base62 range ''", &format!("0 {}\n", u128::MAX));
+    answers("base62 range -w5 000L 000M", "1302 1363\n1364 1425\n");
     // Standard input is not read then.
     answers("base62 encode 1337 <<<61", "LZ\n");
 }
@@ -73,6 +80,130 @@ fn lines() {
     answers("base62 decode </dev/null", "");
     answers("base62 encode -- <<<1337", "LZ\n");
     answers("base62 encode <&-", "");
+    answers(
+        r"printf '000L\n000M\r\n' | base62 range -w 5",
+        "1302 1363\n1364 1425\n",
+    );
+}
+
+/// As `wc -l`, `uniq -c` and `cut` of some systems write them.
+#[test]
+fn blanks_about_numbers() {
+    answers(r"printf ' \t 1337\t\n61  \r\n' | base62 encode", "LZ\nz\n");
+    answers("base62 encode '  1337 '", "LZ\n");
+    answers("base62 encode -x ' 0x539\t'", "LZ\n");
+    let uuid = "00000000-0000-0000-0000-000000000539";
+    answers(&format!("base62 encode -u '\t{uuid} '"), "LZ\n");
+    refuses("base62 encode '13 37'", &format!("13 37: {NO_NUMBER}"));
+    refuses("base62 encode $'5\\n'", &format!(r"5\n: {NO_NUMBER}"));
+    // A text is read as it is.
+    refuses(
+        "base62 decode ' LZ'",
+        " LZ: Encoded input contains the invalid byte b' ' at index 0",
+    );
+    refuses(
+        "base62 range 'L '",
+        "L : Encoded input contains the invalid byte b' ' at index 1",
+    );
+}
+
+/// Ids of `openssl rand -hex 16` and of traces. Python's `int` gives the number of the last.
+#[test]
+fn hexadecimal_numbers() {
+    for option in ["-x", "--hex", "-ux"] {
+        answers(&format!("base62 encode {option} 539 0x539"), "LZ\nLZ\n");
+        answers(&format!("base62 decode {option} LZ 00LZ"), "539\n539\n");
+    }
+    answers("base62 encode -x ff FF 0XfF 00ff", "47\n47\n47\n47\n");
+    answers("base62 encode -xw4 0", "0000\n");
+    answers("base62 decode -x 0", "0\n");
+    let (hex, decimal) = (
+        "4bf92f3577b34da6a3ce929d0e0e4736",
+        "100985939111033328018442752961257817910",
+    );
+    answers(
+        &format!("base62 encode -x {hex} | base62 decode -x"),
+        &format!("{hex}\n"),
+    );
+    answers(
+        &format!("base62 encode -x {hex} | base62 decode"),
+        &format!("{decimal}\n"),
+    );
+    answers(
+        &format!("base62 encode -x {}", "f".repeat(32)),
+        "7n42DGM5Tflk9n8mt7Fhc7\n",
+    );
+    let long = "0".repeat(33);
+    for wrong in ["0x", "g", "+5", "-5", "5h", "0x0x5", "5 5", &long] {
+        refuses(
+            &format!("base62 encode -x -- '{wrong}'"),
+            &format!("{wrong}: not 1 to 32 hexadecimal digits"),
+        );
+    }
+    refuses("base62 encode -x ''", "'': not 1 to 32 hexadecimal digits");
+}
+
+/// The empty line stands where the answer would, so `paste` keeps the rows together.
+#[test]
+fn a_line_for_each_text() {
+    let rows = r"printf '1337\nx\n61\n'";
+    answers(
+        &format!("{rows} | base62 encode 2>&- | paste -d, - <({rows})"),
+        "LZ,1337\n,x\nz,61\n",
+    );
+    ends("base62 decode LZ L- z 2>&-", 1, "1337\n\n61\n", "");
+    ends("base62 range -w 1 0 00 z 2>&-", 1, "0 0\n\n61 61\n", "");
+}
+
+#[test]
+fn names_of_files() {
+    let hint = |name| format!("base62 reads standard input: base62 {name} <FILE");
+    for (line, name) in [
+        ("encode", "encode"),
+        ("encode -x", "encode"),
+        ("decode", "decode"),
+        ("range", "range"),
+    ] {
+        refuses(&format!("base62 {line} -"), &format!("-: {}", hint(name)));
+        refuses(
+            &format!("base62 {line} /dev/null"),
+            &format!("/dev/null: {}", hint(name)),
+        );
+    }
+    refuses("base62 encode /", &format!("/: {NO_NUMBER}"));
+    refuses("base62 encode /nope", &format!("/nope: {NO_NUMBER}"));
+    refuses("base62 encode <<<-", &format!("line 1: {NO_NUMBER}"));
+    // What is good is answered.
+    let line = "folder=$(mktemp -d); trap 'rm -r $folder' EXIT; cd $folder; touch LZ";
+    answers(&format!("{line}; base62 decode LZ"), "1337\n");
+}
+
+/// The first line tells what another program might have been meant.
+#[test]
+fn lines_of_no_command() {
+    let expected = "base62: it answers lines such as `enc 1337` and `dec LZ`: try base62 --help\n";
+    let fault = "fault: unknown command\n";
+    for line in ["1337", "", "enc", "ENC 5", "encode 5", "\\xff"] {
+        let (line, two) = (format!("printf '{line}\\n"), fault.repeat(2));
+        ends(&format!("{line}' | base62"), 0, fault, expected);
+        ends(&format!("{line}x\\n' | base62"), 0, &two, expected);
+    }
+    for line in ["e", "enc", "encode"] {
+        ends(&format!("printf {line} | base62"), 0, fault, expected);
+    }
+    answers("base62 </dev/null", "");
+    for (line, answer) in [
+        ("enc 5", "5"),
+        ("alt 5", "5"),
+        ("dec 5", "5"),
+        ("adc 5", "5"),
+    ] {
+        let output = format!("{answer}\n{fault}");
+        answers(&format!("printf '{line}\\nx\\n' | base62"), &output);
+    }
+    answers("{ printf en; sleep .2; printf 'c 5\\n'; } | base62", "5\n");
+    let slow = "{ printf en; sleep .2; printf 'd 5\\n'; } | base62";
+    ends(slow, 0, fault, expected);
 }
 
 #[test]
@@ -123,17 +254,17 @@ fn help() {
         (
             "",
             "SUBCOMMAND",
-            "encode decode range -h, --help -V, --version",
+            "encode decode range help -h, --help -V, --version",
         ),
         (
             "encode",
             "encode",
-            "-a, --alternative -l, --letters -w, --width -u, --uuid",
+            "-a, --alternative -l, --letters -w, --width -u, --uuid -x, --hex",
         ),
         (
             "decode",
             "decode",
-            "-a, --alternative -l, --letters -s, --strict -u, --uuid",
+            "-a, --alternative -l, --letters -s, --strict -u, --uuid -x, --hex",
         ),
         (
             "range",
@@ -154,7 +285,10 @@ fn help() {
         for asked in ["-h", "--help --nope", "-ah", "--help"] {
             answers(&format!("base62 {arguments} {asked}"), &text);
         }
-        answers(&format!("base62 --help {arguments}"), &text);
+        for asked in ["--help", "-h -a", "help", "help help", "-a help", "help -h"] {
+            answers(&format!("base62 {asked} {arguments}"), &text);
+        }
+        assert!(arguments.is_empty() || text.contains("an empty line"));
         assert!(examples(&text) > 0);
     }
     let version = format!("base62 {}\n", env!("CARGO_PKG_VERSION"));
@@ -182,7 +316,21 @@ fn examples(text: &str) -> usize {
 fn wrong_arguments() {
     is_wrong("--nope", "there is no option --nope");
     is_wrong("encode --nope=5", "there is no option --nope");
-    is_wrong("encode -ax", "there is no option -x");
+    is_wrong("encode -az", "there is no option -z");
+    for wrong in [
+        "-h nope",
+        "--help nope",
+        "nope -h",
+        "help nope",
+        "help nope encode",
+    ] {
+        is_wrong(wrong, "there is no subcommand nope");
+    }
+    for option in ["help", "version", "hex", "strict"] {
+        let error = format!("--{option} takes no value");
+        is_wrong(&format!("--{option}=5"), &error);
+        is_wrong(&format!("encode --{option}= 5"), &error);
+    }
     is_wrong("encode -5", "there is no option -5");
     is_wrong("nope", "there is no subcommand nope");
     is_wrong("''", "there is no subcommand ''");
@@ -194,23 +342,24 @@ fn wrong_arguments() {
     is_wrong("decode -w 5", "decode has no option --width");
     is_wrong("range -s 5", "range has no option --strict");
     is_wrong("range -u 5", "range has no option --uuid");
-    is_wrong("range", "range takes one prefix");
-    is_wrong("range A B", "range takes one prefix");
+    is_wrong(
+        "range -wx 5 5",
+        "a width is a whole number from 1 on, not x",
+    );
+    is_wrong("range -x 5", "range has no option --hex");
     is_wrong("encode -w", "-w needs a value");
     is_wrong("encode --letters", "--letters needs a value");
     is_wrong("encode --uuid=5", "--uuid takes no value");
-    for width in ["0", "x", "", "-5", "+5", "18446744073709551616", "5 5"] {
+    for width in ["0", "00", "x", "", "-5", "+5", "=5", "5 5", "5.0"] {
         let shown = if width.is_empty() { "''" } else { width };
-        let most = usize::MAX;
-        is_wrong(
-            &format!("encode -w '{width}' 5"),
-            &format!("a width is 1 to {most}, not {shown}"),
-        );
-        is_wrong(
-            &format!("range --width='{width}' 5"),
-            &format!("a width is 1 to {most}, not {shown}"),
-        );
+        let error = format!("a width is a whole number from 1 on, not {shown}");
+        is_wrong(&format!("encode -w '{width}' 5"), &error);
+        is_wrong(&format!("range --width='{width}' 5"), &error);
     }
+    is_wrong(
+        "encode -w=4 5",
+        "a width is a whole number from 1 on, not =4",
+    );
     is_wrong("encode -l ${letters:1}", "there are 61 letters, not 62");
     is_wrong(
         "decode --letters=${letters}!",
@@ -243,6 +392,10 @@ fn bad_inputs() {
         "base62 encode -w 2 3844",
         "3844: its text has more than 2 letters",
     );
+    refuses(
+        "base62 encode -w 1 62",
+        "62: its text has more than 1 letter",
+    );
     for text in [
         "0x10",
         "+5",
@@ -257,7 +410,6 @@ fn bad_inputs() {
             &format!("{text}: {NO_NUMBER}"),
         );
     }
-    refuses("base62 encode ' 5'", &format!(" 5: {NO_NUMBER}"));
     refuses("base62 encode <<<''", &format!("line 1: {NO_NUMBER}"));
     refuses(
         "base62 decode <<<''",
@@ -269,13 +421,13 @@ fn bad_inputs() {
         r"line 1: Encoded input contains the invalid byte b'\r' at index 2",
     );
     // All others are answered, in order.
-    let mixed = format!("LZ\nbase62: line 2: {NO_NUMBER}\nbase62: line 3: {NO_NUMBER}\nz\n");
+    let mixed = format!("LZ\nbase62: line 2: {NO_NUMBER}\n\nbase62: line 3: {NO_NUMBER}\n\nz\n");
     let line = r"printf '1337\nx\n\n61' | base62 encode 2>&1";
     ends(line, 1, &mixed, "");
-    let mixed = "1337\nbase62: L-: Encoded input contains the invalid byte b'-' at index 1\n61\n";
+    let mixed = "1337\nbase62: L-: Encoded input contains the invalid byte b'-' at index 1\n\n61\n";
     ends("base62 decode LZ L- z 2>&1", 1, mixed, "");
     // The status alone tells it then.
-    ends("base62 decode LZ L- 2>&-", 1, "1337\n", "");
+    ends("base62 decode LZ L- 2>&-", 1, "1337\n\n", "");
 }
 
 #[test]
@@ -302,7 +454,7 @@ fn bytes_that_are_not_utf8() {
     is_wrong(&format!("--{byte}=5"), r"there is no option --\xff");
     is_wrong(
         &format!("encode -w {byte}"),
-        &format!(r"a width is 1 to {}, not \xff", usize::MAX),
+        r"a width is a whole number from 1 on, not \xff",
     );
     // What would control a terminal is shown.
     refuses(
@@ -379,11 +531,11 @@ const ALL: [&str; 7] = [
 #[test]
 fn a_full_device() {
     for arguments in ALL {
-        refuses(&format!("base62 {arguments} >/dev/full"), "write failed");
+        fails(&format!("base62 {arguments} >/dev/full"), "write failed");
     }
     let errors = format!("base62: x: {NO_NUMBER}\nbase62: write failed\n");
     ends("base62 encode x 5 >/dev/full", 1, "", &errors);
-    ends("base62 encode x 2>/dev/full", 1, "", "");
+    ends("base62 encode x 2>/dev/full", 1, "\n", "");
 }
 
 #[test]
@@ -405,7 +557,7 @@ fn a_closed_pipe() {
 
 #[test]
 fn a_failed_read() {
-    refuses("base62 decode </", "read failed");
+    fails("base62 decode </", "read failed");
 }
 
 /// What a terminal shows when it runs a line, whose input it gets from a redirection.
@@ -465,11 +617,14 @@ fn bounded_memory() {
         "yes 1337 | head -n 6000 | (ulimit -v 16384; base62 encode -w 10000) | wc -c",
         "60006000\n",
     );
+    let all = format!("0 {}\n", u128::MAX);
     let line =
         "(echo 1337; exec cat /dev/zero) 2>/dev/null | (ulimit -v 65536; exec base62 encode)";
     ends(line, 1, "LZ\n", "base62: out of memory\n");
-    refuses(
-        "(ulimit -v 65536; base62 encode -w 100000000 5)",
-        "out of memory",
-    );
+    for width in ["100000000", "18446744073709551615", "18446744073709551616"] {
+        let line = format!("(ulimit -v 65536; base62 encode -w {width} 5)");
+        fails(&line, "out of memory");
+    }
+    // So wide a text has zeros in front of all its letters.
+    answers("base62 range -w 18446744073709551616 0", &all);
 }

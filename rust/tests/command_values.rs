@@ -51,13 +51,14 @@ fn each_is_answered(arguments: &[String], lines: &[Vec<u8>], answers: &[Vec<u8>]
 
 #[track_caller]
 fn each_is_refused(arguments: &[String], lines: &[Vec<u8>], errors: &[String]) {
+    let empty = vec![Vec::new(); errors.len()];
     let errors = (1..)
         .zip(errors)
         .map(|(number, error)| format!("base62: line {number}: {error}"))
         .collect();
     assert_eq!(
         answer_lines(arguments, lines),
-        (1, Vec::new(), errors),
+        (1, empty, errors),
         "{arguments:?}"
     );
 }
@@ -150,6 +151,11 @@ fn each_width(rows: &[Vec<&str>], place: usize, test: impl Fn(&str, &[Vec<&str>]
     }
 }
 
+fn more_than(width: &str) -> String {
+    let plural = if width == "1" { "" } else { "s" };
+    format!("its text has more than {width} letter{plural}")
+}
+
 #[test]
 fn values_of_widths() {
     each("fixed", |options, rows| {
@@ -160,7 +166,7 @@ fn values_of_widths() {
     });
     each("narrow", |options, rows| {
         each_width(rows, 2, |width, rows| {
-            let errors = vec![format!("its text has more than {width} letters"); rows.len()];
+            let errors = vec![more_than(width); rows.len()];
             each_is_refused(
                 &with(&["encode", "-w", width], options),
                 &column(rows, 1),
@@ -203,7 +209,7 @@ fn values_of_ranges() {
                 let error = error.replace("62: : ", "62: '': ");
                 assert_eq!(
                     range(options, width, &prefix),
-                    [String::new(), error],
+                    ["\n".into(), error],
                     "{row:?}"
                 );
             }
@@ -217,6 +223,25 @@ fn values_of_uuids() {
     let (uuids, texts) = (column(&rows, 1), column(&rows, 2));
     each_is_answered(&with(&["encode", "-u"], &[]), &uuids, &texts);
     each_is_answered(&with(&["decode", "-u"], &[]), &texts, &uuids);
+}
+
+/// The numbers of texts in hexadecimal, as Rust shows them.
+#[test]
+fn values_of_hexadecimal() {
+    each("encode", |options, rows| {
+        let number = |row: &Vec<&str>| row[1].parse::<u128>().unwrap();
+        let shown = rows
+            .iter()
+            .map(|row| format!("{:x}", number(row)).into_bytes());
+        let (numbers, texts) = (shown.collect::<Vec<_>>(), column(rows, 2));
+        each_is_answered(&with(&["encode", "-x"], options), &numbers, &texts);
+        each_is_answered(&with(&["decode", "-x"], options), &texts, &numbers);
+        let filled = rows
+            .iter()
+            .map(|row| format!("0X{:032X}", number(row)).into_bytes());
+        let filled: Vec<_> = filled.collect();
+        each_is_answered(&with(&["encode", "--hex"], options), &filled, &texts);
+    });
 }
 
 #[test]

@@ -36,15 +36,20 @@ fn the_caller_is_told() {
         let said = "the alphabet repeats a letter";
         panics_here(said, || Alphabet::of(letters));
     }
-    let own = Alphabet::of(support::high_letters());
     let said = "the letters of the alphabet are not all ASCII";
-    panics_here(said, || base62::encode_with(&own, 7_u8));
-    panics_here(said, || base62::encode_fmt_with(&own, 7_u8).to_string());
-    for room in [0, 30] {
-        let mut buf = String::with_capacity(room);
-        buf.push('é');
-        let capacity = buf.capacity();
-        panics_here(said, || base62::encode_buf_with(&own, 7_u8, &mut buf));
-        assert_eq!((buf.as_str(), buf.capacity()), ("é", capacity));
+    for (place, byte) in (0..62).flat_map(|place| [128, 194, 255].map(|byte| (place, byte))) {
+        let mut letters = *support::STANDARD;
+        letters[place] = byte;
+        let own = Alphabet::of(letters);
+        panics_here(said, || base62::encode_with(&own, 7_u8));
+        panics_here(said, || base62::encode_uuid_with(&own, [7; 16]));
+        panics_here(said, || base62::encode_fmt_with(&own, 7_u8));
+        for room in [0, 30] {
+            let mut buf = String::with_capacity(room);
+            buf.push('é');
+            let capacity = buf.capacity();
+            panics_here(said, || base62::encode_buf_with(&own, 7_u8, &mut buf));
+            assert_eq!((buf.as_str(), buf.capacity()), ("é", capacity));
+        }
     }
 }

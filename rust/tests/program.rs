@@ -85,8 +85,8 @@ fn input_that_fails() {
 fn output_that_fails() {
     fails(r#""$program" <<<"$input" >/dev/full"#, "write failed", "");
     // The file takes 1024 bytes, which end within a reply.
-    let output = ["fault: unknown command\n"; 44].concat() + "fault: unkno";
-    let line = r#"trap "" XFSZ; ulimit -f 1; printf 'foo\n%.0s' {1..100} | "$program" >$file"#;
+    let output = ["fault: not a number\n"; 51].concat() + "faul";
+    let line = r#"trap "" XFSZ; ulimit -f 1; printf 'enc x\n%.0s' {1..100} | "$program" >$file"#;
     let line = in_a_file(&format!("{line}; status=$?; cat $file; exit $status"));
     assert_eq!(run(&line), (Some(1), output, told("write failed")));
     // The one reader of the pipe is gone before the program writes.

@@ -23,6 +23,8 @@ struct Calls {
     #[cfg(feature = "alloc")]
     encode: fn(&Alphabet, u128) -> String,
     #[cfg(feature = "alloc")]
+    encode_uuid: fn(&Alphabet, Uuid) -> String,
+    #[cfg(feature = "alloc")]
     encode_buf: fn(&Alphabet, u128, &mut String),
     #[cfg(feature = "std")]
     encode_io: fn(&Alphabet, u128, &mut dyn std::io::Write) -> std::io::Result<()>,
@@ -30,7 +32,8 @@ struct Calls {
 
 macro_rules! calls {
     ($alphabet:ident: $encode_bytes:ident $encode_fixed:ident $encode_fmt:ident $decode:ident $decode_canonical:ident
-     $decode_uuid:ident $decode_uuid_canonical:ident $encode:ident $encode_buf:ident $encode_io:ident $(, $own:ident)?) => {
+     $decode_uuid:ident $decode_uuid_canonical:ident $encode:ident $encode_uuid:ident
+     $encode_buf:ident $encode_io:ident $(, $own:ident)?) => {
         Calls {
             encode_bytes: |$alphabet, num, buf| base62::$encode_bytes($($own,)? num, buf),
             encode_fixed: |$alphabet, num, places| base62::$encode_fixed($($own,)? num, places),
@@ -42,6 +45,8 @@ macro_rules! calls {
             #[cfg(feature = "alloc")]
             encode: |$alphabet, num| base62::$encode($($own,)? num),
             #[cfg(feature = "alloc")]
+            encode_uuid: |$alphabet, uuid| base62::$encode_uuid($($own,)? uuid),
+            #[cfg(feature = "alloc")]
             encode_buf: |$alphabet, num, buf| base62::$encode_buf($($own,)? num, buf),
             #[cfg(feature = "std")]
             encode_io: |$alphabet, num, w| base62::$encode_io($($own,)? num, w),
@@ -50,12 +55,12 @@ macro_rules! calls {
 }
 
 const OF_STANDARD: Calls = calls!(_own: encode_bytes encode_fixed encode_fmt decode decode_canonical decode_uuid
-    decode_uuid_canonical encode encode_buf encode_io);
+    decode_uuid_canonical encode encode_uuid encode_buf encode_io);
 const OF_ALTERNATIVE: Calls = calls!(_own: encode_alternative_bytes encode_alternative_fixed encode_fmt_alt
     decode_alternative decode_alternative_canonical decode_alternative_uuid decode_alternative_uuid_canonical
-    encode_alternative encode_alternative_buf encode_alternative_io);
+    encode_alternative encode_alternative_uuid encode_alternative_buf encode_alternative_io);
 const OF_OWN: Calls = calls!(own: encode_bytes_with encode_fixed_with encode_fmt_with decode_with decode_canonical_with
-    decode_uuid_with decode_uuid_canonical_with encode_with encode_buf_with encode_io_with, own);
+    decode_uuid_with decode_uuid_canonical_with encode_with encode_uuid_with encode_buf_with encode_io_with, own);
 
 /// Hands each row of a kind, from its second field on, to a test of each set of calls that its alphabet has.
 fn each(kind: &str, test: impl Fn(&Calls, &Alphabet, &[&str])) {
@@ -107,6 +112,8 @@ fn strings() {
         if alphabet.is_ascii() {
             let (num, text) = (number(row[0]), String::from_utf8(bytes(row[1])).unwrap());
             let encoded = (calls.encode)(alphabet, num);
+            assert_eq!((&encoded, encoded.capacity()), (&text, text.len()));
+            let encoded = (calls.encode_uuid)(alphabet, num.to_be_bytes());
             assert_eq!((&encoded, encoded.capacity()), (&text, text.len()));
             for spare in [0, text.len() - 1, text.len(), 22] {
                 let mut buf = String::with_capacity(2 + spare);
@@ -247,6 +254,8 @@ fn uuids() {
         assert_eq!(num, u128::from_be_bytes(uuid));
         assert_eq!(base62::decode_uuid(&text), Ok(uuid));
         assert_eq!(base62::decode_uuid_canonical(&text), Ok(Some(uuid)));
+        #[cfg(feature = "alloc")]
+        assert_eq!(base62::encode_uuid(uuid).as_bytes(), text);
     }
 }
 

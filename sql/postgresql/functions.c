@@ -42,6 +42,34 @@ static base62_number uuid_at(FunctionCallInfo fcinfo, int place) {
     return base62_number_of_uuid(PG_GETARG_UUID_P(place)->data);
 }
 
+/* The bytes of a text. PostgreSQL 17's macro mixes int and size_t. */
+#pragma GCC diagnostic push
+#pragma GCC diagnostic ignored "-Wsign-conversion"
+static size_t length_of(const text *given) {
+    return VARSIZE_ANY_EXHDR(given);
+}
+#pragma GCC diagnostic pop
+
+/* Each part of 32 bits is the remainder of what is left, from the last part to the first. */
+static base62_number numeric_at(FunctionCallInfo fcinfo, int place) {
+    Numeric given = PG_GETARG_NUMERIC(place);
+    Datum span = NumericGetDatum(int64_to_numeric(INT64CONST(1) << 32)), left = NumericGetDatum(given);
+    Datum zero = NumericGetDatum(int64_to_numeric(0)), one = NumericGetDatum(int64_to_numeric(1));
+    uint64_t parts[4];
+    bool whole = !numeric_is_nan(given) && !numeric_is_inf(given) &&
+                 DatumGetBool(DirectFunctionCall2(numeric_ge, left, zero)) &&
+                 DatumGetBool(DirectFunctionCall2(numeric_eq, DirectFunctionCall2(numeric_mod, left, one), zero));
+    for (size_t i = lengthof(parts); whole && i-- > 0;) {
+        Datum part = DirectFunctionCall2(numeric_mod, left, span);
+        parts[i] = (uint64_t)DatumGetInt64(DirectFunctionCall1(numeric_int8, part));
+        left = DirectFunctionCall2(numeric_div_trunc, left, span);
+    }
+    if (!whole || !DatumGetBool(DirectFunctionCall2(numeric_eq, left, zero)))
+        ereport(ERROR, (errcode(ERRCODE_NUMERIC_VALUE_OUT_OF_RANGE),
+                        errmsg("a number is an integer from 0 to 2^128 - 1")));
+    return (base62_number){.high = parts[0] << 32 | parts[1], .low = parts[2] << 32 | parts[3]};
+}
+
 /* Letters, and the alphabet that was made of them. */
 typedef struct {
     char letters[BASE62_ALPHABET_LENGTH];
@@ -62,7 +90,7 @@ static const base62_alphabet *alphabet_at(FunctionCallInfo fcinfo, int place) {
     kept = function->fn_extra;
     given = PG_GETARG_TEXT_PP(place);
     letters = VARDATA_ANY(given);
-    length = VARSIZE_ANY_EXHDR(given);
+    length = length_of(given);
     if (kept == NULL || length != sizeof kept->letters || memcmp(kept->letters, letters, length) != 0) {
         base62_alphabet made;
         refusal why;
@@ -112,8 +140,7 @@ static Datum encoded_fixed(FunctionCallInfo fcinfo, base62_number number) {
 /* Whether the first argument, a text, is accepted over the second, an alphabet. */
 static bool decodes(FunctionCallInfo fcinfo, bool canonical, base62_number *number, refusal *why) {
     const text *given = PG_GETARG_TEXT_PP(0);
-    return decode_own_or_standard(alphabet_at(fcinfo, 1), VARDATA_ANY(given), VARSIZE_ANY_EXHDR(given), canonical,
-                                  number, why);
+    return decode_own_or_standard(alphabet_at(fcinfo, 1), VARDATA_ANY(given), length_of(given), canonical, number, why);
 }
 
 static base62_number decoded(FunctionCallInfo fcinfo, bool canonical) {
@@ -128,7 +155,7 @@ static Datum decoded_int8(FunctionCallInfo fcinfo, bool canonical) {
     int64_t whole;
     if (!int64_of_number(decoded(fcinfo, canonical), &whole))
         ereport(ERROR, (errcode(ERRCODE_NUMERIC_VALUE_OUT_OF_RANGE), errmsg("bigint out of range"),
-                        errhint("base62_decode_uuid takes numbers up to 2^128 - 1.")));
+                        errhint("base62_decode_uuid and base62_decode_numeric take numbers up to 2^128 - 1.")));
     PG_RETURN_INT64(whole);
 }
 
@@ -151,6 +178,10 @@ static Datum numeric_of(base62_number number) {
     return sum;
 }
 
+static Datum decoded_numeric(FunctionCallInfo fcinfo, bool canonical) {
+    return numeric_of(decoded(fcinfo, canonical));
+}
+
 /* The numbers with a prefix, the first argument, among texts of a width, the second, over an alphabet, the third.
  * Answers whether there are any. */
 static bool range_at(FunctionCallInfo fcinfo, base62_range *range) {
@@ -159,7 +190,7 @@ static bool range_at(FunctionCallInfo fcinfo, base62_range *range) {
     const base62_alphabet *alphabet = alphabet_at(fcinfo, 2);
     bool none;
     refusal why;
-    if (!range_of_prefix(alphabet, VARDATA_ANY(prefix), VARSIZE_ANY_EXHDR(prefix), width, range, &none, &why))
+    if (!range_of_prefix(alphabet, VARDATA_ANY(prefix), length_of(prefix), width, range, &none, &why))
         refuse(&why);
     return !none;
 }
@@ -198,6 +229,11 @@ Datum pg_base62_encode_uuid(PG_FUNCTION_ARGS) {
     return encoded(fcinfo, uuid_at(fcinfo, 0));
 }
 
+PG_FUNCTION_INFO_V1(pg_base62_encode_numeric);
+Datum pg_base62_encode_numeric(PG_FUNCTION_ARGS) {
+    return encoded(fcinfo, numeric_at(fcinfo, 0));
+}
+
 PG_FUNCTION_INFO_V1(pg_base62_decode_int8);
 Datum pg_base62_decode_int8(PG_FUNCTION_ARGS) {
     return decoded_int8(fcinfo, false);
@@ -208,6 +244,11 @@ Datum pg_base62_decode_uuid(PG_FUNCTION_ARGS) {
     return decoded_uuid(fcinfo, false);
 }
 
+PG_FUNCTION_INFO_V1(pg_base62_decode_numeric);
+Datum pg_base62_decode_numeric(PG_FUNCTION_ARGS) {
+    return decoded_numeric(fcinfo, false);
+}
+
 PG_FUNCTION_INFO_V1(pg_base62_decode_int8_canonical);
 Datum pg_base62_decode_int8_canonical(PG_FUNCTION_ARGS) {
     return decoded_int8(fcinfo, true);
@@ -216,6 +257,11 @@ Datum pg_base62_decode_int8_canonical(PG_FUNCTION_ARGS) {
 PG_FUNCTION_INFO_V1(pg_base62_decode_uuid_canonical);
 Datum pg_base62_decode_uuid_canonical(PG_FUNCTION_ARGS) {
     return decoded_uuid(fcinfo, true);
+}
+
+PG_FUNCTION_INFO_V1(pg_base62_decode_numeric_canonical);
+Datum pg_base62_decode_numeric_canonical(PG_FUNCTION_ARGS) {
+    return decoded_numeric(fcinfo, true);
 }
 
 PG_FUNCTION_INFO_V1(pg_base62_is_text);
@@ -281,4 +327,15 @@ Datum pg_base62_range_first_numeric(PG_FUNCTION_ARGS) {
 PG_FUNCTION_INFO_V1(pg_base62_range_last_numeric);
 Datum pg_base62_range_last_numeric(PG_FUNCTION_ARGS) {
     return end_of_range_numeric(fcinfo, true);
+}
+
+PG_FUNCTION_INFO_V1(pg_base62_encode_fixed_numeric);
+Datum pg_base62_encode_fixed_numeric(PG_FUNCTION_ARGS) {
+    return encoded_fixed(fcinfo, numeric_at(fcinfo, 0));
+}
+
+PG_FUNCTION_INFO_V1(pg_base62_version);
+Datum pg_base62_version(PG_FUNCTION_ARGS) {
+    (void)fcinfo;
+    PG_RETURN_TEXT_P(cstring_to_text(BASE62_VERSION));
 }

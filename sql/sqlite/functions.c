@@ -230,6 +230,12 @@ static void range_end(sqlite3_context *context, int count, sqlite3_value **given
         sqlite3_result_int64(context, whole);
 }
 
+static void version(sqlite3_context *context, int count, sqlite3_value **given) {
+    (void)count;
+    (void)given;
+    sqlite3_result_text(context, BASE62_VERSION, -1, SQLITE_STATIC);
+}
+
 /* The extension */
 
 static int create_functions(sqlite3 *db) {
@@ -265,6 +271,7 @@ static int create_functions(sqlite3 *db) {
         {"base62_range_first", 3, NULL, range_end},
         {"base62_range_last", 2, &last, range_end},
         {"base62_range_last", 3, &last, range_end},
+        {"base62_version", 0, NULL, version},
     };
     int status = SQLITE_OK;
     for (size_t i = 0; status == SQLITE_OK && i < sizeof functions / sizeof *functions; i++)

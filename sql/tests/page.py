@@ -26,7 +26,7 @@ COMMANDS = {
 }
 # What is printed otherwise than on the page: errors, whose line and place in the source the page leaves out.
 WRITTEN = {
-    "sqlite": [(r"^Runtime error near line \d+", "Runtime error")],
+    "sqlite": [(r"^(Runtime error|Error) near line \d+", "Runtime error")],
     "postgresql": [(r"^ERROR:  ", "ERROR "), (r"^(LOCATION|[A-Z]+ NAME): .*\n", ""), (r" at character \d+$", "")],
 }
 

@@ -106,6 +106,12 @@ CASES = [
     ("a slice of its reference", 3, True,
      "fn size(x: &mut [u8]) -> u64 { let y = &mut *x; y.len() as u64 }\n",
      "let mut x = [0u8; 3]; size(&mut x) + n - 5"),
+    ("a reference to a list in a result", 14, False,
+     "fn two() -> &'static [u8; 2] { &[7, 9] }\n", "two()[1] as u64 + n"),
+    ("a reference to a list in a field", 14, False,
+     "struct Held { of: &'static [u8; 2] }\nfn two() -> Held { Held { of: &[7, 9] } }\n", "two().of[1] as u64 + n"),
+    ("a reference to a list in a block", 14, False, "",
+     "let mut x: &[u8; 2] = &[7, 8]; if n > 3 { x = &[7, 9]; } x[1] as u64 + n"),
     # Arrays.
     ("an array literal as a value", 53, True,
      "fn three(a: u8) -> [u8; 3] { [a, 2, 3] }\nstruct Held { bytes: [u8; 3] }\n",
@@ -147,6 +153,7 @@ CASES = [
     ("a literal with a zero before it", 15, True, "", "n + 010"),
     ("a literal that is an int in C", 4000000005, True, "", "u64::from(2000000000_u64) + 2000000000 + n"),
     ("a literal that is shifted", 5, False, "", "let k: u32 = 40; (1_u64 >> k) + n"),
+    ("a shift by a literal of no written type", 7, False, "", "let mut k = 300; k += 1; (n >> (k - 300)) + n"),
     ("`true` in a pattern", 7, True, "", "let b = n > 9; match b { true => 3, false => 7 }"),
     ("`true` as a value", 1, True, "fn yes() -> bool { true }\n", "if yes() { return 1; } n"),
     ("a match of 128 bits", 2, True, "", "let w = n as u128; match w { 0 => 1, 1..=5 => 2, _ => 3 }"),
@@ -196,6 +203,79 @@ CLAUSES = [
     ("2 ^ 6 < 62", "n: u64", None, None),
     ("62 < 2 ^ 6", "n: u64", "", ""),
 ]
+
+
+OF_TEXTS = """use std::fmt::InlineText;
+
+const MOST: usize = 77;
+
+fn more(text: InlineText<MOST>, part: &str) -> InlineText<MOST> { text.and_str(part, MOST) }
+fn length_of(text: InlineText<MOST>) -> u64 { text.as_str().len() as u64 }
+fn code(text: &str) -> u64 { code_of(text.as_bytes()) }
+fn code_of(x: &[u8]) -> u64 {
+    let mut sum: u64 = 0;
+    for i in 0..x.len() { sum = sum * 256 + x[i] as u64; }
+    sum
+}
+"""
+# The same of texts, which C writes in one place. What reads a text after it is moved is refused.
+TEXTS = [
+    ("two parts", 0x616263, True, OF_TEXTS, 'let text = more(more(InlineText::new(), "ab"), "c"); code(text.as_str())'),
+    ("two texts", 97098, True, OF_TEXTS, 'let a = more(InlineText::new(), "a"); let b = more(InlineText::new(), "b");\n'
+     "code(a.as_str()) * 1000 + code(b.as_str())"),
+    ("a text that a function moves on", 0x6162, True, OF_TEXTS
+     + 'fn both(text: InlineText<MOST>) -> InlineText<MOST> { let first = more(text, "a"); more(first, "b") }\n',
+     "let text = both(InlineText::new()); code(text.as_str())"),
+    ("a text of an arm", 0x6163, True, OF_TEXTS + "fn either(text: InlineText<MOST>, n: u64) -> InlineText<MOST> {\n"
+     '    match n { 5 => more(text, "a"), 6 => text, _ => more(text, "b") }\n}\n',
+     'let text = more(either(InlineText::new(), n), "c"); code(text.as_str())'),
+    ("a text of a branch", 120, True, OF_TEXTS + "fn made(n: u64) -> InlineText<MOST> {\n"
+     '    if n == 5 { more(InlineText::new(), "x") } else { InlineText::new() }\n}\n',
+     "let text = made(n); code(text.as_str())"),
+    ("a text that is moved to its end", 2, True, OF_TEXTS, 'length_of(more(InlineText::new(), "ab"))'),
+    ("a text that is read after it is moved", 120, False, OF_TEXTS,
+     'let a = InlineText::new(); let b = more(a, "x"); code(a.as_str()) + code(b.as_str())'),
+    ("a text that is moved twice", 241, False, OF_TEXTS, "let a = InlineText::new();\n"
+     'let b = more(a, "x"); let c = more(a, "y"); code(b.as_str()) + code(c.as_str())'),
+    ("a text that is borrowed before", 120 + 0x7879, False, OF_TEXTS, 'let a = more(InlineText::new(), "x");\n'
+     'let s = a.as_str(); let b = more(a, "y"); code(s) + code(b.as_str())'),
+    ("a text behind itself", 0x7878, False, OF_TEXTS,
+     'let a = more(InlineText::new(), "x"); let b = more(a, a.as_str()); code(b.as_str())'),
+    ("a text that a loop moves", 2, False, OF_TEXTS, 'let a = more(InlineText::new(), "x");\n'
+     "let mut t: u64 = 0; while t < 2 { t += length_of(a); } t"),
+    ("a text that a branch moves", 240, False, OF_TEXTS, 'let a = more(InlineText::new(), "x"); let mut t: u64 = 0;\n'
+     'if n == 5 { let b = more(a, "y"); t = code(b.as_str()) - 0x7879 + 120; } t + code(a.as_str())'),
+    ("another text than that of the parameter", 120, False, OF_TEXTS
+     + "fn copied(text: InlineText<MOST>) -> InlineText<MOST> { more(InlineText::new(), text.as_str()) }\n",
+     'let a = copied(more(InlineText::new(), "x")); code(a.as_str())'),
+    ("a text of a variable of its own", 120, False, OF_TEXTS
+     + 'fn made() -> InlineText<MOST> { let a = InlineText::new(); more(a, "x") }\n',
+     "let a = made(); code(a.as_str())"),
+    ("a text behind a reference", 120, False, OF_TEXTS
+     + 'fn copied(text: &InlineText<MOST>) -> InlineText<MOST> { more(*text, "x") }\n',
+     "let a = InlineText::new(); let b = copied(&a); code(b.as_str())"),
+    ("a text that is assigned anew", 120, False, OF_TEXTS,
+     'let mut a = InlineText::new(); a = more(a, "x"); code(a.as_str())'),
+    ("two texts that are moved", 120, False, OF_TEXTS
+     + "fn first(a: InlineText<MOST>, b: InlineText<MOST>) -> InlineText<MOST> { a.and_str(b.as_str(), MOST) }\n",
+     'let a = first(InlineText::new(), more(InlineText::new(), "x")); code(a.as_str())'),
+    ("a text in an answer", 0, False, OF_TEXTS + "fn none() -> Option<InlineText<MOST>> { None }\n",
+     "let text = none(); match text { Some(_) => 1, None => 0 }"),
+    ("a text that nothing reads", 0, False, OF_TEXTS, 'more(InlineText::new(), "x"); 0'),
+]
+
+
+# A call whose counted call has its parameters in another order: its body is not the twin's. Both translators refuse it.
+NO_TWIN = """use crate::work::Work;
+
+pub fn minus_counted(b: u64, a: u64, work: &mut Work) -> u64 {
+    a - b
+}
+
+pub fn minus(a: u64, b: u64) -> u64 {
+    minus_counted(a, b, &mut Work::new())
+}
+"""
 
 
 def modules_of_case(before, body):

@@ -15,7 +15,7 @@ import unittest
 ROOT = pathlib.Path(__file__).resolve().parents[2]
 sys.path[:0] = [str(ROOT / "translate"), str(ROOT / "translate" / "tests")]
 
-from cases import CASES, CLAUSES, modules_of_case, modules_of_clause  # noqa: E402: it is in the folder of the tests
+from cases import CASES, CLAUSES, NO_TWIN, TEXTS, modules_of_case, modules_of_clause  # noqa: E402: it is there
 from to_c.file import written  # noqa: E402: it is found by the line before
 
 HEADER = next(path for path in (ROOT / "c" / "base62.h", ROOT / "include" / "base62.h") if path.exists())
@@ -82,6 +82,14 @@ REFUSALS = [
     ("a file without an end", DECODER, "    let mut done = 0;", "    let mut done = 0;\n}\npub"),
     ("a type that C does not have", DECODER, "    let mut done = 0;", "    let mut done: u16 = 0;"),
     ("a slice in an answer", "canonical.rt", "Result<Option<u128>, DecodeError>", "Result<Option<&[u8]>, DecodeError>"),
+    ("a carriage return", "codec.rt", "    encode_over(standard", "    // The text.\r    encode_over(standard"),
+    ("a carriage return in the header", "base62.h", "uint64_t low;\n", "uint64_t low;\r\n"),
+    ("a tabulator", "codec.rt", "    encode_over(standard", "\tencode_over(standard"),
+    ("a trait's method with a name of std", "alphabet.rt", "impl Eq for Alphabet {",
+     "impl Eq for Alphabet {\n    fn len(&self) -> usize {\n        1\n    }\n"),
+    ("an argument of the counter", "alphabet/tables.rt", "work.tick();", "work.tick(self.letters[0]);"),
+    ("an argument of a new counter", "canonical.rt", "&mut Work::new()", "&mut Work::new(zeros)"),
+    ("parameters in another order", "codec.rt", "counted(num, buf, &mut Work", "counted(buf, num, &mut Work"),
     ("another result in the header", "base62.h", "size_t base62_digit_count(", "int base62_digit_count("),
     ("another parameter in the header", "base62.h", "char *buffer, size_t size)", "char *buffer, int size)"),
     ("a parameter less in the header", "base62.h", ", base62_range *range, base62_bad_byte *bad);",
@@ -144,8 +152,6 @@ MISTAKES = [
     ("a compound assignment is a plain one", "gcc", "writer.py", "{found.text} {node.op} {value}",
      "{found.text} = {value}"),
     ("all operators bind alike", "gcc", "syntax.py", '"*": 9, "/": 9, "%": 9', '"*": 8, "/": 8, "%": 8'),
-    ("two twins have one body", "gcc", "writer.py", "definitions.get(str(node.callee.path[0]))",
-     "definitions.get(str(node.callee.path[0]).replace(\"alternative_\", \"\"))"),
     ("a variable of 64 bits is as wide as an address", "32 bits", "values.py", "declared(of, name)} = {text};\")",
      "declared(of, name)} = {text};\".replace(\"uint64_t\", \"size_t\"))"),
     ("saturating_add wraps", "gcc", "prelude.c", "u128_less(sum, a) ? u128_sub(u128_of(0), u128_of(1)) : sum", "sum"),
@@ -155,7 +161,12 @@ MISTAKES = [
     ("wrapping_add has no carry", "gcc", "prelude.c", "return a + b; }\n\n/*", "return a ^ b; }\n\n/*"),
     ("checked_add never overflows", "gcc", "prelude.c", ".is_some = !u128_less(sum, a)", ".is_some = true"),
     ("the bytes of a number begin with the lowest", "gcc", "prelude.c", "bytes[i - 1] =", "bytes[16 - i] ="),
-    ("a text does not grow", "gcc", "prelude.c", "text.length += part_length;", "text.length += 0;"),
+    ("a text does not grow", "gcc", "prelude.c", "text->length += part_length;", "text->length += 0;"),
+    ("a part is written to the start of a text", "gcc", "prelude.c", "text->bytes + text->length", "text->bytes"),
+    ("a new text is not empty", "gcc", "prelude.c", "result->length = 0;", "result->length = 1;"),
+    ("a constant text ends with a byte 0", "gcc", "prelude.c", "text, sizeof(text) - 1", "text, sizeof(text)"),
+    ("the text of an arm is followed by that of the next one", "gcc", "writer.py",
+     "if self.text_place and not is_last:", "if False:"),
     ("the lesser of two is the greater", "gcc", "prelude.c", "return a < b ? a : b;", "return a < b ? b : a;"),
     ("the sum of structs has no carry", "a struct for u128", "prelude.c", "a.high + b.high + (low < a.low)",
      "a.high + b.high"),
@@ -213,9 +224,6 @@ def holds(compiler, tests, file=None, old="", new=""):
 
 
 class Refusals(unittest.TestCase):
-    def test_committed(self):
-        self.assertTrue((ROOT / "c" / "base62.c").read_text() == written(ROOT), "run translate/c, and commit base62.c")
-
     def test_forms(self):
         with tempfile.TemporaryDirectory() as name:
             folder = pathlib.Path(name)
@@ -242,7 +250,7 @@ class Refusals(unittest.TestCase):
 
 
 class Cases(unittest.TestCase):
-    HEADER = "#include <stdint.h>\nuint64_t base62_run(uint64_t n);\n"
+    HEADER = "#include <stdint.h>\n#define BASE62_MAX_FAULT_TEXT 77\nuint64_t base62_run(uint64_t n);\n"
     MAIN = ('#include <stdio.h>\n#include "base62.h"\n'
             'int main(void) { printf("%llu", (unsigned long long)base62_run(5)); }\n')
 
@@ -276,7 +284,7 @@ class Cases(unittest.TestCase):
         self.assertRegex(str(ended.exception), r"^[^\n]*\.rt:\d+: [^\n]*$")
 
     def test_cases(self):
-        for what, answer, is_known, before, body in CASES:
+        for what, answer, is_known, before, body in CASES + TEXTS:
             with self.subTest(what):
                 if not is_known:
                     self.assert_refused(modules_of_case(before, body))
@@ -284,6 +292,13 @@ class Cases(unittest.TestCase):
                 text = self.library(modules_of_case(before, body))
                 for flags in (["-fsanitize=undefined"], ["-DBASE62_NO_INT128"])[:1 + ("u128" in before + body)]:
                     self.assertEqual(self.answer(flags, text), answer)
+
+    def test_what_is_no_twin(self):
+        work = {"work": "pub struct Work {\n    before: Snapshot<Option<Work>>,\n}\n"}
+        twin = NO_TWIN.replace("b: u64, a: u64, work", "a: u64, b: u64, work")
+        self.assertEqual(self.answer([], self.library(modules_of_case(twin, "minus(n, 2)") | work)), 3)
+        for text in NO_TWIN, twin.replace("(a, b, &mut", "(b, a, &mut"):
+            self.assert_refused(modules_of_case(text, "minus(n, 2)") | work)
 
     def test_clauses(self):
         for clause, parameter, said, _ in CLAUSES:

@@ -1,18 +1,16 @@
-"""Tests of translate/rust: what it writes, what it refuses, and that a mistake in it is found by what is tested."""
-import os
+"""Tests of translate/rust: what it writes, what it refuses, and that the judge finds a mistake in it."""
 import re
 import shutil
 import subprocess
 import sys
 import tempfile
 import unittest
-from concurrent.futures import ThreadPoolExecutor
 from pathlib import Path
 
 TOP = Path(__file__).resolve().parents[2]
 sys.path.insert(0, str(TOP / "translate/tests"))
 
-from cases import CASES, CLAUSES, modules_of_case, modules_of_clause  # noqa: E402: it is found by the line before
+from cases import CASES, CLAUSES, NO_TWIN, modules_of_case, modules_of_clause  # noqa: E402: it is found by the line before
 
 # Edits of the source: a file of crates, what stands there, and what comes in its place. Each is refused.
 REFUSED = [
@@ -49,6 +47,9 @@ REFUSED = [
     ("base62/src/target.rt", "If that is refused, `buf` stays as it was.", "If that is refused, `buf` stays."),
     ("base62/src/target.rt", 'assert_eq!(rt; text.as_str(), "1LY7VK");', "rt.run();"),
     ("base62/src/codec.rt", "encode_bytes_counted(num, buf, &mut", "encode_bytes_counted(buf, num, &mut"),
+    ("base62/src/codec.rt", "    encode_over(standard", "    // The text.\r    encode_over(standard"),
+    ("base62/src/codec.rt", "    encode_over(standard", "    // The text.\N{LINE SEPARATOR}\n    encode_over(standard"),
+    ("base62/src/codec.rt", "    encode_over(standard", "\tencode_over(standard"),
     ("base62/src/codec.rt", "    ensures { EncodesInto", "    requires { 5 ≤ num }\n    ensures { EncodesInto"),
     ("base62/src/codec.rt", "decode_over(standard_tables(), input, w", "decode_over(input, input, w"),
     ("base62/src/text.rt", "use std::str;", "use std::snapshot::Snapshot;"),
@@ -71,7 +72,7 @@ MISTAKES = {
     "a test of an alphabet is dropped": ("self.panic_of(item)[1] if", "[] if"),
     "the place of a panic is lost": ('attributes.append("#[track_caller]")', "pass"),
     "parameters are exchanged": ("({', '.join(kept)})", "({', '.join(kept[::-1])})"),
-    "two twins have one body": ("self.counted.get(call[1])", 'self.counted.get(call[1].replace("alternative_", ""))'),
+    "two twins have one body": ("other.name == call[1]", 'other.name == call[1].replace("alternative_", "")'),
     "a cast is narrowed": (ANOTHER_RULE, ANOTHER_RULE + ', ("as u32", "as u8 as u32")'),
     "a cast is widened": (ANOTHER_RULE, ANOTHER_RULE + ', ("n as u64", "n")'),
     "a comparison is another": (ANOTHER_RULE, ANOTHER_RULE + ', (" > 4 ", " > 5 ")'),
@@ -92,31 +93,20 @@ MISTAKES = {
 }
 
 
-# What the judge takes: forms of the prover that the compiler refuses, and what users would miss.
-NOT_JUDGED = {
-    "an attribute of the prover stays",
-    "a module is skipped",
-    "a test of an alphabet is dropped",
-    "the place of a panic is lost",
-    "a writer has to have a size",
-    "a feature is wanted nowhere",
-}
-
-
 def copy(folder):
-    """A tree of its own, with what the translator reads and writes, and the tests."""
-    for name in ("translate", "rust", "crates/base62/src", "crates/base62_cli", "tests"):
-        shutil.copytree(TOP / name, folder / name, ignore=shutil.ignore_patterns("target", "out", "__pycache__"))
+    """A tree of its own, with what the translator reads and writes."""
+    for name in ("translate", "rust/src", "crates/base62/src", "crates/base62_cli/src"):
+        shutil.copytree(TOP / name, folder / name, ignore=shutil.ignore_patterns("__pycache__"))
+    shutil.copy(TOP / "rust/Cargo.toml", folder / "rust")
     return folder
 
 
-def translate(folder, *arguments):
-    command = [sys.executable, folder / "translate/rust", *arguments]
-    return subprocess.run(command, capture_output=True, text=True)
+def translate(folder):
+    return subprocess.run([sys.executable, folder / "translate/rust"], capture_output=True, text=True)
 
 
 def modules(folder):
-    return {file.relative_to(folder): file.read_text() for file in sorted((folder / "rust/src").rglob("*.rs"))}
+    return {file.relative_to(folder): file.read_bytes() for file in sorted((folder / "rust/src").rglob("*.rs"))}
 
 
 def edit(file, old, new):
@@ -138,27 +128,13 @@ class Tree(unittest.TestCase):
 
 
 class Writes(Tree):
-    def test_what_is_committed(self):
-        self.assertEqual((translate(self.folder, "--check").returncode, translate(TOP, "--check").stderr), (0, ""))
-
-    def test_the_same_bytes_and_nothing_stale(self):
+    def test_what_is_committed_and_nothing_stale(self):
         written = modules(self.folder)
         stale = self.folder / "rust/src/codec/older.rs"
         shutil.copy(self.folder / "rust/src/codec/encoder.rs", stale)
         (self.folder / "rust/src/count.rs").unlink()
         (self.folder / "rust/src/key.rs").write_text("edited")
-        checked = translate(self.folder, "--check")
-        self.assertEqual(checked.returncode, 1)
-        self.assertEqual([line.split(":")[0] for line in checked.stderr.splitlines()],
-                         [f"rust/src/{name}.rs" for name in ("count", "key", "codec/older")])
-        self.assertEqual(translate(self.folder).returncode, 0)
-        self.assertEqual(modules(self.folder), written)
-
-    def test_the_line_by_hand(self):
-        self.assertIn("    in_place!(tables, num, buf);\n", (TOP / "rust/src/target.rs").read_text())
-
-    def test_arguments(self):
-        self.assertIn("translate/rust --check", translate(self.folder, "--nope").stderr)
+        self.assertEqual((translate(self.folder).returncode, modules(self.folder)), (0, written))
 
     def test_the_version_of_the_crate(self):
         version = (TOP / "VERSION").read_text().strip()
@@ -222,6 +198,12 @@ class Cases(unittest.TestCase):
             with self.subTest(what):
                 self.assertEqual(int(found), answer)
 
+    def test_what_is_no_twin(self):
+        twin = NO_TWIN.replace("b: u64, a: u64, work", "a: u64, b: u64, work")
+        self.assertIn("pub fn minus(a: u64, b: u64) -> u64 {\n    a - b\n}", self.translate({"case": twin})["case"])
+        self.assertIsNone(self.translate({"case": NO_TWIN}))
+        self.assertIsNone(self.translate({"case": twin.replace("(a, b, &mut", "(b, a, &mut")}))
+
     def test_clauses(self):
         said = {f"clause_{at}": (said, modules_of_clause(clause, parameter)["case"])
                 for at, (clause, parameter, _, said) in enumerate(CLAUSES)}
@@ -234,53 +216,18 @@ class Cases(unittest.TestCase):
                     self.assertEqual(re.findall(r"requires!\((.*)\);", texts[name]), [wanted] * bool(wanted))
 
 
-class Judged(unittest.TestCase):
-    """The judge finds each mistake but those of NOT_JUDGED."""
-
-    def judge(self, folder):
-        return subprocess.run([sys.executable, folder / "translate/judge"], cwd=folder, capture_output=True, text=True)
-
-    def test_what_is_committed(self):
-        ran = self.judge(TOP)
-        self.assertEqual((ran.returncode, ran.stderr), (0, ""))
-
+class Mistakes(unittest.TestCase):
     def test_mistakes(self):
+        """With each of them the translator refuses, or the judge finds what it has written."""
         for name, mistake in MISTAKES.items():
             with self.subTest(name), tempfile.TemporaryDirectory() as folder:
                 tree = copy(Path(folder))
                 plant(tree, mistake)
-                if translate(tree).returncode == 0:
-                    self.assertEqual(bool(self.judge(tree).stderr), name not in NOT_JUDGED)
-
-
-class FindsMistakes(unittest.TestCase):
-    """With each of them the translator refuses, or what it writes does not pass a compiler or a test."""
-
-    def is_found(self, mistake):
-        with tempfile.TemporaryDirectory() as name:
-            folder = copy(Path(name))
-            plant(folder, mistake)
-            written = modules(folder)
-            translated = translate(folder)
-            assert "Traceback" not in translated.stderr, translated.stderr
-            if translated.returncode:
-                return True
-            if modules(folder) == written:
-                return False
-            cargo = {**os.environ, "CARGO_NET_OFFLINE": "true", "CARGO_TARGET_DIR": str(folder / "target"),
-                     "CARGO_PROFILE_DEV_DEBUG": "0", "CARGO_INCREMENTAL": "0", "CARGO_BUILD_JOBS": "2"}
-            tests = [part for test in ("append", "values", "show", "panics", "program") for part in ("--test", test)]
-            commands = ["cargo", "build"], ["cargo", "test", "--features=std", *tests]
-            return any(subprocess.run(command, cwd=folder / "rust", env=cargo, capture_output=True).returncode
-                       for command in commands)
-
-    def test_mistakes(self):
-        # What is no mistake is found by nothing.
-        self.assertFalse(self.is_found(("Edit that one.", "Edit that file.")))
-        with ThreadPoolExecutor(2) as pool:
-            for name, found in zip(MISTAKES, pool.map(self.is_found, MISTAKES.values())):
-                with self.subTest(name):
-                    self.assertTrue(found)
+                done = translate(tree)
+                self.assertNotIn("Traceback", done.stderr)
+                if done.returncode == 0:
+                    judge = [sys.executable, tree / "translate/judge"]
+                    self.assertRegex(subprocess.run(judge, capture_output=True, text=True).stderr, "^rust/src/")
 
 
 if __name__ == "__main__":

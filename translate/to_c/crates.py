@@ -3,6 +3,7 @@ import re
 
 from reader import code_of, items_of, refuse, refusing, seek, tokens_of
 from .syntax import Parser
+from .types import METHODS
 
 # What may stand before an item. Of functions, the writer reads them.
 ATTRIBUTE = re.compile(r"#!?\[(inline(\(always\))?|unsafe\(no_mangle\)|repr\(C\)|derive\([\w, ]*\)|tactic\(.*\))\]")
@@ -12,7 +13,6 @@ class Definition:
     """An item of a module, or of an `impl` in it, whose written type is `owner`."""
     is_declared = False  # Whether the header declares it.
     opaque, generics = None, {}  # Its name in the header, if that declares it as bytes, and its types by their names.
-    trait = None  # The `impl` of a trait in which it stands, and its head from the name of the trait on.
 
     def __init__(self, module, item, owner=None):
         self.module, self.item, self.owner = module, item, owner
@@ -54,7 +54,8 @@ class Module:
             owner = Parser(head[1 + (seek(head, 0, ("for",)) if "for" in head else 0):]).type()
             methods = [Definition(self, member, owner) for member in item.members if member.kind == "fn"]
             for method in methods if "for" in head else ():
-                method.trait = item, head[1:]
+                if method.name in METHODS:
+                    refuse(method.token, "a method of a trait with a name of std")
             self.methods += methods
         elif item.kind in ("const", "static", "fn", "struct", "enum", "trait"):
             self.definitions[name] = Definition(self, item)

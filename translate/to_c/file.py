@@ -2,7 +2,7 @@
 import pathlib
 import re
 
-from reader import refuse, refusing
+from reader import refuse, refusing, text_of
 from .crates import Module
 from .layout import documentation, wrapped
 from .library import Header, Library
@@ -193,22 +193,16 @@ class File:
             self.maker(f"{name}_{variant}", name, held, f"({name}){{{', '.join(values)}}}")
 
 
-def opened(root, form=File):
-    """The prelude, which has what C lacks, and the file, of the crates and the header below a folder."""
+def written(root):
+    """The file, of the crates and the header below a folder. The prelude has what C lacks."""
     crates = {}
     for name in ("base62", "base62_c"):
         crates[name] = Module(crates, [name], root / "crates" / name / "src" / "lib.rt")
-    header = Header((root / "c/base62.h").read_text())
+    header = Header(text_of(root / "c/base62.h"))
     exported = [d for d in crates["base62_c"].definitions.values() if d.kind == "fn" and d.item.is_exported]
     tokens = {definition.name: definition.token for definition in exported}
     for name in sorted(header.tokens.keys() ^ tokens.keys()):
         refuse(header.tokens.get(name) or tokens[name], "a call that the header or the source alone has")
-    prelude = (pathlib.Path(__file__).parent / "prelude.c").read_text()
+    prelude = text_of(pathlib.Path(__file__).parent / "prelude.c").replace("MAX_FAULT_TEXT", str(header.longest_text))
     names = ["".join(found) for found in NAMED.findall(prelude)]
-    return prelude, form(Library(crates, header, names), exported)
-
-
-def written(root):
-    """The text of the file."""
-    prelude, file = opened(root)
-    return prelude + file.write()
+    return prelude + File(Library(crates, header, names), exported).write()

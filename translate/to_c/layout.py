@@ -6,18 +6,16 @@ from reader import refuse
 WIDTH = 116
 
 
-def wrapped(line, marks=("&& ", "|| "), other=()):
-    """The line, or several: cut in the fewest parentheses, after commas and semicolons, or before the marks. Before
-    other marks it is cut if it has to be."""
+def wrapped(line):
+    """The line, or several: cut after commas and semicolons in the fewest parentheses, or before && and ||."""
     lines, indent = [], re.match(" *", line)[0]
     while len(line) > WIDTH and not re.match(" *(//|#)", line):
         code = re.sub(r'"(\\.|[^"\\])*"', lambda text: "x" * len(text[0]), line)
-        spots = [(code[:at].count("(") - code[:at].count(")"), code.startswith(other, at), -at)
-                 for at in range(len(indent) + 8, WIDTH)
-                 if code[at - 2:at] in (", ", "; ") or code.startswith(marks + other, at)]
+        spots = [(code[:at].count("(") - code[:at].count(")"), -at) for at in range(len(indent) + 8, WIDTH)
+                 if code[at - 2:at] in (", ", "; ") or code[at:at + 3] in ("&& ", "|| ")]
         if not spots:
             break
-        at = -min(spots)[2]
+        at = -min(spots)[1]
         lines.append(line[:at].rstrip())
         line = indent + "    " + line[at:]
     return lines + [line]

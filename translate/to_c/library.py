@@ -28,7 +28,10 @@ class Local:
 
 
 class Function:
-    """The parameters of a function, those that a run has, its result and its body."""
+    """The parameters of a function, those that a run has, its result and its body.
+
+    What an `Ok` holds with an array is no part of the result in C: it is lent, a place that the caller has. A text that
+    a parameter or the result moves is lent too."""
     def __init__(self, library, definition):
         parser, self.definition, definition.generics = definition.parser(), definition, {}
         if parser.accept("<"):
@@ -42,7 +45,12 @@ class Function:
         token = parser.peek(1)
         self.result = library.read(parser.type(), definition) if parser.accept("->") else UNIT
         library.check(self.result, token, "result")
-        self.changes = any(p.type[0] == "ref" and p.type[2] for p in self.kept)
+        self.lent = self.result[1] if self.result[0] == "Result" and library.has_array(self.result[1]) else None
+        self.result = ("Result", UNIT, self.result[2]) if self.lent else self.result
+        self.moved = [p for p in self.kept if p.type == INLINE_TEXT]
+        if len(self.moved) > 1:
+            refuse(definition.token, "two texts that are moved, by")
+        self.changes = bool(self.moved) or any(p.type[0] == "ref" and p.type[2] for p in self.kept)
         parser.end()
         parser = Parser(definition.item.body)
         self.body = parser.block()
@@ -59,8 +67,8 @@ class Function:
             parser.expect(":")
             of = library.read(parser.type(), self.definition)
         library.check(of, name, "parameter")
-        if of[0] == "array" and is_mutable:
-            refuse(name, "an array of its own, where C has that of the caller")
+        if (of[0] == "array" or of == INLINE_TEXT) and is_mutable:
+            refuse(name, "an array or a text of its own, where C has that of the caller,")
         return Local(str(name), of)
 
 
@@ -68,6 +76,7 @@ class Header:
     """What the header declares: the results, parameters and texts of functions, and the fields of structs."""
     def __init__(self, text):
         self.names = re.findall(r"\bbase62_\w+|\bBASE62_\w+", text)
+        self.longest_text = int((re.findall(r"#define BASE62_MAX_FAULT_TEXT (\d+)", text) or "0")[0])
         text = re.sub(r"/\*.*?\*/|(?m:^#[^\n]*$)", lambda left_out: "\n" * left_out[0].count("\n"), text, flags=re.S)
         self.functions, self.tokens = {}, {}
         for found in re.finditer(r"(\w+)\s+(base62_\w+)\(([^()]*)\);", text):
@@ -131,7 +140,7 @@ class Library:
         if len(node.path) == 1 and not items and name in (*INTS, "bool", "str", "u16", "char", *by.generics):
             return by.generics.get(name, (name,))
         found = by.module.find(node.path)
-        if found == ["std", "fmt", "InlineText"] and len(items) == 1 and self.number(items[0], by) == INLINE_TEXT[1]:
+        if found == ["std", "fmt", "InlineText"] and [self.number(it, by) for it in items] == [self.header.longest_text]:
             return INLINE_TEXT
         if isinstance(found, Definition) and found.kind in ("struct", "enum") and not items:
             return GHOST if self.is_ghost(found) else ("defined", found)
@@ -147,12 +156,13 @@ class Library:
             fits = place == "lent" or kind == "array" and place in ("parameter", "result", "field", "target")
             parts, inner = of[1:2], ["element"]
         elif kind == "ref" and of != WORK:
-            fits = place in ("parameter", "result") or place in ("field", "ok", "part") and not of[2]
+            fits = place in ("parameter", "result") or place in ("ok", "part") and not of[2]
             parts, inner = [of[1]], ["lent" if place == "parameter" else "target"]
         else:
-            places = {UNIT: ("result", "ok"), GHOST: ("parameter",), WORK: ("parameter",)}
+            places = {UNIT: ("result", "ok"), GHOST: ("parameter",), WORK: ("parameter",),
+                      INLINE_TEXT: ("parameter", "result", "lent")}
             fits = place in places.get(of, (place,)) and (
-                of in places or kind in (*INTS, "defined") or of in (BOOL, INLINE_TEXT))
+                of in places or kind in (*INTS, "defined") or of == BOOL)
         if not fits:
             refuse(at, f"a type that C does not have there ({kind}), of")
         for at_, part in enumerate(parts):
@@ -197,6 +207,13 @@ class Library:
             self.claim(name, "a member of a struct")
             for of in held:
                 self.check(of, token, "part")
+
+    def has_array(self, of):
+        """Whether a value of a type would be an array, or have one."""
+        if of[0] == "defined":
+            return any(map(self.has_array, self.parts(of[1]).values()))
+        is_answer = of[0] in ("Result", "Option", "tuple", "held")
+        return of[0] in ("array", "InlineText") or is_answer and any(map(self.has_array, of[1:]))
 
     def is_ghost(self, definition):
         """Whether it is a struct that holds nothing in a run."""
@@ -244,6 +261,8 @@ class Library:
         """The name of a type as a part of names. Of a Result, an Option or a tuple it is that of a struct."""
         if of[0] not in ("Result", "Option", "tuple"):
             return self.name(of[1]) if of[0] == "defined" else "unit" if of == UNIT else of[0]
+        if self.has_array(of):
+            raise ValueError("no value of C: an array in an answer")
         parts = [self.short(part) for part in of[1:]]
         name = {"Result": "result_", "Option": "option_", "tuple": "pair_"}[of[0]]
         name += parts[0] if of[0] == "Result" else "_".join(parts)

@@ -6,8 +6,7 @@
  *
  * Written by translate/c from crates/base62/src and crates/base62_c/src, and not edited by hand. There, in the language
  * Rattle, each function is proved to meet its contract. This file is a translation of that source. Frama-C proves it
- * again, with the struct u128 and a size_t of 64 bits, but for the functions that make the texts of errors. These, and
- * the other forms of u128 and of u64_ilog2, are tested.
+ * again, with the struct u128 and a size_t of 64 bits. The other forms of u128 and of u64_ilog2 are tested.
  *
  * It has the same functions in the same order, with the same names and comments. The contracts are left out, but for
  * what they require of numbers and lengths, which stands in lines that begin with "//@ assert", for Frama-C. What the
@@ -17,6 +16,7 @@
  *     Result, Option      the structs result_.. and option_.., which ok_.., err_.., some_.. and none_.. make
  *     (a, b)              the structs pair_..
  *     let x = f()?;       x = f(); if (!x.is_ok) return err_..(x.err); and then x.ok
+ *     InlineText          one place, to which each call that moves the text is lent a pointer
  *     u128                unsigned __int128 if the compiler has it, or else a struct, by the functions u128_..
  *
  * No index is tested, since the proofs show that each is in bounds. No memory is allocated, and no state is kept. It is
@@ -169,20 +169,19 @@ static inline void fill_bytes(uint8_t *to, uint8_t byte, size_t length) {
     for (size_t i = 0; i < length; i++) to[i] = byte;
 }
 
-/* The bytes of a text, and how many they are. */
-#define TEXT(text) (const uint8_t *)(text), sizeof(text) - 1
+/* The bytes of a constant text, and how many they are. */
+#define TEXT(text) text, sizeof(text) - 1
 
-/* A text of at most 77 bytes, held whole. */
+/* A text of at most MAX_FAULT_TEXT bytes, held whole. */
 typedef struct InlineText {
     size_t length;
-    uint8_t bytes[77];
+    uint8_t bytes[MAX_FAULT_TEXT];
 } InlineText;
 
-static inline InlineText InlineText_new(void) { return (InlineText){.length = 0}; }
+static inline void InlineText_new(InlineText *result) { result->length = 0; }
 
-/* The text with a part behind it. There is room for it, as is proved. */
-static inline InlineText InlineText_and_str(InlineText text, const uint8_t *part, size_t part_length) {
-    copy_bytes(text.bytes + text.length, part, part_length);
-    text.length += part_length;
-    return text;
+/* Writes a part behind the text. There is room for it, as is proved. */
+static inline void InlineText_and_str(InlineText *text, const uint8_t *part, size_t part_length) {
+    copy_bytes(text->bytes + text->length, part, part_length);
+    text->length += part_length;
 }

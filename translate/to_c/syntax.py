@@ -14,7 +14,9 @@ TEXT_OF_BOTH = re.compile(r"""b?"([ !#->@-\[\]-~]|\?(?!\?)|\\[nrt"'\\])*\"""")
 class Node:
     """A statement, an expression, a pattern or a written type, and the token that it begins with or is named by."""
     local = function = call = value = type = None  # What the names in it are found to be.
-    is_lent = is_static = False  # Whether it is a call that changes its receiver, or the name of a static.
+    # Whether it is a call that changes its receiver, the name of a static, an argument to which no result refers, or a
+    # text that is moved.
+    is_lent = is_static = is_argument = is_moved = False
     comments = ()
 
     def __init__(self, kind, token, **parts):

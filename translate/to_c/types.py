@@ -5,7 +5,7 @@ BITS = {"u8": 8, "u32": 32, "u64": 64, "usize": 32, "u128": 64}  # Of literals. 
 U8, U32, U64, USIZE, U128 = ((name,) for name in INTS)
 UNIT, BOOL, STR, GHOST = ("()",), ("bool",), ("str",), ("ghost",)
 BYTES, TEXT, WORK = ("ref", ("slice", U8), False), ("ref", STR, False), ("ref", GHOST, True)
-INLINE_TEXT = ("InlineText", 77)
+INLINE_TEXT = ("InlineText",)
 # What the prelude of C has of std, by its name: its parameters and its result.
 STANDARD = {
     "u128_checked_add": ([U128], ("Option", U128)),
@@ -19,6 +19,8 @@ STANDARD = {
     "InlineText_new": ([], INLINE_TEXT),
     "InlineText_and_str": ([TEXT, USIZE], INLINE_TEXT),
 }
+METHODS = {"as_bytes", "as_str", "copy_from_slice", "enumerate", "fill", "is_empty", "iter", "len", "ok_or", "split_at",
+           "split_at_mut", "unwrap_or", *(name.partition("_")[2] for name in STANDARD)}
 HELD = {"Ok": ("Result", 1), "Err": ("Result", 2), "Some": ("Option", 1), "None": ("Option", 2)}
 
 

@@ -10,7 +10,7 @@ from .crates import Definition
 from .layout import wrapped
 from .library import WORDS_OF_C, Local
 from .types import (BITS, BOOL, BYTES, HELD, INLINE_TEXT, INTS, STANDARD, STR, TEXT, U8, U32, U64, U128, UNIT, USIZE,
-                    WORK, behind, fits, is_slice)
+                    WORK, behind, fits, is_slice, parts_of)
 
 # How closely the operators of C bind.
 LEVEL = {"||": 4, "&&": 5, "|": 6, "^": 7, "&": 8, "==": 9, "!=": 9, "<": 10, ">": 10, "<=": 10, ">=": 10, "<<": 11,
@@ -23,11 +23,13 @@ WITHOUT_RECEIVER = ("u128_from_be_bytes", "InlineText_new")
 
 
 class Value(NamedTuple):
-    """An expression in C, its type in the source, how closely it binds, and the length of a slice."""
+    """An expression in C, its type in the source, how closely it binds, the length of a slice, and the place and the type
+    of what a call was lent."""
     text: str
     type: tuple
     level: int = POSTFIX
     count: str = None
+    lent: tuple = None
 
     def closed(self, level):
         """The text, in parentheses if it binds less closely."""
@@ -39,7 +41,9 @@ class Values:
     def __init__(self, library, definition):
         self.library, self.definition, self.module = library, definition, definition.module
         self.lines, self.depth, self.scopes, self.taken = [], 0, [{}], [set()]
-        self.types, self.uses, self.place = [], [], None  # Of which it speaks, and where an array goes.
+        self.types, self.uses, self.place = [], [], None  # Of which it speaks, and where an array or a text goes.
+        self.start = 0  # Where the block begins behind its constant texts.
+        self.spent, self.borrowed = set(), set()  # The variables whose texts are moved, or borrowed.
 
     def emit(self, line):
         self.lines += wrapped("    " * self.depth + line)
@@ -78,7 +82,8 @@ class Values:
         """Whether the value is a counter of steps, which no run has."""
         if node.kind == "borrow" and node.value.kind == "call" and node.value.callee.kind == "path":
             found = self.module.find(node.value.callee.path)
-            return isinstance(found, tuple) and found[1] == "new" and self.library.is_ghost(found[0])
+            is_new = isinstance(found, tuple) and found[1] == "new" and self.library.is_ghost(found[0])
+            return is_new and not (node.value.args and refuse(node.token, "an argument that no run has"))
         local = self.local(str(node.path[0])) if node.kind == "path" and len(node.path) == 1 else None
         return bool(local) and local.type == WORK
 
@@ -103,7 +108,7 @@ class Values:
 
     def constant(self, of, name, text):
         """Declares what does not change. A reference may be const already, of what it points to."""
-        if of[0] in ("()", "slice") or of[0] == "array" and text[0] != "{":
+        if of[0] in ("()", "slice") or self.library.has_array(of) and (of[0], text[0]) != ("array", "{"):
             raise ValueError(f"no value of C: {of[0]}")
         self.emit(f"{'' if of[0] == 'ref' else 'const '}{self.library.declared(of, name)} = {text};")
 
@@ -137,6 +142,44 @@ class Values:
             refuse(node.token, "an array that is not known")
         self.emit(f"{text};" if is_call else f"copy_bytes({to}, {text}, {of[2]});")
 
+    # A text has one place, which calls write to in turn: the place of a parameter or a variable, or one that the caller
+    # of the function has. What the source moves, C lends. So a text that is moved is neither read later nor borrowed.
+
+    def moved(self, node, place=None):
+        """The place of a text that is moved. One that is new there is written to a place that is wanted."""
+        before, self.place = self.place, place
+        found = self.text(node, INLINE_TEXT)
+        self.place = before
+        self.move(node)
+        return found
+
+    def move(self, node):
+        if node.kind not in ("path", "call", "method") or node.local and node.local in self.borrowed:
+            refuse(node.token, "a text that is copied")
+        node.is_moved = True
+        self.spent |= {node.local} - {None}
+
+    def wanted(self, of):
+        """Where a call has to write its text, if it gives one."""
+        place = self.place if of == INLINE_TEXT else None
+        self.place = None if place else self.place
+        return place
+
+    def address(self, place):
+        return place[1:] if place[0] == "*" else f"&{place}"
+
+    def member(self, place, name):
+        return f"{place[1:]}->{name}" if place[0] == "*" else f"{place}.{name}"
+
+    def written(self, call, texts, place, wanted):
+        """Writes a call that gives a text: where the one is that it gets, or else at a place that is wanted or new."""
+        if not place:
+            place = wanted or self.fresh("text")
+            self.emit(f"{self.library.declared(INLINE_TEXT, place)};") if not wanted else None
+            texts = texts + [self.address(place)]
+        self.emit(f"{call}({', '.join(texts)});")
+        return Value(place, INLINE_TEXT, UNARY)
+
     # C does not say in which order it evaluates operands, so at most one may change what no other reads.
 
     def changes(self, node):
@@ -146,6 +189,7 @@ class Values:
     def lent(self, node):
         """The variables that it may change: those behind a `&mut`, which a receiver does not say."""
         parts = [n.value for n in node.walk() if n.kind == "borrow" and n.is_mutable or n.is_lent]
+        parts += [n for n in node.walk() if n.is_moved]
         found = {n.local for part in parts for n in part.walk() if n.local}
         return found | {n.local for n in node.walk() if n.local and n.local.type and n.local.type[0] == "ref"
                         and n.local.type[2]}
@@ -192,15 +236,20 @@ class Values:
     def value_string(self, node, want):
         if node.token[0] == "b":
             refuse(node.token, "bytes as a value")
-        return Value(f"(const uint8_t *){node.token}", TEXT, UNARY, f"sizeof({node.token}) - 1")
+        name = self.fresh("part")
+        self.lines.insert(self.start, "    " * self.depth + f"static const uint8_t {name}[] = {node.token};")
+        self.start += 1
+        return Value(name, TEXT, POSTFIX, f"sizeof({name}) - 1")
 
     def value_path(self, node, want):
         name = str(node.path[-1])
         if len(node.path) == 1 and (local := self.local(name)):
             node.local = local
+            if local in self.spent:
+                refuse(node.token, "a text that is moved before")
             if local.type is None:
                 self.learn(local, want or refuse(node.token, "a variable of no type that is known"))
-            return Value(local.c, local.type, UNARY if local.c[0] == "(" else POSTFIX, local.count)
+            return Value(local.c, local.type, UNARY if local.c[0] in "(*" else POSTFIX, local.count)
         if node.path == ["None"] and want:
             return Value(f"{self.library.made('none', want)}()", want)
         found = self.module.find(node.path)
@@ -242,6 +291,8 @@ class Values:
 
     def value_borrow(self, node, want):
         is_written = node.value.kind == "array" and not node.is_mutable
+        if is_written and not node.is_argument:
+            refuse(node.token, "a reference to a list that may end before it")
         to = ("array", behind(want)[1], len(node.value.items)) if want and is_written else None
         found = self.value(node.value, to)
         of, is_list = ("ref", found.type, node.is_mutable), found.type[0] in ("array", "slice", "str")
@@ -249,6 +300,7 @@ class Values:
             refuse(node.token, "a reference that is not known")
         if is_list:
             return found._replace(type=of)
+        self.borrowed.add(node.value.local)
         return Value(f"&{self.lvalue(found, node.value, node.is_mutable).closed(UNARY)}", of, UNARY)
 
     def lvalue(self, found, node, is_mutable):
@@ -315,7 +367,7 @@ class Values:
         if any(part[0] == "array" or part[0] == "defined" and not part[1].is_declared for part in fields.values()):
             name = self.fresh("made")
             self.emit(f"{self.library.declared(of, name)};")
-            self.fill(name, node, fields)
+            self.fill(name + ".", node, fields)
             return Value(name, of)
         values = ", ".join(f".{field.name} = {self.text(field.value, fields[field.name])}" for field in node.fields)
         self.in_any_order([field.value for field in node.fields])
@@ -324,9 +376,9 @@ class Values:
     def fill(self, place, node, fields):
         """Writes the fields of a struct that holds arrays, which are no values in C."""
         for field in node.fields:
-            of, to = fields[field.name], f"{place}.{field.name}"
+            of, to = fields[field.name], place + field.name
             if field.value.kind == "struct":
-                self.fill(to, field.value, self.library.parts(of[1]))
+                self.fill(to + ".", field.value, self.library.parts(of[1]))
             elif of[0] == "array":
                 self.copy(to, field.value, of)
             else:
@@ -347,7 +399,8 @@ class Values:
             local = self.local(str(node.left.path[0])) if node.left.kind == "path" else None
             want = self.value(node.right).type if local and local.type is None else None
         left = self.value(node.left, want)
-        right = self.value(node.right, U32 if is_shift else left.type)
+        # What is shifted says nothing of the type of a variable.
+        right = self.value(node.right, left.type if not is_shift else U32 if node.right.kind == "number" else None)
         self.in_any_order([node.left, node.right])
         if left.type[0] not in INTS or node.left.kind == "number" and (is_shift or node.right.kind == "number"):
             refuse(node.token, "an operator that is not known")
@@ -436,8 +489,8 @@ class Values:
         if receiver.type != of and (name in ("unwrap_or", "ok_or", "as_str") or f"{of[0]}_{name}" in STANDARD):
             refuse(node.token, "a receiver behind a reference")
         if name == "as_str" and of == INLINE_TEXT:
-            place = self.named(receiver, node.value, "text")
-            return Value(f"{place}.bytes", TEXT, POSTFIX, f"{place}.length")
+            self.borrowed.add(node.value.local)
+            return Value(self.member(receiver.text, "bytes"), TEXT, POSTFIX, self.member(receiver.text, "length"))
         if name == "unwrap_or" and of[0] == "Result":
             place, other = self.named(receiver, node.value, "answer"), self.alone(node.args[0], of[1])
             self.without_effect(*node.args)
@@ -457,11 +510,17 @@ class Values:
         parameters, result = STANDARD[name]
         if len(node.args) != len(parameters) or (node.kind == "method") == (name in WITHOUT_RECEIVER):
             refuse(node.token, "a call that is not known")
+        place, wanted = None, self.wanted(result)
+        if result == INLINE_TEXT and texts:
+            self.move(node.value)
+            place, texts = texts[0], [self.address(texts[0])]
         for arg, of in zip(node.args, parameters[:1]):
             found = self.value(arg, of)
             texts += self.slice_args(arg, found) if is_slice(of) else [found.text]
         self.in_any_order([node.value] * (node.kind == "method") + node.args)
         self.without_effect(*node.args[1:])
+        if result == INLINE_TEXT:
+            return self.written(name, texts, place, wanted)
         return Value(f"{name}({', '.join(texts + self.out(node, result))})", result)
 
     def out(self, node, result):
@@ -474,12 +533,19 @@ class Values:
     def own(self, node, definition, args, receiver=None):
         """A call of a function of the source. What no run needs is not handed over."""
         node.function, texts, kept = self.library.function(definition), [], []
-        out = self.out(node, node.function.result)
+        out, place = self.out(node, node.function.result), None
+        wanted = self.wanted(node.function.result)
         for arg, parameter in zip(args, node.function.parameters):
             if parameter not in node.function.kept:
                 self.is_ghost(arg) or refuse(arg.token, "not known to be of size 0")
                 continue
             kept.append(arg)
+            if parameter in node.function.moved:
+                place = self.moved(arg, wanted)
+                texts.append(self.address(place))
+                continue
+            # No reference in the result can be to it.
+            arg.is_argument = all(of[0] != "ref" for of in parts_of(node.function.result))
             found = self.received(receiver, arg, parameter.type) if receiver and arg is args[0] else self.value(
                 arg, parameter.type)
             if is_slice(parameter.type):
@@ -490,7 +556,13 @@ class Values:
         node.is_lent = node.kind == "method" and any(p.type[0] == "ref" and p.type[2] for p in first)
         self.in_any_order(kept)
         self.without_alias(node, args)
-        return Value(f"{self.use(definition)}({', '.join(texts + out)})", node.function.result)
+        if node.function.result == INLINE_TEXT:
+            return self.written(self.use(definition), texts, place, wanted)
+        lent = node.function.lent and (self.fresh("made"), node.function.lent)
+        if lent:
+            self.emit(f"{self.library.declared(lent[1], lent[0])};")
+            out = [f"&{lent[0]}"]
+        return Value(f"{self.use(definition)}({', '.join(texts + out)})", node.function.result, lent=lent)
 
     def received(self, found, node, want):
         """What a method gets of its receiver, which is borrowed or copied by itself."""
@@ -514,5 +586,5 @@ class Values:
     def slice_args(self, node, found, with_length=True):
         """A slice as arguments: its start, and its length if the function reads it."""
         if node.kind == "string" and with_length:
-            return [f"TEXT({node.token})"]
+            return [f"TEXT({found.text})"]
         return [found.text] + [self.count(found)] * with_length

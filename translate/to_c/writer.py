@@ -1,11 +1,11 @@
 """Writes a function in C: its head, its statements and its patterns."""
 import re
 
-from reader import refuse, refusing
+from reader import refuse, refusing, twin_of
 from .crates import Definition
 from .layout import WIDTH, comment_of
 from .library import Local
-from .types import HELD, INTS, STR, U8, U32, U64, U128, UNIT, USIZE, WORK, behind, is_slice
+from .types import HELD, INLINE_TEXT, INTS, STR, U8, U32, U64, U128, UNIT, USIZE, WORK, behind, is_slice
 from .values import LEVEL, UNARY, Values
 
 STORAGE = {"#[inline]": "inline ", "#[inline(always)]": "ALWAYS_INLINE "}
@@ -19,12 +19,15 @@ class Writer(Values):
         super().__init__(library, definition)
         self.function, self.is_exported = library.function(definition), definition.item.is_exported
         self.cast, self.out_name, self.optional = "", None, []  # What stands before a result, its place, and lines.
+        self.text_place = None  # The place of the text that it gives.
+        self.places = {}  # The place and the type of what was lent to a call, by the name of its answer.
 
     def write(self, uses):
         """Writes all of the function, which speaks of these."""
         self.taken[0] = {self.library.name(definition) for definition in uses}
         self.head = self.exported_head() if self.is_exported else self.own_head()
         self.types += [p.type for p in self.function.kept] + [self.function.result]
+        self.types += [self.function.lent] * bool(self.function.lent)
         self.emit(self.head + " {")
         begin = len(self.lines)
         self.block(self.body(), "return")
@@ -32,28 +35,21 @@ class Writer(Values):
         self.leave_out()
         text = "\n".join(self.lines[begin:])
         for local in [] if self.is_exported else self.function.kept:
+            name = local.c.lstrip("*")
             if local.count and re.search(rf"\b{local.count}\b", text):
                 self.library.lengths.add((self.definition, local.name))
-            if not re.search(rf"\b{local.c}\b", text):
-                self.lines.insert(begin, f"    (void){local.c};")
+            if not re.search(rf"\b{name}\b", text):
+                self.lines.insert(begin, f"    (void){name};")
         self.lines[begin:begin] = self.requirements()
 
     def body(self):
         """The body. That of a call that hands its parameters on to a counted call is the body of that one."""
-        function, node = self.function, self.function.body.tail
-        if function.body.statements or not node or node.kind != "call" or not node.args or node.callee.kind != "path":
-            return function.body
-        found, handed = self.module.definitions.get(str(node.callee.path[0])), node.args[:-1]
-        if not found or found.kind != "fn" or not found.item.is_public or not self.is_ghost(node.args[-1]):
-            return function.body
-        twin = self.library.function(found)
-        *others, work = twin.parameters
-        names = [arg.path for arg in handed if arg.kind == "path"]
-        if not [p.type for p in others] == [p.type for p in function.parameters] or any(
-                names != [[p.name] for p in parameters] for parameters in (others, function.parameters)):
-            return function.body
-        self.scopes[0][work.name] = work
-        return twin.body
+        twin = twin_of(self.definition.item, [found.item for found in self.module.definitions.values()])
+        if not twin:
+            return self.function.body
+        function = self.library.function(self.module.definitions[twin.name])
+        self.scopes[0]["work"] = function.parameters[-1]
+        return function.body
 
     def requirements(self):
         """The clauses that compare sums of numbers, constants, parameters and lengths, as ACSL. All others are left out.
@@ -107,19 +103,25 @@ class Writer(Values):
         if result[0] == "array":
             self.out_name = self.fresh("result")
             parts.append(library.declared(result, self.out_name))
+        if result == INLINE_TEXT:
+            self.text_place = self.function.moved[0].c if self.function.moved else "*" + self.fresh("result")
+            parts += [] if self.function.moved else [library.declared(INLINE_TEXT, self.text_place)]
+        if self.function.lent:
+            self.lent_name = self.fresh("made")
+            parts.append(library.declared(("ref", self.function.lent, True), self.lent_name))
         storage = "static "
         for known in self.definition.item.attributes:
             if known not in STORAGE and not known.startswith("#[tactic("):
                 refuse(self.definition.token, f"an attribute that is not known, {known}, of")
             storage += STORAGE.get(known, "")
         head = f"{library.name(self.definition)}({', '.join(parts) or 'void'})"
-        return storage + library.declared(UNIT if self.out_name else result, head)
+        return storage + library.declared(UNIT if self.out_name or self.text_place else result, head)
 
     def parameter(self, local):
         of, library, self.scopes[0][local.name] = local.type, self.library, local
         if local not in self.function.kept:
             return []
-        local.c = self.fresh(local.name)
+        local.c = "*" * (of == INLINE_TEXT) + self.fresh(local.name)
         if is_slice(of):
             local.count = self.fresh(local.c + "_length")
             is_read = (self.definition, local.name) in library.lengths
@@ -165,6 +167,7 @@ class Writer(Values):
 
     def block(self, node, into):
         self.enter()
+        start, self.start = self.start, len(self.lines)
         if node.kind == "block":
             for statement in node.statements:
                 self.comment(statement.comments)
@@ -175,6 +178,7 @@ class Writer(Values):
             self.comment(node.last)
         else:
             self.put(node, into)
+        self.start = start
         self.leave()
 
     def put(self, node, into):
@@ -188,38 +192,62 @@ class Writer(Values):
 
     def write_return(self, node, into):
         self.put(node.value, "return")
-        if self.out_name or self.function.result == UNIT:
+        if self.out_name or self.text_place or self.function.result == UNIT:
             self.emit("return;")
 
     def write_value(self, node, into):
         result = self.function.result
-        if node.kind == "tuple" and not node.items or node.kind == "method" and self.is_ghost(node.value):
+        if node.kind == "method" and self.is_ghost(node.value):
+            node.args and refuse(node.token, "an argument that no run has")
+        elif node.kind == "tuple" and not node.items:
             pass
         elif into == "return" and self.out_name:
             self.copy(self.out_name, node, result)
+        elif into == "return" and self.text_place:
+            if self.moved(node, None if self.function.moved else self.text_place) != self.text_place:
+                refuse(node.token, "another text than the one that is lent")
+        elif into == "return" and self.function.lent and node.kind == "call" and node.callee.path == ["Ok"]:
+            made, of = node.args[0], self.function.lent[1]
+            if made.kind != "struct" or self.module.find(made.path) is not of:
+                refuse(node.token, "a value that is not written out")
+            self.fill(self.lent_name + "->", made, self.library.parts(of))
+            self.emit(f"return {self.library.made('ok', result)}();")
         elif into == "return" and result != UNIT:
             self.emit(f"return {self.cast}{self.text(node, result, UNARY if self.cast else 0)};")
         elif node.kind == "try":
             self.value(node)
         elif node.kind in ("call", "method"):
-            self.emit(f"{self.text(node, UNIT if into else None)};")
+            found = self.value(node, UNIT if into else None)
+            if found.type == INLINE_TEXT:
+                refuse(node.token, "a text that nothing reads")
+            self.emit(f"{found.text};")
         else:
             refuse(node.token, "a statement that is not known")
 
     def write_if(self, node, into, lead=""):
         self.emit(f"{lead}if ({self.alone(node.condition) if lead else self.text(node.condition)}) {{")
+        before, spent = set(self.spent), self.spent
         self.block(node.then, into)
+        self.spent = before
         if node.other and node.other.kind == "if":
-            return self.write_if(node.other, into, "} else ")
-        if node.other:
+            self.write_if(node.other, into, "} else ")
+        elif node.other:
             self.emit("} else {")
             self.block(node.other, into)
-        self.emit("}")
+        self.emit("}") if not node.other or node.other.kind != "if" else None
+        self.spent |= spent
 
     def write_while(self, node, into):
         self.emit(f"while ({self.alone(node.condition)}) {{")
-        self.block(node.body, None)
+        self.repeated(node.body)
         self.emit("}")
+
+    def repeated(self, body):
+        """The body of a loop, which moves no text of a variable before it."""
+        known, before = {local for scope in self.scopes for local in scope.values()}, set(self.spent)
+        self.block(body, None)
+        if known & self.spent - before:
+            refuse(body.token, "a text that is moved several times")
 
     def write_for(self, node, into):
         """A loop over the indexes of a slice, or over these and its elements. None of them changes in the body."""
@@ -239,7 +267,7 @@ class Writer(Values):
         if not is_range:
             item = self.bind(names[1].name, ("ref", of, False))
             self.emit(f"    {self.library.declared(item.type, item.c)} = {start} + {index.c};")
-        self.block(node.body, None)
+        self.repeated(node.body)
         self.emit("}")
         self.leave(0)
 
@@ -262,8 +290,8 @@ class Writer(Values):
             self.learn(local, self.value(node.value).type)
         found = self.value(place)
         of = found.type
-        if of[0] in ("ref", "slice", "str"):
-            refuse(node.token, "a reference that is assigned anew")
+        if of[0] in ("ref", "slice", "str", "InlineText"):
+            refuse(node.token, "a reference or a text that is assigned anew")
         if of[0] == "array":
             self.assign_array(node, found)
         elif of[0] == "defined" and of[1].opaque:
@@ -340,6 +368,10 @@ class Writer(Values):
             self.emit(f"{self.library.declared(of or USIZE, local.c)} = {self.text(value, of or USIZE)};")
         else:
             found = self.value(value, want)
+            if found.type == INLINE_TEXT:
+                self.move(value)
+            if found.type == INLINE_TEXT or value.kind == "struct" and self.library.has_array(found.type):
+                return self.bind(pattern.name, found.type, found.text)
             local = self.bind(pattern.name, found.type)
             if is_slice(found.type):
                 self.part(local, found.text, self.count(found), False)
@@ -396,10 +428,12 @@ class Writer(Values):
     def write_match(self, node, into):
         found = self.value(node.value)
         name, arms = self.named(found, node.value, "answer"), node.arms
+        self.places[name] = found.lent
         if into != "return" or self.function.result == UNIT or self.out_name:
             refuse(node.token, "a match that does not return")
+        before, spent = set(self.spent), set()
         for arm in arms:
-            at, is_last = len(self.lines), arm is arms[-1]
+            at, is_last, self.spent = len(self.lines), arm is arms[-1], set(before)
             conditions, bound = self.fit(arm.pattern, name, found.type)
             self.enter(0)
             # Rust has checked that one of the patterns fits, so the last one does if none before it did.
@@ -410,15 +444,21 @@ class Writer(Values):
             self.bind_all(bound)
             self.depth -= 1
             self.block(arm.body, "return")
+            if self.text_place and not is_last:
+                self.emit("    return;")
             self.depth += is_last
             self.leave(0)
+            spent |= self.spent
             if len(self.lines) == at + 2 and len(self.lines[at] + self.lines[at + 1].strip()) < WIDTH and not is_last:
                 self.lines[at:] = [self.lines[at][:-1] + self.lines[at + 1].strip()]
             elif not is_last:
                 self.emit("}")
 
     def bind_all(self, bound):
-        """The variables of a pattern. Numbers of one type stand in one line."""
+        """The variables of a pattern. Numbers of one type stand in one line. What was lent has a place already."""
+        if len(bound) == 1 and bound[0][1:] in self.places.values():
+            pattern, place, of = bound[0]
+            return self.bind(pattern.name, of, place)
         locals_ = [(self.bind(pattern.name, of).c, text, of) for pattern, text, of in bound]
         types = {self.library.c_type(of) for _, _, of in locals_}
         if len(types) == 1 and bound[0][2][0] in INTS:
@@ -460,6 +500,7 @@ class Writer(Values):
         if len(pattern.path) == 1 and HELD.get(name, ("", 0))[0] == of[0]:
             flag = "is_ok" if of[0] == "Result" else "is_some"
             held = [(dot + name.lower(), part) for part in of[HELD[name][1]:][:1]]
+            held = [self.places[text]] if name == "Ok" and self.places.get(text) else held
             return [f"{'!' if name in ('Err', 'None') else ''}{dot}{flag}"], held if name != "None" else []
         found = self.module.find(pattern.path)
         if isinstance(found, Definition) and found.kind == "const" and self.library.constant(found)[0] == of:

@@ -31,13 +31,17 @@ COVERED = {
     ("write_pair", "\\valid(buf + 1)"): "`write_pair` requires `2 ≤ length buf.old`",
 }
 
+# Of a text of an error Eva knows no length by which its bytes are set. `append` in ../proof/notions/faults.acsl sets each
+# byte before the length, and no byte behind it is copied.
+IN_MESSAGES = {("copy_bytes", "\\initialized(from + i)")}
 
-def alarms(function):
+
+def alarms(function, source=SOURCE):
     """What Eva cannot show of base62.c and eva.c, each with its function."""
     with tempfile.TemporaryDirectory() as folder:
         report = pathlib.Path(folder) / "report.csv"
         command = ["frama-c", *OPTIONS.split(), f"-cpp-extra-args={PREPROCESSOR}", "-main", function]
-        command += [str(FOLDER / "eva.c"), str(SOURCE), "-then", "-report-csv", str(report)]
+        command += [str(FOLDER / "eva.c"), str(source), "-then", "-report-csv", str(report)]
         ran = subprocess.run(command, capture_output=True, text=True)
         if ran.returncode or not report.exists():
             raise AssertionError(ran.stdout + ran.stderr)
@@ -62,8 +66,15 @@ class Eva(unittest.TestCase):
         for function, _ in COVERED:
             self.assertIn(f"{function}(", source)
 
+    def test_unset(self):
+        """A variable that is read before it is set."""
+        with tempfile.TemporaryDirectory() as folder:
+            planted = pathlib.Path(folder) / SOURCE.name
+            planted.write_text(SOURCE.read_text().replace("uint64_t number = 0;", "uint64_t number;"))
+            self.assertIn(("read_up_to_10", "\\initialized(&number)"), alarms("decode", planted))
+
     def check(self, function):
-        self.assertLessEqual(alarms(function), set(COVERED))
+        self.assertLessEqual(alarms(function), set(COVERED) | (IN_MESSAGES if function == "messages" else set()))
 
 
 for name in re.findall(r"^void (\w+)\(void\)", (FOLDER / "eva.c").read_text(), re.M):

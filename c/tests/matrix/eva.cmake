@@ -2,7 +2,7 @@
 look_for(eva frama-c python3)
 if(eva)
     file(STRINGS "${tests}/eva/eva.c" functions REGEX "^void [a-z_]+\\(void\\)")
-    foreach(function IN ITEMS list ${functions})
+    foreach(function IN ITEMS list unset ${functions})
         string(REGEX REPLACE "^void ([a-z_]+).*" "\\1" function "${function}")
         add_test(NAME eva-${function} COMMAND "${PROGRAM_python3}" "${tests}/eva/test_eva.py" Eva.test_${function})
         # These take longest, so they begin first.

@@ -1,10 +1,11 @@
 //! Encoding into texts and to writers.
 
-ghost use Rattle.std.specs.Prelude.{OnOk};
+ghost use Rattle.std.specs.Prelude.{◌≡◌, OnOk};
 ghost use Rattle.std.specs.Str.{IsAscii};
 ghost use Rattle.base62.specs.Alphabet.{standard, alternative};
 ghost use Rattle.base62.specs.Encoding.{AnswersCanonical, AppendsTo, WritesCanonical};
 ghost use Rattle.base62.specs.Tables.{AreTables};
+ghost use Rattle.base62.specs.Uuid.{uuid_number};
 
 use crate::alphabet::{Alphabet, Tables, alternative_tables, standard_tables};
 use crate::number::Number;
@@ -64,6 +65,63 @@ pub fn encode_with<T: Number>(
     string_over(alloc, alphabet.as_tables(), num)
 }
 
+/// The standard text of a UUID: that of the number of its sixteen bytes, the highest first.
+///
+/// [`decode_uuid`] reads it back. The version and variant are not looked at. Memory is requested
+/// once, for just the text. For a UUID that is a `u128`, such as `as_u128` of the crate `uuid`
+/// answers, call [`encode`].
+///
+/// ```rust
+/// let uuid = [0, 0, 0, 0, 0, 0, 0, 0, 0, 0, 0, 0, 0, 0, 5, 57];
+/// let text = base62::encode_uuid(rt.alloc(), uuid)?;
+/// assert_eq!(rt; text.as_str(), "LZ");
+/// ```
+///
+/// [`decode_uuid`]: crate::decode_uuid
+#[tactic(auto, using(crate::proofs::CanonicalLemmas::ascii_texts))]
+pub fn encode_uuid(alloc: Global, uuid: [u8; 16]) -> Result<String, AllocError>
+    ensures { AnswersCanonical standard (uuid_number uuid) result }
+{
+    string_over(alloc, standard_tables(), number_of_uuid(uuid))
+}
+
+/// As [`encode_uuid`], over the alternative alphabet.
+///
+/// ```rust
+/// let uuid = [0, 0, 0, 0, 0, 0, 0, 0, 0, 0, 0, 0, 0, 0, 5, 57];
+/// let text = base62::encode_alternative_uuid(rt.alloc(), uuid)?;
+/// assert_eq!(rt; text.as_str(), "lz");
+/// ```
+#[tactic(auto, using(crate::proofs::CanonicalLemmas::ascii_texts))]
+pub fn encode_alternative_uuid(alloc: Global, uuid: [u8; 16]) -> Result<String, AllocError>
+    ensures { AnswersCanonical alternative (uuid_number uuid) result }
+{
+    string_over(alloc, alternative_tables(), number_of_uuid(uuid))
+}
+
+/// As [`encode_uuid`], over an alphabet of the caller's. Its letters have to be ASCII, as for
+/// [`encode_with`].
+///
+/// ```rust
+/// let alphabet = base62::Alphabet::alternative();
+/// if alphabet.is_ascii() {
+///     let uuid = [0, 0, 0, 0, 0, 0, 0, 0, 0, 0, 0, 0, 0, 0, 5, 57];
+///     let text = base62::encode_uuid_with(rt.alloc(), &alphabet, uuid)?;
+///     assert_eq!(rt; text.as_str(), "lz");
+/// }
+/// ```
+#[tactic(auto, using(crate::proofs::CanonicalLemmas::ascii_texts))]
+pub fn encode_uuid_with(
+    alloc: Global,
+    alphabet: &Alphabet,
+    uuid: [u8; 16],
+) -> Result<String, AllocError>
+    requires { IsAscii alphabet.now }
+    ensures { AnswersCanonical alphabet.now (uuid_number uuid) result }
+{
+    string_over(alloc, alphabet.as_tables(), number_of_uuid(uuid))
+}
+
 /// Appends the standard text of `num`, which has 1 to 22 letters, to `buf`.
 ///
 /// If the spare capacity of `buf` is too small, room for the whole text is requested once, before
@@ -117,6 +175,14 @@ pub fn encode_buf_with<T: Number>(
     ensures { AppendsTo alphabet.now (T.meaning num) buf.old buf.new result }
 {
     append_over(alphabet.as_tables(), num, buf)
+}
+
+// The number of sixteen bytes, the highest first.
+#[tactic(auto, using(crate::proofs::UuidLemmas::number_from_bytes))]
+fn number_of_uuid(uuid: [u8; 16]) -> u128
+    ensures { result ≡ uuid_number uuid }
+{
+    u128::from_be_bytes(uuid)
 }
 
 // The text over the alphabet of the tables, in a string.

@@ -2,6 +2,7 @@
 
 ghost use Rattle.std.specs.Prelude.{◌≡◌, ◌≤◌, length};
 ghost use Rattle.std.specs.Fmt.InlineText.{inline_text};
+ghost use Rattle.base62.specs.declared.fault.TheConstants.{MAX_FAULT_TEXT};
 ghost use Rattle.base62_c.specs.Fault.{status_text};
 
 use crate::answer::{
@@ -28,7 +29,7 @@ pub(crate) fn text_of(status: u32, bad: BadByte) -> InlineText<MAX_FAULT_TEXT>
 }
 
 fn whole(text: &str) -> InlineText<MAX_FAULT_TEXT>
-    requires { length text.now ≤ 77 }
+    requires { length text.now ≤ MAX_FAULT_TEXT }
     ensures { inline_text result ≡ text.now }
 {
     InlineText::new().and_str(text, MAX_FAULT_TEXT)

@@ -11,9 +11,11 @@ ghost use Rattle.base62.specs.Decoding.{decoding, canonical_decoding};
 ghost use Rattle.base62.specs.Key.{IsKey};
 ghost use Rattle.base62.specs.Range.{range_of};
 ghost use Rattle.base62.specs.Uuid.{uuid_number};
+ghost use Rattle.base62.specs.declared.fault.TheConstants.{MAX_FAULT_TEXT};
 ghost use Rattle.base62_c.specs.Answer.{Encodes, Fills, TellsNumber, TellsCanonical, TellsEnds, WritesText};
 ghost use Rattle.base62_c.specs.Fault.{status_text};
 ghost use Rattle.base62_c.specs.Number.{number_of};
+ghost use Rattle.base62_c.specs.declared.TheConstants.{VERSION_NUMBER};
 
 mod answer;
 mod fault;
@@ -28,6 +30,9 @@ use answer::{
 use base62::Alphabet;
 use fault::text_of;
 use number::{Number, halves, joined};
+
+/// The major version times 10000, the minor one times 100, and the patch.
+const VERSION_NUMBER: u32 = 30300;
 
 #[unsafe(no_mangle)]
 pub extern "C" fn base62_encode(number: Number, buf: &mut [u8]) -> usize
@@ -247,14 +252,14 @@ pub extern "C" fn base62_uuid_of_number(number: Number, uuid: &mut [u8; 16])
 #[unsafe(no_mangle)]
 pub extern "C" fn base62_fault_text(status: u32, bad: BadByte, buf: &mut [u8]) -> usize
     ensures written { WritesText (status_text status bad.byte bad.index) buf.old buf.new result }
-    ensures most { length (status_text status bad.byte bad.index) ≤ 77 }
+    ensures most { length (status_text status bad.byte bad.index) ≤ MAX_FAULT_TEXT }
 {
     tell_text(text_of(status, bad).as_str().as_bytes(), buf)
 }
 
 #[unsafe(no_mangle)]
 pub extern "C" fn base62_version_number() -> u32
-    ensures { result ≡ 30200 }
+    ensures { result ≡ VERSION_NUMBER }
 {
-    30200
+    VERSION_NUMBER
 }

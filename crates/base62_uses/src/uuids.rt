@@ -1,12 +1,13 @@
 //! Short forms of UUIDs.
 
-ghost use Rattle.std.specs.Prelude.{◌≡◌, ◌≢◌, ◌↔◌, ℕ, List, IsTrue, Some, IfSome};
+ghost use Rattle.std.specs.Prelude.{◌≡◌, ◌≢◌, ◌↔◌, ℕ, List, IsTrue, Some, IfSome, IfOk};
 ghost use Rattle.base62.specs.Alphabet.{standard};
 ghost use Rattle.base62.specs.Canonical.{IsCanonical};
 ghost use Rattle.base62.specs.Decoding.{IsFirstInvalid};
 ghost use Rattle.base62.specs.Uuid.{IsUuid, uuid_number};
 
 use base62::{Alphabet, DecodeError, Number};
+use std::alloc::{AllocError, Global};
 
 /// The short form of a UUID's sixteen bytes, the highest first. It never fails.
 pub fn short_uuid(uuid: [u8; 16], buf: &mut [u8; 22]) -> &[u8]
@@ -14,6 +15,18 @@ pub fn short_uuid(uuid: [u8; 16], buf: &mut [u8; 22]) -> &[u8]
 {
     let len = base62::encode_bytes(uuid, buf).unwrap();
     &buf[..len]
+}
+
+/// Whether two UUIDs have one short form: only if they are one.
+pub fn have_one_short(alloc: Global, a: [u8; 16], b: [u8; 16]) -> Result<bool, AllocError>
+    ensures { IfOk result (λ same. IsTrue same ↔ (a ≡ b)) }
+{
+    let first = base62::encode_uuid(alloc, a)?;
+    let second = base62::encode_uuid(alloc, b)?;
+    let (first, second) = (first.as_bytes(), second.as_bytes());
+    base62::laws::texts_of_two(&Alphabet::standard(), first, second, a.number(), b.number());
+    base62::laws::uuids_of_two(a, b);
+    Ok(first == second)
 }
 
 /// The UUID of a short form. `None` says that the text is the short form of no UUID. No two texts

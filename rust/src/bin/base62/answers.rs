@@ -11,8 +11,10 @@ use crate::task::Task;
 use crate::tool::CHUNK_LEN;
 use crate::{Output, shown, tell};
 use std::collections::TryReserveError;
+use std::error::Error;
 use std::io::{self, ErrorKind, IsTerminal, Read, Write};
 use std::process::ExitCode;
+use std::{fs, str};
 
 /// Answers each operand, or each line if there is no operand.
 pub(crate) fn answer_all(task: &Task) -> Result<ExitCode, ToolFault> {
@@ -27,10 +29,24 @@ pub(crate) fn answer_all(task: &Task) -> Result<ExitCode, ToolFault> {
         answers.push_lines()?;
     }
     for operand in &task.operands {
-        answers.push(operand, || shown(operand))?;
+        answers.push(operand, |error| {
+            let name = task.subcommand.name;
+            let what = if is_input(operand) {
+                format!("base62 reads standard input: base62 {name} <FILE")
+            } else {
+                error.to_string()
+            };
+            format!("{}: {what}", shown(operand))
+        })?;
     }
     answers.flush()?;
     Ok(answers.status)
+}
+
+/// Whether an operand is `-` or the name of a file.
+fn is_input(operand: &[u8]) -> bool {
+    let name = str::from_utf8(operand).unwrap_or_default();
+    name == "-" || fs::metadata(name).is_ok_and(|it| !it.is_dir())
 }
 
 struct Answers<'a> {
@@ -43,16 +59,21 @@ struct Answers<'a> {
 }
 
 impl Answers<'_> {
-    /// Answers the text at a place. If it is bad, the answers so far go out, and then the error.
-    fn push(&mut self, text: &[u8], place: impl FnOnce() -> String) -> Result<(), ToolFault> {
+    /// Answers a text by one line. If it is bad, the answers so far go out, then the error is told, and the line is empty.
+    fn push(
+        &mut self,
+        text: &[u8],
+        told: impl FnOnce(Box<dyn Error>) -> String,
+    ) -> Result<(), ToolFault> {
         let length = self.out.len();
-        match (self.task.answer)(self.task, text, &mut self.out) {
+        match (self.task.subcommand.answer)(self.task, text, &mut self.out) {
             Ok(()) => self.out.push(b'\n'),
             Err(error) if error.is::<TryReserveError>() => return Err(ToolFault::Memory),
             Err(error) => {
                 self.out.truncate(length);
                 self.flush()?;
-                tell(format_args!("{}: {error}", place()));
+                tell(told(error));
+                self.out.push(b'\n');
                 self.status = ExitCode::FAILURE;
             }
         }
@@ -76,7 +97,9 @@ impl Answers<'_> {
             let count = match io::stdin().read(&mut chunk) {
                 Ok(0) if begun.as_slice().is_empty() => return Ok(()),
                 // The last line needs no line feed.
-                Ok(0) => return self.push(begun.as_slice(), || format!("line {number}")),
+                Ok(0) => {
+                    return self.push(begun.as_slice(), |error| format!("line {number}: {error}"));
+                }
                 Ok(count) => count,
                 Err(error) if error.kind() == ErrorKind::Interrupted => continue,
                 Err(_) => return Err(ToolFault::Read),
@@ -89,7 +112,7 @@ impl Answers<'_> {
                     line = begun.as_slice();
                 }
                 let text = line.strip_suffix(b"\r").unwrap_or(line);
-                self.push(text, || format!("line {number}"))?;
+                self.push(text, |error| format!("line {number}: {error}"))?;
                 begun.clear();
                 number += 1;
                 rest = &rest[end + 1..];

@@ -5,7 +5,7 @@
 
 use crate::help;
 use crate::shown;
-use crate::task::{Task, decimal};
+use crate::task::{Answer, Notation, Task, decimal};
 use base62::Alphabet;
 
 pub(crate) enum Request {
@@ -13,94 +13,177 @@ pub(crate) enum Request {
     Print(&'static str),
 }
 
+pub(crate) struct Subcommand {
+    pub(crate) name: &'static str,
+    pub(crate) answer: Answer,
+    /// The letters of its options.
+    options: &'static str,
+    help: &'static str,
+}
+
+const SUBCOMMANDS: [Subcommand; 3] = [
+    Subcommand {
+        name: "encode",
+        answer: Task::encode,
+        options: "alwux",
+        help: help::ENCODE,
+    },
+    Subcommand {
+        name: "decode",
+        answer: Task::decode,
+        options: "alsux",
+        help: help::DECODE,
+    },
+    Subcommand {
+        name: "range",
+        answer: Task::range,
+        options: "alw",
+        help: help::RANGE,
+    },
+];
+
+struct Flag {
+    letter: char,
+    word: &'static str,
+    needs_value: bool,
+}
+
+const OPTIONS: [Flag; 8] = [
+    flag('a', "alternative", false),
+    flag('l', "letters", true),
+    flag('w', "width", true),
+    flag('s', "strict", false),
+    flag('u', "uuid", false),
+    flag('x', "hex", false),
+    flag('h', "help", false),
+    flag('V', "version", false),
+];
+
+const fn flag(letter: char, word: &'static str, needs_value: bool) -> Flag {
+    Flag {
+        letter,
+        word,
+        needs_value,
+    }
+}
+
 /// Reads the arguments after the name of the program. An error says what is wrong with them.
 pub(crate) fn read(mut rest: impl Iterator<Item = Vec<u8>>) -> Result<Request, String> {
     let mut task = Task {
-        answer: Task::encode,
+        subcommand: &SUBCOMMANDS[0],
         alphabet: Alphabet::standard(),
         width: None,
         is_strict: false,
-        has_uuids: false,
+        notation: Notation::Decimal,
         operands: Vec::new(),
     };
+    let mut given = Vec::new();
     while let Some(argument) = rest.next() {
         match argument.as_slice() {
             b"--" => task.operands.extend(rest.by_ref()),
             [b'-', _, ..] => {
-                if let Some(text) = apply(&argument, &mut task, &mut rest)? {
+                if let Some(text) = apply(&argument, &mut task, &mut given, &mut rest)? {
                     return Ok(Request::Print(text));
                 }
             }
             _ => task.operands.push(argument),
         }
     }
-    choose(task)
+    choose(task, &given)
 }
 
-/// Takes the first operand as the subcommand. Refuses what is no option or no operand of it.
-fn choose(mut task: Task) -> Result<Request, String> {
-    let Some(name) = (!task.operands.is_empty()).then(|| task.operands.remove(0)) else {
+/// Takes the first operand as the subcommand. Refuses an option that it lacks.
+fn choose(mut task: Task, given: &[&Flag]) -> Result<Request, String> {
+    if task.operands.is_empty() {
         return Err("no subcommand is given".into());
-    };
-    task.answer = match name.as_slice() {
-        b"encode" => Task::encode,
-        b"decode" => Task::decode,
-        b"range" => Task::range,
-        _ => return Err(format!("there is no subcommand {}", shown(&name))),
-    };
-    let option = match name.as_slice() {
-        b"encode" | b"range" if task.is_strict => "strict",
-        b"decode" if task.width.is_some() => "width",
-        b"range" if task.has_uuids => "uuid",
-        b"range" if task.operands.len() != 1 => return Err("range takes one prefix".into()),
-        _ => return Ok(Request::Answers(Box::new(task))),
-    };
-    Err(format!("{} has no option --{option}", shown(&name)))
+    }
+    let name = task.operands.remove(0);
+    if name == b"help" {
+        return help_of(task.operands.into_iter()).map(Request::Print);
+    }
+    task.subcommand = subcommand(&name)?;
+    let has = |flag: &&&Flag| task.subcommand.options.contains(flag.letter);
+    match given.iter().find(|flag| !has(flag)) {
+        Some(flag) => Err(format!("{} has no option --{}", shown(&name), flag.word)),
+        None => Ok(Request::Answers(Box::new(task))),
+    }
+}
+
+fn subcommand(name: &[u8]) -> Result<&'static Subcommand, String> {
+    let mut all = SUBCOMMANDS.iter();
+    let found = all.find(|it| it.name.as_bytes() == name);
+    found.ok_or_else(|| format!("there is no subcommand {}", shown(name)))
+}
+
+/// The help of the first of the names, or of the command.
+fn help_of(mut names: impl Iterator<Item = Vec<u8>>) -> Result<&'static str, String> {
+    let name = names.find(|name| name != b"help");
+    name.map_or(Ok(help::COMMAND), |name| Ok(subcommand(&name)?.help))
 }
 
 type Rest<'a> = &'a mut dyn Iterator<Item = Vec<u8>>;
 
 /// Applies an argument such as `--width=11` or `-suw11`. For help or the version it answers the text.
-fn apply(argument: &[u8], task: &mut Task, rest: Rest) -> Result<Option<&'static str>, String> {
-    let (options, mut value) = split(argument);
-    for option in &options {
-        let missing = || format!("{} needs a value", shown(option));
-        let mut value = || value.take().or_else(|| rest.next()).ok_or_else(missing);
-        match option.as_slice() {
-            b"-a" | b"--alternative" => task.alphabet = Alphabet::alternative(),
-            b"-l" | b"--letters" => task.alphabet = alphabet_of(&value()?)?,
-            b"-w" | b"--width" => task.width = Some(width_of(&value()?)?),
-            b"-s" | b"--strict" => task.is_strict = true,
-            b"-u" | b"--uuid" => task.has_uuids = true,
-            b"-V" | b"--version" => return Ok(Some(help::VERSION)),
-            b"-h" | b"--help" => {
-                let name = task.operands.first().cloned().or_else(|| rest.next());
-                return Ok(Some(help::of(&name.unwrap_or_default())));
+fn apply(
+    argument: &[u8],
+    task: &mut Task,
+    given: &mut Vec<&'static Flag>,
+    rest: Rest,
+) -> Result<Option<&'static str>, String> {
+    for (name, value) in split(argument) {
+        let is_named = |flag: &&Flag| {
+            let names = [format!("-{}", flag.letter), format!("--{}", flag.word)];
+            names.iter().any(|it| it.as_bytes() == name)
+        };
+        let flag = OPTIONS.iter().find(is_named);
+        let flag = flag.ok_or_else(|| format!("there is no option {}", shown(&name)))?;
+        let value = match (flag.needs_value, value) {
+            (false, Some(_)) => return Err(format!("{} takes no value", shown(&name))),
+            (true, None) => rest.next(),
+            (_, value) => value.or_else(|| Some(Vec::new())),
+        };
+        let value = value.ok_or_else(|| format!("{} needs a value", shown(&name)))?;
+        match flag.letter {
+            'a' => task.alphabet = Alphabet::alternative(),
+            'l' => task.alphabet = alphabet_of(&value)?,
+            'w' => task.width = Some(width_of(&value)?),
+            's' => task.is_strict = true,
+            'u' => task.notation = Notation::Uuid,
+            'x' => task.notation = Notation::Hexadecimal,
+            'V' => return Ok(Some(help::VERSION)),
+            _ => {
+                let behind = rest.filter(|argument| !argument.starts_with(b"-"));
+                return help_of(task.operands.drain(..).chain(behind)).map(Some);
             }
-            _ => return Err(format!("there is no option {}", shown(option))),
         }
+        given.push(flag);
     }
-    let needless = |_| Err(format!("{} takes no value", shown(&options[0])));
-    value.map_or(Ok(None), needless)
+    Ok(None)
 }
 
-/// The options of an argument, and the value of the last of them, if that stands there too.
-fn split(argument: &[u8]) -> (Vec<Vec<u8>>, Option<Vec<u8>>) {
+/// The options of an argument, each with the value that stands there too.
+fn split(argument: &[u8]) -> Vec<(Vec<u8>, Option<Vec<u8>>)> {
     if argument.starts_with(b"--") {
         let mut parts = argument.splitn(2, |byte| *byte == b'=').map(<[u8]>::to_vec);
-        return (parts.by_ref().take(1).collect(), parts.next());
+        return vec![(parts.next().unwrap_or_default(), parts.next())];
     }
-    let letters = &argument[1..];
-    let last = letters.iter().position(|letter| b"lw".contains(letter));
-    let (letters, value) = letters.split_at(last.map_or(letters.len(), |last| last + 1));
-    let value = Some(value.to_vec()).filter(|value| !value.is_empty());
-    let options = letters.iter().map(|letter| vec![b'-', *letter]);
-    (options.collect(), value)
+    let mut options = Vec::new();
+    let mut letters = argument[1..].iter();
+    while let Some(letter) = letters.next() {
+        let needs_value = OPTIONS
+            .iter()
+            .any(|flag| flag.letter == char::from(*letter) && flag.needs_value);
+        let value = (needs_value && letters.len() > 0).then(|| letters.by_ref().copied().collect());
+        options.push((vec![b'-', *letter], value));
+    }
+    options
 }
 
 fn width_of(value: &[u8]) -> Result<usize, String> {
-    let width = decimal(value).filter(|width| *width > 0);
-    width.ok_or_else(|| format!("a width is 1 to {}, not {}", usize::MAX, shown(value)))
+    let is_whole = value.iter().all(u8::is_ascii_digit) && value.iter().any(|digit| *digit != b'0');
+    // For so wide a text there is no memory, and a prefix has the same range.
+    let width = is_whole.then(|| decimal(value).unwrap_or(usize::MAX));
+    width.ok_or_else(|| format!("a width is a whole number from 1 on, not {}", shown(value)))
 }
 
 fn alphabet_of(value: &[u8]) -> Result<Alphabet, String> {

@@ -9,6 +9,7 @@ mod fault;
 mod help;
 mod line_end;
 mod memory;
+mod protocol;
 mod reply;
 mod task;
 #[cfg(test)]
@@ -18,13 +19,13 @@ mod tool;
 use arguments::Request;
 use fault::ToolFault;
 use std::fmt::Display;
-use std::io::{self, ErrorKind, IsTerminal, Write};
+use std::io::{self, ErrorKind, Write};
 use std::process::{self, ExitCode};
 use std::{env, ffi::OsString};
 
 fn main() -> ExitCode {
     let outcome = match arguments::read(env::args_os().skip(1).map(OsString::into_encoded_bytes)) {
-        _ if env::args_os().len() < 2 => run_protocol(),
+        _ if env::args_os().len() < 2 => protocol::run(),
         Ok(Request::Answers(task)) => answers::answer_all(&task),
         Ok(Request::Print(text)) => Output
             .write_all(text.as_bytes())
@@ -38,14 +39,6 @@ fn main() -> ExitCode {
         tell(fault.to_string().trim_start_matches("base62_cli: "));
         ExitCode::FAILURE
     })
-}
-
-fn run_protocol() -> Result<ExitCode, ToolFault> {
-    let mut input = io::stdin();
-    if input.is_terminal() {
-        tell("it answers lines such as `enc 1337` and `dec LZ`: try base62 --help");
-    }
-    tool::run(&mut input, &mut Output).map(|()| ExitCode::SUCCESS)
 }
 
 /// Standard output. If its reader has gone, the program ends, as by SIGPIPE, but with status 0.

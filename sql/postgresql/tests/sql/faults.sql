@@ -43,7 +43,19 @@ SELECT call, refusal(call) FROM (VALUES
     ($$base62_range_first('-', 0, '01')$$),
     ($$base62_range_last('-', 1001)$$),
     ($$base62_range_first_numeric('-', -1)$$),
-    ($$base62_range_last_numeric('-', 1001, own())$$)
+    ($$base62_range_last_numeric('-', 1001, own())$$),
+    ($$base62_encode_numeric(-1)$$),
+    ($$base62_encode_numeric(-0.5, '01')$$),
+    ($$base62_encode_numeric(1337.5, own())$$),
+    ($$base62_encode_numeric(340282366920938463463374607431768211455.01)$$),
+    ($$base62_encode_numeric(340282366920938463463374607431768211456)$$),
+    ($$base62_encode_numeric(1e131071)$$),
+    ($$base62_encode_numeric(1e-16383)$$),
+    ($$base62_encode_numeric('NaN')$$),
+    ($$base62_encode_numeric('Infinity')$$),
+    ($$base62_encode_fixed_numeric('-Infinity', 0)$$),
+    ($$base62_encode_fixed_numeric(62, 0)$$),
+    ($$base62_encode_fixed_numeric(62, 1)$$)
 ) calls (call);
 \echo Texts and prefixes
 SELECT call, refusal(call) FROM (VALUES

@@ -23,7 +23,8 @@ SELECT num_nonnulls(base62_encode(NULL), base62_encode(1, NULL), base62_encode_u
     base62_decode_canonical(NULL), base62_decode_uuid_canonical('-', NULL),
     base62_encode_fixed_uuid('00000000-0000-0000-0000-000000000539', NULL), base62_range_first(NULL, 11),
     base62_range_last('A', NULL), base62_range_first_numeric('A', 11, NULL), base62_range_last('8', 22),
-    base62_range_last_numeric('8', 22));
+    base62_range_last_numeric('8', 22), base62_encode_numeric(NULL), base62_encode_numeric(1, NULL),
+    base62_encode_fixed_numeric(1, NULL), base62_decode_numeric(NULL), base62_decode_numeric_canonical('-', NULL));
 SELECT base62_encode('1337'), base62_encode(1337::smallint), base62_encode(number => 1337),
     base62_decode(encoded => 'LZ'), base62_encode_uuid('00000000-0000-0000-0000-000000000539') uuid;
 SELECT base62_encode_fixed('1337', '3') fixed,
@@ -32,9 +33,11 @@ SELECT base62_encode_fixed('1337', '3') fixed,
     base62_range_last(prefix => 'e', width => 3, alphabet => :own) last;
 PREPARE untyped AS SELECT base62_encode($1) t, base62_encode_uuid($2) u, base62_encode_fixed($3, $4) f,
     base62_encode_fixed_uuid($5, $6) fu, base62_key_last($7, $8) l, base62_is_text($9) i,
-    base62_decode_uuid_canonical($9) d, base62_range_last($10, $11) n;
+    base62_decode_uuid_canonical($9) d, base62_range_last($10, $11) n, base62_encode_numeric($12) v,
+    base62_decode_numeric($13) w;
 EXECUTE untyped (1337, '00000000-0000-0000-0000-000000000539', 1337, 3, '00000000-0000-0000-0000-000000000539', 4, 'L',
-    2, 'LZ', 'L', 3);
+    2, 'LZ', 'L', 3, 1337, 'LZ');
+SELECT base62_version() ~ '^[0-9]+\.[0-9]+\.[0-9]+$' version;
 
 -- A text that is stored packed.
 CREATE TABLE long (t text);

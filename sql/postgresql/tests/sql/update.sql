@@ -12,11 +12,12 @@ SELECT base62_is_text('LZ');
 SELECT base62_encode_fixed_uuid('00000000-0000-0000-0000-000000000539', 3);
 SELECT base62_decode_canonical('LZ');
 SELECT base62_range_last('L', 3);
+SELECT base62_decode_numeric('LZ');
 \set VERBOSITY default
 ALTER EXTENSION base62 UPDATE;
 SELECT extversion FROM pg_extension WHERE extname = 'base62';
 SELECT base62_is_text('LZ'), base62_encode_fixed_uuid('00000000-0000-0000-0000-000000000539', 3),
-    base62_decode_canonical('LZ'), base62_range_last('L', 3);
+    base62_decode_canonical('LZ'), base62_range_last('L', 3), base62_decode_numeric('LZ');
 INSERT INTO item VALUES ('00000000-0000-0000-0000-00000000053a');
 SELECT key, base62_encode_uuid(u) FROM item ORDER BY key;
 

@@ -62,7 +62,7 @@ SELECT f FROM line WHERE f[1] = 'repeated' AND octet_length(text_of(f[2])) = 62
 
 \echo Canonical texts
 CREATE TABLE encoded AS
-    SELECT name, letters, bigint_of(f[3]::numeric) n, uuid_of(f[3]::numeric) u, text_of(f[4]) t
+    SELECT name, letters, f[3]::numeric v, bigint_of(f[3]::numeric) n, uuid_of(f[3]::numeric) u, text_of(f[4]) t
     FROM line JOIN alphabet ON name = f[2] WHERE f[1] = 'encode';
 SELECT * FROM encoded WHERE (base62_encode_uuid(u, letters), base62_decode_uuid(t, letters),
         base62_decode_uuid_canonical(t, letters), base62_is_text(t, letters), base62_is_bigint(t, letters))
@@ -70,6 +70,10 @@ SELECT * FROM encoded WHERE (base62_encode_uuid(u, letters), base62_decode_uuid(
 SELECT * FROM encoded WHERE name = 'standard' AND (base62_encode_uuid(u), base62_decode_uuid(t),
         base62_decode_uuid_canonical(t), base62_is_text(t), base62_is_bigint(t))
     IS DISTINCT FROM (t, u, u, true, n IS NOT NULL);
+SELECT * FROM encoded WHERE (base62_encode_numeric(v, letters), base62_encode_numeric(v + 0.00, letters),
+        base62_decode_numeric(t, letters), base62_decode_numeric_canonical(t, letters)) IS DISTINCT FROM (t, t, v, v);
+SELECT * FROM encoded WHERE name = 'standard' AND (base62_encode_numeric(v), base62_decode_numeric(t),
+        base62_decode_numeric_canonical(t)) IS DISTINCT FROM (t, v, v);
 SELECT * FROM encoded WHERE n IS NOT NULL
     AND (base62_encode(n, letters), base62_decode(t, letters), base62_decode_canonical(t, letters))
     IS DISTINCT FROM (t, n, n);
@@ -81,11 +85,13 @@ SELECT * FROM encoded WHERE n IS NULL AND name = 'standard'
 
 \echo Texts with needless zeros
 CREATE TABLE zeros AS
-    SELECT name, letters, bigint_of(f[4]::numeric) n, uuid_of(f[4]::numeric) u, text_of(f[3]) t
+    SELECT name, letters, f[4]::numeric v, bigint_of(f[4]::numeric) n, uuid_of(f[4]::numeric) u, text_of(f[3]) t
     FROM line JOIN alphabet ON name = f[2] WHERE f[1] = 'zeros';
 SELECT * FROM zeros WHERE (base62_decode_uuid(t, letters), base62_is_text(t, letters), base62_is_bigint(t, letters))
         IS DISTINCT FROM (u, true, n IS NOT NULL)
     OR n IS NOT NULL AND base62_decode(t, letters) IS DISTINCT FROM n
+    OR base62_decode_numeric(t, letters) IS DISTINCT FROM v
+    OR answer('base62_decode_numeric_canonical(%L, %L)', t, letters) IS DISTINCT FROM said('zero')
     OR answer('base62_decode_canonical(%L, %L)', t, letters) IS DISTINCT FROM said('zero')
     OR answer('base62_decode_uuid_canonical(%L, %L)', t, letters) IS DISTINCT FROM said('zero');
 
@@ -96,17 +102,22 @@ CREATE TABLE refused AS
 SELECT count(*) > 300 FROM refused;
 SELECT * FROM refused WHERE answer('base62_decode(%L, %L)', t, letters) IS DISTINCT FROM said
     OR answer('base62_decode_uuid(%L, %L)', t, letters) IS DISTINCT FROM said
+    OR answer('base62_decode_numeric(%L, %L)', t, letters) IS DISTINCT FROM said
+    OR answer('base62_decode_numeric_canonical(%L, %L)', t, letters) IS DISTINCT FROM said
     OR answer('base62_decode_canonical(%L, %L)', t, letters) IS DISTINCT FROM said
     OR answer('base62_decode_uuid_canonical(%L, %L)', t, letters) IS DISTINCT FROM said
     OR (base62_is_text(t, letters), base62_is_bigint(t, letters)) IS DISTINCT FROM (false, false);
 
 \echo Texts of a width, and numbers that have none
 CREATE TABLE fixed AS
-    SELECT name, letters, bigint_of(f[3]::numeric) n, uuid_of(f[3]::numeric) u, f[4]::integer w, text_of(f[5]) t
+    SELECT name, letters, f[3]::numeric v, bigint_of(f[3]::numeric) n, uuid_of(f[3]::numeric) u, f[4]::integer w,
+        text_of(f[5]) t
     FROM line JOIN alphabet ON name = f[2] WHERE f[1] = 'fixed';
 SELECT * FROM fixed WHERE base62_encode_fixed_uuid(u, w, letters) IS DISTINCT FROM t
     OR base62_decode_uuid(t, letters) IS DISTINCT FROM u
     OR n IS NOT NULL AND base62_encode_fixed(n, w, letters) IS DISTINCT FROM t
+    OR base62_encode_fixed_numeric(v, w, letters) IS DISTINCT FROM t
+    OR name = 'standard' AND base62_encode_fixed_numeric(v, w) IS DISTINCT FROM t
     OR name = 'standard' AND base62_encode_fixed_uuid(u, w) IS DISTINCT FROM t
     OR name = 'standard' AND n IS NOT NULL AND base62_encode_fixed(n, w) IS DISTINCT FROM t;
 SELECT * FROM fixed WHERE name = 'standard' AND w = 22

@@ -1,0 +1,228 @@
+#!/usr/bin/env python3
+"""Plants one way after the other to get something false accepted: c/proof/refusals.py [TEXTS..]
+
+Each has to be refused by what its table says. It prints those that are not, and how many are refused. It plants those
+that have one of the texts, if there are any.
+"""
+
+import pathlib
+import sys
+import tempfile
+
+sys.dont_write_bytecode = True
+import annotate
+import wp
+
+# Parts of what prove says.
+ENDS, LOOP, ADMIT, READ = "nothing shows that it ends", "a loop without a variant", ": admit", "is read whole"
+KIND, UNPROVED, FORM = "annotation of another kind", "does not prove the axiom", "an axiom of another form"
+CODE, BODY, WARNING, NO_CONTRACT = "the lists change the code", "without a body", "arning", "no contract, or none"
+FALSE, NOT_TRIED = "an axiom of WP that is false", "WP tries no goal"
+
+TOP = "== after #define KEY_LEN MAX_DIGITS\n"
+STEP = "== in count_zeros before return i;\n"
+NEXT = STEP + "assert first:\n\\true; */ "
+
+
+def logic(text):
+    return f"{TOP}/*@ {text} */"
+
+
+def ghost(body, contract="assigns \\nothing; ensures \\false;", before="", head="void planted(void)"):
+    """A ghost function that would show what is false."""
+    return f"{TOP}{before}\n/*@ ghost\n/@ {contract} @/\n{head} {{ {body} }}\n*/"
+
+
+# Lists, and what refuses each.
+LISTS = [
+    # A definition that has no sense.
+    (logic("logic integer f(integer n) = f(n) + 1;"), ENDS),
+    (logic("predicate p(integer n) = !p(n);"), ENDS),
+    (logic("logic integer f = f + 1;"), ENDS),
+    (logic("logic integer f(integer n) = 1 + f(n - 1);"), ENDS),
+    (logic("logic integer f(integer n) = n <= 0 ? f(n - 1) : 0;"), ENDS),
+    (logic("logic integer f(integer n) = n < 3 ? f(n - 1) + 1 : 0;"), ENDS),
+    (logic("logic integer f(integer n) = n <= 0 ? 0 : f(n - 1) - f(n + 1);"), ENDS),
+    (logic("logic integer f(integer n) = n <= 0 ? 0 : f(n - 0) + 1;"), ENDS),
+    (logic("logic integer f(integer i, integer n) = i < n ? f(i + 1, n + 1) + 1 : 0;"), ENDS),
+    (logic("logic integer f(integer i, integer j) = i < 3 ? f(i + 1, j) : j < 3 ? f(i, j + 1) + 1 : 0;"), ENDS),
+    (logic("logic integer f(integer i, integer j) = i < 3 || j < 3 ? f(i + 1, j) + 1 : 0;"), ENDS),
+    (logic("logic integer f(integer n, integer z) = n <= z * n ? 0 : f(n - 1, z) + 1;"), ENDS),
+    (logic("logic integer f{L}(unsigned char *p, integer n) = n <= *p ? 0 : f(p, n - 1) + 1;"), ENDS),
+    (logic("logic real f(real x) = x <= 0.0 ? 0.0 : f(x - 1.0) + 1.0;"), ENDS),
+    (logic("predicate p(integer i) = \\exists integer n; (i < n ? !p(i + 1) : \\true);"), ENDS),
+    (logic("axiomatic A { logic integer f(integer n); }"), BODY),
+    (logic("axiomatic A { logic integer f{L}(char *p) reads *p; }"), BODY),
+    (logic("axiomatic A { predicate p(integer n); predicate q(integer n) = !p(n); }"), BODY),
+    (logic("inductive p(integer n) { case no: \\forall integer n; p(n) ==> p(n + 1); }"), "inductive"),
+    # An axiom.
+    (logic("axiomatic A { axiom no: \\false; }"), FORM),
+    (logic("admit lemma no: \\false;"), FORM),
+    (logic("axiomatic A { axi\\\nom no: \\false; }"), FORM),
+    (f"{TOP}#define JOIN(a, b) a##b\n/*@ axiomatic A {{ JOIN(axi, om) no: \\false; }} */", FORM),
+    (logic("axiomatic A { axiom no: \\forall integer x; 0 <= x < 256 ==> (x & 127) == x; }"), UNPROVED),
+    (logic("axiomatic A { axiom no: \\forall integer x; 0 <= x ==> (uint64_t)x == x % 0x10000000000000000; }"), FORM),
+    (logic(f"axiomatic A {{ axiom no: \\forall integer x; 0 <= x < 9 ==> x + 0x1{48 * '0'} == x; }}"), FORM),
+    (logic("axiomatic A { axiom no: \\forall integer x; 1 <= x < 9 ==> x << 192 == 0; }"), FORM),
+    (logic(f"axiomatic A {{ axiom no: \\forall integer x; 0 <= x < 9 ==> x >= 0x8{47 * '0'}; }}"), FORM),
+    (logic("axiomatic A { axiom no: \\forall integer x; 0 <= x < 1 ==> 5 / x == -1; }"), FORM),
+    (f"{TOP}#undef ACSL_2_32\n#define ACSL_2_32 0x100000001\n/*@ axiomatic A {{ axiom no:"
+     " \\forall integer x; 0 <= x < 0x10000000000000000 ==> (x & 0xffffffff) == x % ACSL_2_32; } */", UNPROVED),
+    # What is admitted.
+    (f"{NEXT}/*@ admit no: \\false;", ADMIT),
+    (f"{TOP}//@ ad\\\nmit lemma no: \\false;", FORM),
+    (ghost("int i = 0; /@ JOIN(ad, mit) no: \\false; @/ i = 1;", before="#define JOIN(a, b) a##b"), ADMIT),
+    (ghost("", "admit requires no: \\false; assigns \\nothing;"), ADMIT),
+    (ghost("", "assigns \\nothing; admit ensures no: \\false;"), ADMIT),
+    (ghost("int i = 0; /@ admit loop invariant \\false; loop variant 9 - i; @/ while (i < 9) i++;"), ADMIT),
+    # What is not tried.
+    (f"{STEP}assert no_wp: \\false;", NOT_TRIED),
+    (ghost("", "assigns \\nothing; ensures no_wp: \\false;"), NOT_TRIED),
+    (ghost("/@ loop variant no_wp: 0; @/ while (1) {}"), NOT_TRIED),
+    (ghost("int i = 0; /@ loop assigns no_wp: i; loop variant 9 - i; @/ while (i < 9) i++;"), NOT_TRIED),
+    # A function that does not end.
+    (ghost("while(1) {}"), LOOP),
+    (ghost("do\n{} while (1);"), LOOP),
+    (ghost("for (;;) {}"), LOOP),
+    (ghost("// loop variant 0;\nwhile (1) {}"), LOOP),
+    (ghost("/@ loop pragma UNROLL 1; @/ while (1) {}"), LOOP),
+    (ghost("/@ loop pragma UNROLL 1; loop variant 0; @/ while (1) {}"), "a pragma"),
+    (ghost("/@ loop variant 1 for less; @/ while (1) {}",
+           before="/*@ predicate less(integer a, integer b) = \\true; */"), "a variant for a relation"),
+    (ghost("double x = 1; /@ loop variant x; @/ while (x > 0) x = x / 2;"), "integer expected"),
+    (ghost("here: goto here;"), "a jump back"),
+    (ghost("planted();"), "it calls itself"),
+    (ghost("other();", before="/*@ ghost /@ assigns \\nothing; @/ void planted(void);\n"
+           "/@ assigns \\nothing; @/ void other(void) { planted(); } */"), "it calls itself"),
+    (ghost("(*here)();", before="/*@ ghost void (*here)(void); */"), "function pointer"),
+    (ghost("while (1) {}", "terminates \\false; assigns \\nothing; ensures \\false;"), "a clause terminates"),
+    (ghost("planted();", "decreases 0; assigns \\nothing; ensures \\false;"), "a clause decreases"),
+    (ghost("", "assigns \\nothing; exits \\true; ensures \\false;"), "a clause of another end"),
+    (ghost("exit(0);", before="#include <stdlib.h>"), "Call to non-ghost function"),
+    (f"{TOP}/*@ ghost /@ assigns \\nothing; ensures \\false; @/ void planted(void); */", "no body: planted"),
+    # A change of the code.
+    (f"{STEP}// Here it ends. \\", CODE),
+    (f"{TOP}#undef MAX_DIGITS\n#define MAX_DIGITS ((size_t)21)", CODE),
+    (f"{NEXT}i++; /*@ assert last: \\true;", CODE),
+    (f"{STEP}ghost return 0;", WARNING),
+    (f"{STEP}ghost i = 0;", "rror"),
+    (ghost("__asm__(\"\");"), "assembler"),
+    # A contract that is not one.
+    ("== contract base62_encode\nrequires size > 100;\nassigns buffer[0 .. size - 1];", "two contracts"),
+    ("== contract count_zeros\nrequires \\false;", "syntax error"),
+    (ghost("", "ensures \\true;"), NO_CONTRACT),
+    (ghost("", "behavior only: assumes \\false; assigns \\nothing;"), NO_CONTRACT),
+    (ghost("all = 0;", "assigns all;", before="//@ ghost int all;"), "a ghost function that assigns"),
+    (ghost("", "assigns \\nothing; allocates \\nothing;"), "a clause of another kind"),
+    (ghost("", "assigns \\nothing; ensures all == 1;", before="//@ ghost int all = 1;", head="void main(void)"),
+     "before main"),
+    (f"{TOP}/*@ requires \\valid(to) && \\valid_read(from); assigns *to; */\n"
+     "static void planted(char *restrict to, const char *from) { *to = *from; }", "restrict"),
+    (f"{TOP}/*@ requires \\valid(to + (0 .. 9)) && \\valid_read(from) && \\separated(to + (0 .. 8), from);\n"
+     "assigns to[0 .. 9]; */\nstatic void planted(char *restrict to, const char *from) { to[9] = *from; }", "restrict"),
+    # Another annotation, and one that Frama-C leaves out with a warning.
+    (f"{TOP}/*@ global invariant no: \\false; */", KIND),
+    (f"{TOP}/*@ type invariant no(u128 n) = \\false; */", KIND),
+    (f"{NEXT}/*@ ensures \\false;", KIND),
+    (f"{NEXT}/*@ for none: assert no: \\false;", "rror"),
+    (f"{STEP}assert here: \\nosuch;", WARNING),
+    # A struct with an array that is read whole.
+    (f"{STEP}assert here: *tables == \\at(*tables, Pre);", READ),
+    (logic("predicate p{A, B}(Tables *t) = \\at(t->letters, A) == \\at(t->letters, B);"), READ),
+    (ghost("Tables own = *t;", "requires \\valid_read(t); assigns \\nothing;", head="void planted(Tables *t)"), READ),
+    (ghost("return *t;", "requires \\valid_read(t); assigns \\nothing;", head="Tables planted(Tables *t)"), READ),
+]
+
+# Changes of base62.acsl.
+SPECIFICATIONS = [
+    ("value(letters, text, n - 1)", "value(letters, text, n)", ENDS),
+    ("i < 62 && letters[i] != byte ?", "letters[i] != byte ?", ENDS),
+    ("#define LETTERS(", "#define usize_min(a, b) usize_min(b, a)\n#define LETTERS(", CODE),
+    ("assigns \\nothing; ensures number_of(\\result) == uuid", "ensures number_of(\\result) == uuid", NO_CONTRACT),
+]
+
+# What stands behind the laws.
+LAWS = [
+    ("/*@ assigns \\nothing; ensures \\false; */ void planted(void) { for (;;) {} }", LOOP),
+    ("/*@ assigns \\nothing; ensures \\false; */ void planted(void);", "no body: planted"),
+    ("\n#line 1 \"base62.h\"\nvoid planted(void);\n#line 1 \"base62.acsl\"\n"
+     "/*@ assigns \\nothing; ensures \\false; */ void planted(void);", "no body: planted"),
+    ("/*@ axiomatic A { axiom no: \\false; } */", FORM),
+    ("/*@ requires \\false; assigns \\nothing; */ size_t base62_digit_count(base62_number n);", "two contracts"),
+]
+
+# A program that shows what is false by WP's axiom for an array that is read whole.
+PROGRAM = """
+struct all { unsigned char bytes[318]; };
+/*@ requires \\valid(s) && s->bytes[5] == 0; assigns *s; */
+void planted(struct all *s) {
+    struct all before = *s;
+    s->bytes[5] = 1;
+    struct all after = *s;
+    //@ assert after.bytes[5] == 1;
+    //@ assert after.bytes[5] == before.bytes[5];
+    //@ assert \\false;
+}
+"""
+
+
+# A requirement that nothing meets.
+NEVER = """#include "base62.acsl"
+/*@ requires \\valid_read(p + (0 .. 3)) && p[1] == 0 && \\forall integer i; 0 <= i < 4 ==> p[i] == '0';
+    assigns \\nothing;
+    ensures \\result == 0;
+*/
+int planted(const char *p) { return 1; }
+"""
+
+
+def said_of(file, *more):
+    """What prove says of a file, before any goal."""
+    try:
+        return wp.checked(file, *more)[1]
+    except SystemExit as ended:
+        return [str(ended)]
+
+
+def cases(work):
+    """Each planted text, what has to be said, and what says it in a folder."""
+    source, specification, laws = *map(annotate.text_of, (wp.CODE, wp.SPECIFICATION)), annotate.laws()
+    bare = wp.code(wp.prepared(work / "bare", source, wp.BARE))
+    whole = annotate.annotated(source)
+    calls = wp.checked(wp.prepared(work / "code", whole))[0]
+    yield "nothing", None, lambda at: said_of(wp.prepared(at, whole), bare)
+    mark = "#define KEY_LEN MAX_DIGITS\n"
+    other = source.replace(mark, f"#ifdef __FRAMAC__\n{mark}#else\n#define KEY_LEN 21\n#endif\n")
+    yield "#ifdef __FRAMAC__", CODE, lambda at: said_of(wp.prepared(at, annotate.annotated(other)),
+                                                        wp.code(wp.prepared(at / "bare", other, wp.BARE)))
+    for text, by in LISTS:
+        code = annotate.annotated(source, text)
+        yield text, by, lambda at, code=code: said_of(wp.prepared(at, code), bare)
+    for old, new, by in SPECIFICATIONS:
+        if specification.count(old) != 1:
+            raise SystemExit(f"{specification.count(old)} places in base62.acsl: {old}")
+        of, more = (whole, [bare]) if by == CODE else (laws, [])
+        yield new, by, lambda at, text=specification.replace(old, new), of=of, more=more: said_of(
+            wp.prepared(at, of, text), *more)
+    for text, by in LAWS:
+        yield text, by, lambda at, text=text: said_of(wp.prepared(at, laws + text), None, calls)
+    yield PROGRAM, FALSE, lambda at: wp.warnings(wp.proved(wp.prepared(at, PROGRAM), "planted"))
+    yield NEVER, "planted_wp_smoke", lambda at: wp.contradictions(wp.prepared(at, NEVER))
+
+
+def main(texts):
+    with tempfile.TemporaryDirectory() as folder:
+        work = pathlib.Path(folder)
+        found = [case for case in enumerate(cases(work)) if not texts or any(text in case[1][0] for text in texts)]
+        said = wp.at_once(lambda case: [*case[1][2](work / str(case[0]))], found)
+    failed = 0
+    for (_, (text, by, _)), lines in zip(found, said):
+        if not any(by in line for line in lines) if by else lines:
+            print(f"not refused by {by!r}:\n{text}\nbut by {lines}")
+            failed += 1
+    print(f"{len(said) - failed} passed, {failed} failed")
+    return 1 if failed else 0
+
+
+if __name__ == "__main__":
+    sys.exit(main(sys.argv[1:]))

@@ -1,0 +1,46 @@
+# SPDX-License-Identifier: MIT
+# Copyright (c) 2026 the maintainers of base62 for Rattle
+"""An id that is a number in the program and its text in JSON, for pydantic 2.
+
+>>> link = Link.model_validate_json('{"id": "LZ"}')
+>>> link.id, link.model_dump_json()
+(1337, '{"id":"LZ"}')
+>>> for given in ("LZ-", "00LZ", -1, 2**128):
+...     try:
+...         Link(id=given)
+...     except pydantic.ValidationError as error:
+...         print(error.errors()[0]["msg"])
+Value error, Encoded input contains the invalid byte b'-' at index 2
+Value error, Encoded input begins with a needless zero
+Value error, the number is not from 0 to 2**128 - 1
+Value error, the number is not from 0 to 2**128 - 1
+"""
+
+from __future__ import annotations
+
+from typing import Annotated
+
+import pydantic
+
+import base62
+
+
+def read(given: object) -> object:
+    return base62.decode_canonical(given) if isinstance(given, str) else given
+
+
+def checked(number: int) -> int:
+    base62.digit_count(number)
+    return number
+
+
+Id = Annotated[
+    int,
+    pydantic.BeforeValidator(read),
+    pydantic.AfterValidator(checked),
+    pydantic.PlainSerializer(base62.encode, return_type=str),
+]
+
+
+class Link(pydantic.BaseModel):
+    id: Id

@@ -1,0 +1,45 @@
+# SPDX-License-Identifier: MIT
+# Copyright (c) 2026 the maintainers of base62 for Rattle
+"""A column of keys, which are numbers in the program, for SQLAlchemy 1.4 and 2.
+
+>>> engine = sqlalchemy.create_engine("sqlite://")
+>>> metadata.create_all(engine)
+>>> with engine.begin() as connection:
+...     _ = connection.execute(link.insert().values(id=1337, target="https://example.org/a"))
+...     _ = connection.execute(link.insert().values(id=2**128 - 1, target="https://example.org/b"))
+...     print(connection.execute(sqlalchemy.select(link).where(link.c.id < 2000)).all())
+...     print(connection.execute(sqlalchemy.text("SELECT id FROM link ORDER BY id")).all())
+[(1337, 'https://example.org/a')]
+[('00000000000000000000LZ',), ('7n42DGM5Tflk9n8mt7Fhc7',)]
+>>> engine.dispose()
+"""
+
+from __future__ import annotations
+
+from typing import Any
+
+import sqlalchemy
+
+import base62
+
+
+class Key(sqlalchemy.types.TypeDecorator):
+    """Keys sort as their numbers in a column that is compared byte by byte: in PostgreSQL with the collation C."""
+
+    impl = sqlalchemy.String(22)
+    cache_ok = True
+
+    def process_bind_param(self, value: Any, dialect: Any) -> str | None:
+        return None if value is None else base62.encode_key(value)
+
+    def process_result_value(self, value: Any, dialect: Any) -> int | None:
+        return None if value is None else base62.decode(value)
+
+
+metadata = sqlalchemy.MetaData()
+link = sqlalchemy.Table(
+    "link",
+    metadata,
+    sqlalchemy.Column("id", Key, primary_key=True),
+    sqlalchemy.Column("target", sqlalchemy.String, nullable=False),
+)

@@ -1,0 +1,63 @@
+// SPDX-License-Identifier: MIT
+// Copyright (c) 2026 the maintainers of base62 for Rattle
+
+//! The signatures and bounds of the crate `base62` 2.2.6, and the traits that the types have.
+
+use base62::{Alphabet, AlphabetError, DecodeError, EncodeError};
+use std::fmt::{Debug, Display};
+use std::hash::Hash;
+
+/// Each call takes what the bounds of that crate let through, and answers its types.
+#[allow(dead_code)]
+fn calls_of_the_crate<T: Into<u128>, A: AsRef<[u8]>>(num: fn() -> T) {
+    let _: fn(T, &mut [u8]) -> Result<usize, EncodeError> = base62::encode_bytes::<T>;
+    let _: fn(T, &mut [u8]) -> Result<usize, EncodeError> = base62::encode_alternative_bytes::<T>;
+    let _: fn(A) -> Result<u128, DecodeError> = base62::decode::<A>;
+    let _: fn(A) -> Result<u128, DecodeError> = base62::decode_alternative::<A>;
+    let _: &dyn Display = &base62::encode_fmt(num());
+    let _: &dyn Display = &base62::encode_fmt_alt(num());
+    #[cfg(feature = "alloc")]
+    {
+        let _: fn(T) -> String = base62::encode::<T>;
+        let _: fn(T) -> String = base62::encode_alternative::<T>;
+        let _: fn(T, &mut String) = base62::encode_buf::<T>;
+        let _: fn(T, &mut String) = base62::encode_alternative_buf::<T>;
+    }
+}
+
+#[cfg(feature = "std")]
+#[allow(dead_code)]
+fn writers_of_the_crate<T: Into<u128>, W: std::io::Write + ?Sized>() {
+    let _: fn(T, &mut W) -> std::io::Result<()> = base62::encode_io::<T, W>;
+    let _: fn(T, &mut W) -> std::io::Result<()> = base62::encode_alternative_io::<T, W>;
+}
+
+#[test]
+fn types() {
+    fn fault<T: Copy + Debug + Eq + Hash + Ord + std::error::Error + Send + Sync + Unpin>() {}
+    fn alphabet<T: Copy + Debug + Eq + Hash + Send + Sync + Unpin>() {}
+    fault::<DecodeError>();
+    fault::<EncodeError>();
+    fault::<AlphabetError>();
+    alphabet::<Alphabet>();
+    let _: fn([u8; 62]) -> Result<Alphabet, AlphabetError> = Alphabet::try_from;
+    let display = base62::encode_fmt(0_u8);
+    fn shown(_: impl Display + Send + Sync + 'static) {}
+    shown(display);
+}
+
+#[test]
+fn variants() {
+    // Callers match on all of them, and in this order they are sorted.
+    match base62::decode("").unwrap_err() {
+        DecodeError::ArithmeticOverflow => (),
+        DecodeError::EmptyInput => (),
+        DecodeError::InvalidBase62Byte(_, _) => (),
+    }
+    let EncodeError::BufferTooSmall = EncodeError::BufferTooSmall;
+    let AlphabetError::Repeated(_, _) = AlphabetError::Repeated(0, 1);
+    assert!(DecodeError::ArithmeticOverflow < DecodeError::EmptyInput);
+    assert!(DecodeError::EmptyInput < DecodeError::InvalidBase62Byte(0, 0));
+    let shown = format!("{:?}", DecodeError::InvalidBase62Byte(45, 2));
+    assert_eq!(shown, "InvalidBase62Byte(45, 2)");
+}

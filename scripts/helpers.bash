@@ -1,0 +1,149 @@
+# What .ci/setup and the checks share. Each sources it at the top, with set -Eeuo pipefail.
+
+export LC_ALL=C
+work=$(mktemp -d)
+trap 'rm -rf "$work"' EXIT
+trap 'echo "$0: line $LINENO fails" >&2' ERR
+read -r version <VERSION
+# No setting of the user's, and no network: pip takes Debian's files.
+unset CC CFLAGS COPT CPATH CPPFLAGS CXX CXXFLAGS DESTDIR LDFLAGS LDSHARED LIBRARY_PATH MAKEFLAGS MFLAGS MODULE \
+    NODE_OPTIONS NODE_PATH PG_CONFIG PKG_CONFIG_PATH PYTHONPATH SOURCE_DATE_EPOCH docdir libdir prefix
+export CARGO_NET_OFFLINE=true PIP_NO_INDEX=1 PIP_FIND_LINKS=/usr/share/python-wheels PYTHONDONTWRITEBYTECODE=1 \
+    npm_config_offline=true npm_config_cache=$work/cache npm_config_userconfig=$work/npmrc npm_config_audit=false \
+    npm_config_fund=false npm_config_update_notifier=false
+
+# What the checks need besides the kit: `make setup` installs these,
+lean=(build cargo cargo-clippy clang clang-tidy cmake ensurepip g++ gcc git gmp.h gmpy2 make mypy node npm pg_virtualenv
+    pip pkg-config postgres postgres.h Python.h python3 /usr/bin/python3 reuse rustfmt script sqlite3 sqlite3ext.h tsc
+    uuidgen wasm-ld wheel)
+# and `make setup-all` these too.
+further=(aarch64-linux-gnu-gcc arm-linux-gnueabihf-gcc chromium cvc4 cvc5 django esbuild express firefox-esr fish
+    frama-c go help2man i686-linux-gnu-gcc librust ocamlfind pandas pydantic qemu-aarch64 qemu-arm qemu-i386 qemu-riscv64
+    qemu-s390x riscv64-linux-gnu-gcc s390x-linux-gnu-gcc sqlalchemy why3 wine x86_64-w64-mingw32-gcc z3 zsh)
+# The packages of Debian that have them, where their names are others.
+declare -A packages=(
+    [build]=python3-build [django]=python3-django [ensurepip]=python3-venv [express]=node-express
+    [gmpy2]=python3-gmpy2 [pandas]=python3-pandas [pip]=python3-pip [pydantic]=python3-pydantic [Python.h]=python3-dev [/usr/bin/python3]=python3
+    [sqlalchemy]=python3-sqlalchemy [wheel]=python3-wheel-whl [cargo-clippy]=rust-clippy [clang]='clang libclang-rt-dev'
+    [gcc]='gcc libc6-dev' [gmp.h]=libgmp-dev [go]=golang-go [node]=nodejs [script]=bsdutils [tsc]=node-typescript
+    [wasm-ld]=lld [pg_virtualenv]=postgresql-common [postgres]=postgresql [postgres.h]=postgresql-server-dev-all
+    [sqlite3ext.h]=libsqlite3-dev [frama-c]=frama-c-base [ocamlfind]=ocaml-findlib [wine]='wine wine64'
+    [librust]='librust-serde-dev librust-uuid-dev' [uuidgen]=uuid-runtime [x86_64-w64-mingw32-gcc]=gcc-mingw-w64-x86-64
+    [aarch64-linux-gnu-gcc]='gcc-aarch64-linux-gnu libc6-dev-arm64-cross' [qemu-aarch64]=qemu-user
+    [arm-linux-gnueabihf-gcc]='gcc-arm-linux-gnueabihf libc6-dev-armhf-cross' [qemu-arm]=qemu-user
+    [i686-linux-gnu-gcc]='gcc-i686-linux-gnu libc6-dev-i386-cross' [qemu-i386]=qemu-user
+    [riscv64-linux-gnu-gcc]='gcc-riscv64-linux-gnu libc6-dev-riscv64-cross' [qemu-riscv64]=qemu-user
+    [s390x-linux-gnu-gcc]='gcc-s390x-linux-gnu libc6-dev-s390x-cross' [qemu-s390x]=qemu-user
+)
+# The oldest Rust that the crate is for, and the folder for the oldest one of Debian that can.
+oldest_rust=$(sed -n 's/^rust-version = "\(.*\)"$/\1/p' rust/Cargo.toml)
+old_rust=${XDG_CACHE_HOME:-~/.cache}/base62-rust
+
+# VERSION VERSION. Whether the first is not after the second.
+in_order() {
+    printf '%s\n' "$@" | sort --check=quiet --version-sort
+}
+
+# TOOL. Its version.
+version_of() {
+    [[ $("$1" --version) =~ \ ([0-9]+(\.[0-9]+)*) ]] && echo "${BASH_REMATCH[1]}"
+}
+
+# THING, by its name there.
+is_here() {
+    case $1 in
+        # Of the system's Python, if there is one: Debian's setuptools works with no other.
+        build | django | ensurepip | gmpy2 | pandas | pip | pydantic | sqlalchemy) PATH=/usr/bin:$PATH python3 -c "import $1" ;;
+        cargo) in_order "$oldest_rust" "$(version_of cargo)" ;;
+        cargo-clippy | rustfmt) is_here cargo && command -v "$1" ;;
+        # Debian's file, which serves each Python without a network.
+        wheel) compgen -G '/usr/share/python-wheels/wheel-*.whl' ;;
+        librust) compgen -G '/usr/share/cargo/registry/uuid-*' ;;
+        express) [[ -e /usr/share/nodejs/express ]] ;;
+        gmp.h) printf '#include <gmp.h>\n' | gcc -fsyntax-only -xc - ;;
+        Python.h) python3 -c 'import os, sysconfig; os.stat(sysconfig.get_path("include") + "/Python.h")' ;;
+        postgres) compgen -G '/usr/lib/postgresql/*/bin/postgres' ;;
+        postgres.h) compgen -G '/usr/include/postgresql/*/server/postgres.h' ;;
+        sqlite3ext.h) [[ -e /usr/include/sqlite3ext.h ]] ;;
+        *) command -v "$1" ;;
+    esac >/dev/null 2>&1
+}
+
+# WHAT THING.. Says what is left out for lack of them, and the command that brings them. Under CI the check ends here.
+leave_out() {
+    local thing command='make setup' wanted=()
+    for thing in "${@:2}"; do
+        [[ " ${further[*]} " != *" $thing "* ]] || command='make setup-all'
+        wanted+=("${packages[$thing]-$thing}")
+    done
+    echo "left out: $1: $command installs ${wanted[*]}"
+    [[ ! ${CI-} ]] || exit 1
+}
+
+# The status of a check that is left out, as automake has it.
+LEFT_OUT=77
+
+# THING.. If any is missing, the check is left out.
+needs() {
+    local thing missing=()
+    for thing; do
+        is_here "$thing" || missing+=("$thing")
+    done
+    [[ ${missing[*]} ]] || return 0
+    leave_out "$0" "${missing[@]}"
+    exit "$LEFT_OUT"
+}
+
+# THING WHAT. Whether the thing is here. If not, WHAT is left out.
+has() {
+    is_here "$1" || ! leave_out "$2" "$1"
+}
+
+# The newest version of each compiler and linter whose warnings fail a check. Those of a later one are shown.
+declare -A newest=([cargo]=1.97 [clang]=21 [clang-tidy]=21 [gcc]=16 [mypy]=2.4)
+
+# TOOL. Whether its warnings fail a check.
+is_strict() {
+    in_order "$(version_of "$1")" "${newest[${1/#*-gcc/gcc}]}.999"
+}
+
+# COMPILER. Its option by which warnings fail a check.
+werror() {
+    ! is_strict "$1" || echo -Werror
+}
+
+# TOOL COMMAND.. Runs the command, which may fail if the tool is not strict.
+lint() {
+    ("${@:2}") || ! is_strict "$1"
+}
+
+# FOLDER. Copies into it the files and links as they are: those that git knows or would add.
+copy_files() {
+    local file
+    git ls-files -z --cached --others --exclude-standard | while IFS= read -rd '' file; do
+        [[ ! -e $file ]] || printf '%s\0' "$file"
+    done | xargs -0 cp -d --parents -t "$1"
+}
+
+# FOLDER. Makes there a repository of the files as they are, which has the version as a tag.
+make_repository() {
+    git init --quiet "$1"
+    copy_files "$1"
+    git -C "$1" add .
+    git -C "$1" -c user.name=base62 -c user.email=base62@localhost commit --quiet -m base62
+    git -C "$1" tag "$version"
+}
+
+# Fails if cargo has warned as it ran quietly, and is strict.
+warns_of_nothing() {
+    ! grep -A 9 '^warning' "$work/said" >&2 || ! is_strict cargo || exit 1
+}
+
+# COMMAND.. What it prints is shown if it fails, and else what a compiler warns of.
+quietly() {
+    "$@" >"$work/said" 2>&1 || {
+        cat "$work/said" >&2
+        exit 1
+    }
+    grep ': warning: ' "$work/said" >&2 || true
+}

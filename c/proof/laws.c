@@ -348,7 +348,8 @@ static void status_told(const unsigned char *letters, const unsigned char *p, si
     ensures number: \result == BASE62_OK ==> denotes{Pre}(letters, BYTES(text), length, number_of(*number)); \
     ensures canonical: is_strict && \result == BASE62_OK && length > 1 ==> BYTES(text)[0] != letters[0]; \
     ensures no_number: \result != BASE62_OK ==> *number == \old(*number); \
-    ensures index: \result == BASE62_INVALID_BYTE ==> bad->index < length && bad->byte == text[bad->index]; \
+    ensures index: \result == BASE62_INVALID_BYTE ==> bad->index < length; \
+    ensures byte: \result == BASE62_INVALID_BYTE ==> bad->byte == \at(text[\at(bad->index, Post)], Pre); \
     ensures bad: \result == BASE62_INVALID_BYTE ==> digit{Pre}(letters, bad->byte) >= 62; \
     ensures first: \result == BASE62_INVALID_BYTE ==> are_letters{Pre}(letters, BYTES(text), bad->index); \
     ensures others: \result != BASE62_INVALID_BYTE ==> *bad == \old(*bad);

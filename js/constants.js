@@ -1,10 +1,12 @@
 // SPDX-License-Identifier: MIT
 // Copyright (c) 2026 the maintainers of base62 for Rattle
 
-// The numbers that c/base62.h names. Written by translate/wasm. Not edited by hand.
+// What c/base62.h names. Written by translate/wasm. Not edited by hand.
 export const MAX_DIGITS = 22;
 export const KEY_LENGTH = 22;
 export const ALPHABET_LENGTH = 62;
+export const STANDARD_LETTERS = '0123456789ABCDEFGHIJKLMNOPQRSTUVWXYZabcdefghijklmnopqrstuvwxyz';
+export const ALTERNATIVE_LETTERS = '0123456789abcdefghijklmnopqrstuvwxyzABCDEFGHIJKLMNOPQRSTUVWXYZ';
 export const UUID_LENGTH = 16;
 export const MAX_FAULT_TEXT = 77;
 export const ALPHABET_SIZE = 318;

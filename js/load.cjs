@@ -4,10 +4,12 @@
 // The CommonJS form of load.js. Written by translate/wasm. Not edited by hand.
 'use strict';
 
-// The numbers that c/base62.h names. Written by translate/wasm. Not edited by hand.
+// What c/base62.h names. Written by translate/wasm. Not edited by hand.
 const MAX_DIGITS = 22;
 const KEY_LENGTH = 22;
 const ALPHABET_LENGTH = 62;
+const STANDARD_LETTERS = '0123456789ABCDEFGHIJKLMNOPQRSTUVWXYZabcdefghijklmnopqrstuvwxyz';
+const ALTERNATIVE_LETTERS = '0123456789abcdefghijklmnopqrstuvwxyzABCDEFGHIJKLMNOPQRSTUVWXYZ';
 const UUID_LENGTH = 16;
 const MAX_FAULT_TEXT = 77;
 const ALPHABET_SIZE = 318;
@@ -492,18 +494,8 @@ function load(module) {
     }
   }
 
-  // Each letter is the text of its digit.
-  function builtIn(name) {
-    let letters = '';
-    for (let digit = 0; digit < ALPHABET_LENGTH; digit++) {
-      put(digit);
-      letters += written(kept, kept.calls[name](NUMBER, TEXT, 1));
-    }
-    return new Alphabet(letters);
-  }
-
-  const standard = builtIn('base62_encode_fixed');
-  const alternative = builtIn('base62_encode_alternative_fixed');
+  const standard = new Alphabet(STANDARD_LETTERS);
+  const alternative = new Alphabet(ALTERNATIVE_LETTERS);
 
   return {
     Alphabet,

@@ -9,6 +9,7 @@ import * as header from './constants.js';
 const {
   ALPHABET_LENGTH,
   ALPHABET_SIZE,
+  ALTERNATIVE_LETTERS,
   BUFFER_TOO_SMALL,
   INVALID_BYTE,
   KEY_LENGTH,
@@ -17,6 +18,7 @@ const {
   NO_KEY,
   OK,
   REPEATED_LETTER,
+  STANDARD_LETTERS,
   STATUSES,
   UUID_LENGTH,
 } = header;
@@ -480,18 +482,8 @@ export function load(module) {
     }
   }
 
-  // Each letter is the text of its digit.
-  function builtIn(name) {
-    let letters = '';
-    for (let digit = 0; digit < ALPHABET_LENGTH; digit++) {
-      put(digit);
-      letters += written(kept, kept.calls[name](NUMBER, TEXT, 1));
-    }
-    return new Alphabet(letters);
-  }
-
-  const standard = builtIn('base62_encode_fixed');
-  const alternative = builtIn('base62_encode_alternative_fixed');
+  const standard = new Alphabet(STANDARD_LETTERS);
+  const alternative = new Alphabet(ALTERNATIVE_LETTERS);
 
   return {
     Alphabet,

@@ -222,6 +222,8 @@ static void check_alphabet(void) {
     struct named *alphabet = &alphabets[alphabet_count];
     char *room = make_room();
     strcpy(alphabet->name, field(1));
+    expect_of_row(!is_standard(alphabet) || memcmp(letters, BASE62_STANDARD_LETTERS, 62) == 0, "the standard letters");
+    expect_of_row(!is_alternative(alphabet) || memcmp(letters, BASE62_ALTERNATIVE_LETTERS, 62) == 0, "the letters");
     alphabet->made[at_end] = memcpy(place_in(room, at_end, sizeof made), &made, sizeof made);
     set_writable(room, 0);
     alphabet_count += (size_t)at_end;

@@ -424,16 +424,9 @@ static int add_alphabet(PyObject *module) {
     return state->held[ALPHABET] != NULL && PyModule_AddObjectRef(module, "Alphabet", state->held[ALPHABET]) == 0;
 }
 
-/* The letters of the built-in alphabets are the texts of their digits. */
-static int add_built_in(PyObject *module, int which, const char *name,
-                        size_t (*write)(base62_number, char *, size_t)) {
+static int add_built_in(PyObject *module, int which, const char *name, const char *letters) {
     PyObject **own = state_of(module)->held;
-    char letters[BASE62_ALPHABET_LENGTH];
-    for (unsigned digit = 0; digit < BASE62_ALPHABET_LENGTH; digit++)
-        write(base62_from_u64(digit), letters + digit, 1);
-    PyObject *bytes = PyBytes_FromStringAndSize(letters, sizeof letters);
-    own[which] = bytes == NULL ? NULL : PyObject_CallFunctionObjArgs(own[ALPHABET], bytes, NULL);
-    Py_DecRef(bytes);
+    own[which] = PyObject_CallFunction(own[ALPHABET], "y", letters);
     return own[which] != NULL && PyObject_SetAttrString(own[ALPHABET], name, own[which]) == 0;
 }
 
@@ -708,8 +701,8 @@ static int take_is_ascii(struct state *state) {
 static int execute(PyObject *module) {
     struct state *state = state_of(module);
     int ok = state != NULL && take_types(state->held) && take_is_ascii(state) && add_alphabet(module) &&
-             add_built_in(module, STANDARD, "STANDARD", base62_encode) &&
-             add_built_in(module, ALTERNATIVE, "ALTERNATIVE", base62_encode_alternative) && add_calls(module);
+             add_built_in(module, STANDARD, "STANDARD", BASE62_STANDARD_LETTERS) &&
+             add_built_in(module, ALTERNATIVE, "ALTERNATIVE", BASE62_ALTERNATIVE_LETTERS) && add_calls(module);
     return ok ? PyModule_AddStringConstant(module, "__version__", BASE62_VERSION) : -1;
 }
 

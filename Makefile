@@ -35,12 +35,10 @@ version: ## give each place of the version another one: make version V=3.3.0
 	$(MAKE) --no-print-directory generated
 
 ROUNDS = 300
-
 bench: ## time the packages on this machine, beside other code for base 62
 	bench/run $(ROUNDS)
 
 PREFIX = /usr/local
-
 install-command: ## install the command, its page and completions: make install-command PREFIX=..
 	cargo install --quiet --force --no-track --path rust --features std --root '$(DESTDIR)$(PREFIX)'
 	cp -R rust/share '$(DESTDIR)$(PREFIX)'

@@ -6,7 +6,7 @@
  *
  * Written by translate/c from crates/base62/src and crates/base62_c/src, and not edited by hand. There, in the language
  * Rattle, each function is proved to meet its contract. This file is a translation of that source. Frama-C proves it
- * again, with the struct u128 and a size_t of 64 bits. The other forms of u128 and of u64_ilog2 are tested.
+ * again, with the struct u128 and a size_t of 64 bits or 32. The other forms of u128 and of u64_ilog2 are tested.
  *
  * It has the same functions in the same order, with the same names and comments. The contracts are left out, but for
  * what they require of numbers and lengths, which stands in lines that begin with "//@ assert", for Frama-C. What the

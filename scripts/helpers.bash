@@ -17,9 +17,9 @@ lean=(build cargo cargo-clippy clang clang-tidy cmake ensurepip g++ gcc git gmp.
     pip pkg-config postgres postgres.h Python.h python3 /usr/bin/python3 reuse rustfmt script sqlite3 sqlite3ext.h tsc
     uuidgen wasm-ld wheel)
 # and `make setup-all` these too.
-further=(aarch64-linux-gnu-gcc arm-linux-gnueabihf-gcc chromium cvc4 cvc5 django esbuild express firefox-esr fish
-    frama-c go help2man i686-linux-gnu-gcc librust ocamlfind pandas pydantic qemu-aarch64 qemu-arm qemu-i386 qemu-riscv64
-    qemu-s390x riscv64-linux-gnu-gcc s390x-linux-gnu-gcc sqlalchemy why3 wine x86_64-w64-mingw32-gcc z3 zsh)
+further=(aarch64-linux-gnu-gcc arm-linux-gnueabihf-gcc chromium cvc4 cvc5 debootstrap django esbuild express firefox-esr
+    fish frama-c go help2man i686-linux-gnu-gcc librust ocamlfind pandas pydantic qemu-aarch64 qemu-arm qemu-i386
+    qemu-riscv64 qemu-s390x riscv64-linux-gnu-gcc s390x-linux-gnu-gcc sqlalchemy why3 wine x86_64-w64-mingw32-gcc z3 zsh)
 # The packages of Debian that have them, where their names are others.
 declare -A packages=(
     [build]=python3-build [django]=python3-django [ensurepip]=python3-venv [express]=node-express

@@ -25,14 +25,15 @@ CORES = int(os.environ.get("CORES", os.cpu_count()))
 # They read what stands in the tables. All others are proved without it, since it slows provers.
 READ_TABLES = {"standard_letter", "standard_byte", "alternative_letter", "alternative_byte", "power", "greatest",
                "greatest_wide", "greatest_narrow", "cut_by_20", "letter", "texts_by_example",
-               "text_of_bad_byte_by_example", "EncodeError_text", "DecodeError_text", "AlphabetError_text",
-               "append_byte_at_index", "append_escaped"}
-# Its asserts named same are proved with the tables, and all else without.
-READS_APART = {"text_of"}
+               "text_of_bad_byte_by_example", "append_escaped"}
+# Their asserts named same are proved with the tables, and all else without.
+READS_APART = {"append_byte_at_index", "EncodeError_text", "DecodeError_text", "AlphabetError_text", "text_of"}
 # WP's filter of hypotheses drops what their assignment of a struct has done.
 ASSIGN_STRUCTS = {"tell_fault", "tell_repeat"}
 # Each of its cases alone is harder than all of them, and they are many.
 WHOLE = {"u64_ilog2"}
+# z3 is faster than cvc4 here.
+Z3_FIRST = {"u64_ilog2", "wide_count"}
 
 # The memory model takes it that a caller's pointer does not point to a constant table or text of base62.c. None can:
 # they are private, and no call returns a pointer to one.
@@ -129,7 +130,7 @@ def proved(file, function, last=None):
 
 def run(file, function, with_tables, options, last):
     """What one run of WP says, with or without what stands in constant tables."""
-    options = [*options, "-wp", "-wp-rte", "-warn-invalid-pointer", "-wp-prover", "cvc4,z3", "-wp-timeout", str(LIMIT),
+    options = [*options, "-wp", "-wp-rte", "-warn-invalid-pointer", "-wp-prover", "z3,cvc4" if function in Z3_FIRST else "cvc4,z3", "-wp-timeout", str(LIMIT),
                "-wp-par", "1", "-wp-msg-key", "print-generated",
                "-wp-prop" if function == LEMMAS else "-wp-fct", function]
     options += [] if function in WHOLE else ["-wp-split"]

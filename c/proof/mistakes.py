@@ -236,8 +236,8 @@ MISTAKES = {
 WEAKER = {
     # Numbers and alphabets.
     "power_base": ("begins_with", "logic integer shifted", "62 *", "61 *"),
-    "letter_order": ("letter", "standard_letters", "AB", "BA"),
-    "other_letter_order": ("letter", "alternative_letters[62]", "ab", "ba"),
+    "letter_order": ("letter", "standard_letters[62]", "STANDARD", "ALTERNATIVE"),
+    "other_letter_order": ("letter", "alternative_letters[62]", "ALTERNATIVE", "STANDARD"),
     "place_bound": ("digit_told", "logic integer place_from", "i < 62", "i < 61"),
     "repeat_index": ("makes", "predicate is_first_repeat", "index < 62 && ", ""),
     "repeat_first": ("makes", "predicate is_first_repeat", "are_distinct(letters, index)", "\\true"),
@@ -381,8 +381,11 @@ def refused(work, code, name):
     else:
         function, old, new, *table = MISTAKES[name]
         file = wp.prepared(work / name, planted(code, *table or [function], old, new))
-    log = wp.proved(file, function, last=FAILED)
-    return FAILED in log and not wp.checked(file)[1] and not [*wp.warnings(log)]
+    try:
+        log = wp.proved(file, function, last=FAILED)
+        return FAILED in log and not wp.checked(file)[1] and not [*wp.warnings(log)]
+    except SystemExit:  # Frama-C cannot read it.
+        return False
 
 
 def unproved(work, code, names):

@@ -239,7 +239,6 @@ WEAKER = {
     "letter_order": ("letter", "standard_letters[62]", "STANDARD", "ALTERNATIVE"),
     "other_letter_order": ("letter", "alternative_letters[62]", "ALTERNATIVE", "STANDARD"),
     "place_bound": ("digit_told", "logic integer place_from", "i < 62", "i < 61"),
-    "repeat_index": ("makes", "predicate is_first_repeat", "index < 62 && ", ""),
     "repeat_first": ("makes", "predicate is_first_repeat", "are_distinct(letters, index)", "\\true"),
     "repeat_equal": ("makes", "predicate is_first_repeat", "letters[i] == letters[index]", "\\true"),
     # Texts.

@@ -130,7 +130,8 @@ def proved(file, function, last=None):
 
 def run(file, function, with_tables, options, last):
     """What one run of WP says, with or without what stands in constant tables."""
-    options = [*options, "-wp", "-wp-rte", "-warn-invalid-pointer", "-wp-prover", "z3,cvc4" if function in Z3_FIRST else "cvc4,z3", "-wp-timeout", str(LIMIT),
+    provers = "z3,cvc4" if function in Z3_FIRST else "cvc4,z3"
+    options = [*options, "-wp", "-wp-rte", "-warn-invalid-pointer", "-wp-prover", provers, "-wp-timeout", str(LIMIT),
                "-wp-par", "1", "-wp-msg-key", "print-generated",
                "-wp-prop" if function == LEMMAS else "-wp-fct", function]
     options += [] if function in WHOLE else ["-wp-split"]

@@ -15,22 +15,24 @@ OTHER_TOOL = "#!/bin/sh\necho Debian clang version 14.0.7\n"
 
 # A file, what stands there, and what comes in its place.
 PLANTED = [
-    ("js/base62.wasm", b"0123456789ABC", b"0123456789ABD"),
+    ("js/base62.wasm", b"needless zero", b"needless Zero"),
     ("js/wasm.js", b"AGFzbQ", b"AGFzbR"),
     ("js/wasm.js", b"`;\n", b"`;\nwasm.length;\n"),
     ("js/wasm.js", b"Not edited by hand.\n", b"Not edited by hand.\r"),
     ("js/constants.js", b"MAX_DIGITS = 22", b"MAX_DIGITS = 23"),
+    ("js/constants.js", b"STANDARD_LETTERS = '01", b"STANDARD_LETTERS = '10"),
     ("js/load.cjs", b"'use strict';\n", b""),
     ("js/load.cjs", b"? calls.base62_decode_canonical_with(", b"? calls.base62_decode_with("),
     ("js/index.cjs", b"AGFzbQ", b"AGFzbR"),
     ("js/index.cjs", b"// Arguments", b"// Argument"),
     ("js/load.js", b"const WORD =", b"const WORDS ="),
-    ("js/load.js", b"// Each letter is the text of its digit.\n", b"// Each letter is the text of its digit.\r"),
+    ("js/load.js", b"// No number is a string or bytes.\n", b"// No number is a string or bytes.\r"),
     ("js/index.js", b"load(compiled());\n", b"load(compiled());\r\n"),
     ("js/index.js", b"// The calls", b"// The calls\xe2\x80\xa8"),
     ("js/index.js", b"{ cause }", b"{ cause, ways }"),
     ("c/base62.h", b"BASE62_NO_KEY = 5,", b"BASE62_NO_KEY = 8,"),
     ("c/base62.h", b"BASE62_MAX_FAULT_TEXT ", b"BASE62_MAX_FAULT_TEXTS "),
+    ("c/base62.h", b'_ALTERNATIVE_LETTERS "01', b'_ALTERNATIVE_LETTERS "10'),
     ("c/base62.c", b"6893020016967578278", b"6893020016967578279"),
     ("c/base62.c", b"/* ", b"/* \0"),
 ]

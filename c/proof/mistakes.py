@@ -208,7 +208,7 @@ MISTAKES = {
     "range_status": ("tell_range", "return NO_KEY", "return OVERFLOW"),
     "repeat_status": ("tell_repeat", "return REPEATED_LETTER", "return INVALID_BYTE"),
     "filled_refused": ("count_filled", "return 0", "return places"),
-    "make_all": ("base62_make_alphabet", "copy_bytes((uint8_t *)alphabet", "copy_bytes((uint8_t *)bad"),
+    "make_all": ("base62_make_alphabet", "(const uint8_t *)&made", "(const uint8_t *)alphabet"),
     "make_last": ("base62_make_alphabet", "sizeof(Alphabet)", "sizeof(Alphabet) - 1"),
     "make_refused_last": ("base62_make_alphabet", "(base62_status)t", "alphabet->bytes[317] = 0, (base62_status)t"),
     "make_refused_letter": ("base62_make_alphabet", "(base62_status)t", "alphabet->bytes[5] = 0, (base62_status)t"),

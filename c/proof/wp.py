@@ -33,7 +33,7 @@ ASSIGN_STRUCTS = {"tell_fault", "tell_repeat"}
 # Each of its cases alone is harder than all of them, and they are many.
 WHOLE = {"u64_ilog2"}
 # z3 is faster than cvc4 here.
-Z3_FIRST = {"u64_ilog2", "wide_count"}
+Z3_FIRST = {"append_decimal", "u64_ilog2", "wide_count"}
 
 # The memory model takes it that a caller's pointer does not point to a constant table or text of base62.c. None can:
 # they are private, and no call returns a pointer to one.

@@ -7,8 +7,9 @@ help: ## print this list
 	@echo '  make check-PART       test one of them: $(parts)'
 
 check: ## test all packages without the kit, side by side
-	@$(MAKE) --jobs=$$(nproc) --keep-going --output-sync=target --no-print-directory \
-	    $(parts:%=check-%) 2>&1 | scripts/count $(parts)
+	@rm -rf out/check && mkdir -p out/check
+	@$(MAKE) --jobs=$$(nproc) --keep-going --output-sync=target --no-print-directory $(parts:%=check-%) || :
+	@scripts/count $(parts)
 
 $(parts:%=check-%): check-%:
 	@scripts/check $*
@@ -17,26 +18,26 @@ prove: ## prove all crates, try all edits and run all tests, with the kit
 	rt ci
 
 prove-c: ## prove c/base62.c by Frama-C, with BITS=32 for such machines; MISTAKES=1 tries planted mistakes
-	@$(if $(MISTAKES),c/proof/refusals.py && c/proof/mistakes.py,c/proof/prove)
+	@$(if $(MISTAKES),c/proof/refusals.py && c/proof/mistakes.py && c/proof/weaker.py,c/proof/prove.py)
 
-generated: generated-texts ## write the generated files anew, after a change of crates/
+generate: generate-texts ## write the generated files anew, after a change of crates/
 	translate/wasm
 
-generated-texts: # all but the WebAssembly
+generate-texts: # all but the WebAssembly
 	tests/model.py
-	translate/rust
-	translate/c
+	translate/rust.py
+	translate/c.py
 
 check-generated: ## fail if a generated file is not what its writer writes
 	scripts/check-generated
 
 version: ## give each place of the version another one: make version V=3.3.0
-	scripts/version '$(V)'
-	$(MAKE) --no-print-directory generated
+	scripts/version.py '$(V)'
+	$(MAKE) --no-print-directory generate
 
 ROUNDS = 300
 bench: ## time the packages on this machine, beside other code for base 62
-	bench/run $(ROUNDS)
+	bench/run.py $(ROUNDS)
 
 PREFIX = /usr/local
 install-command: ## install the command, its page and completions: make install-command PREFIX=..
@@ -49,11 +50,16 @@ dist: ## pack all packages into a folder: make dist FOLDER=..
 setup: ## install by apt-get what the packages and their tests need
 	.ci/setup
 
-setup-all: ## install also browsers, Wine, cross compilers, emulators and provers
+setup-full: ## install also browsers, Wine, cross compilers, emulators and provers
 	.ci/setup all
 
-check-on: ## try README's lines in a bare Debian, as root: make check-on SUITE=trixie
-	scripts/check-on '$(SUITE)'
+check-debian: ## try README's lines in a bare Debian, as root: make check-debian SUITE=trixie
+	scripts/check-debian '$(SUITE)'
 
-.PHONY: help check $(parts:%=check-%) prove prove-c generated generated-texts check-generated version bench install-command dist setup \
-    setup-all check-on
+# The names before version 3.4.
+generated: generate
+setup-all: setup-full
+check-on: check-debian
+
+.PHONY: help check $(parts:%=check-%) prove prove-c generate generate-texts check-generated version bench install-command dist setup \
+    setup-full check-debian generated setup-all check-on

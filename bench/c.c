@@ -1,4 +1,4 @@
-/* Times base62.c and, with WITH_GMP, GMP's calls for base 62, which has the same letters. bench/run runs it. */
+/* Times base62.c and, with WITH_GMP, GMP's calls for base 62, which has the same letters. bench/run.py runs it. */
 #define _POSIX_C_SOURCE 199309L
 #include <base62.h>
 #include <stdio.h>
@@ -76,8 +76,8 @@ static void add(unsigned long long high, unsigned long long low) {
     count++;
 }
 
-/* Prints the least time of each call in all rounds, over the numbers of so many bits. */
-static void measure(int bits, int rounds) {
+/* Prints the least time of each call in all rounds, over the numbers of a kind. */
+static void measure(const char *kind, int rounds) {
     double least[CALLS] = {0};
     for (int round = 0; round < rounds; round++)
         for (int c = 0; c < CALLS; c++) {
@@ -90,7 +90,7 @@ static void measure(int bits, int rounds) {
                 least[c] = time;
         }
     for (int c = 0; c < CALLS; c++)
-        printf("%s\t%s\t%d\t%f\n", calls[c].who, calls[c].call, bits, least[c]);
+        printf("%s\t%s\t%s\t%f\n", calls[c].who, calls[c].call, kind, least[c]);
     count = 0;
 }
 
@@ -99,14 +99,14 @@ int main(int arguments, char **given) {
     if (numbers == NULL)
         return 2;
     unsigned long long high, low;
-    int bits, last = 0;
+    char kind[8], last[8] = "";
 #ifdef WITH_GMP
     mpz_init(read);
 #endif
-    while (fscanf(numbers, "%d %llu %llu", &bits, &high, &low) == 3 && count < MOST) {
-        if (last != bits && count != 0)
+    while (fscanf(numbers, "%7s %llu %llu", kind, &high, &low) == 3 && count < MOST) {
+        if (strcmp(last, kind) != 0 && count != 0)
             measure(last, atoi(given[2]));
-        last = bits;
+        strcpy(last, kind);
         add(high, low);
     }
     measure(last, atoi(given[2]));

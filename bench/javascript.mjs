@@ -1,4 +1,4 @@
-// Times the package for JavaScript beside loops over BigInt. bench/run runs it.
+// Times the package for JavaScript beside loops over BigInt. bench/run.py runs it.
 import { readFileSync } from 'node:fs';
 import { decode, encode } from '../js/index.js';
 
@@ -35,14 +35,14 @@ function time(call, values) {
 
 const numbers = {};
 for (const line of readFileSync(file, 'utf8').trim().split('\n')) {
-  const [bits, high, low] = line.split(' ');
-  (numbers[bits] ??= []).push((BigInt(high) << 64n) | BigInt(low));
+  const [kind, high, low] = line.split(' ');
+  (numbers[kind] ??= []).push((BigInt(high) << 64n) | BigInt(low));
 }
-for (const [bits, values] of Object.entries(numbers)) {
+for (const [kind, values] of Object.entries(numbers)) {
   const given = { encode: values, decode: values.map((number) => encode(number)) };
   const least = calls.map(() => Infinity);
   for (let round = 0; round < rounds; round++) {
     calls.forEach(([, name, call], i) => (least[i] = Math.min(least[i], time(call, given[name]))));
   }
-  calls.forEach(([who, name], i) => console.log([who, name, bits, least[i]].join('\t')));
+  calls.forEach(([who, name], i) => console.log([who, name, kind, least[i]].join('\t')));
 }

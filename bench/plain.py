@@ -21,17 +21,17 @@ def decode(text):
 
 
 def numbers_of(file):
-    """The numbers of a file, by their bits."""
+    """The numbers of a file, by their kind."""
     found = {}
     with open(file) as lines:
         for line in lines:
-            bits, high, low = map(int, line.split())
-            found.setdefault(bits, []).append(high << 64 | low)
+            kind, high, low = line.split()
+            found.setdefault(kind, []).append(int(high) << 64 | int(low))
     return found
 
 
-def measure(calls, time, bits, rounds):
+def measure(calls, time, kind, rounds):
     """Prints the least time of each call in all rounds. The first two parts of a call name it."""
     least = [min(times) for times in zip(*([time(*call) for call in calls] for _ in range(rounds)))]
     for (who, name, _), nanoseconds in zip(calls, least):
-        print(who, name, bits, nanoseconds, sep="\t")
+        print(who, name, kind, nanoseconds, sep="\t")

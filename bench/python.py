@@ -1,4 +1,4 @@
-"""Times the package for Python beside a plain loop and, if it is installed, gmpy2. bench/run runs it."""
+"""Times the package for Python beside a plain loop and, if it is installed, gmpy2. bench/run.py runs it."""
 
 import sys
 from time import perf_counter_ns
@@ -24,7 +24,7 @@ else:
 
 
 def main(file, rounds):
-    for bits, numbers in plain.numbers_of(file).items():
+    for kind, numbers in plain.numbers_of(file).items():
         given = {"encode": numbers, "decode": [base62.encode(number) for number in numbers]}
 
         def time(who, name, call):
@@ -33,7 +33,7 @@ def main(file, rounds):
                 call(value)
             return (perf_counter_ns() - start) / len(numbers)
 
-        plain.measure(CALLS, time, bits, rounds)
+        plain.measure(CALLS, time, kind, rounds)
 
 
 main(sys.argv[1], int(sys.argv[2]))

@@ -1,4 +1,4 @@
-//! Times the Rust crate and, with the feature `theirs`, the crate `base62`. `bench/run` builds and runs it.
+//! Times the Rust crate and, with the feature `theirs`, the crate `base62`. `bench/run.py` builds and runs it.
 
 use std::hint::black_box;
 use std::time::Instant;
@@ -37,7 +37,7 @@ macro_rules! calls {
 }
 
 /// Prints the least time of each call in all rounds.
-fn measure(bits: &str, values: &Values, rounds: usize) {
+fn measure(kind: &str, values: &Values, rounds: usize) {
     let ours: [Call; 2] = calls!("base62-proved", ours);
     #[cfg(not(feature = "theirs"))]
     let theirs: [Call; 0] = [];
@@ -51,7 +51,7 @@ fn measure(bits: &str, values: &Values, rounds: usize) {
         }
     }
     for (least, call) in least.iter().zip(&calls) {
-        println!("{}\t{}\t{bits}\t{least}", call.0, call.1);
+        println!("{}\t{}\t{kind}\t{least}", call.0, call.1);
     }
 }
 

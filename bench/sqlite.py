@@ -1,6 +1,6 @@
-"""Times SQLite's functions beside functions in plain Python. bench/run runs it.
+"""Times SQLite's functions beside functions in plain Python. bench/run.py runs it.
 
-A number below 2**63 is an integer, and a greater one a blob of 16 bytes.
+Numbers below 2**63 are integers. If some are greater, all are blobs of 16 bytes.
 """
 
 import sqlite3
@@ -30,8 +30,8 @@ def opened(library):
 
 def main(library, file, rounds):
     links = opened(library)
-    for bits, numbers in plain.numbers_of(file).items():
-        are_blobs = bits > 63
+    for kind, numbers in plain.numbers_of(file).items():
+        are_blobs = max(numbers) >= 2**63
         rows = [(it.to_bytes(16, "big") if are_blobs else it, plain.encode(it)) for it in numbers]
         links.execute("DELETE FROM link")
         links.executemany("INSERT INTO link VALUES (?, ?)", rows)
@@ -45,7 +45,7 @@ def main(library, file, rounds):
         for who, prefix in (("base62", "base62"), ("a function in Python", "plain")):
             calls += [(who, "encode", f"{prefix}_encode(number)")]
             calls += [(who, "decode", f"{prefix}_{DECODERS[are_blobs]}(code)")]
-        plain.measure(calls, time, bits, rounds)
+        plain.measure(calls, time, kind, rounds)
 
 
 if not hasattr(sqlite3.Connection, "enable_load_extension"):

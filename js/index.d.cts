@@ -1,156 +1,180 @@
 // SPDX-License-Identifier: MIT
 // Copyright (c) 2026 the maintainers of base62 for Rattle
 
+// Hand-written. The types and the reference of the public calls.
+
 /**
- * Whole numbers below 2**128 and UUIDs as short texts in base 62, and back.
+ * Encodes unsigned integers below 2**128 and UUIDs as short alphanumeric strings, and decodes them.
  *
- * An argument of a wrong type throws a TypeError. Any other error is a {@link Base62Error}.
+ * An argument of a wrong type throws a `TypeError`. Any other invalid argument throws a {@link Base62Error}, whose
+ * `code` is listed with each call. An `alphabet` that is left out is {@link Alphabet.standard}.
  */
 
-/** What a number can be. `false` is 0, and `true` is 1. */
+/** A number: an integer from 0 to 2n ** 128n - 1n, or to 2**53 - 1 as a `number`. `false` is 0, and `true` is 1. */
 export type Integer = number | bigint | boolean;
 
-/** What a text can be. A string is read as UTF-8, in which a lone surrogate has three bytes. */
+/** An encoded string, or the bytes of one. A string is read as UTF-8, in which a lone surrogate has three bytes. */
 export type Text = string | Uint8Array;
 
 /**
- * What a UUID can be: 16 bytes, or a string of 32 hexadecimal digits, in either case. They may have hyphens as in
- * `550e8400-e29b-41d4-a716-446655440000`, and stand in braces or after `urn:uuid:`.
+ * A UUID: 16 bytes in network order, or a string of 32 hexadecimal digits in either case. It may have hyphens as in
+ * `550e8400-e29b-41d4-a716-446655440000`, and be in braces or after `urn:uuid:`. Any 16 bytes are accepted: the bits of
+ * the version and the variant are not checked.
  */
 export type Uuid = string | Uint8Array;
 
 /**
- * Returns the text of a number. It is the shortest one, with 1 to 22 letters.
+ * Encodes a number as its shortest string, of 1 to 22 characters.
  *
  * @example encode(1337) === 'LZ'
- * @param number an integer from 0 on. As a `number` it is at most 2**53 - 1, since greater ones may be rounded. As a
- *   `bigint` it is at most 2n ** 128n - 1n. -0 is 0.
- * @param alphabet the letters, by default the standard ones
- * @throws {Base62Error} `OUT_OF_RANGE`
+ * @param number an integer from 0 to 2n ** 128n - 1n. A `number` is at most 2**53 - 1, since greater ones may have been
+ *   rounded. -0 is 0.
+ * @throws {Base62Error} `OUT_OF_RANGE` for any other number, such as 1.5, -1 or NaN
  */
 export function encode(number: Integer, alphabet?: Alphabet): string;
 
 /**
- * Returns the text of a number, or of a UUID's number, in exactly `width` letters, with leading zeros. Texts of one
- * width sort as their numbers, if each letter is a greater byte than the one before it, as the standard letters are.
+ * Encodes a number or a UUID as a string of exactly `width` characters, with leading zeros. Strings of one width sort
+ * as their numbers if the characters of the alphabet ascend in ASCII, as those of the standard alphabet do.
  *
  * @example encodeFixed(1337, 4) === '00LZ'
- * @param value a number as of {@link encode}, or a UUID as of {@link encodeUuid}. A string is a UUID, and no number.
- * @param width an integer from 1 on. Each number has a text of 22 letters.
- * @throws {Base62Error} `BUFFER_TOO_SMALL` if the width is 0 or the number needs more letters, `OUT_OF_RANGE`, and
- *   `INVALID_UUID`. If the host has no memory for the text, it throws an error of its own.
+ * @param value a number as of {@link encode}, or a UUID as of {@link encodeUuid}. A string is always a UUID.
+ * @param width an integer from 1 to 2**53 - 1, as memory allows. Each number fits in 22.
+ * @throws {Base62Error} `BUFFER_TOO_SMALL` if the number needs more characters or the width is 0, `OUT_OF_RANGE` if the
+ *   number or the width is not such an integer, `INVALID_UUID`
+ * @throws {Error} an error of the runtime, without a `code`, if an allocation fails
  */
 export function encodeFixed(value: Integer | Uuid, width: number, alphabet?: Alphabet): string;
 
 /**
- * Returns the key of a number or a UUID: its text in 22 standard letters. Keys sort as their numbers, and as the bytes
- * of their UUIDs.
+ * Encodes a number or a UUID as a key: exactly 22 characters of the standard alphabet. Keys sort as their numbers, and
+ * as the bytes of their UUIDs.
  *
  * @example encodeKey(1337) === '00000000000000000000LZ'
  * @param value as of {@link encodeFixed}
- * @throws {Base62Error} `OUT_OF_RANGE` and `INVALID_UUID`
+ * @throws {Base62Error} `OUT_OF_RANGE`, `INVALID_UUID`
  */
 export function encodeKey(value: Integer | Uuid): string;
 
 /**
- * Returns the text of a UUID, which is the text of the number with the same 16 bytes, the highest first.
+ * Encodes a UUID as the shortest string of the number with the same 16 bytes, the most significant first. It has 1 to
+ * 22 characters.
  *
  * @example encodeUuid('550e8400-e29b-41d4-a716-446655440000') === '2aUyqjCzEIiEcYMKj7TZtw'
- * @throws {Base62Error} `INVALID_UUID`
+ * @throws {Base62Error} `INVALID_UUID` if the string or the bytes are not a {@link Uuid}
  */
 export function encodeUuid(uuid: Uuid, alphabet?: Alphabet): string;
 
-/** Returns the length of the text of a number, from 1 to 22. Throws what {@link encode} throws. */
+/**
+ * Returns the length of the string that {@link encode} returns, from 1 to 22.
+ *
+ * @example digitCount(1337) === 2
+ * @throws {Base62Error} `OUT_OF_RANGE` as {@link encode}
+ */
 export function digitCount(number: Integer): number;
 
 /**
- * Returns the number of a text. Leading zeros change nothing.
+ * Decodes a string of any length. Leading zeros are ignored.
  *
  * @example decode('LZ') === 1337n
- * @throws {Base62Error} `EMPTY_INPUT`, `INVALID_BYTE`, or `OVERFLOW` if the text denotes 2**128 or more. If a text has
- *   several errors, docs/DEFINITIONS.md of the project tells which one is thrown.
+ * @returns the number that the string represents, from 0n to 2n ** 128n - 1n
+ * @throws {Base62Error} `EMPTY_INPUT` if it is empty, `INVALID_BYTE` if a byte is not in the alphabet, `OVERFLOW` if
+ *   the number is 2**128 or more. docs/DEFINITIONS.md of the repository says which one a string with several errors
+ *   gives.
  */
 export function decode(text: Text, alphabet?: Alphabet): bigint;
 
 /**
- * Returns the number of a text as a `number`, as {@link decode} does.
+ * Like {@link decode}, but returns a `number`, from 0 to 2**53 - 1.
  *
  * @example decodeNumber('LZ') === 1337
- * @throws {Base62Error} what {@link decode} throws, and `UNSAFE_INTEGER` if the number is above 2**53 - 1
+ * @throws {Base62Error} as {@link decode}, and `UNSAFE_INTEGER` if the number is above 2**53 - 1
  */
 export function decodeNumber(text: Text, alphabet?: Alphabet): number;
 
 /**
- * Returns the number of a text, as {@link decode} does, but takes only what {@link encode} writes. Each number has
- * exactly one such text.
+ * Like {@link decode}, but accepts only canonical strings, which are those that {@link encode} returns. Each number has
+ * exactly one.
  *
- * @throws {Base62Error} what {@link decode} throws, and `NOT_CANONICAL` for a needless zero
+ * @example decodeCanonical('LZ') === 1337n
+ * @throws {Base62Error} as {@link decode}, and `NOT_CANONICAL` for a leading zero, as in `'0LZ'`
  */
 export function decodeCanonical(text: Text, alphabet?: Alphabet): bigint;
 
 /**
- * Returns the number of a text as a `number`, as {@link decodeCanonical} does.
+ * Like {@link decodeCanonical}, but returns a `number`, from 0 to 2**53 - 1.
  *
- * @throws {Base62Error} what {@link decodeCanonical} throws, and `UNSAFE_INTEGER` if the number is above 2**53 - 1
+ * @example decodeNumberCanonical('LZ') === 1337
+ * @throws {Base62Error} as {@link decodeCanonical}, and `UNSAFE_INTEGER` if the number is above 2**53 - 1
  */
 export function decodeNumberCanonical(text: Text, alphabet?: Alphabet): number;
 
 /**
- * Returns the UUID of a text's number, in small letters and with hyphens. Each number has one.
+ * Decodes a string to the UUID of its number, in lowercase with hyphens. Each number below 2**128 has one: the bits of
+ * the version and the variant are not checked.
  *
  * @example decodeUuid('2aUyqjCzEIiEcYMKj7TZtw') === '550e8400-e29b-41d4-a716-446655440000'
- * @throws {Base62Error} what {@link decode} throws
+ * @throws {Base62Error} as {@link decode}
  */
 export function decodeUuid(text: Text, alphabet?: Alphabet): string;
 
 /**
- * Returns the UUID of a text, as {@link decodeUuid} does, but takes only what {@link encodeUuid} writes.
+ * Like {@link decodeUuid}, but accepts only canonical strings, which are those that {@link encodeUuid} returns.
  *
- * @throws {Base62Error} what {@link decodeCanonical} throws
+ * @throws {Base62Error} as {@link decodeCanonical}
  */
 export function decodeUuidCanonical(text: Text, alphabet?: Alphabet): string;
 
 /**
- * Returns the least and the greatest number whose texts of `width` letters begin with `prefix`, which may be empty. All
- * numbers between them have such texts too, and no other has one. Returns null if no number has one.
+ * Returns the least and the greatest number whose strings of `width` characters begin with `prefix`. The strings of all
+ * numbers between them do too, and no other. Returns null if there are no such numbers.
  *
- * @example fixedRange(7, '00a') gives [531948096n, 546724431n]
- * @param width an integer from 0 on
- * @throws {Base62Error} `INVALID_BYTE` and, for a width, `OUT_OF_RANGE`
+ * @example fixedRange(7, '00a') returns [531948096n, 546724431n]
+ * @param width an integer from 0 to 2**53 - 1
+ * @param prefix may be empty, or longer than the width
+ * @returns numbers from 0n to 2n ** 128n - 1n. A column of 64 bits may not hold the greatest: see the README.
+ * @throws {Base62Error} `INVALID_BYTE` for the prefix, `OUT_OF_RANGE` for the width
  */
 export function fixedRange(width: number, prefix: Text, alphabet?: Alphabet): [least: bigint, greatest: bigint] | null;
 
-/** Returns the range of {@link fixedRange} for keys, which have 22 standard letters. */
+/**
+ * Like {@link fixedRange}, but for keys, which have 22 characters of the standard alphabet.
+ *
+ * @throws {Base62Error} `INVALID_BYTE`
+ */
 export function keyRange(prefix: Text): [least: bigint, greatest: bigint] | null;
 
 /**
- * Returns the keys of both numbers of {@link keyRange}, or null. In a database they are the bounds of a search.
+ * Like {@link keyRange}, but returns the keys of both numbers, as bounds for `BETWEEN` in a database.
  *
- * @example keyBounds('00000000000000000000L') gives ['00000000000000000000L0', '00000000000000000000Lz']
+ * @example keyBounds('00000000000000000000L') returns ['00000000000000000000L0', '00000000000000000000Lz']
  * @throws {Base62Error} `INVALID_BYTE`
  */
 export function keyBounds(prefix: Text): [least: string, greatest: string] | null;
 
-/** Letters for the digits from 0 to 61. */
+/** An alphabet: the characters of the digits from 0 to 61. */
 export class Alphabet {
   /**
-   * @param letters 62 distinct letters of ASCII, the zero first
-   * @throws {Base62Error} `REPEATED_LETTER`, which names the first letter that equals an earlier one, or
-   *   `INVALID_ALPHABET` if they are not 62 letters of ASCII
+   * Creates a custom alphabet. Create it once, not for each call.
+   *
+   * @param letters 62 distinct ASCII characters, the zero first
+   * @throws {Base62Error} `REPEATED_LETTER` for the first character that equals an earlier one, `INVALID_ALPHABET` if
+   *   they are not 62 ASCII characters
    */
   constructor(letters: string);
-  /** Its letters. */
+  /** Its 62 characters. */
   readonly letters: string;
-  /** `0` to `9`, `A` to `Z` and `a` to `z`, the default. */
+  /** `0` to `9`, `A` to `Z`, `a` to `z`, the default. */
   static readonly standard: Alphabet;
-  /** `0` to `9`, `a` to `z` and `A` to `Z`. Its texts do not sort as their numbers. */
+  /** `0` to `9`, `a` to `z`, `A` to `Z`. Strings of one width do not sort as their numbers. */
   static readonly alternative: Alphabet;
   #private;
 }
 
-/** What was wrong with an argument of the right type. */
+/** An invalid argument of the right type. A structured clone, as of `postMessage`, has only its `message`. */
 export class Base62Error extends RangeError {
   private constructor();
+  /** Which error it is. */
   readonly code:
     | 'BUFFER_TOO_SMALL'
     | 'EMPTY_INPUT'
@@ -162,8 +186,8 @@ export class Base62Error extends RangeError {
     | 'UNSAFE_INTEGER'
     | 'INVALID_UUID'
     | 'INVALID_ALPHABET';
-  /** With `INVALID_BYTE` the first byte that is no letter, with `REPEATED_LETTER` the first that repeats a letter. */
+  /** The byte that `INVALID_BYTE` or `REPEATED_LETTER` is about, from 0 to 255. Other errors have none. */
   readonly byte?: number;
-  /** Its index among the bytes, from 0. If all characters before it are ASCII, it is the index of its character. */
+  /** Its index in the bytes, from 0. It is the index of the character if all characters before it are ASCII. */
   readonly index?: number;
 }

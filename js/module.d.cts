@@ -1,13 +1,16 @@
 // SPDX-License-Identifier: MIT
 // Copyright (c) 2026 the maintainers of base62 for Rattle
 
+// Hand-written. The types of the entry that takes a compiled module.
 import type * as base62 from './index.cjs';
 
 /**
- * Returns the calls of the package over a module that the host has compiled, for hosts that compile none at run time.
- * Each call of `load` gives a copy of its own: an {@link base62.Alphabet} of one copy is none of another.
+ * Returns the calls of the package over a compiled module, for runtimes that do not compile WebAssembly. Each call of
+ * `load` has 128 kB of memory of its own, and returns a copy: an {@link base62.Alphabet} works only with the copy that
+ * it belongs to.
  *
- * @param module what the host made of `base62-proved/base62.wasm`
- * @throws {TypeError} if it is something else
+ * @param module the `WebAssembly.Module` of `base62-proved/base62.wasm`. Its type is not named, so that these types
+ *   need no library of browsers.
+ * @throws {TypeError} if it is anything else
  */
-export function load(module: WebAssembly.Module): typeof base62;
+export function load(module: object): typeof base62;

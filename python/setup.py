@@ -1,18 +1,18 @@
 # SPDX-License-Identifier: MIT
 # Copyright (c) 2026 the maintainers of base62 for Rattle
-"""The extension, over base62.c and base62.h, and what an archive of sources has of the repository."""
+"""The extension, over base62.c and base62.h, and what an sdist has of the repository."""
 
 from pathlib import Path
 
 from setuptools import Extension, setup
 from setuptools.command.sdist import sdist
 
-# They stand above this folder. An archive has them within.
+# They are above this folder in the repository, and within it in an sdist.
 SHARED = ["VERSION", "CHANGELOG.md", "c/base62.c", "c/base62.h", "tests/model.py", "tests/values.tsv"]
 top = Path("." if Path("VERSION").exists() else "..")
 
 
-class Archive(sdist):
+class SharedSdist(sdist):
     def make_release_tree(self, base_dir, files):
         super().make_release_tree(base_dir, [file for file in files if not file.startswith("..")])
         for name in SHARED:
@@ -34,5 +34,5 @@ setup(
     license="MIT",
     ext_modules=[extension],
     data_files=[("share/doc/base62-proved", [str(top / "CHANGELOG.md")])],
-    cmdclass={"sdist": Archive},
+    cmdclass={"sdist": SharedSdist},
 )

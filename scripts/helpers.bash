@@ -13,22 +13,24 @@ export CARGO_NET_OFFLINE=true PIP_NO_INDEX=1 PIP_FIND_LINKS=/usr/share/python-wh
     npm_config_fund=false npm_config_update_notifier=false
 
 # What the checks need besides the kit: `make setup` installs these,
-lean=(build cargo cargo-clippy clang clang-tidy cmake ensurepip g++ gcc git gmp.h gmpy2 make mypy node npm pg_virtualenv
-    pip pkg-config postgres postgres.h Python.h python3 /usr/bin/python3 reuse rustfmt script sqlite3 sqlite3ext.h tsc
+required=(build cargo cargo-clippy clang clang-tidy cmake ensurepip g++ gcc git gmp.h gmpy2 gnuplot make mypy node npm
+    pg_virtualenv pip pkg-config postgres postgres.h Python.h python3 /usr/bin/python3 reuse rustfmt script sqlite3 sqlite3ext.h tsc
     uuidgen wasm-ld wheel)
-# and `make setup-all` these too.
-further=(aarch64-linux-gnu-gcc arm-linux-gnueabihf-gcc chromium cvc4 cvc5 debootstrap django esbuild express firefox-esr
-    fish frama-c go help2man i686-linux-gnu-gcc librust ocamlfind pandas pydantic qemu-aarch64 qemu-arm qemu-i386
-    qemu-riscv64 qemu-s390x riscv64-linux-gnu-gcc s390x-linux-gnu-gcc sqlalchemy why3 wine x86_64-w64-mingw32-gcc z3 zsh)
+# and `make setup-full` these too.
+optional=(aarch64-linux-gnu-gcc arm-linux-gnueabihf-gcc chromium cvc4 cvc5 debootstrap django esbuild express firefox-esr
+    fish frama-c go help2man i686-linux-gnu-gcc jsdom librust node-base62 ocamlfind pandas pydantic qemu-aarch64 qemu-arm
+    qemu-i386 qemu-riscv64 qemu-s390x riscv64-linux-gnu-gcc ruby-base62 s390x-linux-gnu-gcc shortuuid sqlalchemy why3 wine
+    x86_64-w64-mingw32-gcc z3 zsh)
 # The packages of Debian that have them, where their names are others.
 declare -A packages=(
     [build]=python3-build [django]=python3-django [ensurepip]=python3-venv [express]=node-express
     [gmpy2]=python3-gmpy2 [pandas]=python3-pandas [pip]=python3-pip [pydantic]=python3-pydantic [Python.h]=python3-dev [/usr/bin/python3]=python3
-    [sqlalchemy]=python3-sqlalchemy [wheel]=python3-wheel-whl [cargo-clippy]=rust-clippy [clang]='clang libclang-rt-dev'
-    [gcc]='gcc libc6-dev' [gmp.h]=libgmp-dev [go]=golang-go [node]=nodejs [script]=bsdutils [tsc]=node-typescript
+    [shortuuid]=python3-shortuuid [sqlalchemy]=python3-sqlalchemy [wheel]=python3-wheel-whl [cargo-clippy]=rust-clippy
+    [clang]='clang libclang-rt-dev' [gcc]='gcc libc6-dev' [gmp.h]=libgmp-dev [gnuplot]=gnuplot-nox [go]=golang-go
+    [node]=nodejs [script]=bsdutils [tsc]=node-typescript
     [wasm-ld]=lld [pg_virtualenv]=postgresql-common [postgres]=postgresql [postgres.h]=postgresql-server-dev-all
     [sqlite3ext.h]=libsqlite3-dev [frama-c]=frama-c-base [ocamlfind]=ocaml-findlib [wine]='wine wine64'
-    [librust]='librust-serde-dev librust-uuid-dev' [uuidgen]=uuid-runtime [x86_64-w64-mingw32-gcc]=gcc-mingw-w64-x86-64
+    [jsdom]=node-jsdom [librust]='librust-serde-dev librust-uuid-dev' [uuidgen]=uuid-runtime [x86_64-w64-mingw32-gcc]=gcc-mingw-w64-x86-64
     [aarch64-linux-gnu-gcc]='gcc-aarch64-linux-gnu libc6-dev-arm64-cross' [qemu-aarch64]=qemu-user
     [arm-linux-gnueabihf-gcc]='gcc-arm-linux-gnueabihf libc6-dev-armhf-cross' [qemu-arm]=qemu-user
     [i686-linux-gnu-gcc]='gcc-i686-linux-gnu libc6-dev-i386-cross' [qemu-i386]=qemu-user
@@ -50,16 +52,18 @@ version_of() {
 }
 
 # THING, by its name there.
-is_here() {
+is_installed() {
     case $1 in
         # Of the system's Python, if there is one: Debian's setuptools works with no other.
-        build | django | ensurepip | gmpy2 | pandas | pip | pydantic | sqlalchemy) PATH=/usr/bin:$PATH python3 -c "import $1" ;;
+        build | django | ensurepip | gmpy2 | pandas | pip | pydantic | shortuuid | sqlalchemy) PATH=/usr/bin:$PATH python3 -c "import $1" ;;
         cargo) in_order "$oldest_rust" "$(version_of cargo)" ;;
-        cargo-clippy | rustfmt) is_here cargo && command -v "$1" ;;
+        cargo-clippy | rustfmt) is_installed cargo && command -v "$1" ;;
         # Debian's file, which serves each Python without a network.
         wheel) compgen -G '/usr/share/python-wheels/wheel-*.whl' ;;
         librust) compgen -G '/usr/share/cargo/registry/uuid-*' ;;
-        express) [[ -e /usr/share/nodejs/express ]] ;;
+        express | jsdom) [[ -e /usr/share/nodejs/$1 ]] ;;
+        node-base62) is_installed node && [[ -e /usr/share/nodejs/base62 ]] ;;
+        ruby-base62) ruby -r base62 -e '' ;;
         gmp.h) printf '#include <gmp.h>\n' | gcc -fsyntax-only -xc - ;;
         Python.h) python3 -c 'import os, sysconfig; os.stat(sysconfig.get_path("include") + "/Python.h")' ;;
         postgres) compgen -G '/usr/lib/postgresql/*/bin/postgres' ;;
@@ -70,33 +74,33 @@ is_here() {
 }
 
 # WHAT THING.. Says what is left out for lack of them, and the command that brings them. Under CI the check ends here.
-leave_out() {
+skip() {
     local thing command='make setup' wanted=()
     for thing in "${@:2}"; do
-        [[ " ${further[*]} " != *" $thing "* ]] || command='make setup-all'
+        [[ " ${optional[*]} " != *" $thing "* ]] || command='make setup-full'
         wanted+=("${packages[$thing]-$thing}")
     done
     echo "left out: $1: $command installs ${wanted[*]}"
     [[ ! ${CI-} ]] || exit 1
 }
 
-# The status of a check that is left out, as automake has it.
-LEFT_OUT=77
+# The status of a check that is skipped, as in automake.
+SKIPPED=77
 
 # THING.. If any is missing, the check is left out.
 needs() {
     local thing missing=()
     for thing; do
-        is_here "$thing" || missing+=("$thing")
+        is_installed "$thing" || missing+=("$thing")
     done
     [[ ${missing[*]} ]] || return 0
-    leave_out "$0" "${missing[@]}"
-    exit "$LEFT_OUT"
+    skip "$0" "${missing[@]}"
+    exit "$SKIPPED"
 }
 
 # THING WHAT. Whether the thing is here. If not, WHAT is left out.
 has() {
-    is_here "$1" || ! leave_out "$2" "$1"
+    is_installed "$1" || ! skip "$2" "$1"
 }
 
 # The newest version of each compiler and linter whose warnings fail a check. Those of a later one are shown.

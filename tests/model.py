@@ -1,12 +1,12 @@
 #!/usr/bin/env python3
 # SPDX-License-Identifier: MIT
 # Copyright (c) 2026 the maintainers of base62 for Rattle
-"""What each call has to answer, by whole numbers, and the file of such values that the tests of every language read.
+"""What each call has to return, by integers, and the file of such values that the tests of every language read.
 
     python3 tests/model.py    writes tests/values.tsv
 
 The functions follow docs/DEFINITIONS.md and know nothing of the library. As this file is imported, they are checked by
-values that are known from outside. An answer is a word and its numbers, as in the rows.
+values that are known from outside. A result is a word and its numbers, as in the rows.
 """
 
 import hashlib
@@ -16,32 +16,38 @@ from collections.abc import Iterator
 from pathlib import Path
 
 HEAD = r"""
-# Values that the calls have to answer. tests/model.py writes this file: change the model, and run it.
+# Results that the calls have to return. tests/model.py generates this file: change the model, and run it.
 #
-# The fields of a row stand between tabs. The first is its kind. Numbers are decimal. In a text, each byte other than 33
-# to 126, each % and each \ is % and two hexadecimal digits. An empty text is an empty field.
+# Tabs separate the fields of a row. The first is its kind. Numbers are decimal. In a text, each byte other than 33 to
+# 126, each % and each \ is % and two hexadecimal digits. An empty text is an empty field.
 #
 #   alphabet  NAME  LETTERS  ASCII  ASCENDING  62 letters; 1 or 0: all are ASCII; each is greater than the one before it
 #   repeated  LETTERS  BYTE  INDEX             62 bytes that are no alphabet: the first repeated byte, and its index
-#   encode    ALPHABET  NUMBER  TEXT           the canonical text: encoding writes it, and both decodings read it
-#   zeros     ALPHABET  TEXT  NUMBER           decoding answers the number; strict decoding refuses a needless zero
-#   refused   ALPHABET  TEXT  FAULT            both decodings refuse the text
-#   fixed     ALPHABET  NUMBER  WIDTH  TEXT    the text of WIDTH letters, which decoding reads
+#   encode    ALPHABET  NUMBER  TEXT           the canonical text: encoding returns it, and both decodings accept it
+#   zeros     ALPHABET  TEXT  NUMBER           decoding returns the number; canonical decoding rejects a leading zero
+#   refused   ALPHABET  TEXT  FAULT            both decodings reject the text with this error
+#   fixed     ALPHABET  NUMBER  WIDTH  TEXT    the text of WIDTH letters, which decoding accepts
 #   narrow    ALPHABET  NUMBER  WIDTH          the number has no text of WIDTH letters
 #   range     ALPHABET  WIDTH  PREFIX  RANGE   the numbers whose texts of WIDTH letters begin with the prefix
 #   uuid      NUMBER  UUID  TEXT               the number as a UUID, and its canonical standard text
-#   message   TEXT  FAULT                      what a fault says
+#   form      STRING  UUID | none              a string that stands for a UUID, in lowercase with hyphens, or for none
+#   message   TEXT  FAULT                      the text of an error
 #
 # FAULT  empty | overflow | byte BYTE INDEX
-#        in messages also: zero (a needless one) | narrow (a buffer is too small) | none (no text has the prefix) |
+#        in messages also: zero (a leading one) | narrow (a buffer is too small) | none (no text has the prefix) |
 #        repeated BYTE INDEX (in an alphabet)
 # RANGE  numbers LEAST GREATEST | none | byte BYTE INDEX
+#
+# tests/test_coverage.py checks what occurs. Alphabets are of ASCII and not, and ascend and do not. Over each one there
+# are numbers from 0 to 2^128 - 1, texts and prefixes of each length, each byte that is no letter, and one at each index.
+# Over the standard one each power of 2 and of 62 has its neighbours, and each letter is in each place. A repeated letter
+# has each index, and a message each byte.
 #
 # The count of a number's digits is the length of its canonical text. An index or a width may be 2^32 - 1 or more: not
 # every machine, and not every call, takes it.
 """.lstrip()
 
-Answer = tuple[str | int, ...]
+Result = tuple[str | int, ...]
 Row = tuple[str | int | bytes, ...]
 
 LARGEST = 2**128 - 1
@@ -55,6 +61,8 @@ LETTERS = {
     "readable": b"23456789ABCDEFGHJKLMNPQRSTUVWXYZabcdefghijkmnpqrstuvwxyz-_.~!*",
     "lowest": bytes(range(62)),
     "highest": bytes(range(194, 256)),
+    # Its zero is the least byte outside of ASCII.
+    "border": bytes(range(128, 66, -1)),
 }
 
 
@@ -69,7 +77,7 @@ def is_ascending(letters: bytes) -> bool:
     return sorted(letters) == [*letters]
 
 
-def first_repeat(letters: bytes) -> Answer | None:
+def first_repeat(letters: bytes) -> Result | None:
     """The first byte that also stands at an earlier index."""
     found = ((byte, index) for index, byte in enumerate(letters) if byte in letters[:index])
     return next((("repeated", *named) for named in found), None)
@@ -99,13 +107,13 @@ def value(letters: bytes, text: bytes) -> int:
     return total
 
 
-def first_bad(letters: bytes, text: bytes) -> Answer | None:
+def first_bad(letters: bytes, text: bytes) -> Result | None:
     """The first byte that is no letter."""
     found = ((byte, index) for index, byte in enumerate(text) if byte not in letters)
     return next((("byte", *named) for named in found), None)
 
 
-def decoded(letters: bytes, text: bytes) -> Answer:
+def decoded(letters: bytes, text: bytes) -> Result:
     """The first case that fits, in the order of the table in docs/DEFINITIONS.md."""
     remaining = text.lstrip(letters[:1])
     named = first_bad(letters, text)
@@ -124,14 +132,14 @@ def decoded(letters: bytes, text: bytes) -> Answer:
     return "number", value(letters, remaining)
 
 
-def decoded_canonical(letters: bytes, text: bytes) -> Answer:
+def decoded_canonical(letters: bytes, text: bytes) -> Result:
     """The same, where a needless zero is a fault."""
     answer = decoded(letters, text)
     needless = len(text) > 1 and text.startswith(letters[:1])
     return ("zero",) if answer[0] == "number" and needless else answer
 
 
-def range_of(letters: bytes, width: int, prefix: bytes) -> Answer:
+def range_of(letters: bytes, width: int, prefix: bytes) -> Result:
     """The least and the greatest number whose text of the width begins with the prefix."""
     if named := first_bad(letters, prefix):
         return named
@@ -149,7 +157,7 @@ def escaped(byte: int) -> str:
     return own.get(byte) or (chr(byte) if 32 <= byte <= 126 else f"\\x{byte:02x}")
 
 
-def message(fault: Answer) -> str:
+def message(fault: Result) -> str:
     texts = {
         "empty": "Encoded input is an empty string",
         "overflow": "Decoded number cannot fit into a `u128`",
@@ -161,6 +169,15 @@ def message(fault: Answer) -> str:
     }
     word, *named = fault
     return texts[str(word)].format(*[escaped(int(named[0])), named[1]] if named else [])
+
+
+def forms() -> Iterator[tuple[str, str | None]]:
+    """Strings for UUIDs, each with the one that it stands for, and strings for none."""
+    for name, fronts in KNOWN_FORMS.items():
+        for digits in (name, name.replace("-", "")):
+            for string in (digits, digits.upper()):
+                yield from ((front + string + ("}" if front == "{" else ""), name) for front in fronts)
+    yield from ((string, None) for string in KNOWN_NO_UUIDS)
 
 
 # Values from outside: those that the documentation of the Rust crate base62 2.2.6 states, RFC 4122 and RFC 9562, and
@@ -189,7 +206,7 @@ KNOWN_NUMBERS = [
     (2**128 - 1, b"7n42DGM5Tflk9n8mt7Fhc7", b"7N42dgm5tFLK9N8MT7fHC7"),
 ]
 KNOWN_ZEROS = [(b"00", 0), (b"0LZ", 1337), (b"0" * 22 + b"rustlang", 189876682536016), (b"0" * 100 + b"z", 61)]
-KNOWN_REFUSED: list[tuple[bytes, Answer]] = [
+KNOWN_REFUSED: list[tuple[bytes, Result]] = [
     (b"", ("empty",)),
     (b"!", ("byte", 33, 0)),
     (b"0!", ("byte", 33, 1)),
@@ -219,7 +236,7 @@ KNOWN_FIXED: list[tuple[int, int, bytes | None]] = [
     (1337, 100, b"0" * 98 + b"LZ"),
 ]
 LEAST_OF_7 = 305719766687397141968255334843504656384
-KNOWN_RANGES: list[tuple[int, bytes, Answer]] = [
+KNOWN_RANGES: list[tuple[int, bytes, Result]] = [
     (22, b"", ("numbers", 0, LARGEST)),
     (22, b"0", ("numbers", 0, 43674252383913877424036476406214950911)),
     (22, b"00000000000000000000L", ("numbers", 1302, 1363)),
@@ -274,7 +291,44 @@ KNOWN_UUIDS = [
     (1989357241971137676463954034883508623, "017f22e2-79b0-7cc3-98c4-dc0c0c07398f"),
     (LARGEST, "ffffffff-ffff-ffff-ffff-ffffffffffff"),
 ]
-KNOWN_MESSAGES: list[tuple[str, Answer]] = [
+# Strings for UUIDs: of RFC 9562, of RFC 8141, by which urn:uuid: has no case, and of manuals of Python and PostgreSQL.
+KNOWN_FORMS = {
+    "f81d4fae-7dec-11d0-a765-00a0c91e6bf6": ["", "urn:uuid:", "URN:UUID:", "Urn:uuid:", "urn:UUID:"],
+    "ffffffff-ffff-ffff-ffff-ffffffffffff": ["", "{", "urn:uuid:"],
+    "00000000-0000-0000-0000-000000000000": ["", "{", "urn:uuid:"],
+    "017f22e2-79b0-7cc3-98c4-dc0c0c07398f": ["", "{", "urn:uuid:", "URN:UUID:"],
+    "12345678-1234-5678-1234-567812345678": ["", "{", "urn:uuid:"],
+    "a0eebc99-9c0b-4ef8-bb6d-6bb9bd380a11": ["", "{"],
+}
+# A manual has some of these too, and Python takes many.
+KNOWN_NO_UUIDS = """
+    1337 {} - urn:uuid: uuid: 0x1337 f81d4fae-7dec-11d0-a765 00000000-0000-0000-0000-00000000000g
+    1234567812345678123456781234567 123456781234567812345678123456780 12345678123456781234567812345678-
+    -12345678123456781234567812345678 1-2345678123456781234567812345678 12345678-123456781234567812345678
+    12345678--1234-5678-1234-567812345678 123456781234-5678-1234-567812345678 12345678-1234-5678-1234567812345678
+    1234567-81234-5678-1234-567812345678 12345678-12345-678-1234-567812345678 12345678-1234-5678-12345-67812345678
+    1234-5678-1234-5678-1234-567812345678 12345678-1234-5678-1234-5678-12345678 12345678-1234-5678-1234-567812345678-
+    2345678-1234-5678-1234-567812345678 12345678-1234-5678-1234-56781234567 12345678-1234-5678-1234-5678123456780
+    12345678_1234_5678_1234_567812345678 12345678-1234-5678-1234_567812345678 {12345678-12345678-12345678-12345678}
+    {12345678123456781234567812345678 12345678123456781234567812345678} }12345678123456781234567812345678{
+    {12345678-1234-5678-1234-567812345678 12345678-1234-5678-1234-567812345678} {1234567812345678123456781234567}
+    {{12345678-1234-5678-1234-567812345678}} (12345678-1234-5678-1234-567812345678) {123456781234567812345678123456780}
+    {urn:uuid:12345678-1234-5678-1234-567812345678} urn:uuid:{12345678-1234-5678-1234-567812345678}
+    urn:uuid:12345678-1234-5678-1234-567812345678} {urn:uuid:12345678-1234-5678-1234-567812345678
+    uuid:12345678123456781234567812345678 urn:12345678123456781234567812345678 urn:uuid12345678123456781234567812345678
+    urn:uuid::12345678123456781234567812345678 urn:oid:12345678-1234-5678-1234-567812345678
+    urn:uuid:urn:uuid:12345678123456781234567812345678 urn:uuid:1-2345678123456781234567812345678
+    urn:uu\u0131d:12345678123456781234567812345678 +2345678123456781234567812345678 +1234567812345678123456781234567
+    1234567812345678_123456781234567 0x345678123456781234567812345678 0X345678123456781234567812345678
+    g2345678123456781234567812345678 1234567812345678123456781234567g 1234567/123456781234567812345678
+    1234567:123456781234567812345678 1234567@123456781234567812345678 1234567`123456781234567812345678
+    \u06612345678123456781234567812345678 1234567812345678123456781234567\uff18
+    \uff1112345678-1234-5678-1234-567812345678
+""".split()
+KNOWN_NO_UUIDS += ["", " ", "12345678 12345678 12345678 1234567", "12345678 1234 5678 1234 567812345678", "\0" * 16]
+KNOWN_NO_UUIDS += [" 2345678123456781234567812345678", "1234567812345678123456781234567\n", "123456781234567\x00" * 2]
+KNOWN_NO_UUIDS += [" 12345678-1234-5678-1234-567812345678", "12345678123456781234567812345678\n"]
+KNOWN_MESSAGES: list[tuple[str, Result]] = [
     ("Encoded input contains the invalid byte b'-' at index 2", ("byte", 45, 2)),
     ("Encoded input contains the invalid byte b'\\xff' at index 18446744073709551615", ("byte", 255, 2**64 - 1)),
     ("Encoded input contains the invalid byte b'\\n' at index 10", ("byte", 10, 10)),
@@ -304,6 +358,9 @@ def check_model() -> None:
     assert range_of(ALTERNATIVE, 2, b"l") == ("numbers", 1302, 1363)
     for number, name in KNOWN_UUIDS:
         assert uuid.UUID(name).int == number, name
+    for string, of in forms():
+        # Python knows urn:uuid: in lowercase only.
+        assert of is None or uuid.UUID(string.lower()) == uuid.UUID(of), string
     for said, fault in KNOWN_MESSAGES:
         assert message(fault) == said, fault
     for letters in LETTERS.values():
@@ -329,10 +386,16 @@ def numbers() -> list[int]:
     """Each power of 62 and of 2 with its neighbours, letters at each place, and others."""
     centers = [62**power for power in range(22)] + [2**power for power in range(129)]
     near = [center + beside for center in centers for beside in (-1, 0, 1)]
-    # In these 62 texts of 21 letters each letter stands at each place.
+    # In these 62 texts of 20 or 21 letters each letter stands at each place, counted from the end.
     turned = [sum((place * 7 + turn) % 62 * 62**place for place in range(21)) for turn in range(62)]
     found = [number for number, *_ in KNOWN_NUMBERS + KNOWN_UUIDS] + near + turned + drawn(256, "numbers")
     return list(dict.fromkeys(number for number in found if number <= LARGEST))
+
+
+def some_numbers(step: int) -> list[int]:
+    """One in so many, and those at borders: of 53, 63, 64 and 128 bits, and of each length."""
+    borders = [0, 61, 2**53, 2**63 - 1, 2**63, 2**64 - 1, 2**64, LARGEST - 1, LARGEST]
+    return list(dict.fromkeys([*borders, *(62**power for power in range(22)), *numbers()[::step]]))
 
 
 def over(letters: bytes, text: bytes) -> bytes:
@@ -408,16 +471,14 @@ def rows_of_repeats() -> Iterator[tuple[str, bytes, int, int]]:
 def rows_of_texts(alphabet: str, step: int) -> Iterator[Row]:
     """The rows of decoding and encoding, for one number and one text in so many."""
     letters = LETTERS[alphabet]
-    for number in numbers()[::step]:
+    for number in some_numbers(step):
         yield "encode", alphabet, number, text_of(letters, number)
     for count, number in enumerate(numbers()[:: 5 * step]):
         zeros = (1, 2, 9, 10, 21, 22, 23, 40)[count % 8]
         yield "zeros", alphabet, letters[:1] * zeros + text_of(letters, number), number
     for text, number in KNOWN_ZEROS:
         yield "zeros", alphabet, over(letters, text), number
-    # Each byte that is no letter stands in one of the first texts, so that built-in tables are read whole.
-    texts = [text for text, _ in KNOWN_REFUSED] + [*refused_texts()][:: 1 if step < 3 else step]
-    for text in (over(letters, text) for text in texts):
+    for text in (over(letters, text) for text in ([text for text, _ in KNOWN_REFUSED] + [*refused_texts()])):
         answer = decoded(letters, text)
         assert answer[0] != "number", text
         yield "refused", alphabet, text, *answer
@@ -426,7 +487,7 @@ def rows_of_texts(alphabet: str, step: int) -> Iterator[Row]:
 def rows_of_widths(alphabet: str, step: int) -> Iterator[Row]:
     letters = LETTERS[alphabet]
     pairs = [(number, width) for number, width, _ in KNOWN_FIXED]
-    for number in numbers()[::step]:
+    for number in some_numbers(step):
         count = len(text_of(letters, number))
         others = (number % 23, 23, 30) if alphabet == "standard" else (number % 31,)
         pairs += [(number, width) for width in (count - 1, count, count + 1, KEY, *others)]
@@ -440,13 +501,15 @@ def rows_of_widths(alphabet: str, step: int) -> Iterator[Row]:
 
 def rows_of_ranges(alphabet: str, step: int) -> Iterator[Row]:
     letters = LETTERS[alphabet]
-    for width, standard in [(width, prefix) for width, prefix, _ in KNOWN_RANGES] + [*prefixes()][::step]:
+    pairs = [(width, prefix) for width, prefix, _ in KNOWN_RANGES]
+    pairs += [(KEY, text_of(STANDARD, LARGEST)[:length]) for length in range(KEY + 1)]
+    for width, standard in pairs + [*prefixes()][::step]:
         prefix = over(letters, standard)
         yield "range", alphabet, width, prefix, *range_of(letters, width, prefix)
 
 
 def rows_of_messages() -> Iterator[Row]:
-    faults: list[Answer] = [fault for _, fault in KNOWN_MESSAGES]
+    faults: list[Result] = [fault for _, fault in KNOWN_MESSAGES]
     indices = [0, 7, *(10**power - low for power in range(1, 20) for low in (1, 0)), 2**32 - 1, 2**64 - 1]
     faults += [("byte", byte, indices[byte % len(indices)]) for byte in range(256)]
     faults += [("repeated", byte, index) for _, _, byte, index in rows_of_repeats()]
@@ -465,6 +528,7 @@ def rows() -> Iterator[Row]:
         yield from rows_of_ranges(alphabet, 2 * step)
     for number in [number for number, *_ in KNOWN_UUIDS] + numbers()[::8]:
         yield "uuid", number, str(uuid.UUID(int=number)), text_of(STANDARD, number)
+    yield from (("form", string.encode(), name or "none") for string, name in forms())
     yield from rows_of_messages()
 
 

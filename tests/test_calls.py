@@ -21,7 +21,7 @@ def python() -> list[str]:
 
 def exported() -> dict[str, set[str]]:
     """The names by the languages of the page."""
-    of_rust = re.findall(r"\w+", "".join(re.findall(r"\npub (?:use \w+::)?([^;]*;)", text("rust/src/lib.rs"))))
+    of_rust = re.findall(r"\w+", "".join(re.findall(r"\npub (?:use (?:\w+::)+)?([^;]*;)", text("rust/src/lib.rs"))))
     of_c = re.findall(r"\b(base62_\w+)\(", re.sub(r"(?s)/\*.*?\*/", "", text("c/base62.h")))
     of_javascript = "".join(re.findall(r"(?ms)^export (?:const )?(.*?)[;}]", text("js/index.js")))
     return {

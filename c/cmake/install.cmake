@@ -19,7 +19,6 @@ install(FILES "${CMAKE_CURRENT_BINARY_DIR}/base62-config.cmake"
 # It names all places from where it lies.
 set(base62_pkgconfig "${CMAKE_INSTALL_FULL_LIBDIR}/pkgconfig")
 file(RELATIVE_PATH base62_to_prefix "${base62_pkgconfig}" "${CMAKE_INSTALL_PREFIX}")
-string(REGEX REPLACE "/$" "" base62_to_prefix "${base62_to_prefix}")
 file(RELATIVE_PATH base62_to_include "${base62_pkgconfig}" "${CMAKE_INSTALL_FULL_INCLUDEDIR}")
 configure_file(cmake/base62.pc.in "${CMAKE_CURRENT_BINARY_DIR}/base62.pc" @ONLY)
 install(FILES "${CMAKE_CURRENT_BINARY_DIR}/base62.pc" DESTINATION "${CMAKE_INSTALL_LIBDIR}/pkgconfig")

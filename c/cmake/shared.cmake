@@ -8,7 +8,7 @@ function(base62_share target version)
         set_target_properties(${target} PROPERTIES RUNTIME_OUTPUT_NAME "base62-${major}")
     elseif(UNIX AND NOT APPLE AND CMAKE_C_COMPILER_ID MATCHES "GNU|Clang")
         set(script "${CMAKE_CURRENT_BINARY_DIR}/${target}.symbols")
-        file(WRITE "${script}" "BASE62_${major} { global: base62_*; local: *; };\n")
+        file(WRITE "${script}" "BASE62_${major} { global: base62_*; };\n")
         # LINKER: would part the path at a comma.
         target_link_options(${target} PRIVATE "SHELL:-Xlinker \"--version-script=${script}\"")
         set_target_properties(${target} PROPERTIES LINK_DEPENDS "${script}")

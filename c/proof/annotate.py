@@ -6,11 +6,13 @@ Each notion is a list. A line that begins with "==" says where the lines after i
     == contract NAME, ..            before the definition of each function
     == in NAME before TEXT          before the only line of that function that contains the text
     == in NAME after TEXT           after it
+    == prove NAME, ..: HOW          nowhere: WP proves these functions as HOW in wp.py has it, and the lines say why
 
 The text @end is the last line of the function. A line that begins with "//" says why, and goes in as well. Heads one
 under the other have the same lines.
 """
 
+import functools
 import pathlib
 import re
 import subprocess
@@ -37,8 +39,13 @@ def laws():
     return text_of(FOLDER / "laws.c") + text_of(FOLDER / "examples.c")
 
 
+@functools.cache
 def lists():
     """The texts of all lists."""
+    return [*texts_of_notions()]
+
+
+def texts_of_notions():
     for notion in NOTIONS:
         path = FOLDER / "notions" / notion
         if path.with_suffix(".py").exists():
@@ -46,6 +53,13 @@ def lists():
             yield ran.stdout.decode()
         else:
             yield text_of(path.with_suffix(".acsl"))
+
+
+@functools.cache
+def hints():
+    """How functions of base62.c and of the laws are proved: pairs of a function and a word of HOW in wp.py."""
+    lines = [found for text in (*lists(), laws()) for found in re.findall(r"^(?:// )?== prove (.*): (.*)$", text, re.M)]
+    return {(name, how) for names, how in lines for name in names.split(", ")}
 
 
 def sections(text):
@@ -57,13 +71,15 @@ def sections(text):
         elif found:
             found[-1][1].append(line.rstrip())
     for i, (head, body) in enumerate(found):
+        if head.startswith("prove "):
+            continue
         body = "\n".join(next(lines for _, lines in found[i:] if lines)).strip("\n").split("\n")
         for name in head.split(", ") if head.startswith("contract ") else [head]:
             yield name if name.startswith(("after ", "in ", "contract ")) else f"contract {name}", body
 
 
 def definitions(lines):
-    """Each function's first line and last line. Of two definitions the later counts: that of the struct u128."""
+    """Each function's first line and last line."""
     found = {}
     i = 0
     while i < len(lines):
@@ -108,7 +124,10 @@ def place(head, lines, functions):
     """The line before which a section goes, and how its lines are written."""
     if head.startswith("after "):
         text = head.split(None, 1)[1]
-        return next(i for i, line in enumerate(lines) if text in line) + 1, lambda body: ["", *body]
+        hits = [i for i, line in enumerate(lines) if text in line]
+        if not hits:
+            raise SystemExit(f"no such line: {head}")
+        return hits[0] + 1, lambda body: ["", *body]
     words = head.split()
     if words[1] not in functions:
         raise SystemExit(f"no such function: {head}")

@@ -1,56 +1,93 @@
-/* Examples of the texts of errors, proved of base62.acsl as the laws are. The escapes are those of Rust's
-   ascii::escape_default. */
+/* The texts of errors, proved of base62.acsl as the laws are: their first and last bytes, and all that names a byte and
+   an index. The escapes are those of Rust's ascii::escape_default. */
 #define SHORT(byte, letter) (escape_length(byte) == 2 && escape_byte(byte, 0) == '\\' && escape_byte(byte, 1) == letter)
-#define ITSELF(byte) (escape_length(byte) == 1 && escape_byte(byte, 0) == byte)
-#define HEXADECIMAL(byte, high, low) (escape_length(byte) == 4 && escape_byte(byte, 0) == '\\' \
-    && escape_byte(byte, 1) == 'x' && escape_byte(byte, 2) == high && escape_byte(byte, 3) == low)
+#define HEXADECIMAL(digit) (digit < 10 ? 48 + digit : 87 + digit)
 /*@ assigns \nothing;
     ensures two: SHORT(9, 't') && SHORT(10, 'n') && SHORT(13, 'r') && SHORT(34, '"') && SHORT(39, '\'');
     ensures backslash: SHORT(92, '\\');
-    ensures one: ITSELF(32) && ITSELF(33) && ITSELF(45) && ITSELF(91) && ITSELF(93) && ITSELF(126);
-    ensures four: HEXADECIMAL(0, '0', '0') && HEXADECIMAL(11, '0', 'b') && HEXADECIMAL(31, '1', 'f');
-    ensures high: HEXADECIMAL(127, '7', 'f') && HEXADECIMAL(154, '9', 'a') && HEXADECIMAL(255, 'f', 'f');
+    ensures one: 32 <= byte <= 126 && byte != 34 && byte != 39 && byte != 92 ==>
+        escape_length(byte) == 1 && escape_byte(byte, 0) == byte;
+    ensures four: (byte < 32 || byte > 126) && byte != 9 && byte != 10 && byte != 13 ==>
+        escape_length(byte) == 4 && escape_byte(byte, 0) == '\\' && escape_byte(byte, 1) == 'x'
+        && escape_byte(byte, 2) == HEXADECIMAL(byte / 16) && escape_byte(byte, 3) == HEXADECIMAL(byte % 16);
 */
-void escapes_by_example(void) {}
+void escape(unsigned char byte) {}
 
+/* The least count of decimal digits that is enough, at most 20. */
 /*@ assigns \nothing;
-    ensures one: decimal_length(0) == 1 && decimal_byte(0, 0) == '0' && decimal_length(9) == 1;
-    ensures two: decimal_length(10) == 2 && decimal_byte(10, 0) == '1' && decimal_byte(10, 1) == '0';
-    ensures three: decimal_length(907) == 3 && decimal_byte(907, 1) == '0' && decimal_byte(907, 2) == '7';
+    ensures told: \result == decimal_length(number) && 1 <= \result <= 20;
+    ensures enough: without_digits(number, \result) == 0;
+    ensures least: \result > 1 ==> without_digits(number, \result - 1) > 0;
+    ensures within: \forall integer k; 0 <= k <= \result ==> 0 <= without_digits(number, k) <= number;
 */
-void decimals_by_example(void) {
-    //@ assert ten: without_digits(10, 1) == 1 && without_digits(10, 2) == 0;
-    //@ assert three: without_digits(907, 1) == 90 && without_digits(907, 2) == 9 && without_digits(907, 3) == 0;
-    //@ assert lengths: decimal_from(10, 2) == 2 && decimal_from(907, 3) == 3 && decimal_from(907, 2) == 3;
+static size_t decimals_told(size_t number) {
+    size_t length = 1, left = number / 10;
+    //@ assert five: without_digits(UINT64_MAX, 5) == 184467440737095;
+    //@ assert ten: without_digits(UINT64_MAX, 10) == 1844674407;
+    //@ assert fifteen: without_digits(UINT64_MAX, 15) == 18446;
+    //@ assert twenty: without_digits(UINT64_MAX, 20) == 0;
+    /*@ loop invariant 1 <= length <= 20 && decimal_length(number) == decimal_from(number, length);
+        loop invariant left == without_digits(number, length) && 0 <= left <= without_digits(UINT64_MAX, length);
+        loop invariant length > 1 ==> without_digits(number, length - 1) > 0;
+        loop invariant \forall integer k; 0 <= k <= length ==> 0 <= without_digits(number, k) <= number;
+        loop assigns length, left; loop variant 20 - length; */
+    while (length < 20 && left > 0) {
+        left /= 10;
+        length++;
+    }
+    return length;
 }
 
-/* "Encoded input contains the invalid byte b'\t' at index 10" has 57 bytes. */
-/*@ requires status == BASE62_INVALID_BYTE && bad.byte == 9 && bad.index == 10;
-    assigns \nothing;
-    ensures \result == 1;
-*/
-int text_of_bad_byte_by_example(base62_status status, base62_bad_byte bad) {
-    char text[57], small[56];
-    decimals_by_example();
-    escapes_by_example();
-    small[0] = 'b';
-    if (base62_fault_text(status, bad, small, 56) != 0 || small[0] != 'b') return 0;
-    if (base62_fault_text(BASE62_REPEATED_LETTER, bad, text, 57) != 43 || text[20] != ' ' || text[42] != '0') return 0;
-    if (base62_fault_text(status, bad, text, 57) != 57) return 0;
-    return text[34] == ' ' && text[35] == 'b' && text[41] == '\'' && text[42] == '\\' && text[43] == 't'
-        && text[44] == '\'' && text[54] == ' ' && text[55] == '1' && text[56] == '0';
+/* The index stands behind the text, in decimal. */
+//@ assigns \nothing; ensures \result == bad.index;
+size_t index_again(base62_bad_byte bad) {
+    char text[BASE62_MAX_FAULT_TEXT];
+    size_t again = 0;
+    const size_t count = decimals_told(bad.index);
+    escape(bad.byte);
+    const size_t length = base62_fault_text(BASE62_INVALID_BYTE, bad, text, sizeof text);
+    /*@ loop invariant 0 <= i <= count && again == without_digits(bad.index, count - i);
+        loop assigns i, again; loop variant count - i; */
+    for (size_t i = 0; i < count; i++) {
+        //@ assert byte: text[length - count + i] == decimal_byte(bad.index, i);
+        //@ assert next: without_digits(bad.index, count - i) == without_digits(bad.index, count - i - 1) / 10;
+        again = again * 10 + (size_t)(text[length - count + i] - '0');
+    }
+    return again;
 }
 
-/* The other texts, by their lengths and a byte. 0 and numbers from 8 on have none. */
-//@ assigns \nothing; ensures \result == 1;
-int texts_by_example(base62_bad_byte bad) {
-    char text[78];
-    text[0] = '?';
-    if (base62_fault_text(BASE62_OK, bad, text, 78) != 0 || base62_fault_text((base62_status)8, bad, text, 78) != 0
-        || base62_fault_text((base62_status)UINT32_MAX, bad, text, 78) != 0 || text[0] != '?') return 0;
-    if (base62_fault_text(BASE62_BUFFER_TOO_SMALL, bad, text, 78) != 37 || text[36] != 'r') return 0;
-    if (base62_fault_text(BASE62_EMPTY_INPUT, bad, text, 78) != 32 || text[31] != 'g') return 0;
-    if (base62_fault_text(BASE62_OVERFLOW, bad, text, 78) != 39 || text[38] != '`') return 0;
-    if (base62_fault_text(BASE62_NO_KEY, bad, text, 78) != 49 || text[48] != 'x') return 0;
-    return base62_fault_text(BASE62_NOT_CANONICAL, bad, text, 78) == 41 && text[40] == 'o';
+/* The text of a status, by its length and its first and last byte. One that names the bad byte goes on from a start. */
+#define TEXT_OF(of, n, first, last) \
+    (\result > 0 && status == of ==> \result == n && buffer[0] == first && buffer[n - 1] == last)
+#define NAMED(start) (start + 18 + escape_length(bad.byte) + decimal_length(bad.index))
+#define TEXT_THAT_NAMES(of, start, first) \
+    (\result > 0 && status == of ==> \result == NAMED(start) && buffer[0] == first && buffer[start - 1] == ' ' \
+    && buffer[start] == 'b' && buffer[start + 6] == '\'' && buffer[start + 7 + escape_length(bad.byte)] == '\'' \
+    && buffer[start + 17 + escape_length(bad.byte)] == ' ' \
+    && (\forall integer i; 0 <= i < escape_length(bad.byte) ==> buffer[start + 7 + i] == escape_byte(bad.byte, i)) \
+    && \forall integer i; 0 <= i < decimal_length(bad.index) ==> \
+        buffer[NAMED(start) - decimal_length(bad.index) + i] == decimal_byte(bad.index, i))
+
+/* A text is written whole, and nothing behind it, if there is room. 0 and numbers from 8 on have none. */
+// == prove texts_by_example: with tables
+/*@ requires \valid(buffer + (0 .. size - 1));
+    assigns buffer[0 .. size - 1];
+    ensures longest: \result <= BASE62_MAX_FAULT_TEXT;
+    ensures roomy: size >= BASE62_MAX_FAULT_TEXT && 1 <= status <= 7 ==> \result > 0;
+    ensures none: status == 0 || status > 7 ==> \result == 0;
+    ensures refused: \result == 0 && 1 <= status <= 7 ==> size < (status == 1 ? 37 : status == 2 ? 32
+        : status == 3 ? NAMED(35) : status == 4 ? 39 : status == 5 ? 49 : status == 6 ? NAMED(21) : 41);
+    ensures stays: \forall integer i; \result <= i < size ==> buffer[i] == \old(buffer[i]);
+    ensures too_small: TEXT_OF(1, 37, 'B', 'r');
+    ensures empty: TEXT_OF(2, 32, 'E', 'g');
+    ensures bad: TEXT_THAT_NAMES(3, 35, 'E');
+    ensures overflow: TEXT_OF(4, 39, 'D', '`');
+    ensures no_key: TEXT_OF(5, 49, 'N', 'x');
+    ensures repeated: TEXT_THAT_NAMES(6, 21, 'A');
+    ensures needless: TEXT_OF(7, 41, 'E', 'o');
+*/
+size_t texts_by_example(base62_status status, base62_bad_byte bad, char *buffer, size_t size) {
+    escape(bad.byte);
+    decimals_told(bad.index);
+    return base62_fault_text(status, bad, buffer, size);
 }

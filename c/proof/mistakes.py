@@ -1,9 +1,8 @@
 #!/usr/bin/env python3
-"""Plants one mistake after the other in base62.c and in base62.acsl: c/proof/mistakes.py [NAMES..]
+"""Plants one mistake after the other in base62.c: c/proof/mistakes.py [NAMES..]
 
-WP has to leave a goal without a proof: in the function of base62.c that a mistake touches, or in a law that breaks with
-a weaker specification. If Frama-C warns, or if its tree has what is refused, the mistake is planted badly, and fails
-too. It prints the mistakes that WP proves all the same, and how many are refused. A goal that is false uses all of its
+WP has to leave a goal without a proof in the function of base62.c that a mistake touches. If Frama-C warns, or if its
+tree has what is refused, the mistake is planted badly, and fails too. It prints the mistakes that WP proves all the same, and how many are refused. A goal that is false uses all of its
 time. So a goal has a third of the time that it has in prove. Each function is proved in this time without a mistake too:
 or else it is not the mistake that is refused.
 """
@@ -30,9 +29,10 @@ MISTAKES = {
     "product_carry": ("u128_mul_64", " + (other >> 32)", ""),
     "product_mask": ("u128_mul_64", "(low & 0xffffffff)}", "low}"),
     "product_cross": ("u128_mul", "a.low * b.high", "a.high * b.high"),
-    "checked_carry": ("u128_checked_mul", " && u128_high(product) >= u128_high(low)", ""),
-    "checked_halves": ("u128_checked_mul", "(a_high == 0 || b_high == 0) && ", ""),
-    "checked_cross": ("u128_checked_mul", "u128_high(cross) == 0 && ", ""),
+    "checked_carry": ("u128_checked_mul", " && high >= low.high", ""),
+    "checked_halves": ("u128_checked_mul", "(a.high == 0 || b.high == 0) && ", ""),
+    "checked_cross": ("u128_checked_mul", "cross.high == 0 && ", ""),
+    "checked_half": ("u128_checked_mul", "u128_mul_64(a.high, b.low)", "u128_mul_64(a.high, b.high)"),
     "checked_sum": ("u128_checked_add", "!u128_less(sum, a)", "!u128_less(a, sum)"),
     "saturating_sum": ("u128_saturating_add", "u128_less(sum, a)", "u128_less(a, sum)"),
     "highest_step": ("u64_ilog2", "bits += step;", "bits += step / 2;"),
@@ -227,129 +227,9 @@ MISTAKES = {
     "equal_high": ("u128_equal", "a.high == b.high && ", ""),
     "lesser": ("usize_min", "a < b", "b < a"),
     "table_power": ("power", "218340105584896", "218340105584895", "POWERS"),
-    "table_greatest": ("greatest_wide", "U128(0, 3843)", "U128(0, 3844)", "GREATEST"),
+    "table_greatest": ("greatest_wide", "{0, 3843}", "{0, 3844}", "GREATEST"),
     "table_narrow": ("greatest_narrow", "238327", "238328", "GREATEST_NARROW"),
     "table_letter": ("standard_letter", "'A', 'B'", "'B', 'A'", "STANDARD"),
-}
-
-# A name, the law that it breaks, and what is exchanged for what in base62.acsl: the first such text after another one.
-WEAKER = {
-    # Numbers and alphabets.
-    "power_base": ("begins_with", "logic integer shifted", "62 *", "61 *"),
-    "letter_order": ("letter", "standard_letters[62]", "STANDARD", "ALTERNATIVE"),
-    "other_letter_order": ("letter", "alternative_letters[62]", "ALTERNATIVE", "STANDARD"),
-    "place_bound": ("digit_told", "logic integer place_from", "i < 62", "i < 61"),
-    "repeat_first": ("makes", "predicate is_first_repeat", "are_distinct(letters, index)", "\\true"),
-    "repeat_equal": ("makes", "predicate is_first_repeat", "letters[i] == letters[index]", "\\true"),
-    # Texts.
-    "value_base": ("begins_with", "logic integer value", "* 62", "* 61"),
-    "bad_bound": ("bad_told", "logic integer bad_index", "< 62 ? n", "<= 62 ? n"),
-    "zero_letter": ("zeros_told", "logic integer leading_zeros", "letters[0]", "letters[1]"),
-    "denotes_empty": ("is_decoded", "predicate denotes", "n > 0 && ", ""),
-    "denotes_letters": ("is_decoded", "predicate denotes", "bad_index(letters, text, n) == n && ", ""),
-    "denotes_value": ("is_decoded", "predicate denotes", " && value(letters, text, n) == number", ""),
-    "count_bound": ("count_told", "logic integer count_from", "c < 22", "c < 21"),
-    "count_equal": ("count_told", "logic integer count_from", ">=", ">"),
-    "count_first": ("count_told", "logic integer digit_count", "number, 1)", "number, 0)"),
-    "count_result": ("count_told", "\\result == digit_count(", "\\result ==", "\\result >="),
-    # Encoding.
-    "encodes_room": ("writes", "predicate encodes", "<= size", "< size"),
-    "encodes_text": ("back_again", "predicate encodes", "length > 0 ==>", "length > 22 ==>"),
-    "encodes_stay": ("writes", "predicate encodes", "length <= i", "length < i"),
-    "encodes_none": ("writes", "define ACSL_ENCODES", "requires", "requires size < size &&"),
-    "encodes_more": ("writes", "define ACSL_ENCODES", "assigns buffer[0 .. size - 1]", "assigns buffer[0 .. size]"),
-    "encodes_made": ("writes", "define ACSL_ENCODES", "made ==>", "!made ==>"),
-    "encodes_with": ("back_again_with", "ACSL_ENCODES(is_made", "is_made{Pre}(alphabet)", "\\false"),
-    "encodes_no_room": ("writes_with", "ACSL_ENCODES(is_made", "is_made{", "size > 0 && is_made{"),
-    "encodes_letters": ("is_alternative_letter", "ACSL_ENCODES(\\true, ALT", "ALTERNATIVE", "STANDARD"),
-    "fills_room": ("writes", "predicate fills", "<= width", "< width"),
-    "fills_text": ("fixed_back_again", "predicate fills", "length > 0 ==>", "length > 22 ==>"),
-    "fills_stay": ("writes", "predicate fills", "length <= i", "length < i"),
-    "fills_none": ("writes", "define ACSL_FILLS", "requires", "requires width < width &&"),
-    "fills_made": ("writes", "define ACSL_FILLS", "made ==>", "!made ==>"),
-    "fills_with": ("fixed_back_again_with", "ACSL_FILLS(is_made", "is_made{Pre}(alphabet)", "\\false"),
-    "fills_letters": ("alternative_fixed_back_again", "ACSL_FILLS(\\true, ALT", "ALTERNATIVE", "STANDARD"),
-    "key_value": ("key_back_again", "key[0 .. 21];", "ensures", "ensures \\true ||"),
-    "key_text": ("key_back_again", "key[0 .. 21];", "22, number_of(number)", "21, number_of(number)"),
-    # Decoding.
-    "rows_empty": ("decoding_by_example", "logic integer decoding", "n == 0 ?", "n < 0 ?"),
-    "rows_long": ("is_decoded", "logic integer decoding", "> 22", ">= 22"),
-    "rows_early": ("decoding_by_example", "logic integer decoding", "bad < zeros + 10", "bad < 10"),
-    "rows_exchanged": ("decoding_by_example", "logic integer decoding", "bad < n && bad < zeros + 10", "bad < n"),
-    "rows_shown": ("decoding_by_example", "logic integer decoding", "n - zeros == 22 && ", ""),
-    "rows_great": ("decoding_by_example", ": bad < n ? BASE62", ">= ACSL", "> ACSL"),
-    "rows_needless": ("status_told", "logic integer canonical_decoding", "n > 1", "n > 2"),
-    "rows_zero": ("fixed_back_again", "logic integer canonical_decoding", "text[0] == letters[0]", "\\false"),
-    "bad_index": ("is_read", "predicate tells_bad_byte", "\\at(bad->index, After) == index && ", ""),
-    "bad_byte": ("is_read", "predicate tells_bad_byte", " && \\at(bad->byte, After) == \\at(text[index], Before)", ""),
-    "bad_stays": ("is_read", "predicate tells_bad_byte", "\\at(*bad, After) == \\at(*bad, Before)", "\\true"),
-    "number_value": ("back_again", "predicate tells_number", "== value", ">= value"),
-    "number_stays": ("is_read", "predicate tells_number", "\\at(*number, After) == \\at(*number, Before)", "\\true"),
-    "number_bad": ("is_read", "predicate tells_number", "&& tells_bad_byte{", "|| tells_bad_byte{"),
-    "decodes_none": ("is_read", "define ACSL_DECODES", "requires", "requires length < length &&"),
-    "decodes_text": ("is_read", "define ACSL_DECODES", "assigns", "assigns text[0 .. length - 1],"),
-    "decodes_status": ("back_again", "define ACSL_DECODES", "made ==>", "!made ==>"),
-    "decodes_number": ("back_again", "made ==> \\result == decoding_of", "ensures made", "ensures !made"),
-    "decodes_letters": ("alternative_back_again", "ACSL_DECODES(\\true, ALT", "ALTERNATIVE", "STANDARD"),
-    "decodes_with": ("back_again_with", "ACSL_DECODES(is_made", "is_made{Pre}(alphabet)", "\\false"),
-    "decodes_refusal": ("is_read_with", "ACSL_DECODES(is_made", "is_made{",
-                        "decoding{Pre}(LETTERS(alphabet), BYTES(text), length) == BASE62_OK && is_made{"),
-    "decodes_empty": ("is_alternative_read", "ACSL_DECODES(\\true, ALT", "\\true", "length > 0"),
-    "strict_loose": ("fixed_back_again", "STANDARD_LETTERS, canonical", "canonical_decoding", "decoding"),
-    "strict_letters": ("alternative_back_again", "ALTERNATIVE_LETTERS, canonical", "ALTERNATIVE", "STANDARD"),
-    "strict_with": ("fixed_back_again_with", "LETTERS(alphabet), canonical", "canonical_decoding", "decoding"),
-    # Ranges.
-    "least_width": ("range_of_prefix", "logic integer least_of", "width - n", "width"),
-    "next_number": ("range_of_prefix", "logic integer next_of", "+ 1", "+ 2"),
-    "range_bad": ("range_by_example", "logic integer range_status", "< n ?", "< n - 1 ?"),
-    "range_none": ("range_by_example", "logic integer range_status", "width == 0 || ", ""),
-    "range_long": ("is_in_range", "logic integer range_status", "n > width", "n >= width"),
-    "range_part": ("is_in_range", "logic integer range_status", "least_of", "next_of"),
-    "range_least": ("key_range_is_exact", "predicate tells_range", "== least_of", ">= least_of"),
-    "range_greatest": ("key_range_is_exact", "predicate tells_range", "== \\min", "<= \\min"),
-    "range_end": ("key_range_is_exact", "predicate tells_range", "ACSL_2_128) - 1", "ACSL_2_128 - 1)"),
-    "range_stays": ("writes_range", "predicate tells_range", "\\at(*range, After) == \\at(*range, Before)", "\\true"),
-    "range_tells_bad": ("writes_range", "predicate tells_range", "&& tells_bad_byte{", "|| tells_bad_byte{"),
-    "finds_none": ("key_range_is_exact", "define ACSL_FINDS_RANGE", "requires", "requires length < length &&"),
-    "finds_status": ("key_range_is_exact", "define ACSL_FINDS_RANGE", "ensures made", "ensures !made"),
-    "finds_range": ("key_range_is_exact", "made ==> \\result == range_status", "ensures made", "ensures !made"),
-    "finds_width": ("key_range_is_exact", "ACSL_FINDS_RANGE(\\true, STANDARD_LETTERS, 22", "22", "21"),
-    "finds_with": ("fixed_range_is_exact_with", "ACSL_FINDS_RANGE(is_made", "is_made{Pre}(alphabet)", "\\false"),
-    # Alphabets, UUIDs, halves and the version.
-    "make_none": ("makes", "requires \\valid_read(letters", "requires", "requires 1 < 0 &&"),
-    "make_status": ("makes", "behavior alphabet:", "\\result == BASE62_OK && ", ""),
-    "make_made": ("own_back_again", "behavior alphabet:", "is_made(alphabet) && ", ""),
-    "make_bad_stays": ("makes", "behavior alphabet:", " && *bad == \\old(*bad)", ""),
-    "make_letters": ("is_own_letter", "behavior alphabet:", "i < 62 ==>", "i < 61 ==>"),
-    "refuse_status": ("makes", "behavior repeated:", "== BASE62_REPEATED_LETTER", "!= BASE62_OK"),
-    "refuse_stays": ("makes", "behavior repeated:", "i < 318", "i < 317"),
-    "refuse_index": ("makes", "behavior repeated:", "is_first_repeat(BYTES(letters), bad->index) && ", ""),
-    "refuse_byte": ("makes", "behavior repeated:", " && bad->byte == BYTES(letters)[bad->index]", ""),
-    "uuid_base": ("number_back_again", "logic integer uuid_value", "256", "255"),
-    "uuid_number": ("uuid_back_again", "number_of(\\result) == uuid_value", "==", ">="),
-    "uuid_bytes": ("uuid_back_again", "ensures uuid_value(uuid, 16)", "==", ">="),
-    "escape_two": ("escapes_by_example", "logic integer escape_length", "byte == '\\r' || ", ""),
-    "escape_last": ("escapes_by_example", "logic integer escape_length", "126", "127"),
-    "escape_case": ("escapes_by_example", "logic integer hexadecimal", "'a'", "'A'"),
-    "escape_half": ("escapes_by_example", "logic integer escape_byte", "i == 2 ?", "i == 3 ?"),
-    "decimal_reversed": ("decimals_by_example", "logic integer decimal_byte", "decimal_length(number) - 1 - i", "i"),
-    "decimal_least": ("decimals_by_example", "logic integer decimal_length", "number, 1)", "number, 0)"),
-    "text_named": ("text_of_bad_byte_by_example", "logic integer named_length", "18", "17"),
-    "text_none": ("texts_by_example", "logic integer fault_length", "? 41 : 0", "? 41 : 1"),
-    "text_overflow": ("texts_by_example", "define ACSL_SAYS", "BASE62_OVERFLOW", "BASE62_NO_KEY"),
-    "text_room": ("text_of_bad_byte_by_example", "\\let length = fault", "length <= size", "length < size"),
-    "text_stays": ("text_of_bad_byte_by_example", "\\let length = fault", "\\result <= i", "\\result < i"),
-    "text_repeated": ("text_of_bad_byte_by_example", "define ACSL_SAYS", "status == BASE62_REPEATED_LETTER", "\\false"),
-    "text_longest": ("texts_by_example", "\nsize_t base62_digit_count", "/*@ requires \\valid(buffer",
-                     "/*@ requires size <= 77 && \\valid(buffer"),
-    "text_any": ("texts_by_example", "\nsize_t base62_digit_count", "/*@ requires \\valid(buffer",
-                 "/*@ requires status <= 8 && \\valid(buffer"),
-    "text_told": ("texts_by_example", "ensures ACSL_SAYS", "\\result > 0", "\\result > 77"),
-    "half_number": ("half_back_again", "number_of(\\result) == value", "==", ">="),
-    "half_bound": ("half", "number_of(number) < ACSL_2_64", "ACSL_2_64", "ACSL_2_64 - 1"),
-    "half_value": ("half", "ensures *value", "== (", ">= ("),
-    "half_stays": ("half", "ensures *value", "\\old(*value)", "*value"),
-    "version_number": ("version", "BASE62_VERSION_NUMBER", "BASE62_VERSION_NUMBER", "\\result"),
 }
 
 
@@ -365,44 +245,34 @@ def planted(code, place, old, new):
     return code[:at] + new + code[at + len(old):]
 
 
-def weaker(text, after, old, new):
-    """The specification with the mistake."""
-    at = text.index(old, text.index(after))
-    return text[:at] + new + text[at + len(old):]
-
-
 def refused(work, code, name):
     """Whether WP leaves a goal without a proof, and nothing else is wrong."""
-    if name in WEAKER:
-        function, *mistake = WEAKER[name]
-        specification = weaker(annotate.text_of(wp.SPECIFICATION), *mistake)
-        file = wp.prepared(work / name, annotate.laws(), specification)
-    else:
-        function, old, new, *table = MISTAKES[name]
-        file = wp.prepared(work / name, planted(code, *table or [function], old, new))
+    function, old, new, *table = MISTAKES[name]
+    file = wp.prepared(work / name, planted(code, *table or [function], old, new))
     try:
         log = wp.proved(file, function, last=FAILED)
-        return FAILED in log and not wp.checked(file)[1] and not [*wp.warnings(log)]
+        said = wp.checked(file)
+        return FAILED in log and not said.wrong and not [*wp.warnings(log, said.constants)]
     except SystemExit:  # Frama-C cannot read it.
         return False
 
 
 def unproved(work, code, names):
     """The functions of these mistakes that WP does not prove without a mistake."""
-    files = wp.prepared(work / "code", code), wp.prepared(work / "laws", annotate.laws())
-    right = sorted({(name in WEAKER, (MISTAKES | WEAKER)[name][0]) for name in names})
-    logs = wp.at_once(lambda it: wp.proved(files[it[0]], it[1], last=FAILED), right)
-    return [function for (_, function), log in zip(right, logs) if FAILED in log]
+    file = wp.prepared(work / "code", code)
+    right = sorted({MISTAKES[name][0] for name in names})
+    logs = wp.at_once(lambda function: wp.proved(file, function, last=FAILED), right)
+    return [function for function, log in zip(right, logs) if FAILED in log]
 
 
 def main(names):
-    names = names or [*MISTAKES, *WEAKER]
+    names = names or [*MISTAKES]
     code = annotate.annotated(annotate.text_of(wp.CODE))
     with tempfile.TemporaryDirectory() as folder:
         wrong = [f"not proved without a mistake: {it}" for it in unproved(pathlib.Path(folder), code, names)]
         answers = wp.at_once(lambda name: refused(pathlib.Path(folder), code, name), names)
     accepted = [name for name, answer in zip(names, answers) if not answer]
-    wrong += [f"not refused: {name} in {(MISTAKES | WEAKER)[name][0]}" for name in accepted]
+    wrong += [f"not refused: {name} in {MISTAKES[name][0]}" for name in accepted]
     print("".join(line + "\n" for line in wrong), end="")
     print(f"{len(names) - len(accepted)} passed, {len(wrong)} failed")
     return 1 if wrong else 0

@@ -18,6 +18,8 @@ ENDS, LOOP, ADMIT, READ = "nothing shows that it ends", "a loop without a varian
 KIND, UNPROVED, FORM = "annotation of another kind", "does not prove the axiom", "an axiom of another form"
 CODE, BODY, WARNING, NO_CONTRACT = "the lists change the code", "without a body", "arning", "no contract, or none"
 FALSE, NOT_TRIED = "an axiom of WP that is false", "WP tries no goal"
+RESERVED, ASKS, OTHER, FORMS = "a name that C reserves", "the files ask for", "GCC reads", "a directive or an operator"
+NUMBER, CHAR, APART = "a pointer from a number", "a plain char", "Memory model hypotheses"
 
 TOP = "== after #define KEY_LEN MAX_DIGITS\n"
 STEP = "== in count_zeros before return i;\n"
@@ -48,6 +50,8 @@ LISTS = [
     (logic("logic integer f(integer i, integer j) = i < 3 ? f(i + 1, j) : j < 3 ? f(i, j + 1) + 1 : 0;"), ENDS),
     (logic("logic integer f(integer i, integer j) = i < 3 || j < 3 ? f(i + 1, j) + 1 : 0;"), ENDS),
     (logic("logic integer f(integer n, integer z) = n <= z * n ? 0 : f(n - 1, z) + 1;"), ENDS),
+    (logic("logic integer f(integer n, integer a, integer b) = n < a ? f(n + 1, a, 0) : n < b ? f(n + 1, 0, b) : 0;"), ENDS),
+    (logic("logic integer f(integer n, integer a) = n < a ? f(n + 1, a) : n < 9 ? f(n + 1, 99) : 0;"), ENDS),
     (logic("logic integer f{L}(unsigned char *p, integer n) = n <= *p ? 0 : f(p, n - 1) + 1;"), ENDS),
     (logic("logic real f(real x) = x <= 0.0 ? 0.0 : f(x - 1.0) + 1.0;"), ENDS),
     (logic("predicate p(integer i) = \\exists integer n; (i < n ? !p(i + 1) : \\true);"), ENDS),
@@ -120,17 +124,61 @@ LISTS = [
      "static void planted(char *restrict to, const char *from) { *to = *from; }", "restrict"),
     (f"{TOP}/*@ requires \\valid(to + (0 .. 9)) && \\valid_read(from) && \\separated(to + (0 .. 8), from);\n"
      "assigns to[0 .. 9]; */\nstatic void planted(char *restrict to, const char *from) { to[9] = *from; }", "restrict"),
+    (f"{TOP}/*@ requires \\valid(to + (0 .. 9)) && \\valid_read(from); assigns to[*from * 0 .. 9]; */\n"
+     "static void planted(uint8_t *restrict to, const uint8_t *from) { to[9] = *from; }", "restrict"),
     # Another annotation, and one that Frama-C leaves out with a warning.
     (f"{TOP}/*@ global invariant no: \\false; */", KIND),
     (f"{TOP}/*@ type invariant no(u128 n) = \\false; */", KIND),
     (f"{NEXT}/*@ ensures \\false;", KIND),
     (f"{NEXT}/*@ for none: assert no: \\false;", "rror"),
     (f"{STEP}assert here: \\nosuch;", WARNING),
+    # What WP takes for something else.
+    (logic("lemma no: \\forall integer n; n == 2 ==> (integer)(_Bool)n == n;"), "a cast to _Bool"),
+    (logic("predicate p(integer n) = \\valid((uint8_t *)n);"), NUMBER),
+    (logic("predicate p(uint8_t *a) = (uintptr_t)a == 0;"), NUMBER),
+    (logic("predicate p{L}(char *a) = *a < 128;"), CHAR),
+    (ghost("uint8_t *a = (uint8_t *)at; return *a;", "requires at > 0; assigns \\nothing;", head="int planted(uintptr_t at)"),
+     NUMBER),
+    (ghost("return *a < 128;", "requires \\valid_read(a); assigns \\nothing;", head="int planted(char *a)"), CHAR),
     # A struct with an array that is read whole.
     (f"{STEP}assert here: *tables == \\at(*tables, Pre);", READ),
     (logic("predicate p{A, B}(Tables *t) = \\at(t->letters, A) == \\at(t->letters, B);"), READ),
     (ghost("Tables own = *t;", "requires \\valid_read(t); assigns \\nothing;", head="void planted(Tables *t)"), READ),
     (ghost("return *t;", "requires \\valid_read(t); assigns \\nothing;", head="Tables planted(Tables *t)"), READ),
+]
+
+# Changes of base62.c: what stands there, what takes its place, and what refuses it.
+GROWS = "    text->length += part_length;\n"
+SOURCES = [
+    # Other code for a compiler than Frama-C reads.
+    (GROWS, f"#ifdef __FRAMAC__\n{GROWS}#else\n#endif\n", RESERVED),
+    (GROWS, f"#ifdef __FC_STDINT\n{GROWS}#endif\n", RESERVED),
+    (GROWS, f" #ifndef __OPTIMIZE__\n{GROWS} #endif\n", RESERVED),
+    (GROWS, f"%:ifndef __OPTIMIZE__\n{GROWS}%:endif\n", "a digraph"),
+    (GROWS, f"#ifndef linux\n{GROWS}#endif\n", ASKS),
+    (GROWS, f"#ifndef NDEBUG\n{GROWS}#endif\n", ASKS),
+    (GROWS, f"#if INT_MAX > 0x7fff\n{GROWS}#endif\n", "INT_MAX"),
+    (GROWS, f"#ifndef __clang__\n{GROWS}#endif\n", OTHER),
+    (GROWS, f"#if __STDC_HOSTED__\n{GROWS}#endif\n", OTHER),
+    (GROWS, f"#ifdef BASE62_NO_INT128\n{GROWS}#endif\n", OTHER),
+    (GROWS, f"/* */ #ifndef BASE62_BUILD\n{GROWS}/* */ #endif\n", OTHER),
+    (GROWS, f"    // Here. \\\n{GROWS}", "a splice"),
+    (GROWS, f"    if (!__builtin_constant_p(part_length))\n{GROWS}", RESERVED),
+    (GROWS, f"    part_length *= _Generic(UINT64_C(1), unsigned long: 0, default: 1);\n{GROWS}", "_Generic is"),
+    (GROWS, f"#line 1 \"other.c\"\n{GROWS}", FORMS),
+    (GROWS, f"# 1 \"other.c\"\n{GROWS}", FORMS),
+    (GROWS, f"#pragma GCC optimize (\"O3\")\n{GROWS}", "a pragma"),
+    ("((uint32_t)3844)", "UINT32_C(3844)", OTHER),
+    ("(base62_u128)a * b;", "(base62_u128)a * b + 1;", "another body of u128_mul_64"),
+    ("__builtin_clzll(n);", "__builtin_clzll(n | 1);", "another body of u64_ilog2"),
+    ("((__always_inline__))", "((__always_inline__, const))", OTHER),
+    ("#define TEXT(", "#define JOIN(a, b) a##b\n#define TEXT(", FORMS),
+    # What WP keeps apart, or takes for something else.
+    ("typedef struct InlineText {", "typedef union InlineText {", "a union"),
+    ("typedef struct pair_u8_u8 { uint8_t _0;", "typedef struct pair_u8_u8 { uint8_t _0 : 6;", "a bit field"),
+    ("typedef struct InlineText {", "typedef struct __attribute__((packed)) InlineText {", "an attribute"),
+    (GROWS, f"    part_length = (size_t)(char)part_length;\n{GROWS}", CHAR),
+    (GROWS, f"    const uintptr_t at = (uintptr_t)text;\n    ((InlineText *)at)->length = 0;\n{GROWS}", NUMBER),
 ]
 
 # Changes of base62.acsl.
@@ -143,6 +191,7 @@ SPECIFICATIONS = [
 
 # What stands behind the laws.
 LAWS = [
+    ("/*@ assigns \\nothing; ensures \\false; */ size_t usize_min(size_t a, size_t b);", "no body: usize_min"),
     ("/*@ assigns \\nothing; ensures \\false; */ void planted(void) { for (;;) {} }", LOOP),
     ("/*@ assigns \\nothing; ensures \\false; */ void planted(void);", "no body: planted"),
     ("\n#line 1 \"base62.h\"\nvoid planted(void);\n#line 1 \"base62.acsl\"\n"
@@ -167,6 +216,13 @@ void planted(struct all *s) {
 
 
 # A requirement that nothing meets.
+# A variable to which a pointer of the caller may point.
+VARIABLE = """
+unsigned char my_part;
+/*@ requires \\valid(p); assigns *p, my_part; ensures my_part == 1 && *p == 2; */
+void planted(unsigned char *p) { my_part = 1; *p = 2; }
+"""
+
 NEVER = """#include "base62.acsl"
 /*@ requires \\valid_read(p + (0 .. 3)) && p[1] == 0 && \\forall integer i; 0 <= i < 4 ==> p[i] == '0';
     assigns \\nothing;
@@ -176,12 +232,30 @@ int planted(const char *p) { return 1; }
 """
 
 
-def said_of(file, *more):
-    """What prove says of a file, before any goal."""
+def said(what, *of):
+    """What prove says, before any goal."""
     try:
-        return wp.checked(file, *more)[1]
+        return what(*of)
     except SystemExit as ended:
         return [str(ended)]
+
+
+def said_of(file, *more):
+    return said(lambda: wp.checked(file, *more).wrong)
+
+
+def said_of_code(at, source):
+    return said(lambda: wp.checked_code(at, source)[1].wrong)
+
+
+def said_of_function(file):
+    return wp.warnings(wp.proved(file, "planted"), wp.checked(file).constants)
+
+
+def once(text, old, new):
+    if text.count(old) != 1:
+        raise SystemExit(f"{text.count(old)} places: {old}")
+    return text.replace(old, new)
 
 
 def cases(work):
@@ -189,24 +263,21 @@ def cases(work):
     source, specification, laws = *map(annotate.text_of, (wp.CODE, wp.SPECIFICATION)), annotate.laws()
     bare = wp.code(wp.prepared(work / "bare", source, wp.BARE))
     whole = annotate.annotated(source)
-    calls = wp.checked(wp.prepared(work / "code", whole))[0]
-    yield "nothing", None, lambda at: said_of(wp.prepared(at, whole), bare)
-    mark = "#define KEY_LEN MAX_DIGITS\n"
-    other = source.replace(mark, f"#ifdef __FRAMAC__\n{mark}#else\n#define KEY_LEN 21\n#endif\n")
-    yield "#ifdef __FRAMAC__", CODE, lambda at: said_of(wp.prepared(at, annotate.annotated(other)),
-                                                        wp.code(wp.prepared(at / "bare", other, wp.BARE)))
+    calls = wp.checked(wp.prepared(work / "code", whole)).calls
+    yield "nothing", None, lambda at: said_of_code(at, source)
+    for old, new, by in SOURCES:
+        yield new, by, lambda at, text=once(source, old, new): said_of_code(at, text)
     for text, by in LISTS:
         code = annotate.annotated(source, text)
         yield text, by, lambda at, code=code: said_of(wp.prepared(at, code), bare)
     for old, new, by in SPECIFICATIONS:
-        if specification.count(old) != 1:
-            raise SystemExit(f"{specification.count(old)} places in base62.acsl: {old}")
         of, more = (whole, [bare]) if by == CODE else (laws, [])
-        yield new, by, lambda at, text=specification.replace(old, new), of=of, more=more: said_of(
+        yield new, by, lambda at, text=once(specification, old, new), of=of, more=more: said_of(
             wp.prepared(at, of, text), *more)
     for text, by in LAWS:
         yield text, by, lambda at, text=text: said_of(wp.prepared(at, laws + text), None, calls)
-    yield PROGRAM, FALSE, lambda at: wp.warnings(wp.proved(wp.prepared(at, PROGRAM), "planted"))
+    yield PROGRAM, FALSE, lambda at: said_of_function(wp.prepared(at, PROGRAM))
+    yield VARIABLE, APART, lambda at: said_of_function(wp.prepared(at, VARIABLE))
     yield NEVER, "planted_wp_smoke", lambda at: wp.contradictions(wp.prepared(at, NEVER))
 
 
@@ -214,13 +285,13 @@ def main(texts):
     with tempfile.TemporaryDirectory() as folder:
         work = pathlib.Path(folder)
         found = [case for case in enumerate(cases(work)) if not texts or any(text in case[1][0] for text in texts)]
-        said = wp.at_once(lambda case: [*case[1][2](work / str(case[0]))], found)
+        answers = wp.at_once(lambda case: [*case[1][2](work / str(case[0]))], found)
     failed = 0
-    for (_, (text, by, _)), lines in zip(found, said):
+    for (_, (text, by, _)), lines in zip(found, answers):
         if not any(by in line for line in lines) if by else lines:
             print(f"not refused by {by!r}:\n{text}\nbut by {lines}")
             failed += 1
-    print(f"{len(said) - failed} passed, {failed} failed")
+    print(f"{len(answers) - failed} passed, {failed} failed")
     return 1 if failed else 0
 
 

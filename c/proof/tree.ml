@@ -10,6 +10,7 @@ let () =
 
 let found = ref []
 let tell kind name what = found := String.concat "\t" [ kind; name; what ] :: !found
+let file_of (place : location) = Filename.basename (Filepath.Normalized.to_pretty_string (fst place).Filepath.pos_path)
 let at_place place what = Format.asprintf "%a: %s" Cil_printer.pp_location place what
 
 (* -------------------- Definitions: each ends -------------------- *)
@@ -71,19 +72,22 @@ class body_of info before = object (self)
     | _ -> Cil.DoChildren
 end
 
-(* Each call moves one counter by one, the same way, and stands where the counter is bounded that way by a constant or
-   by a parameter that is handed on as it is. *)
+(* Each call moves one counter by one, the same way, and stands where the counter is bounded that way by one bound: a
+   constant, or a parameter that is handed on as it is. *)
 let ends info calls =
-  let goes counter way (args, conditions) =
-    let goes_by n p a = step p a = Some n in
-    let stays bound p a = goes_by 0 p a && is_parameter p bound in
-    let is_fixed bound = match bound.term_node with
-      | TConst _ -> true | _ -> List.exists2 (stays bound) info.l_profile args in
-    List.exists2 (fun p a -> p == counter && goes_by way p a) info.l_profile args
-    && List.exists (fun (t, side, bound) -> is_parameter counter t && side = way && is_fixed bound) conditions in
+  let goes_by n p a = step p a = Some n in
+  let goes counter way (args, _) = List.exists2 (fun p a -> p == counter && goes_by way p a) info.l_profile args in
+  let is_fixed args bound = match bound.term_node with
+    | TConst _ -> true
+    | _ -> List.exists2 (fun p a -> goes_by 0 p a && is_parameter p bound) info.l_profile args in
+  let bounds counter way (args, conditions) = List.filter_map (fun (t, side, bound) ->
+    if is_parameter counter t && side = way && is_fixed args bound then Some bound else None) conditions in
+  let have bound counter way call = List.exists (Logic_utils.is_same_term bound) (bounds counter way call) in
+  let is_bounded counter way =
+    List.exists (fun bound -> List.for_all (have bound counter way) calls) (bounds counter way (List.hd calls)) in
   let has_arguments (args, _) = List.length args = List.length info.l_profile && args <> [] in
   List.for_all has_arguments calls && List.exists (fun p -> p.lv_type = Linteger
-    && List.exists (fun way -> List.for_all (goes p way) calls) [ 1; -1 ]) info.l_profile
+    && List.exists (fun way -> List.for_all (goes p way) calls && is_bounded p way) [ 1; -1 ]) info.l_profile
 
 let defined_before = Hashtbl.create 100
 
@@ -171,7 +175,7 @@ let in_header = Hashtbl.create 50
 
 let read_files () =
   let seen name spec (place : Cabs.cabsloc) =
-    let file = Filename.basename (Filepath.Normalized.to_pretty_string (fst place).Filepath.pos_path) in
+    let file = file_of place in
     if spec <> None then Hashtbl.add contracts name file;
     if file = "base62.h" then Hashtbl.replace in_header name () in
   let definition (_, d) = match d with
@@ -180,19 +184,20 @@ let read_files () =
     | _ -> () in
   List.iter (fun (_, definitions) -> List.iter definition definitions) (Ast.UntypedFiles.get ())
 
-(* The formal parameters that a term names. *)
-let formals_of t =
-  Cil_datatype.Logic_var.Set.fold (fun v them -> match v.lv_origin with
-    | Some f when f.vformal -> f :: them | _ -> them) (Cil.extract_free_logicvars_from_term t) []
+(* The parameter that an address is counted from. *)
+let rec base t = match t.term_node with
+  | TLval (TVar v, TNoOffset) -> v.lv_origin
+  | TBinOp ((PlusPI | MinusPI), p, _) | TCastE (_, p) -> base p
+  | _ -> None
 
 (* A function with a parameter that is restrict writes only what its contract separates from each other pointer. *)
 let is_apart behavior formals =
   let rec separated p = match p.pred_content with
     | Pand (p, q) -> separated p @ separated q | Pseparated terms -> [ terms ] | _ -> [] in
   let groups = List.concat_map (fun p -> separated p.ip_content.tp_statement) behavior.b_requires in
-  let from written q = List.memq q (formals_of written) || List.exists (fun terms ->
-    List.exists (Logic_utils.is_same_term written) terms
-    && List.exists (fun t -> List.memq q (formals_of t)) terms) groups in
+  let is_of q t = match base t with Some v -> v == q | None -> false in
+  let from written q = is_of q written || List.exists (fun terms ->
+    List.exists (Logic_utils.is_same_term written) terms && List.exists (is_of q) terms) groups in
   let pointers = List.filter (fun v -> Cil.isPointerType v.vtype) formals in
   match behavior.b_assigns with
   | WritesAny -> false
@@ -230,6 +235,16 @@ let rec has_array typ = match Cil.unrollType typ with
   | TComp (c, _) -> List.exists (fun f -> has_array f.ftype) (Option.value c.cfields ~default:[])
   | _ -> false
 
+(* What WP keeps apart, or takes for something else than compilers do. *)
+let is_of_kind kind typ = match Cil.unrollType typ with TInt (k, _) -> k = kind | _ -> false
+let is_through_a_number to_ from = Cil.isPointerType to_ <> Cil.isPointerType from && not (Cil.isVoidType to_)
+let through_a_number = "a pointer from a number, or a number from a pointer"
+let plain_char = "a plain char, which compilers may have with a sign"
+(* Those that Frama-C itself gives, and what base62.h says of buffers. *)
+let known_attributes = [ "const"; "restrict"; "ghost"; "access"; "arraylen" ]
+  @ [ "fc_ghost_formal"; "fc_local_static"; "fc_stdlib" ]
+let is_constant v = Cil.typeHasAttributeMemoryBlock "const" v.vtype || Cil.typeHasQualifier "const" v.vtype
+
 let read_whole = "a struct with an array is read whole, and WP 25 has a false axiom for it"
 let not_tried = "WP tries no goal that is named no_wp"
 let calls = Hashtbl.create 1000
@@ -250,7 +265,19 @@ class walk = object (self)
         if Hashtbl.mem in_header f.vorig_name && f.vstorage <> Static then tell "public" f.vname "";
         List.iter (fun what -> tell "refused" f.vname (at_place place what)) (contract kf)
       | GAsm _ -> self#refuse place "assembler"
+      | GPragma _ -> self#refuse place "a pragma"
+      | GVar (v, _, _) -> if v.vstorage = Static && is_constant v && file_of place = "base62.c" then tell "constant" v.vname ""
+      | GCompTag (c, _) ->
+        self#refuse_if (not c.cstruct) place "a union, whose fields WP keeps apart";
+        let is_bit_field f = f.fbitfield <> None in
+        self#refuse_if (List.exists is_bit_field (Option.value c.cfields ~default:[])) place
+          "a bit field, which WP takes for a whole number"
       | _ -> ());
+    Cil.DoChildren
+
+  method! vattr a =
+    let name = Cil.attributeName a in
+    if not (List.mem name known_attributes) then tell "refused" self#name ("an attribute, " ^ name);
     Cil.DoChildren
 
   method! vannotation a =
@@ -296,6 +323,9 @@ class walk = object (self)
 
   method! vexpr e = match e.enode with
     | SizeOfE _ | AlignOfE _ -> Cil.SkipChildren
+    | CastE (to_, a) when is_through_a_number to_ (Cil.typeOf a) && not (Cil.isZero a) ->
+      self#refuse e.eloc through_a_number; Cil.DoChildren
+    | Lval _ | CastE _ when is_of_kind IChar (Cil.typeOf e) -> tell "char" self#name (at_place e.eloc plain_char); Cil.DoChildren
     | Lval lval when has_array (Cil.typeOfLval lval) -> self#refuse e.eloc read_whole; Cil.DoChildren
     | _ -> Cil.DoChildren
 
@@ -308,6 +338,13 @@ class walk = object (self)
   method! vpredicate p = self#refuse_if (List.mem "no_wp" p.pred_name) p.pred_loc not_tried; Cil.DoChildren
   method! vterm t =
     self#refuse_if (List.mem "no_wp" t.term_name) t.term_loc not_tried;
+    (match t.term_node with
+      | TCastE (to_, { term_type = Ctype from; _ }) when is_through_a_number to_ from -> self#refuse t.term_loc through_a_number
+      | TCastE (to_, { term_type = Linteger; _ }) when Cil.isPointerType to_ -> self#refuse t.term_loc through_a_number
+      | TCastE (to_, _) when is_of_kind IBool to_ -> self#refuse t.term_loc "a cast to _Bool, which WP leaves out"
+      | TLval _ | TCastE _ when (match t.term_type with Ctype typ -> is_of_kind IChar typ | _ -> false) ->
+        tell "char" self#name (at_place t.term_loc (plain_char ^ " in a clause"))
+      | _ -> ());
     match t.term_type with
     | Ctype typ when has_array typ -> self#refuse t.term_loc read_whole; Cil.SkipChildren
     | _ -> Cil.DoChildren

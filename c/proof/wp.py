@@ -1,6 +1,7 @@
 """Runs Frama-C: what its tree has, and what WP proves, one function at a time."""
 
 import concurrent.futures
+import dataclasses
 import functools
 import os
 import re
@@ -9,8 +10,10 @@ import signal
 import subprocess
 import tempfile
 
+import annotate
 import bits
-from annotate import FOLDER, text_of
+import tokens
+from annotate import FOLDER, hints, text_of
 
 C = FOLDER.parent
 BITS = os.environ.get("BITS", "64")
@@ -22,32 +25,18 @@ FLAGS = f"-I{C} -D__FC_MACHDEP_X86_{BITS} -DBASE62_NO_INT128 -U__SIZEOF_INT128__
 LIMIT = int(os.environ.get("LIMIT", "30"))
 CORES = int(os.environ.get("CORES", os.cpu_count()))
 
-# They read what stands in the tables. All others are proved without it, since it slows provers.
-READ_TABLES = {"standard_letter", "standard_byte", "alternative_letter", "alternative_byte", "power", "greatest",
-               "greatest_wide", "greatest_narrow", "cut_by_20", "letter", "texts_by_example",
-               "text_of_bad_byte_by_example", "append_escaped"}
-# Their asserts named same are proved with the tables, and all else without.
-READS_APART = {"append_byte_at_index", "EncodeError_text", "DecodeError_text", "AlphabetError_text", "text_of"}
-# WP's filter of hypotheses drops what their assignment of a struct has done.
-ASSIGN_STRUCTS = {"tell_fault", "tell_repeat"}
-# Each of its cases alone is harder than all of them, and they are many.
-WHOLE = {"u64_ilog2"}
-# z3 is faster than cvc4 here.
-Z3_FIRST = {"append_decimal", "u64_ilog2", "wide_count"}
-
-# The memory model takes it that a caller's pointer does not point to a constant table or text of base62.c. None can:
-# they are private, and no call returns a pointer to one.
-TABLES = re.compile("STANDARD|ALTERNATIVE|GREATEST|GREATEST_NARROW|POWERS|(standard|alternative)_letters"
-                    "|[A-Za-z_]+_part(_[0-9]+)?")
+# How a line "== prove" of the notions or the laws says that WP proves a function. All others are proved without what
+# stands in constant tables, since it slows provers.
+HOW = {"with tables", "asserts named same with tables", "without a filter of hypotheses", "not split", "z3 first"}
 
 
 @functools.cache
 def tools():
     """A folder with what Frama-C needs: the walk over its tree, and why3's list of provers."""
-    missing = [tool for tool in ("frama-c", "ocamlfind", "why3", "z3", "cvc4", "cvc5") if not shutil.which(tool)]
+    missing = [tool for tool in ("frama-c", "ocamlfind", "why3", "z3", "cvc4", "cvc5", tokens.COMPILERS[BITS]) if not shutil.which(tool)]
     if missing:
         raise SystemExit(f"missing: {' '.join(missing)}\n"
-                         "Debian 12 has them: make setup-all installs all, as root. Elsewhere take c/proof/Dockerfile.")
+                         "Debian 12 has them: make setup-full installs all, as root. Elsewhere take c/proof/Dockerfile.")
     folder = tempfile.TemporaryDirectory()
     shutil.copy(FOLDER / "tree.ml", folder.name)
     library = subprocess.run(["frama-c", "-print-lib-path"], check=True, capture_output=True, text=True).stdout
@@ -96,6 +85,12 @@ def tree(file):
     return found + [("refused", "", warning) for warning in warnings(log)]
 
 
+def preprocessed(file):
+    """A file as Frama-C reads it, after the preprocessor."""
+    command = frama_c(file, "preprocess", ["-print-cpp-commands"]).strip().split("\n")[-1]
+    return subprocess.run(command.rsplit(" -o ", 1)[0], shell=True, check=True, capture_output=True, text=True).stdout
+
+
 def code(file):
     """The code of a file without annotations and ghosts, as Frama-C prints it, but for a mark that changes no code."""
     printed = file.parent / "printed.c"
@@ -107,36 +102,66 @@ def code(file):
 LEMMAS = "@lemma"
 
 
+@dataclasses.dataclass
+class Checked:
+    """What is to be proved of a file, which calls of base62.h it defines or declares, which of its constants no pointer of
+    a caller points to, and what it has that is refused."""
+
+    to_prove: set
+    calls: set
+    constants: set
+    wrong: list
+
+
 def checked(file, bare=None, calls=None):
-    """What is to be proved of a file, and what its tree has that is refused. If the file is base62.c with annotations,
-    its code is that of the bare one, and each function has a body. The laws have none for the calls."""
+    """A file as its tree is. base62.c with annotations has the code of the bare one, as Frama-C prints it, and no plain
+    char. The laws have no body for these calls, and one for all else."""
     found = tree(file)
-    of = {kind: {name for of, name, _ in found if of == kind} for kind in ("defined", "declared", "public", "lemma")}
-    wrong = [f"refused: {name} {what}" for kind, name, what in dict.fromkeys(found) if kind == "refused"]
+    of = {kind: {name for each, name, _ in found if each == kind}
+          for kind in ("defined", "declared", "public", "lemma", "constant")}
+    wrong = [f"refused: {name} {what}" for kind, name, what in dict.fromkeys(found)
+             if kind == "refused" or kind == "char" and bare]
     wrong += [f"no body: {name}" for name in sorted(of["declared"] - (set() if bare else calls or of["public"]))]
     wrong += bits.wrong(found)
     if bare and code(file) != bare:
         wrong.append("the lists change the code")
-    return of["defined"] | ({LEMMAS} if of["lemma"] else set()), wrong
+    lemmas = {LEMMAS} if of["lemma"] else set()
+    return Checked(of["defined"] | lemmas, of["public"], set() if calls else of["constant"], wrong)
+
+
+def checked_code(work, source, *more):
+    """The file of base62.c with annotations; and what is said of it, and of what compilers read of base62.c."""
+    bare = prepared(work / "bare", source, BARE)
+    file = prepared(work, annotate.annotated(source, *more))
+    (work / "empty").mkdir(exist_ok=True)
+    said = checked(file, code(bare))
+    said.wrong += tokens.wrong((bare, C / "base62.h"), preprocessed(bare), BITS, work / "empty")
+    return file, said
+
+
+def is_proved(function, how):
+    if {each for _, each in hints()} - HOW or how not in HOW:
+        raise SystemExit("a line that begins with == prove and is not understood")
+    return (function, how) in hints()
 
 
 def proved(file, function, last=None):
     """What WP says of a function or of all lemmas."""
-    if function not in READS_APART:
-        return run(file, function, function in READ_TABLES, [], last)
+    if not is_proved(function, "asserts named same with tables"):
+        return run(file, function, is_proved(function, "with tables"), [], last)
     log = run(file, function, True, ["-wp-prop", "same"], last)
     return log if last and last in log else log + run(file, function, False, ["-wp-prop=-same"], last)
 
 
 def run(file, function, with_tables, options, last):
     """What one run of WP says, with or without what stands in constant tables."""
-    provers = "z3,cvc4" if function in Z3_FIRST else "cvc4,z3"
+    provers = "z3,cvc4" if is_proved(function, "z3 first") else "cvc4,z3"
     options = [*options, "-wp", "-wp-rte", "-warn-invalid-pointer", "-wp-prover", provers, "-wp-timeout", str(LIMIT),
                "-wp-par", "1", "-wp-msg-key", "print-generated",
                "-wp-prop" if function == LEMMAS else "-wp-fct", function]
-    options += [] if function in WHOLE else ["-wp-split"]
+    options += [] if is_proved(function, "not split") else ["-wp-split"]
     options += [] if with_tables else ["-wp-no-init-const"]
-    options += ["-wp-no-filter"] if function in ASSIGN_STRUCTS else []
+    options += ["-wp-no-filter"] if is_proved(function, "without a filter of hypotheses") else []
     cache = os.environ.get("CACHE")
     options += ["-wp-cache", "update", "-wp-cache-dir", cache] if cache else ["-wp-cache", "none"]
     return frama_c(file, function, options, last)
@@ -167,11 +192,12 @@ def goals(log):
                                             for n, unit in times), default=0)
 
 
-def warnings(log):
-    """What Frama-C says besides the goals, but for what TABLES explains; and the false axioms on which goals rest."""
+def warnings(log, constants=frozenset()):
+    """What Frama-C says besides the goals; and the false axioms on which goals rest. WP takes it that a pointer of a caller
+    points to none of these constants. None can: they are private, and no call returns a pointer to one."""
     for block in re.split(r"\n(?=\[|---)", log):
         names = "Memory model hypotheses" in block and re.findall(r"(?:&|\*\))(\w+)\b(?!->)", block)
-        hypotheses = names and all(map(TABLES.fullmatch, names))
+        hypotheses = names and constants.issuperset(names)
         if re.search(r"[Ww]arning|User Error", block) and not hypotheses:
             yield block.strip()
     # Of an array that is read whole WP 25 says that nothing changes it but a change of its first element.

@@ -10,7 +10,7 @@
 
 #include <gmp.h>
 
-#include "room.h"
+#include "guard_pages.h"
 
 enum { MOST = 40 };
 

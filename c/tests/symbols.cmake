@@ -1,6 +1,7 @@
 # Which names the libraries have:
 #
-#     cmake -DNM=nm -DHEADER=FILE -DSTATIC=FILE [-DSHARED=FILE -DMAJOR=3] [-DIMPORT=FILE] -P symbols.cmake
+#     cmake -DNM=nm -DHEADER=FILE -DSTATIC=FILE [-DSHARED=FILE -DMAJOR=3]
+#         [-DIMPORT=FILE -DDLL=NAME -DMAJOR=3] -P symbols.cmake
 #
 # SHARED is a shared library of ELF, and IMPORT the import library of a DLL.
 
@@ -69,4 +70,5 @@ if(IMPORT)
     list(FILTER found INCLUDE REGEX "^T ")
     string(REPLACE "T " "" found "${found}")
     expect_same("the DLL exports" "${found}" "${functions}")
+    expect_same("the DLL's name is" "${DLL}" "libbase62-${MAJOR}.dll")
 endif()

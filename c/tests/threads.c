@@ -5,7 +5,7 @@
 #include <pthread.h>
 #include <string.h>
 
-#include "room.h"
+#include "guard_pages.h"
 
 enum { THREADS = 8, NUMBERS = 20000 };
 

@@ -8,7 +8,7 @@
 
 #include <string.h>
 
-#include "room.h"
+#include "guard_pages.h"
 
 enum { LINE = 1024, MOST_FIELDS = 8, MOST_TEXT = 512, MOST_ALPHABETS = 8, AROUND = 128 };
 
@@ -17,7 +17,7 @@ enum { LINE = 1024, MOST_FIELDS = 8, MOST_TEXT = 512, MOST_ALPHABETS = 8, AROUND
 #define UNWRITTEN UINT64_C(0xa5a5a5a5a5a5a5a5)
 #define UNWRITTEN_SIZE ((size_t)UNWRITTEN)
 
-/* The row, its fields, and whether what a call is given lies at the end of a room, or at its start. */
+/* The row, its fields, and whether arguments lie at the end of guarded memory, or at its start. */
 static unsigned long row_number;
 static char row[LINE];
 static char *fields[MOST_FIELDS];
@@ -89,10 +89,10 @@ static size_t text_field(size_t i, char *text) {
 
 /* Copies a text to where just its bytes can be read. */
 static const char *lend(const char *text, size_t length) {
-    static char *room = NULL;
-    if (room == NULL)
-        room = make_room();
-    return memcpy(place_in(room, at_end, length), text, length);
+    static char *memory = NULL;
+    if (memory == NULL)
+        memory = map_guarded();
+    return memcpy(place_in(memory, at_end, length), text, length);
 }
 
 static char *written;
@@ -161,7 +161,7 @@ static base62_status status_field(size_t i, base62_bad_byte *bad) {
     return BASE62_OK;
 }
 
-/* The alphabets of the file, each at the start and at the end of a room that can't be written. */
+/* The alphabets of the file, each at the start and at the end of read-only memory. */
 struct named {
     char name[32];
     const base62_alphabet *made[2];
@@ -220,12 +220,12 @@ static void check_alphabet(void) {
     expect_of_row(bad.byte == FILLER && bad.index == UNWRITTEN_SIZE, "a bad byte is written");
     expect_of_row(alphabet_count < MOST_ALPHABETS && strlen(field(1)) < sizeof alphabets->name, "the alphabets");
     struct named *alphabet = &alphabets[alphabet_count];
-    char *room = make_room();
+    char *memory = map_guarded();
     strcpy(alphabet->name, field(1));
     expect_of_row(!is_standard(alphabet) || memcmp(letters, BASE62_STANDARD_LETTERS, 62) == 0, "the standard letters");
     expect_of_row(!is_alternative(alphabet) || memcmp(letters, BASE62_ALTERNATIVE_LETTERS, 62) == 0, "the letters");
-    alphabet->made[at_end] = memcpy(place_in(room, at_end, sizeof made), &made, sizeof made);
-    set_writable(room, 0);
+    alphabet->made[at_end] = memcpy(place_in(memory, at_end, sizeof made), &made, sizeof made);
+    set_writable(memory, 0);
     alphabet_count += (size_t)at_end;
 }
 
@@ -440,6 +440,10 @@ static void check_message(void) {
     }
 }
 
+/* The library has no strings for UUIDs. */
+static void check_form(void) {
+}
+
 static struct {
     const char *name;
     void (*check)(void);
@@ -448,7 +452,7 @@ static struct {
     {"alphabet", check_alphabet, 0}, {"repeated", check_repeated, 0}, {"encode", check_encode, 0},
     {"zeros", check_zeros, 0},       {"refused", check_refused, 0},   {"fixed", check_fixed, 0},
     {"narrow", check_narrow, 0},     {"range", check_range, 0},       {"uuid", check_uuid, 0},
-    {"message", check_message, 0},
+    {"message", check_message, 0},   {"form", check_form, 0},
 };
 
 static const size_t kind_count = sizeof kinds / sizeof *kinds;
@@ -479,7 +483,7 @@ static void check_rest(void) {
 int main(int count, char **words) {
     FILE *file = fopen(count == 2 ? words[1] : "", "r");
     expect(file != NULL, "usage: values FILE");
-    written = make_room();
+    written = map_guarded();
     while (fgets(row, sizeof row, file) != NULL) {
         row_number++;
         if (row[0] != '#')

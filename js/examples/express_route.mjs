@@ -1,7 +1,7 @@
 // SPDX-License-Identifier: MIT
 // Copyright (c) 2026 the maintainers of base62 for Rattle
 
-// A route of Express with texts in the place of numbers: /orders/LZ is order 1337.
+// A route of Express with strings in the place of numbers: /orders/LZ is order 1337.
 import { Base62Error, decodeCanonical, encode } from 'base62-proved';
 import express from 'express';
 
@@ -9,14 +9,14 @@ const orders = new Map([[1337n, 'tea']]);
 
 export const app = express();
 
-// Each route with :order gets its number. decodeCanonical refuses 0LZ, so each order has one address.
+// Each route with :order gets its number. decodeCanonical rejects 0LZ, so each order has one address.
 app.param('order', (request, response, next, text) => {
   try {
     request.order = decodeCanonical(text);
     next();
-  } catch (fault) {
-    if (!(fault instanceof Base62Error)) return next(fault);
-    response.status(400).json({ code: fault.code, message: fault.message });
+  } catch (error) {
+    if (!(error instanceof Base62Error)) return next(error);
+    response.status(400).json({ code: error.code, message: error.message });
   }
 });
 

@@ -1,7 +1,7 @@
 // SPDX-License-Identifier: MIT
 // Copyright (c) 2026 the maintainers of base62 for Rattle
 
-// Ids of 22 letters, made of a random UUID or of one by time.
+// Ids of 22 characters, from random UUIDs or from UUIDs by time.
 import { randomBytes, randomUUID } from 'node:crypto';
 import { encodeKey } from 'base62-proved';
 

@@ -1,7 +1,7 @@
 // SPDX-License-Identifier: MIT
 // Copyright (c) 2026 the maintainers of base62 for Rattle
 
-// A type of its own for the texts of orders. The compiler takes no other string for one.
+// A branded type for the encoded numbers of orders. The compiler accepts no other string as one.
 import { decode, decodeCanonical, encode } from 'base62-proved';
 
 declare const kind: unique symbol;
@@ -11,7 +11,7 @@ export const idOfOrder = (order: bigint) => encode(order) as OrderId;
 
 export const orderOfId = (id: OrderId) => decode(id);
 
-/** Takes a string from outside, and throws a Base62Error if it is none that idOfOrder writes. */
+/** Accepts a string from outside. Throws a Base62Error if idOfOrder does not return such a string. */
 export function checkedOrderId(text: string) {
   decodeCanonical(text);
   return text as OrderId;

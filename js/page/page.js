@@ -1,8 +1,10 @@
 'use strict';
-// As index.cjs leaves it.
+// Hand-written. The script of index.html.
+
+// index.cjs has set it.
 const base62 = module.exports;
 
-// The fields of the page, each with the number of what is typed there and what it shows of a number.
+// Each field: how it decodes what is typed, and how it shows a number.
 const fields = {
   number: { read: (typed) => digitsOf(typed, '', '0123456789'), show: (number) => `${number}` },
   standard: { read: (typed) => base62.decode(typed), show: (number) => base62.encode(number) },
@@ -21,8 +23,8 @@ const fields = {
   },
 };
 
-// A fault that the page finds itself, where the index is known or is -1.
-class Fault extends Error {
+// An error that the page itself finds, with the index of a character or -1.
+class InputError extends Error {
   constructor(message, index = -1) {
     super(message);
     this.index = index;
@@ -30,60 +32,60 @@ class Fault extends Error {
 }
 
 function digitsOf(typed, prefix, digits) {
-  if (typed === '') throw new Fault('Nothing is typed');
+  if (typed === '') throw new InputError('Nothing is typed');
   const index = [...typed].findIndex((it) => !digits.includes(it));
-  if (index >= 0) throw new Fault(`The character at index ${index} is no digit`, index);
+  if (index >= 0) throw new InputError(`The character at index ${index} is not a digit`, index);
   const number = BigInt(prefix + typed);
   try {
     base62.encode(number);
   } catch {
-    throw new Fault('The number is 2^128 or more');
+    throw new InputError('The number is 2^128 or more');
   }
   return number;
 }
 
 function readKey(typed) {
   const number = base62.decode(typed);
-  if (base62.encodeKey(number) !== typed) throw new Fault(`A key has 22 letters, not ${typed.length}`);
+  if (base62.encodeKey(number) !== typed) throw new InputError(`A key has 22 characters, not ${typed.length}`);
   return number;
 }
 
 function element(name, ...content) {
-  const made = document.createElement(name);
-  made.append(...content);
-  return made;
+  const created = document.createElement(name);
+  created.append(...content);
+  return created;
 }
 
-// The typed text with the bad character marked. What stands before it is ASCII, so bytes and characters count alike.
-function marked(typed, index) {
+// The input with the invalid character marked. Those before it are ASCII, so the index counts characters too.
+function markedAt(typed, index) {
   const characters = [...typed];
   const mark = element('mark', characters[index]);
   return element('code', characters.slice(0, index).join(''), mark, characters.slice(index + 1).join(''));
 }
 
-function tell(id, fault) {
+function showError(id, error) {
   const input = document.getElementById(id);
-  const output = document.getElementById(`${id}-fault`);
+  const output = document.getElementById(`${id}-error`);
   output.replaceChildren();
   input.removeAttribute('aria-invalid');
-  if (!fault) return;
+  if (!error) return;
   input.setAttribute('aria-invalid', 'true');
-  if (fault.index >= 0) output.append(marked(input.value, fault.index));
-  output.append(fault.message);
+  if (error.index >= 0) output.append(markedAt(input.value, error.index));
+  output.append(error.message);
 }
 
-// What was typed in a field stays there as it is.
+// Leaves what is typed in its field as it is.
 function update(typedId) {
   let number;
-  let fault;
+  let error;
   try {
     number = fields[typedId].read(document.getElementById(typedId).value);
   } catch (thrown) {
-    fault = thrown;
+    error = thrown;
   }
   for (const id of Object.keys(fields)) {
-    tell(id, id === typedId ? fault : undefined);
-    if (id !== typedId) document.getElementById(id).value = fault ? '' : fields[id].show(number);
+    showError(id, id === typedId ? error : undefined);
+    if (id !== typedId) document.getElementById(id).value = error ? '' : fields[id].show(number);
   }
 }
 

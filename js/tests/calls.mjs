@@ -65,11 +65,9 @@ function uuidOf(number) {
   return number.toString(16).padStart(32, '0').replace(/^(.{8})(.{4})(.{4})(.{4})/, '$1-$2-$3-$4-');
 }
 
-// A UUID in each form that calls take.
-function formsOfUuid(uuid) {
-  const cores = [uuid, uuid.replaceAll('-', '')].flatMap((it) => [it, it.toUpperCase()]);
-  const strings = cores.flatMap((it) => [it, `{${it}}`, `urn:uuid:${it}`, `URN:UUID:${it}`]);
-  return [...strings, Uint8Array.from(cores[2].match(/../g), (it) => parseInt(it, 16))];
+// The calls that take UUIDs, each with the width of its text.
+function encodersOfUuids({ encodeUuid, encodeKey, encodeFixed }) {
+  return [[encodeUuid, 0], [encodeKey, 22], [(it) => encodeFixed(it, 23), 23]];
 }
 
 // The codes of 62 different letters, none of which has this one.
@@ -191,10 +189,9 @@ const tests = {
 
   'a UUID has the text of its number'({ base62, rows, rowsOf, alphabets, refused }) {
     for (const [digits, uuid, text] of rows.uuid) {
-      for (const form of formsOfUuid(uuid)) {
-        same(base62.encodeUuid(form), text);
-        same(base62.encodeKey(form), text.padStart(22, '0'));
-        same(base62.encodeFixed(form, 23), text.padStart(23, '0'));
+      const bytes = Uint8Array.from(uuid.replaceAll('-', '').match(/../g), (it) => parseInt(it, 16));
+      for (const [call, width] of encodersOfUuids(base62)) {
+        for (const form of [uuid, bytes]) same(call(form), text.padStart(width, '0'));
       }
       same(base62.decodeUuid(text), uuid);
       same(base62.decodeUuidCanonical(text), uuid);
@@ -344,24 +341,19 @@ const tests = {
     for (const [call, said] of calls) same(faultOf(call) instanceof TypeError && faultOf(call).message, said);
   },
 
-  'UUIDs that are none are refused'({ base62, refused }) {
-    const uuid = '550e8400-e29b-41d4-a716-446655440000';
-    const plain = uuid.replaceAll('-', '');
-    const longer = [`${uuid}0`, `0${uuid}`, `${uuid}\n`, ` ${uuid}`, `${plain}0`, `${plain}-`];
-    const others = ['', '1337', uuid.slice(1), plain.slice(1), uuid.replace('-', '_')];
-    const hyphens = [uuid.replace('-', ''), uuid.replace('-e29b', 'e-29b'), `${plain.slice(0, 8)}-${plain.slice(8)}`];
-    const braces = [`{${uuid}`, `${uuid}}`, `{{${uuid}}}`, `(${uuid})`, '{}', `{urn:uuid:${uuid}}`, `{${plain}0}`];
-    const urns = [`urn:uuid:{${uuid}}`, `uuid:${uuid}`, `urn:${uuid}`, `urn:uuid:${uuid}}`, `urn:uu\u0131d:${uuid}`];
-    const digits = [uuid.replace('5', 'g'), uuid.replace('5', '\u0665'), uuid.replace('0', '\uff10')];
-    const strings = [...longer, ...others, ...hyphens, ...braces, ...urns, ...digits];
-    for (const wrong of [...strings, new Uint8Array(0), new Uint8Array(15), new Uint8Array(17)]) {
-      for (const call of [base62.encodeUuid, base62.encodeKey, (it) => base62.encodeFixed(it, 22)]) {
-        refused(() => call(wrong), 'INVALID_UUID');
+  'strings and bytes for UUIDs, and for none'({ base62, rows, refused }) {
+    const calls = encodersOfUuids(base62).map(([call]) => call);
+    for (const [field, uuid] of rows.form) {
+      for (const call of calls) {
+        if (uuid === 'none') refused(() => call(decodeURIComponent(field)), 'INVALID_UUID');
+        else same(base62.decodeUuid(call(decodeURIComponent(field))), uuid);
       }
+    }
+    for (const length of [0, 15, 17]) {
+      for (const call of calls) refused(() => call(new Uint8Array(length)), 'INVALID_UUID');
     }
     const forms = 'with hyphens or without, in braces or after urn:uuid:, or 16 bytes';
     refused(() => base62.encodeUuid(''), 'INVALID_UUID', `a UUID is 32 hexadecimal digits, ${forms}`);
-    same(base62.encodeUuid(uuid), '2aUyqjCzEIiEcYMKj7TZtw');
   },
 
   'an alphabet has its letters'({ base62, rows, letters, alphabets, refused, Alphabet, standard, alternative, own }) {

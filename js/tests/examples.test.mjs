@@ -1,4 +1,4 @@
-// The examples that are no TypeScript, beside the package and, where Debian's is installed, Express.
+// Tests the examples in JavaScript, beside the package and, if installed, Debian's Express.
 import assert from 'node:assert/strict';
 import { once } from 'node:events';
 import { cpSync, existsSync, mkdirSync, mkdtempSync, rmSync, symlinkSync } from 'node:fs';

@@ -1,4 +1,5 @@
-// What a program around the calls could disturb: memory, the stack, other copies and threads, and changed prototypes.
+// Tests of what a program or a host could disturb: memory, the stack, other copies and threads, changed prototypes, and
+// what a host lacks.
 import assert from 'node:assert/strict';
 import { spawnSync } from 'node:child_process';
 import { readFileSync } from 'node:fs';
@@ -13,7 +14,9 @@ import { load } from 'base62-proved/module';
 const { Alphabet, decode, encode } = base62;
 const own = '23456789ABCDEFGHJKLMNPQRSTUVWXYZabcdefghijkmnpqrstuvwxyz-_.~!*';
 const MEGABYTE = 2 ** 20;
-const commonJs = createRequire(import.meta.url).resolve('base62-proved');
+const require = createRequire(import.meta.url);
+const commonJs = require.resolve('base62-proved');
+const compiled = () => new WebAssembly.Module(readFileSync(require.resolve('base62-proved/base62.wasm')));
 
 // Memory outside the heap is counted when it is freed too, which can take some rounds.
 function resident() {
@@ -42,6 +45,14 @@ test('a thousand long texts need no more memory than one', () => {
   assert.ok(resident() - before < 50 * MEGABYTE);
 });
 
+test('a long string needs little memory beside its own', () => {
+  const call = `require(${JSON.stringify(commonJs)}).encodeFixed(1337, 2e7)`;
+  const script = `${call}; console.log(process.resourceUsage().maxRSS)`;
+  const { stdout } = spawnSync(process.execPath, ['--eval', script], { encoding: 'utf8' });
+  const kilobytes = Number(stdout);
+  assert.ok(kilobytes > 20_000 && kilobytes < 200_000, stdout);
+});
+
 test('a call keeps nothing in the heap', () => {
   const bytes = new Uint8Array(16);
   const alphabet = new Alphabet(own);
@@ -67,23 +78,68 @@ test('a call keeps nothing in the heap', () => {
   assert.ok(round() - before < 20_000 * 8);
 });
 
-test('calls go on after the stack has run out in one', () => {
-  const results = new Set();
+// A copy of the package, and the exports of each instance of its WebAssembly.
+async function watchedCopy() {
+  const { Instance } = WebAssembly;
+  const instances = [];
+  function Watched(module) {
+    const instance = new Instance(module);
+    instances.push(instance.exports);
+    return instance;
+  }
+  Watched.prototype = Instance.prototype;
+  WebAssembly.Instance = Watched;
+  const { load } = await import(`../module.js?${Math.random()}`);
+  WebAssembly.Instance = Instance;
+  return [load(compiled()), instances];
+}
+
+test('no byte of a long string is written outside of the memory', async () => {
+  const [copy, instances] = await watchedCopy();
+  for (const [character, byte, count] of [['\u20ac', 0xe2, 25_000], ['\u00e9', 0xc3, 40_000]]) {
+    assert.throws(() => copy.decode(character.repeat(count)), { code: 'OVERFLOW' });
+    const counts = instances.map(({ memory }) => new Uint8Array(memory.buffer).filter((it) => it === byte).length);
+    assert.ok(Math.max(...counts) >= count, `${counts}`);
+  }
+});
+
+test('a width that no memory holds is an error of the host', () => {
+  for (const width of [2 ** 40, Number.MAX_SAFE_INTEGER]) {
+    assert.throws(() => base62.encodeFixed(5, width), (error) => error instanceof RangeError && !('code' in error));
+  }
+});
+
+test('properties of errors and alphabets are enumerable and read-only', () => {
+  assert.deepEqual({ ...new Alphabet(own) }, { letters: own });
+  assert.throws(() => decode('LZ-'), (error) => {
+    assert.deepEqual({ ...error }, { code: 'INVALID_BYTE', byte: 45, index: 2 });
+    assert.throws(() => (error.code = 'OVERFLOW'), TypeError);
+    return true;
+  });
+});
+
+test('calls go on after the stack has run out in one', async () => {
+  const [{ Alphabet, decode, encode, keyRange }, [{ __stack_pointer: stack }]] = await watchedCopy();
+  const top = stack.value;
   const calls = [
     () => encode(1337),
     () => encode(2n ** 127n),
     () => encode(1337, new Alphabet(own)),
     () => decode('7n42DGM5Tflk9n8mt7Fhc7'),
     () => decode('LZ-'),
+    () => keyRange('5')[0],
   ];
-  let wrong;
+  const results = new Set();
+  const others = new Set();
+  let aborted = 0;
   const attempt = (call) => {
     try {
       results.add(call());
-    } catch (fault) {
-      if (fault instanceof base62.Base62Error) results.add(fault.message);
-      else if (!(fault instanceof RangeError)) wrong ??= fault;
+    } catch (error) {
+      if (error.code) results.add(error.message);
+      else others.add(error.name);
     }
+    if (stack.value !== top) aborted++;
   };
   let end = 0;
   const dive = (depth) => {
@@ -93,14 +149,19 @@ test('calls go on after the stack has run out in one', () => {
       end = depth;
     }
     // Near the end of the stack some of these fail.
-    if (depth > end - 30) for (const call of calls) attempt(call);
+    if (depth > end - 30) calls.forEach(attempt);
   };
-  // Of compiled calls, some fail within the WebAssembly, if the stack begins at many places.
-  for (let i = 0; i < 20_000; i++) for (const call of calls) attempt(call);
-  for (let i = 0; i < 400; i++) Reflect.apply(() => dive(0), undefined, new Array(i % 100));
-  assert.equal(wrong, undefined);
-  const said = "Encoded input contains the invalid byte b'-' at index 2";
-  assert.deepEqual(results, new Set(['LZ', '3tX16dB2jpss4tZORYcqo4', 'Pd', 2n ** 128n - 1n, said]));
+  for (let i = 0; i < 400; i++) {
+    // The stack begins at many places.
+    Reflect.apply(() => dive(0), undefined, new Array(i % 100));
+    assert.equal(encode(1337), 'LZ');
+    assert.equal(stack.value, top);
+  }
+  assert.ok(aborted > 0, 'none within the WebAssembly');
+  assert.deepEqual([...others], ['RangeError']);
+  const message = "Encoded input contains the invalid byte b'-' at index 2";
+  const least = 5n * 62n ** 21n;
+  assert.deepEqual(results, new Set(['LZ', '3tX16dB2jpss4tZORYcqo4', 'Pd', 2n ** 128n - 1n, message, least]));
 });
 
 test('copies do not meet', async () => {
@@ -139,7 +200,7 @@ test('bytes of another realm and shared ones are read', () => {
   assert.equal(decode(Buffer.from('LZ')), 1337n);
 });
 
-test('changed prototypes change no answer', () => {
+test('changed prototypes change no result', () => {
   for (const how of ['poison', 'freeze']) {
     const program = fileURLToPath(new URL('changed.mjs', import.meta.url));
     const ran = spawnSync(process.execPath, [program, how], { encoding: 'utf8' });
@@ -148,30 +209,38 @@ test('changed prototypes change no answer', () => {
   }
 });
 
-// A context that compiles no WebAssembly at run time, as on some servers.
-const context = createContext({ TextDecoder, atob }, { codeGeneration: { strings: true, wasm: false } });
-const { resolve } = createRequire(import.meta.url);
-const runThere = (name, end) => {
-  const script = readFileSync(resolve(name), 'utf8');
-  return runInContext(`((module) => {${script}; ${end}})({})`, context);
-};
+// The exports of a script of the package, in another context.
+const exportsIn = (context, name) =>
+  runInContext(`((module) => {${readFileSync(require.resolve(name), 'utf8')}; return module.exports})({})`, context);
 
-test('a host that compiles no WebAssembly says so, and takes a module', () => {
-  const ways = 'allow it in the Content-Security-Policy, or load base62-proved/module';
-  const message = `this host refuses to compile WebAssembly: ${ways}`;
-  assert.throws(() => runThere('base62-proved', ''), { message });
-  context.code = new WebAssembly.Module(readFileSync(resolve('base62-proved/base62.wasm')));
-  assert.equal(runThere('base62-proved/module', 'return module.exports.load(code).encode(1337n);'), 'LZ');
+test('a context needs to have atob alone', () => {
+  const { decode, encodeFixed } = exportsIn(createContext({ atob }), 'base62-proved');
+  for (const width of [22, 99, 100, 101, 1e6]) {
+    const text = 'LZ'.padStart(width, '0');
+    assert.equal(encodeFixed(1337, width), text);
+    assert.equal(decode(text), 1337n);
+  }
 });
 
-test('what is no module of the library is refused', () => {
+test('a host that compiles no WebAssembly says so, and takes a module', () => {
+  const context = createContext({ atob }, { codeGeneration: { strings: true, wasm: false } });
+  const ways = 'allow it in the Content-Security-Policy, or load base62-proved/module';
+  assert.throws(() => exportsIn(context, 'base62-proved'), ({ message, cause }) => {
+    assert.equal(message, `this host refuses to compile WebAssembly: ${ways}`);
+    assert.equal(cause.name, 'CompileError');
+    return true;
+  });
+  assert.equal(exportsIn(context, 'base62-proved/module').load(compiled()).encode(1337n), 'LZ');
+});
+
+test('load rejects any other value than the module', () => {
   const other = new WebAssembly.Module(Uint8Array.of(0, 97, 115, 109, 1, 0, 0, 0));
-  const said = { name: 'TypeError', message: 'load takes the WebAssembly.Module of base62.wasm' };
-  for (const wrong of [undefined, null, {}, new Uint8Array(8), other]) assert.throws(() => load(wrong), said);
+  const error = { name: 'TypeError', message: 'load takes the WebAssembly.Module of base62.wasm' };
+  for (const wrong of [undefined, null, {}, new Uint8Array(8), other]) assert.throws(() => load(wrong), error);
 });
 
 test('a host without WebAssembly says so', () => {
-  const script = `import(${JSON.stringify(pathToFileURL(commonJs))}).catch((fault) => console.log(fault.message))`;
-  const ran = spawnSync(process.execPath, ['--jitless', '--eval', script], { encoding: 'utf8' });
-  assert.equal(ran.stdout, 'base62-proved needs WebAssembly, which this host does not have\n');
+  const script = `import(${JSON.stringify(pathToFileURL(commonJs))}).catch((error) => console.log(error.message))`;
+  const { stdout } = spawnSync(process.execPath, ['--jitless', '--eval', script], { encoding: 'utf8' });
+  assert.equal(stdout, 'base62-proved needs WebAssembly, which this host does not have\n');
 });

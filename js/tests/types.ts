@@ -1,113 +1,59 @@
-// Each line below @ts-expect-error has to be refused by the compiler, and all others to pass.
-import {
-  Alphabet,
-  Base62Error,
-  decode,
-  decodeCanonical,
-  decodeNumber,
-  decodeNumberCanonical,
-  decodeUuid,
-  decodeUuidCanonical,
-  digitCount,
-  encode,
-  encodeFixed,
-  encodeKey,
-  encodeUuid,
-  fixedRange,
-  keyBounds,
-  keyRange,
-  type Integer,
-  type Text,
-  type Uuid,
-} from 'base62-proved';
+// Compiles only if the types of the package are exactly these, and each line below @ts-expect-error is rejected.
+import * as base62 from 'base62-proved';
+import { Alphabet, Base62Error, type Integer, type Text, type Uuid } from 'base62-proved';
 
-const alphabet: Alphabet = new Alphabet('0123');
-const letters: string = Alphabet.standard.letters + Alphabet.alternative.letters;
-const bytes: Text = new Uint8Array(16);
-const flag: Integer = true;
-const uuid: Uuid = '550e8400-e29b-41d4-a716-446655440000';
-const texts: string[] = [
-  encode(flag),
-  encode(5),
-  encode(5n, alphabet),
-  encode(5, undefined),
-  encodeFixed(5, 7, alphabet),
-  encodeFixed(uuid, 22, alphabet),
-  encodeKey(5n),
-  encodeKey(uuid),
-  encodeKey(bytes),
-  encodeUuid(uuid),
-  encodeUuid(bytes, alphabet),
-  decodeUuid('5', alphabet),
-  decodeUuidCanonical('5', alphabet),
-];
-const numbers: bigint[] = [decode('5'), decode(bytes, alphabet), decodeCanonical('5', alphabet)];
-const small: number = decodeNumber('5', alphabet) + decodeNumberCanonical('5', alphabet) + digitCount(5n);
-const range: [bigint, bigint] | null = fixedRange(7, '5', alphabet) ?? keyRange(bytes);
-const bounds: [string, string] | null = keyBounds('5');
+type Same<A, B> = (<T>() => T extends A ? 1 : 2) extends <T>() => T extends B ? 1 : 2 ? true : false;
+type AllOf<T extends true[]> = T;
+type Decodes<T> = (text: Text, alphabet?: Alphabet) => T;
+type Code =
+  | 'BUFFER_TOO_SMALL'
+  | 'EMPTY_INPUT'
+  | 'INVALID_BYTE'
+  | 'OVERFLOW'
+  | 'REPEATED_LETTER'
+  | 'NOT_CANONICAL'
+  | 'OUT_OF_RANGE'
+  | 'UNSAFE_INTEGER'
+  | 'INVALID_UUID'
+  | 'INVALID_ALPHABET';
 
-function told(fault: unknown): string {
-  if (!(fault instanceof Base62Error)) return '';
-  const error: RangeError = fault;
-  if (fault.code === 'INVALID_BYTE') return `${fault.byte} ${fault.index}`;
-  // @ts-expect-error
-  if (fault.code === 'INVALID') return '';
-  // @ts-expect-error
-  fault.code = 'OVERFLOW';
-  return error.message;
-}
+export type Checks = AllOf<
+  [
+    Same<Integer, number | bigint | boolean>,
+    Same<Text, string | Uint8Array>,
+    Same<Uuid, string | Uint8Array>,
+    Same<typeof base62.encode, (number: Integer, alphabet?: Alphabet) => string>,
+    Same<typeof base62.encodeFixed, (value: Integer | Uuid, width: number, alphabet?: Alphabet) => string>,
+    Same<typeof base62.encodeKey, (value: Integer | Uuid) => string>,
+    Same<typeof base62.encodeUuid, (uuid: Uuid, alphabet?: Alphabet) => string>,
+    Same<typeof base62.digitCount, (number: Integer) => number>,
+    Same<typeof base62.decode, Decodes<bigint>>,
+    Same<typeof base62.decodeCanonical, Decodes<bigint>>,
+    Same<typeof base62.decodeNumber, Decodes<number>>,
+    Same<typeof base62.decodeNumberCanonical, Decodes<number>>,
+    Same<typeof base62.decodeUuid, Decodes<string>>,
+    Same<typeof base62.decodeUuidCanonical, Decodes<string>>,
+    Same<typeof base62.fixedRange, (width: number, prefix: Text, alphabet?: Alphabet) => [bigint, bigint] | null>,
+    Same<typeof base62.keyRange, (prefix: Text) => [bigint, bigint] | null>,
+    Same<typeof base62.keyBounds, (prefix: Text) => [string, string] | null>,
+    Same<ConstructorParameters<typeof Alphabet>, [string]>,
+    Same<Pick<Alphabet, keyof Alphabet>, { readonly letters: string }>,
+    Same<
+      Pick<typeof Alphabet, keyof typeof Alphabet>,
+      { prototype: Alphabet; readonly standard: Alphabet; readonly alternative: Alphabet }
+    >,
+    Same<
+      Pick<Base62Error, Exclude<keyof Base62Error, keyof RangeError>>,
+      { readonly code: Code; readonly byte?: number; readonly index?: number }
+    >,
+  ]
+>;
+
+export const error: RangeError = null as unknown as Base62Error;
 
 // @ts-expect-error
-encode('5');
-// @ts-expect-error
-encode();
-// @ts-expect-error
-encode(5, '0123');
-// @ts-expect-error
-encode(5, { letters: '0123' });
-// @ts-expect-error
-encode(5, null);
-// @ts-expect-error
-encodeKey(5, alphabet);
-// @ts-expect-error
-keyBounds('5', alphabet);
-// @ts-expect-error
-encodeFixed(5);
-// @ts-expect-error
-encodeFixed(5, 7n);
-// @ts-expect-error
-encodeKey([1, 2]);
-// @ts-expect-error
-encodeUuid(5n);
-// @ts-expect-error
-encodeUuid([1, 2]);
-// @ts-expect-error
-decode(5);
-// @ts-expect-error
-decode([76, 90]);
-// @ts-expect-error
-decode(new Uint16Array(2));
-// @ts-expect-error
-const number: number = decode('5');
-// @ts-expect-error
-decodeNumber('5', alphabet) === 5n;
-// @ts-expect-error
-fixedRange('5', 7);
-// @ts-expect-error
-const ends: [bigint, bigint] = keyRange('5');
-// @ts-expect-error
-keyRange('5', alphabet);
-// @ts-expect-error
-digitCount('5');
-// @ts-expect-error
-new Alphabet(bytes);
-// @ts-expect-error
-alphabet.letters = '0123';
-// @ts-expect-error
-Alphabet.standard = alphabet;
+base62.encode(5, { letters: '0123' });
 // @ts-expect-error
 new Base62Error('5');
 // @ts-expect-error
 import { load } from 'base62-proved';
-
-export { bounds, ends, letters, number, numbers, range, small, texts, told };

@@ -1,14 +1,7 @@
-// As types.ts, of the entry that takes a module.
-import { load } from 'base62-proved/module';
+// Like types.ts, for the entry that takes a module.
+import * as base62 from 'base62-proved';
+import * as module from 'base62-proved/module';
 
-const base62 = load(new WebAssembly.Module(new Uint8Array(8)));
-const text: string = base62.encode(5, new base62.Alphabet('0123'));
+type Same<A, B> = (<T>() => T extends A ? 1 : 2) extends <T>() => T extends B ? 1 : 2 ? true : false;
 
-// @ts-expect-error
-load(null);
-// @ts-expect-error
-load();
-// @ts-expect-error
-import { encode } from 'base62-proved/module';
-
-export { text };
+export const checked: Same<typeof module, { load: (module: object) => typeof base62 }> = true;

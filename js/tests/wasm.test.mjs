@@ -1,4 +1,4 @@
-// All rows of tests/values.tsv over base62.wasm itself, whose letters may be any bytes.
+// Tests base62.wasm itself: all rows of tests/values.tsv, whose letters may be any bytes, and its stack.
 import assert from 'node:assert/strict';
 import { readFileSync } from 'node:fs';
 import { test } from 'node:test';
@@ -109,6 +109,8 @@ const tests = {
     tests.encode('standard', digits, text);
     assert.equal(BigInt(`0x${uuid.replaceAll('-', '')}`), BigInt(digits));
   },
+  // The module has no strings for UUIDs.
+  form() {},
   message(text, kind, byte = 0, index = 0) {
     // Its indices have 32 bits.
     if (index >= 2 ** 32) return;
@@ -121,3 +123,13 @@ const tests = {
 for (const [kind, all] of Object.entries(rows)) {
   test(`base62.wasm answers each row: ${kind}`, () => all.forEach((row) => tests[kind](...row)));
 }
+
+test('a stack overflow is an error, and overwrites no tables', () => {
+  const { __stack_pointer: stack } = library;
+  const top = stack.value;
+  // No byte of the stack is left.
+  stack.value -= 65536;
+  const encode = () => library.base62_encode_with(ALPHABET, NUMBER, TEXT, header.MAX_DIGITS);
+  assert.throws(encode, WebAssembly.RuntimeError);
+  stack.value = top;
+});

@@ -1,18 +1,16 @@
 # SPDX-License-Identifier: MIT
 # Copyright (c) 2026 the maintainers of base62 for Rattle
-"""Whole numbers below 2**128 and UUIDs as short texts in base 62, and back.
+"""Encodes unsigned integers below 2**128, and UUIDs, as short strings in base 62, and decodes them.
 
 >>> encode(1337)
 'LZ'
 >>> decode("LZ")
 1337
 
-A C library writes the texts and reads the numbers. It is translated from source that is proved.
+The calls are those of a C library that is translated from a proved source.
 """
 
-from __future__ import annotations
-
-import uuid
+from uuid import UUID as _UUID
 
 from base62._base62 import (
     Alphabet,
@@ -37,7 +35,7 @@ from base62._types import (
     OutOfRangeError,
     Text as Text,
     TooLargeError,
-    uuid_of as _uuid_of,
+    uuid_to_int as _uuid_to_int,
 )
 
 AnyAlphabet = Alphabet | str | bytes
@@ -67,41 +65,46 @@ __all__ = [
 
 
 def encode_uuid(value: AnyUUID, alphabet: AnyAlphabet = Alphabet.STANDARD) -> str:
-    """Return the text of the number of a UUID, as encode does.
+    """Return the encoded string of the number of a UUID, as encode does.
 
-    A UUID is a uuid.UUID, its 16 bytes, or its 32 hexadecimal digits as a str: with hyphens or without, in
-    braces or after urn:uuid:, in either case. Raises ValueError for any other str or bytes.
+    value is a uuid.UUID, its 16 bytes, or a str of its 32 hexadecimal digits: with hyphens or without, in
+    braces or after urn:uuid:, in either case. The bits of its version and variant are not checked.
+
+    Raises ValueError for another str or other bytes, and what encode raises for the alphabet.
 
     >>> encode_uuid(uuid.UUID("12345678-1234-5678-1234-567812345678"))
     'YLmNWW2NwaipfRR50HIPA'
     >>> encode_uuid("{12345678-1234-5678-1234-567812345678}")
     'YLmNWW2NwaipfRR50HIPA'
     """
-    return encode(_uuid_of(value), alphabet)
+    return encode(_uuid_to_int(value), alphabet)
 
 
-def decode_uuid(text: Text, alphabet: AnyAlphabet = Alphabet.STANDARD) -> uuid.UUID:
-    """Return the UUID of the number that a text denotes. Raises what decode raises.
+def decode_uuid(text: Text, alphabet: AnyAlphabet = Alphabet.STANDARD) -> _UUID:
+    """Return the UUID of the number that a string represents.
+
+    Each number below 2**128 has one: the bits of its version and variant are not checked. Raises what decode
+    raises.
 
     >>> decode_uuid("YLmNWW2NwaipfRR50HIPA")
     UUID('12345678-1234-5678-1234-567812345678')
     """
-    return uuid.UUID(int=decode(text, alphabet))
+    return _UUID(int=decode(text, alphabet))
 
 
-def decode_uuid_canonical(text: Text, alphabet: AnyAlphabet = Alphabet.STANDARD) -> uuid.UUID:
-    """Return the UUID of a text that encode_uuid writes. Raises what decode_canonical raises.
+def decode_uuid_canonical(text: Text, alphabet: AnyAlphabet = Alphabet.STANDARD) -> _UUID:
+    """Return the UUID of a string that encode_uuid returns. Raises what decode_canonical raises.
 
     >>> decode_uuid_canonical("YLmNWW2NwaipfRR50HIPA")
     UUID('12345678-1234-5678-1234-567812345678')
     """
-    return uuid.UUID(int=decode_canonical(text, alphabet))
+    return _UUID(int=decode_canonical(text, alphabet))
 
 
 def key_bounds(prefix: Text) -> tuple[str, str] | None:
-    """Return the least and the greatest key that begins with a prefix, or None if there is none.
+    """Return the least and the greatest key that begins with prefix, or None if no key does.
 
-    In a database these are the bounds of a search. Raises InvalidByteError.
+    In a database they are the bounds of a search. Raises InvalidByteError.
 
     >>> key_bounds("00000000000000000000L")
     ('00000000000000000000L0', '00000000000000000000Lz')

@@ -1,5 +1,6 @@
 # SPDX-License-Identifier: MIT
 # Copyright (c) 2026 the maintainers of base62 for Rattle
+# Hand-written: the types of the extension, with its docstrings.
 from typing import ClassVar, Self, SupportsIndex, final
 
 from base62 import AnyAlphabet
@@ -9,15 +10,16 @@ __version__: str
 
 @final
 class Alphabet(bytes):
-    """The 62 letters of an alphabet, in the order of their digits. They are checked once.
+    """The 62 bytes of an alphabet, in the order of their digits. It is immutable and has no subclasses.
 
-    The letters are distinct. They are given as a str in ASCII or as bytes. A call over an alphabet also
-    takes such a str or bytes, and checks them each time. Raises AlphabetError if one of 62 letters is
-    repeated, and otherwise ValueError. Bytes that are not ASCII can be letters for decoding, but not for
-    encoding.
+    letters is an ASCII str or bytes. They are checked once. A call accepts such a str or bytes too, and
+    checks it each time. An alphabet with non-ASCII bytes decodes, but does not encode.
 
-    >>> own = Alphabet("23456789ABCDEFGHJKLMNPQRSTUVWXYZabcdefghijkmnpqrstuvwxyz-_.~!*")
-    >>> encode(62, own), decode("32", own)
+    Raises AlphabetError if a byte is repeated, ValueError if there are not 62, and UnicodeEncodeError if a
+    str is not ASCII.
+
+    >>> custom = Alphabet("23456789ABCDEFGHJKLMNPQRSTUVWXYZabcdefghijkmnpqrstuvwxyz-_.~!*")
+    >>> encode(62, custom), decode("32", custom)
     ('32', 62)
     """
 
@@ -26,9 +28,12 @@ class Alphabet(bytes):
     def __new__(cls, letters: str | bytes) -> Self: ...
 
 def encode(number: Number, alphabet: AnyAlphabet = Alphabet.STANDARD) -> str:
-    """Return the text of a number: the shortest one that denotes it.
+    """Return the encoded string of a number: 1 to 22 characters, without leading zeros.
 
-    Raises OutOfRangeError if the number is negative, or 2**128 or more.
+    number is an int from 0 to 2**128 - 1, an object with such an __index__, or a uuid.UUID.
+
+    Raises OutOfRangeError for another number, ValueError if the alphabet is not ASCII, and what Alphabet
+    raises.
 
     >>> encode(1337), encode(1337, Alphabet.ALTERNATIVE), encode(0)
     ('LZ', 'lz', '0')
@@ -37,27 +42,30 @@ def encode(number: Number, alphabet: AnyAlphabet = Alphabet.STANDARD) -> str:
     """
 
 def encode_fixed(number: Number, width: SupportsIndex, alphabet: AnyAlphabet = Alphabet.STANDARD) -> str:
-    """Return the text of a number with leading zeros, of exactly width letters.
+    """Return the encoded string of a number, padded with leading zeros to exactly width characters.
 
-    Texts of one width sort as their numbers, if each letter of the alphabet is a greater byte than the one
-    before it, as in Alphabet.STANDARD. decode reads them. Raises OutOfRangeError if the number has more
-    letters, or as encode does, and ValueError if the width is negative.
+    Strings of one width sort as their numbers, if each character of the alphabet is a greater byte than
+    the one before it, as in Alphabet.STANDARD. decode accepts them. Only memory limits the width: above
+    64, a buffer of width bytes is allocated besides the result.
+
+    Raises OutOfRangeError if the number has more characters, ValueError if the width is negative,
+    MemoryError if an allocation fails, and what encode raises.
 
     >>> encode_fixed(1337, 4)
     '00LZ'
     """
 
 def encode_key(number: Number) -> str:
-    """Return the key of a number: its standard text with leading zeros, of 22 letters.
+    """Return the key of a number: its standard string, padded with leading zeros to 22 characters.
 
-    Keys sort as their numbers. decode reads them. Raises OutOfRangeError as encode does.
+    Keys sort as their numbers. decode accepts them. Raises OutOfRangeError as encode does.
 
     >>> encode_key(1337)
     '00000000000000000000LZ'
     """
 
 def digit_count(number: Number) -> int:
-    """Return the length of the text of a number, from 1 to 22.
+    """Return the length of the encoded string of a number, from 1 to 22.
 
     Raises OutOfRangeError as encode does.
 
@@ -66,9 +74,11 @@ def digit_count(number: Number) -> int:
     """
 
 def decode(text: Text, alphabet: AnyAlphabet = Alphabet.STANDARD) -> int:
-    """Return the number that a text denotes. Leading zeros change nothing.
+    """Return the number that a string represents, from 0 to 2**128 - 1. Leading zeros are ignored.
 
-    Raises EmptyInputError, InvalidByteError or TooLargeError.
+    A str is decoded as UTF-8. A bytearray, a memoryview and a non-ASCII str are copied first.
+
+    Raises EmptyInputError, InvalidByteError or TooLargeError, and what Alphabet raises.
 
     >>> decode("00LZ"), decode(b"lz", Alphabet.ALTERNATIVE)
     (1337, 1337)
@@ -78,10 +88,10 @@ def decode(text: Text, alphabet: AnyAlphabet = Alphabet.STANDARD) -> int:
     """
 
 def decode_canonical(text: Text, alphabet: AnyAlphabet = Alphabet.STANDARD) -> int:
-    """Return the number of a text that encode writes. Each number has exactly one.
+    """Return the number of a string that encode returns. Each number has exactly one.
 
-    Raises NotCanonicalError if decode accepts the text, but it begins with a needless zero. Else raises
-    what decode raises.
+    Raises NotCanonicalError if decode accepts the string, but it has a leading zero, and otherwise what
+    decode raises.
 
     >>> decode_canonical("LZ"), decode_canonical("0")
     (1337, 0)
@@ -91,7 +101,7 @@ def decode_canonical(text: Text, alphabet: AnyAlphabet = Alphabet.STANDARD) -> i
     """
 
 def key_range(prefix: Text) -> tuple[int, int] | None:
-    """Return the least and the greatest number whose key begins with a prefix, or None if there is none.
+    """Return the least and the greatest number whose key begins with prefix, or None if no key does.
 
     Raises InvalidByteError.
 
@@ -103,10 +113,10 @@ def key_range(prefix: Text) -> tuple[int, int] | None:
 def fixed_range(
     width: SupportsIndex, prefix: Text, alphabet: AnyAlphabet = Alphabet.STANDARD
 ) -> tuple[int, int] | None:
-    """Return the least and the greatest number whose text by encode_fixed of this width begins with a prefix,
-    or None if there is none.
+    """Return the least and the greatest number whose string of this width begins with prefix.
 
-    Raises InvalidByteError, and ValueError if the width is negative.
+    The strings are those of encode_fixed. The result is None if none begins so. A width has no upper
+    limit. Raises InvalidByteError, ValueError if the width is negative, and what Alphabet raises.
 
     >>> fixed_range(4, "00L")
     (1302, 1363)

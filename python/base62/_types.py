@@ -1,10 +1,11 @@
 # SPDX-License-Identifier: MIT
 # Copyright (c) 2026 the maintainers of base62 for Rattle
-"""What the extension has in Python: its exceptions, and the conversions of arguments of rarer types."""
+"""What the extension has in Python: its exceptions, the types of arguments, and the conversions of the rarer ones."""
 
 from __future__ import annotations
 
 import operator
+import re
 from typing import SupportsIndex
 from uuid import UUID
 
@@ -12,8 +13,9 @@ Number = SupportsIndex | UUID
 Text = str | bytes | bytearray | memoryview
 AnyUUID = UUID | str | bytes
 
-# The library has a number in two halves of so many bits.
-HALF_WIDTH = 64
+_UUID = re.compile(
+    r"(\{|urn:uuid:)?([\da-f]{8}(?:-[\da-f]{4}){3}-[\da-f]{12}|[\da-f]{32})(\})?", re.ASCII | re.IGNORECASE
+)
 
 
 class _BadByteError(ValueError):
@@ -27,7 +29,7 @@ class _BadByteError(ValueError):
 
 
 class AlphabetError(_BadByteError):
-    """An alphabet repeats a letter.
+    """An alphabet repeats a character.
 
     >>> Alphabet("0" * 62)
     Traceback (most recent call last):
@@ -37,36 +39,35 @@ class AlphabetError(_BadByteError):
     __module__ = "base62"
 
     byte: int
-    """The first letter that equals an earlier one."""
+    """The first byte that equals an earlier one."""
 
     index: int
     """Its index, counted from 0."""
 
 
 class DecodeError(ValueError):
-    """A text does not denote a number below 2**128."""
+    """A string does not represent a number below 2**128."""
 
     __module__ = "base62"
 
 
 class EmptyInputError(DecodeError):
-    """A text is empty."""
+    """A string is empty."""
 
     __module__ = "base62"
 
 
 class TooLargeError(DecodeError):
-    """A text denotes 2**128 or more.
+    """A string represents 2**128 or more.
 
-    If a text has several errors, docs/DEFINITIONS.md of the project tells which one is raised. The bytes of a str are
-    those of UTF-8.
+    If a string has several errors, docs/DEFINITIONS.md of the project says which one is raised.
     """
 
     __module__ = "base62"
 
 
 class NotCanonicalError(DecodeError):
-    """A text denotes a number, but begins with a needless zero.
+    """A string represents a number, but has a leading zero.
 
     >>> decode("00LZ")
     1337
@@ -79,7 +80,7 @@ class NotCanonicalError(DecodeError):
 
 
 class InvalidByteError(_BadByteError, DecodeError):
-    """A byte of a text is not a letter.
+    """A byte of a string is not a character of the alphabet.
 
     >>> try:
     ...     decode("00LZ-")
@@ -91,14 +92,14 @@ class InvalidByteError(_BadByteError, DecodeError):
     __module__ = "base62"
 
     byte: int
-    """The first byte that is not a letter. The bytes of a str are those of UTF-8."""
+    """The first invalid byte. The bytes of a str are those of its UTF-8."""
 
     index: int
-    """Its index among the bytes, counted from 0. If all letters are ASCII, its character in a str has that index."""
+    """Its index among the bytes, counted from 0. It is also the index in a str, if the alphabet is ASCII."""
 
 
 class OutOfRangeError(OverflowError, ValueError):
-    """A number is negative, or 2**128 or more, or has more letters than the width.
+    """A number is negative, or 2**128 or more, or has more characters than the width.
 
     >>> encode(-1)
     Traceback (most recent call last):
@@ -108,46 +109,45 @@ class OutOfRangeError(OverflowError, ValueError):
     __module__ = "base62"
 
 
-def whole_of(number: Number) -> int:
+def to_int(number: Number) -> int:
     """Return the int of a number that is not exactly an int."""
     if isinstance(number, UUID):
-        return number.int
+        return operator.index(number.int)
     if not hasattr(type(number), "__index__"):
         raise TypeError(f"a number is an int, has __index__, or is a uuid.UUID, not {type(number)}")
     return operator.index(number)
 
 
-def uuid_of(value: AnyUUID) -> UUID:
-    """Return the UUID of an argument."""
+def uuid_to_int(value: AnyUUID) -> int:
+    """Return the number of a UUID."""
     if isinstance(value, UUID):
-        return value
+        return value.int
     if isinstance(value, bytes):
-        return UUID(bytes=value)
+        return UUID(bytes=value).int
     if not isinstance(value, str):
         raise TypeError(f"a UUID is a uuid.UUID, a str or 16 bytes, not {type(value)}")
-    found = UUID(value)
-    # int, which uuid.UUID calls, also takes a sign, blanks, underscores and 0x.
-    if found.hex not in value.lower().replace("-", ""):
+    # uuid.UUID accepts more, such as 1-2345678.. and uuid:.., but not URN:UUID:..
+    match = _UUID.fullmatch(value)
+    if match is None or (match[1] == "{") != (match[3] == "}"):
         raise ValueError("badly formed hexadecimal UUID string")
-    return found
+    return int(match[2].replace("-", ""), 16)
 
 
-def bytes_of(text: Text) -> bytes:
-    """Return the bytes of a text that is neither bytes nor a str in ASCII."""
+def to_bytes(text: Text) -> bytes:
+    """Return the bytes of a text that is neither bytes nor an ASCII str."""
     if isinstance(text, str):
-        # A lone surrogate is no letter either. A subclass may have an encode of its own.
+        # A lone surrogate is an invalid character too. A subclass may override encode.
         return str.encode(text, "utf-8", "surrogatepass")
     try:
         view = memoryview(text)
     except TypeError:
         raise TypeError(f"a text is a str, bytes, bytearray or memoryview, not {type(text)}") from None
-    with view:
-        if view.itemsize != 1:
-            raise TypeError(f"a text has items of one byte, not of {view.itemsize} as this {type(text)}")
-        return bytes(view)
+    if view.itemsize != 1:
+        raise TypeError(f"a text has items of one byte, not of {view.itemsize} as this {type(text)}")
+    return bytes(view)
 
 
-def letters_of(alphabet: object) -> bytes:
+def to_letters(alphabet: object) -> bytes:
     """Return the letters of an alphabet that is neither an Alphabet nor bytes."""
     if not isinstance(alphabet, str):
         raise TypeError(f"an alphabet is an Alphabet, a str or bytes, not {type(alphabet)}")

@@ -7,7 +7,7 @@
 'LZ'
 >>> target(links, "LZ"), target(links, "00LZ")
 ('https://example.org/a', 'https://example.org/a')
->>> target(links, "00LZ", strict=True)
+>>> target(links, "00LZ", canonical=True)
 >>> name = uuid.UUID("550e8400-e29b-41d4-a716-446655440000")
 >>> add(links, name, "https://example.org/b")
 '2aUyqjCzEIiEcYMKj7TZtw'
@@ -42,10 +42,10 @@ def add(links: sqlite3.Connection, number: int | uuid.UUID, where: str) -> str:
     return base62.encode(number)
 
 
-def target(links: sqlite3.Connection, text: str, strict: bool = False) -> str | None:
-    """Where a link leads. Leading zeros are fine, unless only the text that was given out is."""
+def target(links: sqlite3.Connection, text: str, canonical: bool = False) -> str | None:
+    """Where a link leads. Leading zeros are ignored, or rejected."""
     try:
-        number = base62.decode_canonical(text) if strict else base62.decode(text)
+        number = base62.decode_canonical(text) if canonical else base62.decode(text)
     except base62.NotCanonicalError:
         return None
     row = links.execute("SELECT target FROM link WHERE key = ?", (base62.encode_key(number),)).fetchone()

@@ -59,20 +59,25 @@ def calls() -> Iterator[Made]:
 
 
 def refusals() -> Iterator[Made]:
+    # Texts whose bytes a call holds in each way, and what is no alphabet.
+    texts: list[object] = ["1", b"1", "é"]
+    none: list[object] = [None, REPEATED, REPEATED.encode()]
     rows: list[tuple[Call, list[tuple[object, ...]]]] = [
         (base62.encode, [(-1,), (WIDE + 1,), (10**100,), (1.0,), (), (1, OWN, 1)]),
         (base62.encode, [(1, None), (1, "short"), (1, REPEATED), (1, HIGH), (1, "é" * 62)]),
         (base62.digit_count, [(-1,), ("1",)]),
         (base62.encode_key, [(WIDE + 1,), (None,)]),
         (base62.decode, [("",), ("-",), (b"-",), (bytearray(b"-"),), ("é",), ("\ud800",), ("z" * 22,), (5,)]),
-        (base62.decode, [(array("H", [48]),), (memoryview(array("H", [48])),), ("1", None), ("1", REPEATED)]),
-        (base62.decode_canonical, [("00LZ",), ("",), ("é",), (5,), ("1", None), ("1", REPEATED)]),
+        (base62.decode, [(array("H", [48]),), (memoryview(array("H", [48])),)]),
+        (base62.decode_canonical, [("00LZ",), ("",), ("é",), (5,)]),
         (base62.encode_fixed, [(1337, 1), (1, -1), (1, -(2**64)), (1, "1"), (-1, 5), (1,)]),
         (base62.encode_fixed, [(1, 5, None), (1, 5, REPEATED), (1, 5, HIGH)]),
         (base62.key_range, [("-",), (bytearray(b"-"),), (5,), ()]),
-        (base62.fixed_range, [(5, "-"), (5, bytearray(b"-")), (5, 5), (-1, "0"), ("5", "0"), (5, "0", None)]),
-        (base62.fixed_range, [(5, "0", REPEATED), (5,)]),
-        (base62.Alphabet, [(REPEATED,), (b"short",), (5,), ()]),
+        (base62.fixed_range, [(5, "-"), (5, bytearray(b"-")), (5, 5), (-1, "0"), ("5", "0"), (5,)]),
+        (base62.fixed_range, [(5, text, letters) for text in texts for letters in none]),
+        (base62.decode, [(text, letters) for text in texts for letters in none]),
+        (base62.decode_canonical, [(text, letters) for text in texts for letters in none]),
+        (base62.Alphabet, [(REPEATED,), (REPEATED.encode(),), (b"short",), (5,), ()]),
     ]
     for call, given in rows:
         for one in given:

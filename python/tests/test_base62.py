@@ -145,10 +145,19 @@ class Texts(unittest.TestCase):
 
 
     def test_kinds_of_uuids(self) -> None:
-        name = uuid.UUID("12345678-9abc-def0-1234-56789abcdef0")
-        kinds: list[Any] = [str(name), name.hex, f"{{{name}}}", name.urn, str(name).upper(), name.hex.upper(), name.bytes, name]
-        for given in kinds:
-            self.assertEqual(value(base62.encode_uuid(given)), name.int)
+        class Own(str):
+            replace: Any = None
+
+        class OwnInt(int):
+            def __rshift__(self, width: int) -> int:
+                return 0
+
+        name = uuid.UUID("92345678-9abc-def0-1234-56789abcdef0")
+        given: list[Any] = [str(name), Own(name), name.bytes, name, uuid.UUID(int=OwnInt(name.int))]
+        for one in given:
+            self.assertEqual(value(base62.encode_uuid(one)), name.int)
+        for one in given[3:]:
+            self.assertEqual(value(base62.encode(one)), name.int)
 
 
 class Threads(unittest.TestCase):
@@ -263,10 +272,19 @@ class Alphabets(Refusing):
         self.assertEqual(base62.decode("1", own), OWN.index("1"))
         self.assertEqual(base62.decode("1", Own(OWN.encode())), OWN.index("1"))
 
-    def test_no_more_names(self) -> None:
+    def test_immutable(self) -> None:
+        """As with a built-in type: no attribute changes, no class is below it, and each instance is checked."""
+        of_type: Any = Alphabet
         own: Any = Alphabet(OWN)
         with self.assertRaises(AttributeError):
             own.name = "own"
+        for name in ("STANDARD", "ALTERNATIVE", "__new__", "name"):
+            self.assertRaises(TypeError, setattr, of_type, name, own)
+        self.assertRaises(TypeError, delattr, of_type, "STANDARD")
+        self.assertRaises(TypeError, type, "Own", (of_type,), {})
+        self.assertRaises(TypeError, bytes.__new__, of_type, OWN.encode())
+        self.assertIs(type(of_type.fromhex(own.hex())), Alphabet)
+        self.assertRaises(ValueError, of_type.fromhex, "00")
 
     def test_other_letters(self) -> None:
         lengths: list[Any] = ["", "standard", STANDARD[:-1], STANDARD + "-", b"", STANDARD[:-1].encode()]
@@ -351,11 +369,8 @@ class Faults(Refusing):
             self.assertRegex(str(error), r"^a UUID is a uuid\.UUID, a str or 16 bytes, not <class '\w+'>$")
 
     def test_uuids(self) -> None:
-        """What int passes over is refused too: a sign, blanks, underscores and 0x."""
-        digits = "12345678123456781234567812345678"
-        for front in ("+", " ", "1_", "0x", "0X", "\u0661", "g"):
-            self.refused(ValueError, base62.encode_uuid, front + digits[len(front) :])
-        for given in ("", "LZ", digits[1:], digits + "0", digits[:-1] + " ", b"", bytes(15), bytes(17), digits.encode()):
+        """Bytes for a UUID are the 16 of its number, and never digits."""
+        for given in ("\ud800" * 32, b"", bytes(15), bytes(17), bytes(32), b"12345678123456781234567812345678"):
             self.refused(ValueError, base62.encode_uuid, given)
 
     def test_own_index(self) -> None:
@@ -390,11 +405,9 @@ class Faults(Refusing):
 
     def test_bad_bytes(self) -> None:
         texts = [("00LZ-", 45, 4), ("a\0b", 0, 1), ("Zoë", 0xC3, 2), ("\ud800", 0xED, 0), (b"LZ\xff", 255, 2)]
-        spaces = [(" 7", 32, 0), ("7 ", 32, 1), ("7\n", 10, 1), ("7 7", 32, 1), ("\t7", 9, 0)]
-        spaces += [("_7", 95, 0), ("1_0", 95, 1), ("1_", 95, 1)]
         far = [("0" * 100 + "-", 45, 100), ("0" * 5000 + "\xff", 0xC3, 5000)]
         for call in OF_TEXTS:
-            for text, byte, index in texts + spaces + far:
+            for text, byte, index in texts + far:
                 error = self.refused(base62.InvalidByteError, call, text)
                 self.assertEqual((error.byte, error.index), (byte, index))
                 said = repr(bytes([byte]))

@@ -1,6 +1,6 @@
 # SPDX-License-Identifier: MIT
 # Copyright (c) 2026 the maintainers of base62 for Rattle
-"""Tests of the example by ten thousand links, against numbers in memory."""
+"""Tests of the example of short links, against numbers in memory."""
 
 from __future__ import annotations
 
@@ -8,53 +8,30 @@ import doctest
 import random
 import sqlite3
 import unittest
-import uuid
 
 import base62
 import places  # The folder of the example is on the path then.
 
 import links
 
-LARGEST = 2**128 - 1
-
 
 class Links(unittest.TestCase):
     def setUp(self) -> None:
         choice = random.Random(62)
-        self.numbers = {0, 1, 61, 62, LARGEST} | {choice.getrandbits(choice.randint(1, 128)) for _ in range(4000)}
-        self.numbers |= {uuid.UUID(int=choice.getrandbits(128), version=4).int for _ in range(3000)}
-        while len(self.numbers) < 10_000:
-            self.numbers.add(choice.randrange(62**6))
+        self.numbers = sorted({0, 61, 62, 2**128 - 1} | {choice.getrandbits(choice.randint(1, 128)) for _ in range(1000)})
         self.links = links.opened(":memory:")
         self.addCleanup(self.links.close)
-        rows = [(base62.encode_key(number), str(number)) for number in self.numbers]
-        with self.links:
-            self.links.executemany("INSERT INTO link VALUES (?, ?)", choice.sample(rows, len(rows)))
-
-    def test_found(self) -> None:
-        for number in self.numbers:
-            text = base62.encode(number)
-            self.assertEqual(links.target(self.links, text), str(number))
-            self.assertEqual(links.target(self.links, text, strict=True), str(number))
-            self.assertEqual(links.target(self.links, "0" + text), str(number))
-            self.assertIsNone(links.target(self.links, "0" + text, strict=True))
-        for number in range(10_000):
-            found = links.target(self.links, base62.encode(number))
-            self.assertEqual(found is not None, number in self.numbers)
-
-    def test_added_once(self) -> None:
-        self.assertRaises(sqlite3.IntegrityError, links.add, self.links, 62, "other")
-        self.assertEqual(links.target(self.links, "10"), "62")
+        for number in choice.sample(self.numbers, len(self.numbers)):
+            links.add(self.links, number, str(number))
 
     def test_prefixes(self) -> None:
-        choice = random.Random(22)
         for length in (0, 1, 11, 16, 18, 20, 21, 22):
             span = 62 ** (22 - length)
-            for number in choice.sample(sorted(self.numbers), 8):
+            for number in self.numbers[::100]:
                 least = number // span * span
-                within = sorted(other for other in self.numbers if least <= other < least + span)
+                within = [str(other) for other in self.numbers if least <= other < least + span]
                 found = links.with_prefix(self.links, base62.encode_key(number)[:length])
-                self.assertEqual([int(target) for _, target in found], within)
+                self.assertEqual([target for _, target in found], within)
         self.assertEqual(links.with_prefix(self.links, "8"), [])
 
     def test_plan(self) -> None:
@@ -64,11 +41,15 @@ class Links(unittest.TestCase):
         plan = [row[3] for row in self.links.execute("EXPLAIN QUERY PLAN " + links.BETWEEN, bounds)]
         self.assertEqual(plan, ["SEARCH link USING PRIMARY KEY (key>? AND key<?)"])
 
-    def test_no_case(self) -> None:
-        """Under NOCASE the links A and a are one."""
-        self.links.execute("DROP TABLE link")
-        self.links.execute(links.TABLE.replace("BINARY", "NOCASE"))
-        links.add(self.links, base62.decode("A"), "first")
+    def test_one_case(self) -> None:
+        """The links A and a are two. Under NOCASE they are one."""
+        self.assertRaises(sqlite3.IntegrityError, links.add, self.links, 62, "other")
+        for collation in ("BINARY", "NOCASE"):
+            self.links.execute("DROP TABLE link")
+            self.links.execute(links.TABLE.replace("BINARY", collation))
+            links.add(self.links, base62.decode("A"), "first")
+            if collation == "BINARY":
+                links.add(self.links, base62.decode("a"), "second")
         self.assertRaises(sqlite3.IntegrityError, links.add, self.links, base62.decode("a"), "second")
 
 

@@ -13,6 +13,7 @@ from typing import Any
 
 import base62
 import calls
+from base62 import _types
 from calls import LETTERS, WIDE, Call
 
 # More requests than any of the calls makes.
@@ -102,7 +103,11 @@ class Refused(Refusing):
             self.is_refused(call, *given, **named)
 
     def test_loading(self) -> None:
+        """A module that fails to load releases what it has imported."""
+        before = sys.getrefcount(_types.to_int)
         self.sweep(load_extension)
+        gc.collect()
+        self.assertEqual(sys.getrefcount(_types.to_int), before)
 
 
 class Asked(Refusing):

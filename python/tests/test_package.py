@@ -43,6 +43,8 @@ class Package(unittest.TestCase):
         for name in EXPORTED:
             self.assertTrue(inspect.getdoc(names[name]), name)
             self.assertEqual(getattr(names[name], "__module__"), "base62", name)
+        types = ["AnyAlphabet", "AnyUUID", "Number", "Text"]
+        self.assertEqual([name for name in dir(base62) if name[0] != "_"], sorted(EXPORTED + types))
 
     def test_version(self) -> None:
         self.assertEqual(base62.__version__, (TOP / "VERSION").read_text().strip())
@@ -63,25 +65,32 @@ class Package(unittest.TestCase):
         self.assertRegex(package.read_text("WHEEL") or "", "(?m)^Tag: cp311-abi3-")
 
     def test_signatures(self) -> None:
-        for name, names in (
-            ("encode", ["number", "alphabet"]),
-            ("decode", ["text", "alphabet"]),
-            ("encode_uuid", ["value", "alphabet"]),
-            ("decode_uuid", ["text", "alphabet"]),
-            ("encode_fixed", ["number", "width", "alphabet"]),
-            ("fixed_range", ["width", "prefix", "alphabet"]),
-            ("decode_canonical", ["text", "alphabet"]),
-            ("decode_uuid_canonical", ["text", "alphabet"]),
-            ("Alphabet", ["letters"]),
-            ("digit_count", ["number"]),
-            ("encode_key", ["number"]),
-            ("key_range", ["prefix"]),
-            ("key_bounds", ["prefix"]),
-        ):
-            parameters = inspect.signature(getattr(base62, name)).parameters
+        """The names of parameters, which calls take in any order."""
+        own = base62.Alphabet(OWN)
+        values = {"number": 1337, "text": "LZ", "width": 4, "prefix": "00L", "letters": OWN, "alphabet": own}
+        rows: list[tuple[Callable[..., object], list[str]]] = [
+            (base62.encode, ["number", "alphabet"]),
+            (base62.decode, ["text", "alphabet"]),
+            (base62.encode_uuid, ["value", "alphabet"]),
+            (base62.decode_uuid, ["text", "alphabet"]),
+            (base62.encode_fixed, ["number", "width", "alphabet"]),
+            (base62.fixed_range, ["width", "prefix", "alphabet"]),
+            (base62.decode_canonical, ["text", "alphabet"]),
+            (base62.decode_uuid_canonical, ["text", "alphabet"]),
+            (base62.Alphabet, ["letters"]),
+            (base62.digit_count, ["number"]),
+            (base62.encode_key, ["number"]),
+            (base62.key_range, ["prefix"]),
+            (base62.key_bounds, ["prefix"]),
+        ]
+        for call, names in rows:
+            parameters = inspect.signature(call).parameters
             self.assertEqual([*parameters], names)
-            if "alphabet" in parameters:
+            given = {name: values.get(name, uuid.UUID(int=1337)) for name in reversed(names)}
+            self.assertEqual(call(**given), call(*reversed(given.values())))
+            if given.pop("alphabet", None):
                 self.assertIs(parameters["alphabet"].default, base62.Alphabet.STANDARD)
+                self.assertEqual(call(**given), call(*reversed(given.values()), base62.Alphabet.STANDARD))
 
     def test_stub(self) -> None:
         """Editors show what help shows."""
@@ -91,45 +100,16 @@ class Package(unittest.TestCase):
         shown = {name: inspect.getdoc(one) for name, one in vars(_base62).items() if callable(one)}
         self.assertEqual(told, shown)
 
-    def test_keywords(self) -> None:
-        letters = base62.Alphabet.ALTERNATIVE
-        self.assertEqual(base62.encode(number=1337), "LZ")
-        self.assertEqual(base62.encode(1337, alphabet=letters), "lz")
-        self.assertEqual(base62.encode(alphabet=letters, number=1337), "lz")
-        self.assertEqual(base62.decode("lz", alphabet=letters), 1337)
-        self.assertEqual(base62.decode(alphabet=letters, text="lz"), 1337)
-        self.assertEqual(base62.digit_count(number=62), 2)
-        self.assertEqual(base62.encode_key(number=1337), "00000000000000000000LZ")
-        self.assertEqual(base62.key_range(prefix="00000000000000000000L"), (1302, 1363))
-        self.assertEqual(base62.encode_fixed(number=1337, width=4), "00LZ")
-        self.assertEqual(base62.encode_fixed(1337, 4, alphabet=letters), "00lz")
-        self.assertEqual(base62.encode_fixed(width=4, alphabet=letters, number=1337), "00lz")
-        self.assertEqual(base62.fixed_range(width=4, prefix="00L"), (1302, 1363))
-        self.assertEqual(base62.fixed_range(4, "00l", alphabet=letters), (1302, 1363))
-        self.assertEqual(base62.fixed_range(alphabet=letters, prefix="00l", width=4), (1302, 1363))
-        self.assertEqual(base62.decode_canonical(alphabet=letters, text="lz"), 1337)
-
     def test_wrong_arguments(self) -> None:
-        calls: list[Any] = [base62.encode, base62.decode, base62.digit_count, base62.encode_key, base62.key_range]
-        calls.insert(0, base62.decode_canonical)
+        """Too few or too many, one of another name, and one twice. The call is named."""
+        calls: list[Any] = [getattr(base62, name) for name in EXPORTED if name == "Alphabet" or name.islower()]
         for call in calls:
-            for placed, named in (((), {}), (("1", OWN, 1), {}), (("1",), {"other": 1}), ((), {"alphabet": OWN})):
+            names = [*inspect.signature(call).parameters]
+            least = len(names) - ("alphabet" in names)
+            wrong: list[tuple[int, list[str]]] = [(least - 1, []), (len(names) + 1, [])]
+            for count, named in (*wrong, (least, ["other"]), (least, names[:1])):
                 with self.assertRaisesRegex(TypeError, call.__name__ + r"\(\)"):
-                    call(*placed, **named)
-        for call in calls[3:]:
-            self.assertRaises(TypeError, call, 1, OWN)
-        self.assertRaises(TypeError, base62.encode, 1, number=1)
-        wide: list[Any] = [base62.encode_fixed, base62.fixed_range]
-        for call in wide:
-            for given, named in (
-                ((), {}),
-                (("1",), {}),
-                (("1",), {"alphabet": OWN}),
-                (("1", "1", OWN, 1), {}),
-                (("1", "1"), {"other": 1}),
-            ):
-                with self.assertRaisesRegex(TypeError, call.__name__ + r"\(\)"):
-                    call(*given, **named)
+                    call(*["1"] * count, **dict.fromkeys(named, "1"))
 
     def test_private_library(self) -> None:
         """The library's own calls are not seen by other libraries of the process."""
@@ -165,23 +145,13 @@ class Modules(unittest.TestCase):
             self.assertEqual(module.encode(1337, module.Alphabet.ALTERNATIVE), "lz")
             self.assertRaises(module.InvalidByteError, module.decode, "-")
 
-    def test_unmade(self) -> None:
-        """What a changed class lets through as an Alphabet is no more than its letters."""
-        again = made_again()
-        again.Alphabet.__new__ = lambda kind, letters: bytes.__new__(kind, letters)
-        own = again.Alphabet(OWN.encode())
-        self.assertIs(type(own), again.Alphabet)
-        self.assertEqual((again.encode(61, own), again.decode("0", own)), ("0", 61))
-        for letters in (b"", b"0", b"0" * 62, b"0" * 5000):
-            self.assertRaises(ValueError, again.encode, 1, again.Alphabet(letters))
-
     def test_seen(self) -> None:
         """The collector sees what the module holds, and what an alphabet does."""
         seen = gc.get_referents(_base62)
         errors = [base62.AlphabetError, base62.EmptyInputError, base62.InvalidByteError]
         errors += [base62.NotCanonicalError, base62.OutOfRangeError, base62.TooLargeError]
         alphabets = [base62.Alphabet, base62.Alphabet.STANDARD, base62.Alphabet.ALTERNATIVE]
-        conversions = [_types.whole_of, _types.bytes_of, _types.letters_of, _types.HALF_WIDTH]
+        conversions = [_types.to_int, _types.to_bytes, _types.to_letters]
         for held in (*errors, *alphabets, *conversions):
             self.assertTrue(any(one is held for one in seen), held)
         self.assertEqual(gc.get_referents(base62.Alphabet(OWN)), [base62.Alphabet])

@@ -141,6 +141,14 @@ class Values(unittest.TestCase):
             self.assertEqual(base62.decode_uuid_canonical(text), uuid.UUID(name))
             self.assertEqual(base62.encode_fixed(uuid.UUID(name), 22), base62.encode_key(int(number)))
 
+    def test_forms(self) -> None:
+        for escaped, name in rows("form"):
+            string = unquote_to_bytes(escaped).decode()
+            if name == "none":
+                self.assertRaises(ValueError, base62.encode_uuid, string)
+            else:
+                self.assertEqual(base62.encode_uuid(string), base62.encode_uuid(uuid.UUID(name)))
+
     def test_repeated(self) -> None:
         calls: list[Callable[..., object]] = [
             Alphabet,

@@ -1,9 +1,9 @@
 // SPDX-License-Identifier: MIT
 // Copyright (c) 2026 the maintainers of base62 for Rattle
 
-//! Whole numbers below 2^128 as short texts of `0` to `9`, `A` to `Z` and `a` to `z`, and back.
+//! Encodes unsigned integers below 2^128 as short strings of `0` to `9`, `A` to `Z` and `a` to `z`, and decodes them.
 //!
-//! The calls of the crate `base62` 2.2.6 have their names, types, features and answers here. The codec is written in
+//! The calls of the crate `base62` 2.2.6 have their names, types, features and results here. The codec is written in
 //! Rattle, which is Rust with contracts, and each of its functions is proved to meet its contract. The modules of this
 //! crate are that source without its contracts and proofs. A program of the project takes them out; it is tested, not
 //! proved.
@@ -16,15 +16,15 @@
 //! # Ok::<(), base62::EncodeError>(())
 //! ```
 //!
-//! # Numbers and texts
+//! # Numbers and strings
 //!
 //! A number is any `T: Into<u128>`: `u8` to `u128`, `bool`, `char`, `NonZero<u128>`, `Ipv6Addr`. A bare literal is an
-//! `i32`, which can be negative and is no such number, so write `1337_u32`. The text of a number is the shortest
-//! nonempty one that denotes it, and has 1 to 22 letters.
+//! `i32`, which can be negative and does not convert, so write `1337_u32`. The encoded string of a number is the
+//! shortest nonempty one that represents it, and has 1 to 22 characters.
 //!
-//! In the standard alphabet the letters are `0` to `9`, `A` to `Z`, `a` to `z`, and in the alternative one `0` to `9`,
-//! `a` to `z`, `A` to `Z`. An [`Alphabet`] has 62 letters of your own, and the calls over it end in `_with`. Make one
-//! once and keep it: to make it takes much longer than a call. A constant is made at compile time.
+//! The standard alphabet is `0` to `9`, `A` to `Z`, `a` to `z`, and the alternative one `0` to `9`, `a` to `z`, `A` to
+//! `Z`. An [`Alphabet`] has 62 characters of your choice, and the calls that use it end in `_with`. Create one once and
+//! reuse it: this takes much longer than a call. A constant is created at compile time.
 //!
 //! ```
 //! use base62::Alphabet;
@@ -33,7 +33,7 @@
 //! assert_eq!(base62::decode_with(&OWN, "BA"), Ok(62));
 //! ```
 //!
-//! A repeated letter is then a compile error:
+//! A repeated character is then a compile error:
 //!
 //! ```compile_fail,E0080
 //! const REPEATED: base62::Alphabet = base62::Alphabet::of([b'A'; 62]);
@@ -45,20 +45,22 @@
 //! | a `String` | [`encode`], [`encode_uuid`], [`encode_buf`], with the feature `alloc` |
 //! | a format string | [`encode_fmt`] |
 //! | a writer | [`encode_io`], with the feature `std` |
-//! | a number | [`decode`], or [`decode_canonical`] to accept one text for each number |
+//! | a number | [`decode`], or [`decode_canonical`] to accept one string for each number |
 //! | a UUID | [`decode_uuid`], or [`decode_uuid_canonical`] in the same way |
 //! | keys and columns, which sort as their numbers | [`encode_key`], [`encode_fixed`] |
+//! | the same as a `&str` of your buffer | [`encode_key_str`], [`encode_fixed_str`] |
 //! | a scan of those with one prefix | [`key_range`], [`fixed_range`] |
 //!
 //! # Features
 //!
-//! `alloc`, the default, adds the calls that make or grow a `String`. `std` adds the calls that write to an
-//! `io::Write`, and includes `alloc`. With neither, the crate needs `core` alone. `checked` leaves out all `unsafe`:
-//! the code tests each index, and that letters are UTF-8.
+//! `alloc`, the default, adds the calls that return a `String` or append to one. `std` adds the calls that write to an
+//! `io::Write`, and includes `alloc`. With neither, the crate needs `core` alone. `checked` removes all `unsafe`: the
+//! code checks each index, and that strings are UTF-8.
 //!
-//! Only the calls of `alloc` allocate. If memory is refused, they end the program, as a `String` does. These calls
-//! panic: [`Alphabet::of`] over a repeated letter, and `encode_with`, `encode_uuid_with`, `encode_buf_with` and
-//! [`encode_fmt_with`] over letters that are not ASCII. The time of a call depends on its number or text.
+//! Only the calls of `alloc` allocate. If an allocation fails, they abort the program, as a `String` does.
+//! [`Alphabet::of`] panics if a character is repeated. `encode_with`, `encode_uuid_with`, `encode_buf_with`,
+//! [`encode_fixed_str_with`] and [`encode_fmt_with`] panic if the alphabet contains a non-ASCII byte. Functions are not
+//! constant-time.
 
 #![no_std]
 // docs.rs then says of each call which feature it needs.
@@ -73,17 +75,16 @@ extern crate alloc;
 #[cfg(feature = "std")]
 extern crate std;
 
+// The hand-written part. The other modules are translated.
 #[macro_use]
-mod contract;
+mod support;
 
 mod alphabet;
 mod canonical;
 mod codec;
-mod convert;
 mod count;
 mod fault;
 mod fixed;
-mod inline;
 mod key;
 mod powers;
 mod show;
@@ -101,10 +102,12 @@ pub use codec::{
 pub use count::{MAX_DIGITS, digit_count};
 pub use fault::{AlphabetError, DecodeError, EncodeError};
 pub use fixed::{
-    encode_alternative_fixed, encode_fixed, encode_fixed_with, fixed_range, fixed_range_with,
+    encode_alternative_fixed, encode_fixed, encode_fixed_str, encode_fixed_str_with,
+    encode_fixed_with, fixed_range, fixed_range_with,
 };
-pub use key::{encode_key, key_range};
+pub use key::{encode_key, encode_key_str, key_range};
 pub use show::{encode_fmt, encode_fmt_alt, encode_fmt_with};
+pub use support::traits::ParseAlphabetError;
 #[cfg(feature = "alloc")]
 pub use target::{
     encode, encode_alternative, encode_alternative_buf, encode_alternative_uuid, encode_buf,

@@ -1,7 +1,7 @@
 // SPDX-License-Identifier: MIT
 // Copyright (c) 2026 the maintainers of base62 for Rattle
 
-//! The command with arguments: what it answers, what it writes to standard error, and its status.
+//! The command with arguments: what it prints, what it writes to standard error, and its status.
 #![cfg(all(feature = "std", unix))]
 
 mod support;
@@ -27,13 +27,13 @@ fn ends(line: &str, status: i32, output: &str, errors: &str) {
 }
 
 #[track_caller]
-fn answers(line: &str, output: &str) {
+fn prints(line: &str, output: &str) {
     ends(line, 0, output, "");
 }
 
-/// The text is bad: it gives an empty line.
+/// The input is invalid: it gives an empty line.
 #[track_caller]
-fn refuses(line: &str, error: &str) {
+fn rejects(line: &str, error: &str) {
     ends(line, 1, "\n", &format!("base62: {error}\n"));
 }
 
@@ -43,7 +43,7 @@ fn fails(line: &str, error: &str) {
     ends(line, 1, "", &format!("base62: {error}\n"));
 }
 
-/// The arguments are refused before anything is read or written.
+/// The arguments are rejected before anything is read or written.
 #[track_caller]
 fn is_wrong(arguments: &str, error: &str) {
     let line = format!("{{ base62 {arguments}; status=$?; cat; exit $status; }} <<<unread");
@@ -53,132 +53,93 @@ fn is_wrong(arguments: &str, error: &str) {
 
 #[test]
 fn operands() {
-    answers("base62 encode 1337", "LZ\n");
-    answers("base62 encode 0 61 62 007", "0\nz\n10\n7\n");
-    answers(
-        "base62 decode LZ 00LZ rustlang",
-        "1337\n1337\n189876682536016\n",
-    );
-    answers(
-        "base62 range 7n42DGM5Tflk9n8mt7Fhc7",
-        &format!("{0} {0}\n", u128::MAX),
-    );
-    answers("base62 range ''", &format!("0 {}\n", u128::MAX));
-    answers("base62 range -w5 000L 000M", "1302 1363\n1364 1425\n");
-    // Standard input is not read then.
-    answers("base62 encode 1337 <<<61", "LZ\n");
+    // Standard input is not read.
+    prints("base62 encode 0 61 62 007 <<<5", "0\nz\n10\n7\n");
+    prints("base62 decode LZ 00LZ", "1337\n1337\n");
+    prints("base62 range -w5 000L 000M", "1302 1363\n1364 1425\n");
+    let all = format!("0 {0}\n{0} {0}\n", u128::MAX);
+    prints("base62 range '' 7n42DGM5Tflk9n8mt7Fhc7", &all);
 }
 
 #[test]
 fn lines() {
-    answers(
-        "seq 5 | base62 encode -w 11",
-        "00000000001\n00000000002\n00000000003\n00000000004\n00000000005\n",
-    );
-    answers("printf '1337\\n61' | base62 encode", "LZ\nz\n");
-    answers("printf 'LZ\\r\\nz\\r\\n' | base62 decode", "1337\n61\n");
-    answers("base62 decode </dev/null", "");
-    answers("base62 encode -- <<<1337", "LZ\n");
-    answers("base62 encode <&-", "");
-    answers(
-        r"printf '000L\n000M\r\n' | base62 range -w 5",
-        "1302 1363\n1364 1425\n",
-    );
+    prints("printf '1337\\n61' | base62 encode --", "LZ\nz\n");
+    prints("printf 'LZ\\r\\nz\\r\\n' | base62 decode", "1337\n61\n");
+    prints("base62 decode </dev/null", "");
+    prints("base62 encode <&-", "");
 }
 
 /// As `wc -l`, `uniq -c` and `cut` of some systems write them.
 #[test]
 fn blanks_about_numbers() {
-    answers(r"printf ' \t 1337\t\n61  \r\n' | base62 encode", "LZ\nz\n");
-    answers("base62 encode '  1337 '", "LZ\n");
-    answers("base62 encode -x ' 0x539\t'", "LZ\n");
+    prints(r"printf ' \t 1337\t\n61  \r\n' | base62 encode", "LZ\nz\n");
+    prints("base62 encode '  1337 '", "LZ\n");
+    prints("base62 encode -x ' 0x539\t'", "LZ\n");
     let uuid = "00000000-0000-0000-0000-000000000539";
-    answers(&format!("base62 encode -u '\t{uuid} '"), "LZ\n");
-    refuses("base62 encode '13 37'", &format!("13 37: {NO_NUMBER}"));
-    refuses("base62 encode $'5\\n'", &format!(r"5\n: {NO_NUMBER}"));
+    prints(&format!("base62 encode -u '\t{uuid} '"), "LZ\n");
+    rejects("base62 encode '13 37'", &format!("13 37: {NO_NUMBER}"));
+    rejects("base62 encode $'5\\n'", &format!(r"5\n: {NO_NUMBER}"));
+    rejects("base62 encode $'5\\r'", &format!(r"5\r: {NO_NUMBER}"));
     // A text is read as it is.
-    refuses(
+    rejects(
         "base62 decode ' LZ'",
         " LZ: Encoded input contains the invalid byte b' ' at index 0",
     );
-    refuses(
+    rejects(
         "base62 range 'L '",
         "L : Encoded input contains the invalid byte b' ' at index 1",
     );
 }
 
-/// Ids of `openssl rand -hex 16` and of traces. Python's `int` gives the number of the last.
+/// An id of `openssl rand -hex 16`. Python's `int` gives its number.
 #[test]
 fn hexadecimal_numbers() {
-    for option in ["-x", "--hex", "-ux"] {
-        answers(&format!("base62 encode {option} 539 0x539"), "LZ\nLZ\n");
-        answers(&format!("base62 decode {option} LZ 00LZ"), "539\n539\n");
-    }
-    answers("base62 encode -x ff FF 0XfF 00ff", "47\n47\n47\n47\n");
-    answers("base62 encode -xw4 0", "0000\n");
-    answers("base62 decode -x 0", "0\n");
-    let (hex, decimal) = (
-        "4bf92f3577b34da6a3ce929d0e0e4736",
-        "100985939111033328018442752961257817910",
-    );
-    answers(
-        &format!("base62 encode -x {hex} | base62 decode -x"),
-        &format!("{hex}\n"),
-    );
-    answers(
-        &format!("base62 encode -x {hex} | base62 decode"),
-        &format!("{decimal}\n"),
-    );
-    answers(
-        &format!("base62 encode -x {}", "f".repeat(32)),
-        "7n42DGM5Tflk9n8mt7Fhc7\n",
+    prints("base62 encode -ux 539 0x539", "LZ\nLZ\n");
+    prints("base62 encode -xw4 0 0XfF", "0000\n0047\n");
+    prints(
+        "base62 encode -x 4bf92f3577b34da6a3ce929d0e0e4736 | base62 decode",
+        "100985939111033328018442752961257817910\n",
     );
     let long = "0".repeat(33);
-    for wrong in ["0x", "g", "+5", "-5", "5h", "0x0x5", "5 5", &long] {
-        refuses(
+    for wrong in ["0x", "g", "+5", "-5", "0x0x5", "5 5", &long] {
+        rejects(
             &format!("base62 encode -x -- '{wrong}'"),
             &format!("{wrong}: not 1 to 32 hexadecimal digits"),
         );
     }
-    refuses("base62 encode -x ''", "'': not 1 to 32 hexadecimal digits");
+    rejects("base62 encode -x ''", "'': not 1 to 32 hexadecimal digits");
 }
 
-/// The empty line stands where the answer would, so `paste` keeps the rows together.
+/// The empty line stands in the place of the result, so `paste` keeps the rows together.
 #[test]
-fn a_line_for_each_text() {
+fn a_line_for_each_input() {
     let rows = r"printf '1337\nx\n61\n'";
-    answers(
+    prints(
         &format!("{rows} | base62 encode 2>&- | paste -d, - <({rows})"),
         "LZ,1337\n,x\nz,61\n",
     );
-    ends("base62 decode LZ L- z 2>&-", 1, "1337\n\n61\n", "");
     ends("base62 range -w 1 0 00 z 2>&-", 1, "0 0\n\n61 61\n", "");
 }
 
 #[test]
 fn names_of_files() {
     let hint = |name| format!("base62 reads standard input: base62 {name} <FILE");
-    for (line, name) in [
-        ("encode", "encode"),
-        ("encode -x", "encode"),
-        ("decode", "decode"),
-        ("range", "range"),
-    ] {
-        refuses(&format!("base62 {line} -"), &format!("-: {}", hint(name)));
-        refuses(
-            &format!("base62 {line} /dev/null"),
-            &format!("/dev/null: {}", hint(name)),
-        );
+    for name in ["encode", "decode", "range"] {
+        rejects(&format!("base62 {name} -"), &format!("-: {}", hint(name)));
     }
-    refuses("base62 encode /", &format!("/: {NO_NUMBER}"));
-    refuses("base62 encode /nope", &format!("/nope: {NO_NUMBER}"));
-    refuses("base62 encode <<<-", &format!("line 1: {NO_NUMBER}"));
-    // What is good is answered.
+    rejects(
+        "base62 encode -x /dev/null",
+        &format!("/dev/null: {}", hint("encode")),
+    );
+    rejects("base62 encode /", &format!("/: {NO_NUMBER}"));
+    rejects("base62 encode /nope", &format!("/nope: {NO_NUMBER}"));
+    rejects("base62 encode <<<-", &format!("line 1: -: {NO_NUMBER}"));
+    // A valid input is one, even if there is a file of this name.
     let line = "folder=$(mktemp -d); trap 'rm -r $folder' EXIT; cd $folder; touch LZ";
-    answers(&format!("{line}; base62 decode LZ"), "1337\n");
+    prints(&format!("{line}; base62 decode LZ"), "1337\n");
 }
 
-/// The first line tells what another program might have been meant.
+/// The first line shows that another program may have been meant.
 #[test]
 fn lines_of_no_command() {
     let expected = "base62: it answers lines such as `enc 1337` and `dec LZ`: try base62 --help\n";
@@ -191,109 +152,70 @@ fn lines_of_no_command() {
     for line in ["e", "enc", "encode"] {
         ends(&format!("printf {line} | base62"), 0, fault, expected);
     }
-    answers("base62 </dev/null", "");
-    for (line, answer) in [
-        ("enc 5", "5"),
-        ("alt 5", "5"),
-        ("dec 5", "5"),
-        ("adc 5", "5"),
-    ] {
-        let output = format!("{answer}\n{fault}");
-        answers(&format!("printf '{line}\\nx\\n' | base62"), &output);
+    prints("base62 </dev/null", "");
+    for command in ["enc", "alt", "dec", "adc"] {
+        let output = format!("5\n{fault}");
+        prints(&format!("printf '{command} 5\\nx\\n' | base62"), &output);
     }
-    answers("{ printf en; sleep .2; printf 'c 5\\n'; } | base62", "5\n");
-    let slow = "{ printf en; sleep .2; printf 'd 5\\n'; } | base62";
-    ends(slow, 0, fault, expected);
+    prints("{ printf en; sleep .2; printf 'c 5\\n'; } | base62", "5\n");
+    // The hint comes before the reply, and once.
+    let line = r#"coproc base62 2>&1; echo 5 >&${COPROC[1]}
+        read -t 20 -ru ${COPROC[0]} line; echo "$line""#;
+    prints(line, expected);
+    let slow = "{ printf en; sleep .2; printf 'd 5\\n'; sleep .2; echo x; } | base62";
+    ends(slow, 0, &fault.repeat(2), expected);
 }
 
 #[test]
 fn options() {
     for option in ["-w11", "-w 11", "--width=11", "--width 11", "-w9 -w11"] {
-        answers(&format!("base62 encode {option} 5"), "00000000005\n");
-        answers(&format!("base62 encode 5 {option}"), "00000000005\n");
-        answers(&format!("base62 {option} encode 5"), "00000000005\n");
+        prints(&format!("base62 encode {option} 5"), "00000000005\n");
+        prints(&format!("base62 encode 5 {option}"), "00000000005\n");
+        prints(&format!("base62 {option} encode 5"), "00000000005\n");
     }
-    for option in ["-a", "--alternative", "-l $letters -a"] {
-        answers(&format!("base62 encode {option} 1337"), "lz\n");
-        answers(&format!("base62 decode {option} lz"), "1337\n");
-        answers(&format!("base62 range {option} -w5 000l"), "1302 1363\n");
+    for option in ["--alternative", "-l $letters -a"] {
+        prints(&format!("base62 encode {option} 1337"), "lz\n");
     }
-    for option in [
-        "-a -l$letters",
-        "-l $letters",
-        "--letters=$letters",
-        "--letters $letters",
-    ] {
-        answers(&format!("base62 encode {option} 1337"), "LZ\n");
-        answers(&format!("base62 decode {option} LZ"), "1337\n");
-        answers(&format!("base62 range {option} -w5 000L"), "1302 1363\n");
+    for option in ["-l$letters", "-a -l $letters", "--letters=$letters"] {
+        prints(&format!("base62 encode {option} 1337"), "LZ\n");
     }
-    for option in ["-s", "--strict"] {
-        answers(&format!("base62 decode {option} LZ"), "1337\n");
-        refuses(
-            &format!("base62 decode {option} 0LZ"),
-            "0LZ: Encoded input begins with a needless zero",
-        );
-    }
+    prints("base62 encode --letters $letters 1337", "LZ\n");
     let uuid = "00000000-0000-0000-0000-000000000539";
-    for option in ["-u", "--uuid"] {
-        answers(&format!("base62 encode {option} {uuid}"), "LZ\n");
-        answers(&format!("base62 decode {option} LZ"), &format!("{uuid}\n"));
-    }
-    answers("base62 decode -sua lz", &format!("{uuid}\n"));
-    answers(&format!("base62 encode -uaw5 {uuid}"), "000lz\n");
-    answers("base62 encode --letters==${letters:1} 0", "=\n");
+    prints("base62 decode -sa --uuid lz", &format!("{uuid}\n"));
+    prints(&format!("base62 encode -uaw5 {uuid}"), "000lz\n");
+    prints("base62 encode --letters==${letters:1} 0", "=\n");
+    prints("base62 encode -l \" ${letters:1}\" -w2 5", " 5\n");
     // Letters and texts may begin as options do.
-    answers("base62 encode -l \"-${letters:1}\" -w3 -- 5", "--5\n");
-    answers("base62 decode -l \"-${letters:1}\" -- --5 -", "5\n0\n");
+    prints("base62 encode -l \"-${letters:1}\" -w3 -- 5", "--5\n");
+    prints(
+        "base62 decode -l \"-${letters:1}\" -- --5 -- -",
+        "5\n0\n0\n",
+    );
 }
 
 #[test]
 fn help() {
-    for (arguments, usage, named) in [
-        (
-            "",
-            "SUBCOMMAND",
-            "encode decode range help -h, --help -V, --version",
-        ),
-        (
-            "encode",
-            "encode",
-            "-a, --alternative -l, --letters -w, --width -u, --uuid -x, --hex",
-        ),
-        (
-            "decode",
-            "decode",
-            "-a, --alternative -l, --letters -s, --strict -u, --uuid -x, --hex",
-        ),
-        (
-            "range",
-            "range",
-            "-a, --alternative -l, --letters -w, --width",
-        ),
+    for (arguments, usage) in [
+        ("", "SUBCOMMAND"),
+        ("encode", "encode"),
+        ("decode", "decode"),
+        ("range", "range"),
     ] {
         let (status, text, errors) = run(&format!("base62 {arguments} --help"));
         assert_eq!((status, errors), (Some(0), String::new()));
-        assert!(
-            text.starts_with(&format!("Usage: base62 {usage} ")),
-            "{text}"
-        );
-        assert!(text.lines().count() <= 30);
-        for name in named.split(' ') {
-            assert!(text.contains(name), "{name}");
-        }
-        for asked in ["-h", "--help --nope", "-ah", "--help"] {
-            answers(&format!("base62 {arguments} {asked}"), &text);
+        let usage = format!("Usage: base62 {usage} ");
+        assert!(text.starts_with(&usage), "{text}");
+        for asked in ["-h", "--help --nope", "-ah"] {
+            prints(&format!("base62 {arguments} {asked}"), &text);
         }
         for asked in ["--help", "-h -a", "help", "help help", "-a help", "help -h"] {
-            answers(&format!("base62 {asked} {arguments}"), &text);
+            prints(&format!("base62 {asked} {arguments}"), &text);
         }
-        assert!(arguments.is_empty() || text.contains("an empty line"));
         assert!(examples(&text) > 0);
     }
     let version = format!("base62 {}\n", env!("CARGO_PKG_VERSION"));
     for asked in ["-V", "--version", "encode --version"] {
-        answers(&format!("base62 {asked}"), &version);
+        prints(&format!("base62 {asked}"), &version);
     }
 }
 
@@ -307,7 +229,7 @@ fn examples(text: &str) -> usize {
             .lines()
             .flat_map(|line| [line.trim_start(), "\n"])
             .collect();
-        answers(line, &output);
+        prints(line, &output);
     }
     parts.len()
 }
@@ -317,49 +239,49 @@ fn wrong_arguments() {
     is_wrong("--nope", "there is no option --nope");
     is_wrong("encode --nope=5", "there is no option --nope");
     is_wrong("encode -az", "there is no option -z");
+    is_wrong("encode -5", "there is no option -5");
     for wrong in [
-        "-h nope",
-        "--help nope",
+        "nope",
         "nope -h",
-        "help nope",
         "help nope encode",
+        "--help nope",
+        "-h nope --nope",
     ] {
         is_wrong(wrong, "there is no subcommand nope");
     }
-    for option in ["help", "version", "hex", "strict"] {
-        let error = format!("--{option} takes no value");
-        is_wrong(&format!("--{option}=5"), &error);
-        is_wrong(&format!("encode --{option}= 5"), &error);
-    }
-    is_wrong("encode -5", "there is no option -5");
-    is_wrong("nope", "there is no subcommand nope");
     is_wrong("''", "there is no subcommand ''");
+    is_wrong("ENCODE", "there is no subcommand ENCODE");
     is_wrong("-", "there is no subcommand -");
     is_wrong("-- --help", "there is no subcommand --help");
     is_wrong("-a", "no subcommand is given");
     is_wrong("--", "no subcommand is given");
-    is_wrong("encode -s 5", "encode has no option --strict");
-    is_wrong("decode -w 5", "decode has no option --width");
-    is_wrong("range -s 5", "range has no option --strict");
-    is_wrong("range -u 5", "range has no option --uuid");
-    is_wrong(
-        "range -wx 5 5",
-        "a width is a whole number from 1 on, not x",
-    );
-    is_wrong("range -x 5", "range has no option --hex");
+    for option in ["help", "version", "hex", "strict", "uuid"] {
+        let error = format!("--{option} takes no value");
+        is_wrong(&format!("--{option}=5"), &error);
+        is_wrong(&format!("encode --{option}= 5"), &error);
+    }
+    for (arguments, option) in [
+        ("encode -s 5", "strict"),
+        ("decode -w 5", "width"),
+        ("range -s 5", "strict"),
+        ("range -aux 5", "uuid"),
+        ("range -x 5", "hex"),
+    ] {
+        let (name, _) = arguments.split_once(' ').unwrap();
+        is_wrong(arguments, &format!("{name} has no option --{option}"));
+    }
     is_wrong("encode -w", "-w needs a value");
     is_wrong("encode --letters", "--letters needs a value");
-    is_wrong("encode --uuid=5", "--uuid takes no value");
+}
+
+#[test]
+fn wrong_values() {
     for width in ["0", "00", "x", "", "-5", "+5", "=5", "5 5", "5.0"] {
         let shown = if width.is_empty() { "''" } else { width };
         let error = format!("a width is a whole number from 1 on, not {shown}");
         is_wrong(&format!("encode -w '{width}' 5"), &error);
         is_wrong(&format!("range --width='{width}' 5"), &error);
     }
-    is_wrong(
-        "encode -w=4 5",
-        "a width is a whole number from 1 on, not =4",
-    );
     is_wrong("encode -l ${letters:1}", "there are 61 letters, not 62");
     is_wrong(
         "decode --letters=${letters}!",
@@ -369,7 +291,7 @@ fn wrong_arguments() {
         "range -l 1${letters:1} 5",
         "Alphabet repeats the byte b'1' at index 1",
     );
-    for letter in [r"\xe9", r"\n", r"\x7f"] {
+    for letter in [r"\xe9", r"\x1f", r"\x7f"] {
         is_wrong(
             &format!("encode -l ${{letters:1}}$'{letter}'"),
             "the letters are not all printable ASCII",
@@ -379,76 +301,60 @@ fn wrong_arguments() {
 
 #[test]
 fn bad_inputs() {
-    refuses(
-        "base62 decode LZ-",
-        "LZ-: Encoded input contains the invalid byte b'-' at index 2",
-    );
-    refuses("base62 decode ''", "'': Encoded input is an empty string");
-    refuses(
-        "base62 range -w 3 000L",
-        "000L: No text of so many letters begins with the prefix",
-    );
-    refuses(
-        "base62 encode -w 2 3844",
-        "3844: its text has more than 2 letters",
-    );
-    refuses(
-        "base62 encode -w 1 62",
-        "62: its text has more than 1 letter",
-    );
-    for text in [
-        "0x10",
-        "+5",
-        "-5",
-        "5.0",
-        "1e3",
-        "1_000",
-        "340282366920938463463374607431768211456",
-    ] {
-        refuses(
-            &format!("base62 encode -- {text}"),
-            &format!("{text}: {NO_NUMBER}"),
+    let long = u128::MAX.to_string().replace("1455", "1456");
+    for text in ["0x10", "+5", "-5", "5.0", "1e3", "1_000", &long] {
+        let error = format!("{text}: {NO_NUMBER}");
+        rejects(&format!("base62 encode -- {text}"), &error);
+        rejects(
+            &format!("base62 encode <<<{text}"),
+            &format!("line 1: {error}"),
         );
     }
-    refuses("base62 encode <<<''", &format!("line 1: {NO_NUMBER}"));
-    refuses(
+    rejects(
         "base62 decode <<<''",
-        "line 1: Encoded input is an empty string",
+        "line 1: '': Encoded input is an empty string",
     );
     // Of a text without a line feed it is the last byte.
-    refuses(
+    rejects(
         r"printf 'LZ\r' | base62 decode",
-        r"line 1: Encoded input contains the invalid byte b'\r' at index 2",
+        r"line 1: LZ\r: Encoded input contains the invalid byte b'\r' at index 2",
     );
-    // All others are answered, in order.
-    let mixed = format!("LZ\nbase62: line 2: {NO_NUMBER}\n\nbase62: line 3: {NO_NUMBER}\n\nz\n");
+    // The results for all others are printed, in order.
+    let mixed =
+        format!("LZ\nbase62: line 2: x: {NO_NUMBER}\n\nbase62: line 3: '': {NO_NUMBER}\n\nz\n");
     let line = r"printf '1337\nx\n\n61' | base62 encode 2>&1";
     ends(line, 1, &mixed, "");
     let mixed = "1337\nbase62: L-: Encoded input contains the invalid byte b'-' at index 1\n\n61\n";
     ends("base62 decode LZ L- z 2>&1", 1, mixed, "");
-    // The status alone tells it then.
+    // Only the status reports it then.
     ends("base62 decode LZ L- 2>&-", 1, "1337\n\n", "");
+    let line =
+        "{ yes 1 | head -n 65536; echo x; } | base62 encode | tail -n 1; exit ${PIPESTATUS[1]}";
+    rejects(line, &format!("line 65537: x: {NO_NUMBER}"));
 }
 
+/// A message shows an input up to 100 bytes, and without what would control a terminal.
 #[test]
-fn bytes_that_are_not_utf8() {
+fn inputs_in_messages() {
+    for (input, shown) in [
+        (r"\xff", r"\xff"),
+        (r"\xef\xbb\xbf1", r"\xef\xbb\xbf1"),
+        (r"\e[2J", r"\x1b[2J"),
+        (&"x".repeat(100), &"x".repeat(100)),
+        (&"x".repeat(101), &format!("{}..", "x".repeat(100))),
+    ] {
+        let error = format!("{shown}: {NO_NUMBER}");
+        rejects(&format!("base62 encode $'{input}'"), &error);
+        rejects(
+            &format!("base62 encode <<<$'{input}'"),
+            &format!("line 1: {error}"),
+        );
+    }
     let byte = r"$'\xff'";
     let error = r"\xff: Encoded input contains the invalid byte b'\xff' at index 0";
-    refuses(&format!("base62 decode {byte}"), error);
-    refuses(&format!("base62 range {byte}"), error);
-    refuses(
-        &format!("base62 encode {byte}"),
-        &format!(r"\xff: {NO_NUMBER}"),
-    );
-    refuses(
-        &format!("base62 encode <<<{byte}"),
-        &format!("line 1: {NO_NUMBER}"),
-    );
-    refuses(&format!("base62 encode -u {byte}"), r"\xff: not a UUID");
-    refuses(
-        &format!("base62 decode <<<0{byte}"),
-        r"line 1: Encoded input contains the invalid byte b'\xff' at index 1",
-    );
+    rejects(&format!("base62 decode {byte}"), error);
+    rejects(&format!("base62 range {byte}"), error);
+    rejects(&format!("base62 encode -u {byte}"), r"\xff: not a UUID");
     is_wrong(byte, r"there is no subcommand \xff");
     is_wrong(&format!("-{byte}"), r"there is no option -\xff");
     is_wrong(&format!("--{byte}=5"), r"there is no option --\xff");
@@ -456,57 +362,24 @@ fn bytes_that_are_not_utf8() {
         &format!("encode -w {byte}"),
         r"a width is a whole number from 1 on, not \xff",
     );
-    // What would control a terminal is shown.
-    refuses(
-        r"base62 encode $'\e[2J\n'",
-        &format!(r"\x1b[2J\n: {NO_NUMBER}"),
-    );
 }
 
 #[test]
-fn forms_of_uuids() {
-    let uuid = "f81d4fae-7dec-11d0-a765-00a0c91e6bf6";
-    let forms = [
-        uuid.replace('-', ""),
-        format!("{{{uuid}}}"),
-        format!("urn:uuid:{uuid}"),
-        format!("URN:UUID:{}", uuid.to_uppercase()),
-    ];
-    for form in forms {
-        answers(
-            &format!("base62 encode -u {form} | base62 decode -u"),
-            &format!("{uuid}\n"),
-        );
-    }
-    answers(
+fn uuids() {
+    prints(
         "base62 decode -u 0",
         "00000000-0000-0000-0000-000000000000\n",
     );
-    answers(
+    prints(
         "base62 encode -u FFFFFFFFFFFFFFFFFFFFFFFFFFFFFFFF",
         "7n42DGM5Tflk9n8mt7Fhc7\n",
     );
-    for wrong in [
-        "1337",
-        "f81d4fae7dec-11d0-a765-00a0c91e6bf6",
-        "f81d4fae-7dec-11d0-a765-00a0c91e6bf",
-        "f81d4fae-7dec-11d0-a765-00a0c91e6bf6-",
-        "f81d4fae-7dec-11d0-a765-00a0c91e6bfg",
-        "f81d4fae-7dec-11d0a-765-00a0c91e6bf6",
-        "{f81d4fae-7dec-11d0-a765-00a0c91e6bf6",
-        "{urn:uuid:f81d4fae-7dec-11d0-a765-00a0c91e6bf6}",
-        "+81d4fae7dec11d0a76500a0c91e6bf6",
-    ] {
-        refuses(
-            &format!("base62 encode -u {wrong}"),
-            &format!("{wrong}: not a UUID"),
-        );
-    }
-    refuses("base62 encode -u ''", "'': not a UUID");
-    refuses("base62 encode --uuid <<<''", "line 1: not a UUID");
+    rejects("base62 encode -u 1337", "1337: not a UUID");
+    rejects("base62 encode -u ''", "'': not a UUID");
+    rejects("base62 encode --uuid <<<''", "line 1: '': not a UUID");
 }
 
-/// The answer to a line comes before the next line is there.
+/// The result for a line is printed before the next line can be read.
 #[test]
 fn a_slow_pipe() {
     let line = r#"coproc base62 encode
@@ -514,7 +387,7 @@ fn a_slow_pipe() {
             printf "$part" >&${COPROC[1]}
             [[ $part = 6 ]] || { read -t 20 -u ${COPROC[0]} text; echo $text; }
         done"#;
-    answers(line, "LZ\nz\n");
+    prints(line, "LZ\nz\n");
 }
 
 const ALL: [&str; 7] = [
@@ -529,13 +402,22 @@ const ALL: [&str; 7] = [
 
 #[cfg(target_os = "linux")]
 #[test]
-fn a_full_device() {
+fn a_full_device_and_a_folder() {
     for arguments in ALL {
         fails(&format!("base62 {arguments} >/dev/full"), "write failed");
     }
+    fails("base62 decode </", "read failed");
     let errors = format!("base62: x: {NO_NUMBER}\nbase62: write failed\n");
     ends("base62 encode x 5 >/dev/full", 1, "", &errors);
     ends("base62 encode x 2>/dev/full", 1, "\n", "");
+    // A file that takes 512 bytes, which end within a write.
+    for arguments in ["help", "encode $(seq 350)"] {
+        let line = format!(
+            "set -o posix; trap '' XFSZ; ulimit -f 1; file=$(mktemp); trap 'rm $file' EXIT
+            base62 {arguments} >$file; status=$?; stat -c %s $file; exit $status"
+        );
+        ends(&line, 1, "512\n", "base62: write failed\n");
+    }
 }
 
 #[test]
@@ -543,21 +425,12 @@ fn a_closed_pipe() {
     for arguments in ALL {
         let line =
             "file=$(mktemp -u); trap 'rm -f $file' EXIT; mkfifo $file; exec 3<>$file 4>$file 3<&-";
-        answers(&format!("{line}; base62 {arguments} >&4"), "");
+        prints(&format!("{line}; base62 {arguments} >&4"), "");
     }
-    answers(
+    prints(
         "yes 1337 | base62 encode | head -n 1; echo ${PIPESTATUS[1]}",
         "LZ\n0\n",
     );
-    answers(
-        "yes enc 1337 | base62 | head -n 1; echo ${PIPESTATUS[1]}",
-        "LZ\n0\n",
-    );
-}
-
-#[test]
-fn a_failed_read() {
-    fails("base62 decode </", "read failed");
 }
 
 /// What a terminal shows when it runs a line, whose input it gets from a redirection.
@@ -588,7 +461,7 @@ fn a_terminal() {
     );
     // From here on the output alone is a terminal.
     assert_eq!(at_terminal("base62 </dev/null", "</dev/null"), "");
-    // Each answer is a write, which Linux counts.
+    // Each result is a write, which Linux counts.
     let line = r#"file=$(mktemp -u); trap 'rm -f $file' EXIT; mkfifo $file
         base62 encode <$file & exec 3>$file; printf '1\n2\n3\n' >&3
         for _ in {1..100}; do grep -q 'syscw: 3' /proc/$!/io && break; sleep .1; done
@@ -600,23 +473,27 @@ fn a_terminal() {
 }
 
 #[test]
-fn long_lines() {
-    let zeros = r"head -c 100000000 /dev/zero | tr '\0' 0";
-    answers(&format!("{zeros} | base62 decode"), "0\n");
-    let error = "line 1: Encoded input contains the invalid byte b'!' at index 100000000";
-    refuses(&format!("({zeros}; echo '!') | base62 decode"), error);
+fn a_long_line() {
+    let zeros = r"head -c 10000000 /dev/zero | tr '\0' 0";
+    let error = format!(
+        "line 1: {}..: Encoded input contains the invalid byte b'!' at index 10000000",
+        "0".repeat(100)
+    );
+    rejects(&format!("({zeros}; echo '!') | base62 decode"), &error);
 }
 
-/// The room of one line serves them all, and answers do not wait for the end of what was read.
+/// The memory of one line serves them all, and results are printed before all is read.
 #[cfg(target_os = "linux")]
 #[test]
 fn bounded_memory() {
-    let line = r"for _ in 1 2 3 4; do head -c 30000000 /dev/zero | tr '\0' 0; echo; done | (ulimit -v 100000; base62 decode)";
-    answers(line, "0\n0\n0\n0\n");
-    answers(
-        "yes 1337 | head -n 6000 | (ulimit -v 16384; base62 encode -w 10000) | wc -c",
-        "60006000\n",
-    );
+    let line = r"for _ in 1 2 3 4; do head -c 10000000 /dev/zero | tr '\0' 0; echo; done | (ulimit -v 40000; base62 decode)";
+    prints(line, "0\n0\n0\n0\n");
+    for line in [
+        "yes 1337 | head -n 2000 | (ulimit -v 16384; base62 encode -w 10000)",
+        "(ulimit -v 16384; base62 encode -w 10000 $(seq 2000))",
+    ] {
+        prints(&format!("{line} | wc -c"), "20002000\n");
+    }
     let all = format!("0 {}\n", u128::MAX);
     let line =
         "(echo 1337; exec cat /dev/zero) 2>/dev/null | (ulimit -v 65536; exec base62 encode)";
@@ -626,5 +503,5 @@ fn bounded_memory() {
         fails(&line, "out of memory");
     }
     // So wide a text has zeros in front of all its letters.
-    answers("base62 range -w 18446744073709551616 0", &all);
+    prints("base62 range -w 18446744073709551616 0", &all);
 }

@@ -1,12 +1,11 @@
 // SPDX-License-Identifier: MIT
 // Copyright (c) 2026 the maintainers of base62 for Rattle
 
-//! What is installed beside the command: its page and its completions say what its help says.
+//! What is installed beside the command: the manual page is that of its help, and the completions find the words there.
 #![cfg(all(feature = "std", unix))]
 
 mod support;
 
-use std::collections::BTreeSet;
 use std::env;
 use std::fs;
 use std::path::Path;
@@ -47,88 +46,49 @@ fn page() {
     }
 }
 
-/// A word, whether it needs a value, and what it does.
-type Words = BTreeSet<(String, bool, String)>;
-
-/// The words of a help: subcommands and options.
-fn words_of_help(subcommand: &str) -> Words {
-    let help = output_of(&format!("base62 help {subcommand}"), "");
-    let mut words = Words::new();
-    for line in help.lines() {
-        let Some((names, does)) = line.strip_prefix("  ").and_then(|it| it.split_once("  ")) else {
-            continue;
-        };
-        let names: Vec<_> = names.trim().split(", ").collect();
-        let is_option = names[0].starts_with('-');
-        let needs_value = is_option && names.iter().any(|name| name.contains(' '));
-        for name in names {
-            let word = name.split(' ').next().unwrap();
-            // Beside words there are statuses.
-            if !word.starts_with(|letter: char| letter.is_ascii_digit()) {
-                words.insert((word.into(), needs_value, does.trim().into()));
-            }
-        }
+/// Compares the words that are completed behind some arguments.
+fn are_completed(completed: impl Fn(&str) -> String) {
+    let command = "--help --version -V -h decode encode help range";
+    let decode = "--alternative --hex --letters --strict --uuid -a -l -s -u -x";
+    for (arguments, words) in [
+        ("", command),
+        ("help", command),
+        (
+            "encode",
+            "--alternative --hex --letters --uuid --width -a -l -u -w -x",
+        ),
+        ("decode", decode),
+        ("-a decode -x", decode),
+        ("range", "--alternative --letters --width -a -l -w"),
+    ] {
+        let output = completed(arguments);
+        let mut found: Vec<_> = output.lines().collect();
+        found.sort_unstable();
+        assert_eq!(found.join(" "), words, "{arguments}");
     }
-    words
-}
-
-/// Compares the words of the command and of each subcommand with those that are completed behind them.
-fn are_completed(completed: impl Fn(&str) -> Words, seen: impl Fn(Words) -> Words) {
-    for (subcommand, count) in [("", 8), ("encode", 10), ("decode", 10), ("range", 6)] {
-        let words = words_of_help(subcommand);
-        assert_eq!(words.len(), count, "{words:?}");
-        assert_eq!(completed(subcommand), seen(words), "{subcommand}");
-    }
-    let subcommands = words_of_help("").into_iter();
-    let subcommands = subcommands.filter(|it| ["encode", "decode", "range"].contains(&&*it.0));
-    assert_eq!(completed("help"), seen(subcommands.collect()), "help");
-}
-
-/// Without what the words do and need.
-fn bare(words: Words) -> Words {
-    let bare = words.into_iter().map(|it| (it.0, false, String::new()));
-    bare.collect()
 }
 
 #[test]
 fn words_in_bash() {
     let completed = |words: &str| {
         let line = format!(
-            r#"source $file; COMP_WORDS=(base62 {words} ''); COMP_CWORD=$((${{#COMP_WORDS[@]}} - 1))
-            _base62; printf '%s\n' "${{COMPREPLY[@]}}""#
+            "source $file; compopt() {{ echo $@; }}; COMP_WORDS=(base62 {words})
+            COMP_CWORD=$((${{#COMP_WORDS[@]}} - 1)); _base62; printf '%s\n' ${{COMPREPLY[@]}}"
         );
-        let output = output_of(&line, BASH);
-        bare(
-            output
-                .lines()
-                .map(|word| (word.into(), false, String::new()))
-                .collect(),
-        )
+        output_of(&line, BASH)
     };
-    are_completed(completed, bare);
-    // No word is completed behind an option that needs a value.
-    for (subcommand, option) in [
-        ("encode", "-w"),
-        ("encode", "--letters"),
-        ("decode", "-l"),
-        ("range", "--width"),
-    ] {
-        assert_eq!(
-            completed(&format!("{subcommand} {option}"))
-                .first()
-                .unwrap()
-                .0,
-            ""
-        );
+    are_completed(|arguments| completed(&format!("{arguments} ''")));
+    assert_eq!(completed("decode --s"), "--strict\n");
+    // In the place of a value there is no word.
+    for words in ["encode -w ''", "encode --width ''", "range -l ''"] {
+        assert_eq!(completed(words), "\n");
     }
-    // Behind other words, the words are still those of the subcommand.
-    assert_eq!(completed("decode -s"), completed("decode"));
-    assert_eq!(completed("encode range"), completed("encode"));
-    let line = "source $file; COMP_WORDS=(base62 decode --s); COMP_CWORD=2; _base62; echo ${COMPREPLY[@]}; complete -p base62";
-    assert_eq!(
-        output_of(line, BASH),
-        "--strict\ncomplete -F _base62 base62\n"
-    );
+    // Behind a redirection, bash completes the names of files.
+    for words in ["'<' ''", "'<'", "decode '2>' 5"] {
+        assert_eq!(completed(words), "-o default\n\n");
+    }
+    let line = "source $file; complete -p base62";
+    assert_eq!(output_of(line, BASH), "complete -F _base62 base62\n");
 }
 
 #[test]
@@ -136,19 +96,22 @@ fn words_in_fish() {
     if !is_here("fish", "completions of fish") {
         return;
     }
-    let completed = |subcommand: &str| {
-        let line = format!(
-            r#"fish --no-config -c "source $file; for it in '' -; complete -C 'base62 {subcommand} '\$it; end""#
-        );
-        let output = output_of(&line.replace("  ", " "), FISH);
-        let words = output.lines().filter(|line| !line.contains("=\t"));
-        words
-            .map(|line| line.split_once('\t').unwrap_or((line, "")))
-            .map(|(word, does)| (word.into(), false, does.into()))
-            .collect()
+    let completed = |words: &str| {
+        let line = format!(r#"fish --no-config -c "source $file; complete -C 'base62 {words}'""#);
+        output_of(&line, FISH)
     };
-    let seen = |words: Words| words.into_iter().map(|it| (it.0, false, it.2)).collect();
-    are_completed(completed, seen);
+    are_completed(|arguments| {
+        let lines = ["", "-"].map(|word| completed(&format!("{arguments} {word}")));
+        let words = lines.iter().flat_map(|it| it.lines());
+        let words: Vec<_> = words.map(|line| line.split('\t').next().unwrap()).collect();
+        words.join("\n")
+    });
+    assert_eq!(
+        completed("decode --h"),
+        "--hex\tprint hexadecimal numbers\n"
+    );
+    // An option that needs a value is the last of an argument.
+    assert_eq!(completed("encode -w"), "");
 }
 
 #[test]
@@ -156,34 +119,23 @@ fn words_in_zsh() {
     if !is_here("zsh", "completions of zsh") {
         return;
     }
-    // What the functions of zsh are told.
-    let told = r#"
-        _arguments() {
-            [[ $1 != -C ]] || { state=$wanted; [[ ! ${words[1]} ]] || return 0; }
-            print -rl -- "$@"
-        }
-        _describe() { print -rl -- "${(P@)2}"; }
-        wanted=$1 words=($2); source $file"#;
-    let completed = |subcommand: &str| {
-        let state = if subcommand.is_empty() {
-            "subcommand"
-        } else {
-            "operands"
-        };
-        let output = output_of(&format!("zsh -fc '{told}' zsh {state} {subcommand}"), ZSH);
-        let mut words = Words::new();
-        for line in output.lines() {
-            if let Some((_, option)) = line.strip_prefix('(').and_then(|it| it.split_once(')')) {
-                let (word, rest) = option.split_once('[').unwrap();
-                let (does, value) = rest.split_once(']').unwrap();
-                words.insert((word.into(), !value.is_empty(), does.into()));
-            } else if let Some((word, does)) = line.split_once(':') {
-                if !does.contains("->") {
-                    words.insert((word.into(), false, does.into()));
-                }
-            }
-        }
-        words
+    // Prints what zsh completes: options, and subcommands if the next word may be one.
+    let completed = |arguments: &str| {
+        let line = format!(
+            r#"zsh -fc '_arguments() {{ print -rl -- ${{(M)@:#\(*}} ${{${{(M)@:#${{#words}}:subcommand:*}}:+$subcommands}}; }}
+            words=(base62 {arguments}); source $file'"#
+        );
+        output_of(&line, ZSH)
     };
-    are_completed(completed, |words| words);
+    are_completed(|arguments| {
+        let output = completed(arguments);
+        let words = output.lines().map(|line| line.rsplit(')').next().unwrap());
+        let words: Vec<_> = words
+            .map(|word| word.split(['[', ':']).next().unwrap())
+            .collect();
+        words.join("\n")
+    });
+    let decode = completed("decode");
+    assert!(decode.contains("\n(-x --hex)-x[print hexadecimal numbers]\n"));
+    assert!(decode.contains("the zero first]:LETTERS:\n"));
 }

@@ -7,7 +7,7 @@
 
 mod support;
 
-use base62::Alphabet;
+use base62::{Alphabet, encode_fixed_str_with};
 use std::panic::{AssertUnwindSafe, catch_unwind, set_hook};
 use std::sync::Mutex;
 
@@ -44,6 +44,9 @@ fn the_caller_is_told() {
         panics_here(said, || base62::encode_with(&own, 7_u8));
         panics_here(said, || base62::encode_uuid_with(&own, [7; 16]));
         panics_here(said, || base62::encode_fmt_with(&own, 7_u8));
+        let mut at = [b'?'; 3];
+        panics_here(said, || encode_fixed_str_with(&own, 7_u8, &mut at).is_ok());
+        assert_eq!(&at, b"???");
         for room in [0, 30] {
             let mut buf = String::with_capacity(room);
             buf.push('é');

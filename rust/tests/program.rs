@@ -2,22 +2,27 @@
 // Copyright (c) 2026 the maintainers of base62 for Rattle
 
 //! The program without arguments, if its input, output or memory fails, and if all goes well. `BASE62_CLI` names another
-//! program to test, which `.ci/failed-runs` sets.
+//! program to test, which `.ci/io-errors` sets.
 #![cfg(all(feature = "std", unix))]
 
 mod support;
 
-use std::env;
-use support::shared;
+use std::{env, fs};
 
-/// The input of the stored run.
+/// A file of the stored run.
+fn stored(name: &str) -> String {
+    let folder = concat!(env!("CARGO_MANIFEST_DIR"), "/../crates/base62_cli");
+    fs::read_to_string(format!("{folder}/{name}")).unwrap()
+}
+
+/// Its input.
 fn input() -> String {
-    shared("crates/base62_cli/stdin")
+    stored("stdin")
 }
 
 /// What it writes.
 fn output() -> String {
-    shared("crates/base62_cli/stdout")
+    stored("stdout")
 }
 
 /// The other program.
@@ -25,14 +30,14 @@ fn other() -> Option<String> {
     env::var("BASE62_CLI").ok()
 }
 
-/// What a line ends with, in which `$program` is the program and `$input` the stored run.
+/// The status, the output and the errors of a line of bash, in which `$program` is the program and `$input` the stored run.
 fn run(line: &str) -> (Option<i32>, String, String) {
     let program = other().unwrap_or(env!("CARGO_BIN_EXE_base62").into());
     support::run(line, &[("program", &program), ("input", &input())])
 }
 
-/// What the program writes to standard error.
-fn told(fault: &str) -> String {
+/// The message of the program about an error.
+fn message(fault: &str) -> String {
     let name = if other().is_some() {
         "base62_cli"
     } else {
@@ -42,9 +47,9 @@ fn told(fault: &str) -> String {
 }
 
 fn fails(line: &str, fault: &str, output: &str) {
-    let said = told(fault);
-    assert_eq!(run(line), (Some(1), output.into(), said), "{line}");
-    // The status alone tells it then.
+    let message = message(fault);
+    assert_eq!(run(line), (Some(1), output.into(), message), "{line}");
+    // Only the status reports it then.
     assert_eq!(
         run(&format!("{line} 2>&-")),
         (Some(1), output.into(), String::new()),
@@ -88,7 +93,7 @@ fn output_that_fails() {
     let output = ["fault: not a number\n"; 51].concat() + "faul";
     let line = r#"trap "" XFSZ; ulimit -f 1; printf 'enc x\n%.0s' {1..100} | "$program" >$file"#;
     let line = in_a_file(&format!("{line}; status=$?; cat $file; exit $status"));
-    assert_eq!(run(&line), (Some(1), output, told("write failed")));
+    assert_eq!(run(&line), (Some(1), output, message("write failed")));
     // The one reader of the pipe is gone before the program writes.
     let line = r#"mkfifo $file; exec 3<>$file 4>$file 3<&-; "$program" <<<"$input" >&4"#;
     if other().is_some() {
@@ -103,12 +108,15 @@ fn in_a_file(line: &str) -> String {
     format!("file=$(mktemp -u); trap 'rm -f $file' EXIT; {line}")
 }
 
-/// Under 64 MiB a line without an end is refused memory within a second.
+/// Under 64 MiB, the allocation for a line without an end fails within a second.
 #[cfg(target_os = "linux")]
 #[test]
 fn no_memory_for_a_line() {
     let line = r#"{ echo enc 1337; exec cat /dev/zero; } 2>/dev/null | (ulimit -v 65536; exec "$program")"#;
-    assert_eq!(run(line), (Some(1), "LZ\n".into(), told("out of memory")));
+    assert_eq!(
+        run(line),
+        (Some(1), "LZ\n".into(), message("out of memory"))
+    );
 }
 
 /// The runtime of Rust opens a standard input or output that is closed as /dev/null.

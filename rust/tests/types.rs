@@ -3,7 +3,7 @@
 
 //! The signatures and bounds of the crate `base62` 2.2.6, and the traits that the types have.
 
-use base62::{Alphabet, AlphabetError, DecodeError, EncodeError};
+use base62::{Alphabet, AlphabetError, DecodeError, EncodeError, ParseAlphabetError};
 use std::fmt::{Debug, Display};
 use std::hash::Hash;
 
@@ -35,15 +35,32 @@ fn writers_of_the_crate<T: Into<u128>, W: std::io::Write + ?Sized>() {
 #[test]
 fn types() {
     fn fault<T: Copy + Debug + Eq + Hash + Ord + std::error::Error + Send + Sync + Unpin>() {}
-    fn alphabet<T: Copy + Debug + Eq + Hash + Send + Sync + Unpin>() {}
+    fn alphabet<T: Copy + Debug + Default + Eq + Hash + Send + Sync + Unpin>() {}
     fault::<DecodeError>();
     fault::<EncodeError>();
     fault::<AlphabetError>();
+    fault::<ParseAlphabetError>();
     alphabet::<Alphabet>();
     let _: fn([u8; 62]) -> Result<Alphabet, AlphabetError> = Alphabet::try_from;
-    let display = base62::encode_fmt(0_u8);
-    fn shown(_: impl Display + Send + Sync + 'static) {}
-    shown(display);
+    fn shown(it: impl Copy + Debug + Display + Send + Sync + 'static) -> String {
+        format!("{it:?}")
+    }
+    let own = Alphabet::default();
+    assert!(shown(base62::encode_fmt(1337_u16)).contains("\"LZ\""));
+    assert!(shown(base62::encode_fmt_alt(1337_u16)).contains("\"lz\""));
+    assert!(shown(base62::encode_fmt_with(&own, 1337_u16)).contains("\"LZ\""));
+}
+
+/// The count of digits is known as a program is compiled.
+const DIGITS: [usize; 3] = [
+    base62::digit_count(61),
+    base62::digit_count(u64::MAX as u128),
+    base62::digit_count(u128::MAX),
+];
+
+#[test]
+fn constants() {
+    assert_eq!(DIGITS, [1, 11, 22]);
 }
 
 #[test]

@@ -5,7 +5,9 @@
 
 mod support;
 
-use base62::{Alphabet, AlphabetError, DecodeError, EncodeError};
+use base62::{Alphabet, AlphabetError, DecodeError, EncodeError, ParseAlphabetError};
+use std::hash::{DefaultHasher, Hash, Hasher};
+use std::str;
 use support::{alphabets, bytes, decode_error, rows};
 
 type Decoded<T> = Result<T, DecodeError>;
@@ -206,8 +208,23 @@ fn fixed_widths() {
         assert_eq!((calls.encode_fixed)(alphabet, num, &mut places), Ok(()));
         assert_eq!(places, text);
         assert_eq!((calls.decode)(alphabet, &text), Ok(num));
-        if *alphabet == Alphabet::standard() && width == 22 {
+        let standard = *alphabet == Alphabet::standard();
+        if standard && width == 22 {
+            let mut key = [b'?'; 22];
             assert_eq!(base62::encode_key(num).to_vec(), text);
+            assert_eq!(base62::encode_key_str(num, &mut key).as_bytes(), text);
+        }
+        let Ok(text) = str::from_utf8(&text) else {
+            return;
+        };
+        let mut places = vec![b'?'; width];
+        if standard {
+            assert_eq!(base62::encode_fixed_str(num, &mut places), Ok(text));
+        }
+        if alphabet.is_ascii() {
+            let mut places = vec![b'?'; width];
+            let encoded = base62::encode_fixed_str_with(alphabet, num, &mut places);
+            assert_eq!(encoded, Ok(text));
         }
     });
 }
@@ -218,6 +235,14 @@ fn widths_too_narrow() {
         let mut places = vec![b'?'; row[1].parse().unwrap()];
         let answer = (calls.encode_fixed)(alphabet, number(row[0]), &mut places);
         assert_eq!(answer, Err(EncodeError::BufferTooSmall));
+        if alphabet.is_ascii() {
+            let answer = base62::encode_fixed_str_with(alphabet, number(row[0]), &mut places);
+            assert_eq!(answer, Err(EncodeError::BufferTooSmall));
+        }
+        if *alphabet == Alphabet::standard() {
+            let answer = base62::encode_fixed_str(number(row[0]), &mut places);
+            assert_eq!(answer, Err(EncodeError::BufferTooSmall));
+        }
         assert!(places.iter().all(|&place| place == b'?'));
     });
 }
@@ -280,26 +305,65 @@ fn messages() {
     }
 }
 
+fn hash_of(it: impl Hash) -> u64 {
+    let mut hasher = DefaultHasher::new();
+    it.hash(&mut hasher);
+    hasher.finish()
+}
+
 #[test]
 fn letters() {
     for row in rows("alphabet") {
         let letters: [u8; 62] = bytes(row[1]).try_into().unwrap();
         let alphabet = Alphabet::new(letters).unwrap();
         assert_eq!(alphabet.letters(), &letters);
+        assert_eq!(alphabet.as_ref(), &letters);
+        assert_eq!(Alphabet::try_from(letters), Ok(alphabet));
+        assert_eq!(Alphabet::try_from(&letters[..]), Ok(alphabet));
+        assert_eq!(hash_of(alphabet), hash_of(letters));
+        if let Ok(letters) = str::from_utf8(&letters) {
+            assert_eq!(letters.parse(), Ok(alphabet));
+        }
         assert_eq!(
             [alphabet.is_ascii(), alphabet.is_ascending()],
             [row[2] == "1", row[3] == "1"]
         );
     }
-    assert_eq!(alphabets()["standard"], Alphabet::standard());
-    assert_eq!(alphabets()["alternative"], Alphabet::alternative());
+    assert_eq!(Alphabet::default(), Alphabet::standard());
+    assert_eq!(Alphabet::new(*support::STANDARD), Ok(Alphabet::standard()));
+    assert_eq!(
+        Alphabet::new(*support::ALTERNATIVE),
+        Ok(Alphabet::alternative())
+    );
 }
 
 #[test]
 fn repeated_letters() {
     for row in rows("repeated") {
-        let letters = bytes(row[0]).try_into().unwrap();
-        let fault = AlphabetError::Repeated(row[1].parse().unwrap(), row[2].parse().unwrap());
-        assert_eq!(Alphabet::new(letters), Err(fault));
+        let letters = bytes(row[0]);
+        let (byte, index) = (row[1].parse().unwrap(), row[2].parse().unwrap());
+        let fault = AlphabetError::Repeated(byte, index);
+        let fault_of_slice = ParseAlphabetError::Repeated(byte, index);
+        assert_eq!(Alphabet::try_from(&letters[..]), Err(fault_of_slice));
+        assert_eq!(fault_of_slice.to_string(), fault.to_string());
+        assert_eq!(Alphabet::new(letters.try_into().unwrap()), Err(fault));
+    }
+}
+
+#[test]
+fn letters_at_the_ends_that_are_blanks() {
+    let letters = " 123456789ABCDEFGHIJKLMNOPQRSTUVWXYZabcdefghijklmnopqrstuvwxy\n";
+    let alphabet: Alphabet = letters.parse().unwrap();
+    assert_eq!(alphabet.as_ref(), letters.as_bytes());
+}
+
+#[test]
+fn letters_of_another_number() {
+    for length in [0, 1, 61, 63, 256] {
+        let fault = ParseAlphabetError::InvalidLength(length);
+        assert_eq!(Alphabet::try_from(&vec![b'a'; length][..]), Err(fault));
+        assert_eq!("a".repeat(length).parse::<Alphabet>(), Err(fault));
+        let text = format!("Alphabet has {length} bytes instead of 62");
+        assert_eq!(fault.to_string(), text);
     }
 }

@@ -1,5 +1,6 @@
 -- SPDX-License-Identifier: MIT
 -- Copyright (c) 2026 the maintainers of base62 for Rattle
+-- Never changes once it is released: a later version has a script of its own.
 \echo Use "CREATE EXTENSION base62" to load this file. \quit
 
 -- Keys sort as their numbers by bytes alone, so they have the collation that compares bytes.

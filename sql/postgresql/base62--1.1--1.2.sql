@@ -1,5 +1,6 @@
 -- SPDX-License-Identifier: MIT
 -- Copyright (c) 2026 the maintainers of base62 for Rattle
+-- Never changes once it is released: a later version has a script of its own.
 \echo Use "ALTER EXTENSION base62 UPDATE TO '1.2'" to load this file. \quit
 
 -- The numbers whose texts of a width begin with a prefix are those from the first to the last, and both are null if

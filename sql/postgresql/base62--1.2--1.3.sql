@@ -1,5 +1,6 @@
 -- SPDX-License-Identifier: MIT
 -- Copyright (c) 2026 the maintainers of base62 for Rattle
+-- Never changes once it is released: a later version has a script of its own.
 \echo Use "ALTER EXTENSION base62 UPDATE TO '1.3'" to load this file. \quit
 
 -- Numbers of the type numeric, and the version of what is installed.

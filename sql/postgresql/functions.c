@@ -1,7 +1,8 @@
 /* SPDX-License-Identifier: MIT */
 /* Copyright (c) 2026 the maintainers of base62 for Rattle */
 
-/* The calls of base62.h as functions of PostgreSQL: datums to numbers and texts and back, and errors. */
+/* Hand-written. The functions of PostgreSQL's extension: each reads its arguments, calls base62.h, and returns a datum
+ * or raises an error. */
 #include <postgres.h>
 
 #include <fmgr.h>
@@ -12,330 +13,283 @@
 #include <varatt.h>
 #endif
 
-/* The library's calls have the names of the functions in SQL, so those of the module begin with pg_. */
 #include "common.h"
 
 PG_MODULE_MAGIC;
 
 StaticAssertDecl(UUID_LEN == BASE62_UUID_LENGTH, "a UUID has 16 bytes");
 
-static void refuse(const refusal *why) {
+static void raise_error(const call_error *error) {
     int code = ERRCODE_INVALID_TEXT_REPRESENTATION;
-    if (why->kind == OUT_OF_RANGE)
+    if (error->kind == OUT_OF_RANGE)
         code = ERRCODE_NUMERIC_VALUE_OUT_OF_RANGE;
-    if (why->kind == WRONG_PARAMETER)
+    if (error->kind == INVALID_PARAMETER)
         code = ERRCODE_INVALID_PARAMETER_VALUE;
-    ereport(ERROR, (errcode(code), errmsg("%.*s", (int)why->length, why->said)));
+    ereport(ERROR, (errcode(code), errmsg("%.*s", (int)error->length, error->message)));
+}
+
+/* Decimal digits, by which numeric is read and written: no other call of PostgreSQL takes more than 64 bits. */
+
+/* 2^128 - 1 has 39 digits, which are written in parts of nine. */
+#define DIGITS_OF_PART 9
+#define MAX_DECIMAL_DIGITS 45
+
+/* Multiplies the number by 10, and adds the digit. If that is 2^128 or more, leaves the number and returns false. */
+static bool append_digit(base62_number *number, unsigned digit) {
+    uint64_t low = (number->low & UINT32_MAX) * 10 + digit;
+    uint64_t middle = (number->low >> 32) * 10 + (low >> 32);
+    uint64_t carry = middle >> 32;
+    if (number->high > (UINT64_MAX - carry) / 10)
+        return false;
+    number->high = number->high * 10 + carry;
+    number->low = middle << 32 | (low & UINT32_MAX);
+    return true;
+}
+
+/* Divides the number by 10^9, and returns the remainder. */
+static uint64_t remove_part(base62_number *number) {
+    const uint64_t divisor = 1000000000;
+    uint64_t middle = number->high % divisor << 32 | number->low >> 32;
+    uint64_t low = middle % divisor << 32 | (number->low & UINT32_MAX);
+    number->high /= divisor;
+    number->low = middle / divisor << 32 | low / divisor;
+    return low % divisor;
+}
+
+static Datum numeric_of_number(base62_number number) {
+    char digits[MAX_DECIMAL_DIGITS + 1], *first = digits + MAX_DECIMAL_DIGITS;
+    *first = '\0';
+    do {
+        uint64_t part = remove_part(&number);
+        for (int i = 0; i < DIGITS_OF_PART; i++, part /= 10)
+            *--first = (char)('0' + part % 10);
+    } while (number.high != 0 || number.low != 0);
+    return DirectFunctionCall3(numeric_in, CStringGetDatum(first), ObjectIdGetDatum(InvalidOid), Int32GetDatum(-1));
 }
 
 /* Arguments */
 
-static base62_number int8_at(FunctionCallInfo fcinfo, int place) {
+static base62_number get_int8(FunctionCallInfo fcinfo, int argument) {
     base62_number number;
-    refusal why;
-    if (!number_of_int64(PG_GETARG_INT64(place), &number, &why))
-        refuse(&why);
+    call_error error;
+    if (!number_of_int64(PG_GETARG_INT64(argument), &number, &error))
+        raise_error(&error);
     return number;
 }
 
-static base62_number uuid_at(FunctionCallInfo fcinfo, int place) {
-    return base62_number_of_uuid(PG_GETARG_UUID_P(place)->data);
+static base62_number get_uuid(FunctionCallInfo fcinfo, int argument) {
+    return base62_number_of_uuid(PG_GETARG_UUID_P(argument)->data);
+}
+
+/* numeric_normalize leaves out a fraction of zeros, so an integer has nothing but digits. */
+static base62_number get_numeric(FunctionCallInfo fcinfo, int argument) {
+    char *digits = numeric_normalize(PG_GETARG_NUMERIC(argument)), *next = digits;
+    base62_number number = {0, 0};
+    while ('0' <= *next && *next <= '9' && append_digit(&number, (unsigned)(*next - '0')))
+        next++;
+    if (*next != '\0')
+        ereport(ERROR, (errcode(ERRCODE_NUMERIC_VALUE_OUT_OF_RANGE),
+                        errmsg("a number is an integer from 0 to 2^128 - 1")));
+    return number;
 }
 
 /* The bytes of a text. PostgreSQL 17's macro mixes int and size_t. */
 #pragma GCC diagnostic push
 #pragma GCC diagnostic ignored "-Wsign-conversion"
-static size_t length_of(const text *given) {
-    return VARSIZE_ANY_EXHDR(given);
+static size_t text_length(const text *value) {
+    return VARSIZE_ANY_EXHDR(value);
 }
 #pragma GCC diagnostic pop
 
-/* Each part of 32 bits is the remainder of what is left, from the last part to the first. */
-static base62_number numeric_at(FunctionCallInfo fcinfo, int place) {
-    Numeric given = PG_GETARG_NUMERIC(place);
-    Datum span = NumericGetDatum(int64_to_numeric(INT64CONST(1) << 32)), left = NumericGetDatum(given);
-    Datum zero = NumericGetDatum(int64_to_numeric(0)), one = NumericGetDatum(int64_to_numeric(1));
-    uint64_t parts[4];
-    bool whole = !numeric_is_nan(given) && !numeric_is_inf(given) &&
-                 DatumGetBool(DirectFunctionCall2(numeric_ge, left, zero)) &&
-                 DatumGetBool(DirectFunctionCall2(numeric_eq, DirectFunctionCall2(numeric_mod, left, one), zero));
-    for (size_t i = lengthof(parts); whole && i-- > 0;) {
-        Datum part = DirectFunctionCall2(numeric_mod, left, span);
-        parts[i] = (uint64_t)DatumGetInt64(DirectFunctionCall1(numeric_int8, part));
-        left = DirectFunctionCall2(numeric_div_trunc, left, span);
-    }
-    if (!whole || !DatumGetBool(DirectFunctionCall2(numeric_eq, left, zero)))
-        ereport(ERROR, (errcode(ERRCODE_NUMERIC_VALUE_OUT_OF_RANGE),
-                        errmsg("a number is an integer from 0 to 2^128 - 1")));
-    return (base62_number){.high = parts[0] << 32 | parts[1], .low = parts[2] << 32 | parts[3]};
-}
-
-/* Letters, and the alphabet that was made of them. */
 typedef struct {
     char letters[BASE62_ALPHABET_LENGTH];
     base62_alphabet alphabet;
-} kept_alphabet;
+} cached_alphabet;
 
-/* The alphabet of the letters at a place, or NULL if there is no argument. It is kept for the next call of the same
+/* The alphabet of an argument, or NULL if there is no such argument. It is cached for the next call of the same
  * expression. Each call compares the letters: PostgreSQL reports a variable of PL/pgSQL as a constant, although its
  * value can change. */
-static const base62_alphabet *alphabet_at(FunctionCallInfo fcinfo, int place) {
+static const base62_alphabet *get_alphabet(FunctionCallInfo fcinfo, int argument) {
     FmgrInfo *function = fcinfo->flinfo;
-    kept_alphabet *kept;
+    cached_alphabet *cached;
     const text *given;
     const char *letters;
     size_t length;
-    if (place >= PG_NARGS())
+    if (argument >= PG_NARGS())
         return NULL;
-    kept = function->fn_extra;
-    given = PG_GETARG_TEXT_PP(place);
+    cached = function->fn_extra;
+    given = PG_GETARG_TEXT_PP(argument);
     letters = VARDATA_ANY(given);
-    length = length_of(given);
-    if (kept == NULL || length != sizeof kept->letters || memcmp(kept->letters, letters, length) != 0) {
-        base62_alphabet made;
-        refusal why;
-        if (!make_alphabet(letters, length, &made, &why))
-            refuse(&why);
-        if (kept == NULL)
-            kept = function->fn_extra = MemoryContextAlloc(function->fn_mcxt, sizeof *kept);
-        memcpy(kept->letters, letters, sizeof kept->letters);
-        kept->alphabet = made;
+    length = text_length(given);
+    if (cached == NULL || length != sizeof cached->letters || memcmp(cached->letters, letters, length) != 0) {
+        base62_alphabet alphabet;
+        call_error error;
+        if (!create_alphabet(letters, length, &alphabet, &error))
+            raise_error(&error);
+        if (cached == NULL)
+            cached = function->fn_extra = MemoryContextAlloc(function->fn_mcxt, sizeof *cached);
+        memcpy(cached->letters, letters, sizeof cached->letters);
+        cached->alphabet = alphabet;
         elog(DEBUG1, "base62 made an alphabet");
     }
-    return &kept->alphabet;
+    return &cached->alphabet;
 }
 
-/* The width at a place, or that of a key if there is no argument. */
-static size_t width_at(FunctionCallInfo fcinfo, int place) {
-    int32 width = place < PG_NARGS() ? PG_GETARG_INT32(place) : BASE62_KEY_LENGTH;
-    refusal why;
-    if (!check_width(width, &why))
-        refuse(&why);
+/* The width of an argument, or that of a key if there is no such argument. */
+static size_t get_width(FunctionCallInfo fcinfo, int argument) {
+    int32 width = argument < PG_NARGS() ? PG_GETARG_INT32(argument) : BASE62_KEY_LENGTH;
+    call_error error;
+    if (!check_width(width, &error))
+        raise_error(&error);
     return (size_t)width;
 }
 
-/* Answers */
+/* Encoding. Callers read the number first, so that its error comes before that of another argument. */
 
-/* The number comes first, so that its error comes before that of another argument. */
-static Datum encoded(FunctionCallInfo fcinfo, base62_number number) {
+static Datum encode(FunctionCallInfo fcinfo, base62_number number) {
     char buffer[BASE62_MAX_DIGITS];
-    size_t length = encode_own_or_standard(alphabet_at(fcinfo, 1), number, buffer);
+    size_t length = encode_shortest(get_alphabet(fcinfo, 1), number, buffer);
     PG_RETURN_TEXT_P(cstring_to_text_with_len(buffer, (int)length));
 }
 
-static Datum fixed(base62_number number, size_t width, const base62_alphabet *alphabet) {
-    text *answer = palloc(VARHDRSZ + width);
-    refusal why;
-    SET_VARSIZE(answer, VARHDRSZ + width);
-    if (!encode_fixed_own_or_standard(alphabet, number, VARDATA(answer), width, &why))
-        refuse(&why);
-    PG_RETURN_TEXT_P(answer);
+static Datum encode_with_width(base62_number number, size_t width, const base62_alphabet *alphabet) {
+    text *result = palloc(VARHDRSZ + width);
+    call_error error;
+    SET_VARSIZE(result, VARHDRSZ + width);
+    if (!encode_width(alphabet, number, VARDATA(result), width, &error))
+        raise_error(&error);
+    PG_RETURN_TEXT_P(result);
 }
 
-static Datum encoded_fixed(FunctionCallInfo fcinfo, base62_number number) {
-    size_t width = width_at(fcinfo, 1);
-    return fixed(number, width, alphabet_at(fcinfo, 2));
+static Datum encode_key(base62_number number) {
+    return encode_with_width(number, BASE62_KEY_LENGTH, NULL);
 }
 
-/* Whether the first argument, a text, is accepted over the second, an alphabet. */
-static bool decodes(FunctionCallInfo fcinfo, bool canonical, base62_number *number, refusal *why) {
+static Datum encode_fixed(FunctionCallInfo fcinfo, base62_number number) {
+    size_t width = get_width(fcinfo, 1);
+    return encode_with_width(number, width, get_alphabet(fcinfo, 2));
+}
+
+/* Decoding */
+
+static bool try_decode(FunctionCallInfo fcinfo, bool canonical, base62_number *number, call_error *error) {
     const text *given = PG_GETARG_TEXT_PP(0);
-    return decode_own_or_standard(alphabet_at(fcinfo, 1), VARDATA_ANY(given), length_of(given), canonical, number, why);
+    return decode_text(get_alphabet(fcinfo, 1), VARDATA_ANY(given), text_length(given), canonical, number, error);
 }
 
-static base62_number decoded(FunctionCallInfo fcinfo, bool canonical) {
+static base62_number decode_or_raise(FunctionCallInfo fcinfo, bool canonical) {
     base62_number number;
-    refusal why;
-    if (!decodes(fcinfo, canonical, &number, &why))
-        refuse(&why);
+    call_error error;
+    if (!try_decode(fcinfo, canonical, &number, &error))
+        raise_error(&error);
     return number;
 }
 
-static Datum decoded_int8(FunctionCallInfo fcinfo, bool canonical) {
-    int64_t whole;
-    if (!int64_of_number(decoded(fcinfo, canonical), &whole))
+static Datum decode_int8(FunctionCallInfo fcinfo, bool canonical) {
+    int64_t value;
+    if (!int64_of_number(decode_or_raise(fcinfo, canonical), &value))
         ereport(ERROR, (errcode(ERRCODE_NUMERIC_VALUE_OUT_OF_RANGE), errmsg("bigint out of range"),
                         errhint("base62_decode_uuid and base62_decode_numeric take numbers up to 2^128 - 1.")));
-    PG_RETURN_INT64(whole);
+    PG_RETURN_INT64(value);
 }
 
-static Datum decoded_uuid(FunctionCallInfo fcinfo, bool canonical) {
-    base62_number number = decoded(fcinfo, canonical);
-    pg_uuid_t *answer = palloc(sizeof *answer);
-    base62_uuid_of_number(number, answer->data);
-    PG_RETURN_UUID_P(answer);
+static Datum decode_uuid(FunctionCallInfo fcinfo, bool canonical) {
+    base62_number number = decode_or_raise(fcinfo, canonical);
+    pg_uuid_t *result = palloc(sizeof *result);
+    base62_uuid_of_number(number, result->data);
+    PG_RETURN_UUID_P(result);
 }
 
-/* By parts of 32 bits, since PostgreSQL makes a numeric of an int8 alone. */
-static Datum numeric_of(base62_number number) {
-    const uint64_t parts[] = {number.high >> 32, number.high & UINT32_MAX, number.low >> 32, number.low & UINT32_MAX};
-    Datum span = NumericGetDatum(int64_to_numeric(INT64CONST(1) << 32));
-    Datum sum = NumericGetDatum(int64_to_numeric(0));
-    for (size_t i = 0; i < lengthof(parts); i++) {
-        sum = DirectFunctionCall2(numeric_mul, sum, span);
-        sum = DirectFunctionCall2(numeric_add, sum, NumericGetDatum(int64_to_numeric((int64_t)parts[i])));
-    }
-    return sum;
+static Datum decode_numeric(FunctionCallInfo fcinfo, bool canonical) {
+    return numeric_of_number(decode_or_raise(fcinfo, canonical));
 }
 
-static Datum decoded_numeric(FunctionCallInfo fcinfo, bool canonical) {
-    return numeric_of(decoded(fcinfo, canonical));
+static Datum is_text(FunctionCallInfo fcinfo, bool canonical) {
+    base62_number number;
+    call_error error;
+    PG_RETURN_BOOL(try_decode(fcinfo, canonical, &number, &error));
 }
 
-/* The numbers with a prefix, the first argument, among texts of a width, the second, over an alphabet, the third.
- * Answers whether there are any. */
-static bool range_at(FunctionCallInfo fcinfo, base62_range *range) {
+static Datum is_int8(FunctionCallInfo fcinfo) {
+    base62_number number;
+    int64_t value;
+    call_error error;
+    PG_RETURN_BOOL(try_decode(fcinfo, false, &number, &error) && int64_of_number(number, &value));
+}
+
+/* Ranges */
+
+/* The numbers with a prefix, by texts of a width over an alphabet. Returns whether there are any. */
+static bool get_range(FunctionCallInfo fcinfo, base62_range *range) {
     const text *prefix = PG_GETARG_TEXT_PP(0);
-    size_t width = width_at(fcinfo, 1);
-    const base62_alphabet *alphabet = alphabet_at(fcinfo, 2);
-    bool none;
-    refusal why;
-    if (!range_of_prefix(alphabet, VARDATA_ANY(prefix), length_of(prefix), width, range, &none, &why))
-        refuse(&why);
-    return !none;
+    size_t width = get_width(fcinfo, 1);
+    const base62_alphabet *alphabet = get_alphabet(fcinfo, 2);
+    bool empty;
+    call_error error;
+    if (!range_of_prefix(alphabet, VARDATA_ANY(prefix), text_length(prefix), width, range, &empty, &error))
+        raise_error(&error);
+    return !empty;
 }
 
-static Datum end_of_keys(FunctionCallInfo fcinfo, bool last) {
+static Datum key_bound(FunctionCallInfo fcinfo, bool last) {
     base62_range range;
-    if (!range_at(fcinfo, &range))
+    if (!get_range(fcinfo, &range))
         PG_RETURN_NULL();
-    return fixed(last ? range.greatest : range.least, width_at(fcinfo, 1), NULL);
+    return encode_with_width(last ? range.greatest : range.least, get_width(fcinfo, 1), NULL);
 }
 
-static Datum end_of_range_int8(FunctionCallInfo fcinfo, bool last) {
+static Datum range_bound_int8(FunctionCallInfo fcinfo, bool last) {
     base62_range range;
-    int64_t whole;
-    if (!range_at(fcinfo, &range) || !int64_end_of_range(range, last, &whole))
+    int64_t value;
+    if (!get_range(fcinfo, &range) || !int64_bound(range, last, &value))
         PG_RETURN_NULL();
-    PG_RETURN_INT64(whole);
+    PG_RETURN_INT64(value);
 }
 
-static Datum end_of_range_numeric(FunctionCallInfo fcinfo, bool last) {
+static Datum range_bound_numeric(FunctionCallInfo fcinfo, bool last) {
     base62_range range;
-    if (!range_at(fcinfo, &range))
+    if (!get_range(fcinfo, &range))
         PG_RETURN_NULL();
-    return numeric_of(last ? range.greatest : range.least);
+    return numeric_of_number(last ? range.greatest : range.least);
 }
 
-/* Functions */
+/* The functions that the SQL scripts name, each with its result. The library's calls have the names that the functions
+ * have in SQL, so these begin with pg_. */
 
-PG_FUNCTION_INFO_V1(pg_base62_encode_int8);
-Datum pg_base62_encode_int8(PG_FUNCTION_ARGS) {
-    return encoded(fcinfo, int8_at(fcinfo, 0));
-}
+#define SQL_FUNCTION(name, result) \
+    PG_FUNCTION_INFO_V1(name);     \
+    Datum name(PG_FUNCTION_ARGS) { \
+        (void)fcinfo;              \
+        return result;             \
+    }
 
-PG_FUNCTION_INFO_V1(pg_base62_encode_uuid);
-Datum pg_base62_encode_uuid(PG_FUNCTION_ARGS) {
-    return encoded(fcinfo, uuid_at(fcinfo, 0));
-}
+SQL_FUNCTION(pg_base62_encode_int8, encode(fcinfo, get_int8(fcinfo, 0)))
+SQL_FUNCTION(pg_base62_encode_uuid, encode(fcinfo, get_uuid(fcinfo, 0)))
+SQL_FUNCTION(pg_base62_encode_numeric, encode(fcinfo, get_numeric(fcinfo, 0)))
 
-PG_FUNCTION_INFO_V1(pg_base62_encode_numeric);
-Datum pg_base62_encode_numeric(PG_FUNCTION_ARGS) {
-    return encoded(fcinfo, numeric_at(fcinfo, 0));
-}
+SQL_FUNCTION(pg_base62_encode_key_int8, encode_key(get_int8(fcinfo, 0)))
+SQL_FUNCTION(pg_base62_encode_key_uuid, encode_key(get_uuid(fcinfo, 0)))
 
-PG_FUNCTION_INFO_V1(pg_base62_decode_int8);
-Datum pg_base62_decode_int8(PG_FUNCTION_ARGS) {
-    return decoded_int8(fcinfo, false);
-}
+SQL_FUNCTION(pg_base62_encode_fixed_int8, encode_fixed(fcinfo, get_int8(fcinfo, 0)))
+SQL_FUNCTION(pg_base62_encode_fixed_uuid, encode_fixed(fcinfo, get_uuid(fcinfo, 0)))
+SQL_FUNCTION(pg_base62_encode_fixed_numeric, encode_fixed(fcinfo, get_numeric(fcinfo, 0)))
 
-PG_FUNCTION_INFO_V1(pg_base62_decode_uuid);
-Datum pg_base62_decode_uuid(PG_FUNCTION_ARGS) {
-    return decoded_uuid(fcinfo, false);
-}
+SQL_FUNCTION(pg_base62_decode_int8, decode_int8(fcinfo, false))
+SQL_FUNCTION(pg_base62_decode_uuid, decode_uuid(fcinfo, false))
+SQL_FUNCTION(pg_base62_decode_numeric, decode_numeric(fcinfo, false))
+SQL_FUNCTION(pg_base62_decode_int8_canonical, decode_int8(fcinfo, true))
+SQL_FUNCTION(pg_base62_decode_uuid_canonical, decode_uuid(fcinfo, true))
+SQL_FUNCTION(pg_base62_decode_numeric_canonical, decode_numeric(fcinfo, true))
 
-PG_FUNCTION_INFO_V1(pg_base62_decode_numeric);
-Datum pg_base62_decode_numeric(PG_FUNCTION_ARGS) {
-    return decoded_numeric(fcinfo, false);
-}
+SQL_FUNCTION(pg_base62_is_text, is_text(fcinfo, false))
+SQL_FUNCTION(pg_base62_is_canonical, is_text(fcinfo, true))
+SQL_FUNCTION(pg_base62_is_int8, is_int8(fcinfo))
 
-PG_FUNCTION_INFO_V1(pg_base62_decode_int8_canonical);
-Datum pg_base62_decode_int8_canonical(PG_FUNCTION_ARGS) {
-    return decoded_int8(fcinfo, true);
-}
+SQL_FUNCTION(pg_base62_key_first, key_bound(fcinfo, false))
+SQL_FUNCTION(pg_base62_key_last, key_bound(fcinfo, true))
+SQL_FUNCTION(pg_base62_range_first_int8, range_bound_int8(fcinfo, false))
+SQL_FUNCTION(pg_base62_range_last_int8, range_bound_int8(fcinfo, true))
+SQL_FUNCTION(pg_base62_range_first_numeric, range_bound_numeric(fcinfo, false))
+SQL_FUNCTION(pg_base62_range_last_numeric, range_bound_numeric(fcinfo, true))
 
-PG_FUNCTION_INFO_V1(pg_base62_decode_uuid_canonical);
-Datum pg_base62_decode_uuid_canonical(PG_FUNCTION_ARGS) {
-    return decoded_uuid(fcinfo, true);
-}
-
-PG_FUNCTION_INFO_V1(pg_base62_decode_numeric_canonical);
-Datum pg_base62_decode_numeric_canonical(PG_FUNCTION_ARGS) {
-    return decoded_numeric(fcinfo, true);
-}
-
-PG_FUNCTION_INFO_V1(pg_base62_is_text);
-Datum pg_base62_is_text(PG_FUNCTION_ARGS) {
-    base62_number number;
-    refusal why;
-    PG_RETURN_BOOL(decodes(fcinfo, false, &number, &why));
-}
-
-PG_FUNCTION_INFO_V1(pg_base62_is_int8);
-Datum pg_base62_is_int8(PG_FUNCTION_ARGS) {
-    base62_number number;
-    int64_t whole;
-    refusal why;
-    PG_RETURN_BOOL(decodes(fcinfo, false, &number, &why) && int64_of_number(number, &whole));
-}
-
-PG_FUNCTION_INFO_V1(pg_base62_encode_key_int8);
-Datum pg_base62_encode_key_int8(PG_FUNCTION_ARGS) {
-    return fixed(int8_at(fcinfo, 0), BASE62_KEY_LENGTH, NULL);
-}
-
-PG_FUNCTION_INFO_V1(pg_base62_encode_key_uuid);
-Datum pg_base62_encode_key_uuid(PG_FUNCTION_ARGS) {
-    return fixed(uuid_at(fcinfo, 0), BASE62_KEY_LENGTH, NULL);
-}
-
-PG_FUNCTION_INFO_V1(pg_base62_encode_fixed_int8);
-Datum pg_base62_encode_fixed_int8(PG_FUNCTION_ARGS) {
-    return encoded_fixed(fcinfo, int8_at(fcinfo, 0));
-}
-
-PG_FUNCTION_INFO_V1(pg_base62_encode_fixed_uuid);
-Datum pg_base62_encode_fixed_uuid(PG_FUNCTION_ARGS) {
-    return encoded_fixed(fcinfo, uuid_at(fcinfo, 0));
-}
-
-PG_FUNCTION_INFO_V1(pg_base62_key_first);
-Datum pg_base62_key_first(PG_FUNCTION_ARGS) {
-    return end_of_keys(fcinfo, false);
-}
-
-PG_FUNCTION_INFO_V1(pg_base62_key_last);
-Datum pg_base62_key_last(PG_FUNCTION_ARGS) {
-    return end_of_keys(fcinfo, true);
-}
-
-PG_FUNCTION_INFO_V1(pg_base62_range_first_int8);
-Datum pg_base62_range_first_int8(PG_FUNCTION_ARGS) {
-    return end_of_range_int8(fcinfo, false);
-}
-
-PG_FUNCTION_INFO_V1(pg_base62_range_last_int8);
-Datum pg_base62_range_last_int8(PG_FUNCTION_ARGS) {
-    return end_of_range_int8(fcinfo, true);
-}
-
-PG_FUNCTION_INFO_V1(pg_base62_range_first_numeric);
-Datum pg_base62_range_first_numeric(PG_FUNCTION_ARGS) {
-    return end_of_range_numeric(fcinfo, false);
-}
-
-PG_FUNCTION_INFO_V1(pg_base62_range_last_numeric);
-Datum pg_base62_range_last_numeric(PG_FUNCTION_ARGS) {
-    return end_of_range_numeric(fcinfo, true);
-}
-
-PG_FUNCTION_INFO_V1(pg_base62_encode_fixed_numeric);
-Datum pg_base62_encode_fixed_numeric(PG_FUNCTION_ARGS) {
-    return encoded_fixed(fcinfo, numeric_at(fcinfo, 0));
-}
-
-PG_FUNCTION_INFO_V1(pg_base62_version);
-Datum pg_base62_version(PG_FUNCTION_ARGS) {
-    (void)fcinfo;
-    PG_RETURN_TEXT_P(cstring_to_text(BASE62_VERSION));
-}
+SQL_FUNCTION(pg_base62_version, CStringGetTextDatum(BASE62_VERSION))

@@ -1,305 +1,299 @@
 /* SPDX-License-Identifier: MIT */
 /* Copyright (c) 2026 the maintainers of base62 for Rattle */
 
-/* The calls of base62.h as functions of SQLite: values to numbers and texts and back, and errors. */
+/* Hand-written. The functions of SQLite's extension: each reads its arguments, calls base62.h, and sets a result or an
+ * error. */
 #include "common.h"
 
 #include <sqlite3ext.h>
 SQLITE_EXTENSION_INIT1
 
-/* Refusals. Each sets the error of the context, and answers 0. */
+/* Errors. Each function sets the error of the context, and returns 0. */
 
-static int refuse_with(sqlite3_context *context, const char *said) {
-    sqlite3_result_error(context, said, -1);
+static int set_error(sqlite3_context *context, const char *message) {
+    sqlite3_result_error(context, message, -1);
     return 0;
 }
 
-static int refuse(sqlite3_context *context, const refusal *why) {
-    char said[sizeof "base62: " + sizeof why->said];
-    sqlite3_snprintf(sizeof said, said, "base62: %.*s", (int)why->length, why->said);
-    return refuse_with(context, said);
+static int set_call_error(sqlite3_context *context, const call_error *error) {
+    char message[sizeof "base62: " + sizeof error->message];
+    sqlite3_snprintf(sizeof message, message, "base62: %.*s", (int)error->length, error->message);
+    return set_error(context, message);
 }
 
-static int refuse_memory(sqlite3_context *context) {
+static int set_out_of_memory(sqlite3_context *context) {
     sqlite3_result_error_nomem(context);
     return 0;
 }
 
-/* Arguments. If one is refused, the error of the context is set, and the answer is 0. */
+/* Arguments. Each function that reads one returns 1, or sets the error of the context and returns 0. */
 
-static int any_null(int count, sqlite3_value **given) {
-    for (int i = 0; i < count; i++)
-        if (sqlite3_value_type(given[i]) == SQLITE_NULL)
+static int any_null(int argc, sqlite3_value **argv) {
+    for (int i = 0; i < argc; i++)
+        if (sqlite3_value_type(argv[i]) == SQLITE_NULL)
             return 1;
     return 0;
 }
 
-/* Numbers are integers from 0, or blobs of 16 bytes, as of a UUID. */
-static int number_of(sqlite3_context *context, sqlite3_value *given, base62_number *number) {
-    int type = sqlite3_value_type(given);
+/* A number is a nonnegative integer, or a blob of 16 bytes such as a UUID. */
+static int read_number(sqlite3_context *context, sqlite3_value *value, base62_number *number) {
+    int type = sqlite3_value_type(value);
     const unsigned char *uuid;
-    refusal why;
+    call_error error;
     if (type == SQLITE_INTEGER)
-        return number_of_int64(sqlite3_value_int64(given), number, &why) || refuse(context, &why);
-    if (type != SQLITE_BLOB || sqlite3_value_bytes(given) != BASE62_UUID_LENGTH)
-        return refuse_with(context, "base62: a number is an integer or a blob of 16 bytes");
-    uuid = sqlite3_value_blob(given);
+        return number_of_int64(sqlite3_value_int64(value), number, &error) || set_call_error(context, &error);
+    if (type != SQLITE_BLOB || sqlite3_value_bytes(value) != BASE62_UUID_LENGTH)
+        return set_error(context, "base62: a number is an integer or a blob of 16 bytes");
+    uuid = sqlite3_value_blob(value);
     if (uuid == NULL)
-        return refuse_memory(context);
+        return set_out_of_memory(context);
     *number = base62_number_of_uuid(uuid);
     return 1;
 }
 
-/* Only a text is taken: a column of the type STRING turns the text 1E5 into the number 100000. */
-static int text_of(sqlite3_context *context, sqlite3_value *given, const char **text, size_t *length) {
-    if (sqlite3_value_type(given) != SQLITE_TEXT)
-        return refuse_with(context, "base62: the argument is no text");
-    *text = (const char *)sqlite3_value_text(given);
+/* No other type is converted: a column of the type STRING has turned the text 1E5 into the number 100000. */
+static int read_text(sqlite3_context *context, sqlite3_value *value, const char **text, size_t *length) {
+    if (sqlite3_value_type(value) != SQLITE_TEXT)
+        return set_error(context, "base62: the argument is no text");
+    *text = (const char *)sqlite3_value_text(value);
     if (*text == NULL)
-        return refuse_memory(context);
-    *length = (size_t)sqlite3_value_bytes(given);
+        return set_out_of_memory(context);
+    *length = (size_t)sqlite3_value_bytes(value);
     return 1;
 }
 
-/* Points to the alphabet of the letters at a place, or to NULL if there is no argument. If the letters are constant,
- * SQLite keeps the alphabet for the next call. If not, it may free it at once, so this call uses a copy in *own. */
-static int alphabet_at(sqlite3_context *context, int place, int count, sqlite3_value **given, base62_alphabet *own,
-                       const base62_alphabet **alphabet) {
+/* Points *alphabet to the alphabet of an argument, or to NULL if there is no such argument. If the argument is
+ * constant, SQLite caches the alphabet for the next call. If not, SQLite may free it at once, so this call uses *copy. */
+static int read_alphabet(sqlite3_context *context, int index, int argc, sqlite3_value **argv, base62_alphabet *copy,
+                         const base62_alphabet **alphabet) {
     const char *letters;
     size_t length;
-    base62_alphabet *kept;
-    refusal why;
+    base62_alphabet *cached;
+    call_error error;
     *alphabet = NULL;
-    if (place >= count)
+    if (index >= argc)
         return 1;
-    *alphabet = sqlite3_get_auxdata(context, place);
+    *alphabet = sqlite3_get_auxdata(context, index);
     if (*alphabet != NULL)
         return 1;
-    if (!text_of(context, given[place], &letters, &length))
+    if (!read_text(context, argv[index], &letters, &length))
         return 0;
-    if (!make_alphabet(letters, length, own, &why))
-        return refuse(context, &why);
-    kept = sqlite3_malloc(sizeof *kept);
-    if (kept == NULL)
-        return refuse_memory(context);
-    *kept = *own;
-    sqlite3_set_auxdata(context, place, kept, sqlite3_free);
-    *alphabet = own;
+    if (!create_alphabet(letters, length, copy, &error))
+        return set_call_error(context, &error);
+    cached = sqlite3_malloc(sizeof *cached);
+    if (cached == NULL)
+        return set_out_of_memory(context);
+    *cached = *copy;
+    sqlite3_set_auxdata(context, index, cached, sqlite3_free);
+    *alphabet = copy;
     return 1;
 }
 
-static int width_of(sqlite3_context *context, sqlite3_value *given, size_t *width) {
-    /* No width is 0. */
-    sqlite3_int64 whole = sqlite3_value_type(given) == SQLITE_INTEGER ? sqlite3_value_int64(given) : 0;
-    refusal why;
-    if (!check_width(whole, &why))
-        return refuse(context, &why);
-    *width = (size_t)whole;
+static int read_width(sqlite3_context *context, sqlite3_value *value, size_t *width) {
+    /* 0 is not a width. */
+    sqlite3_int64 given = sqlite3_value_type(value) == SQLITE_INTEGER ? sqlite3_value_int64(value) : 0;
+    call_error error;
+    if (!check_width(given, &error))
+        return set_call_error(context, &error);
+    *width = (size_t)given;
     return 1;
 }
 
-/* Calls */
+/* Functions. What those that share code differ in is their data: the address of one of these, or NULL. */
+
+static char canonical, integer, last;
 
 static void result_fixed(sqlite3_context *context, const base62_alphabet *alphabet, base62_number number,
                          size_t width) {
-    char places[MAX_WIDTH];
-    refusal why;
-    if (encode_fixed_own_or_standard(alphabet, number, places, width, &why))
-        sqlite3_result_text(context, places, (int)width, SQLITE_TRANSIENT);
+    char text[MAX_WIDTH];
+    call_error error;
+    if (encode_width(alphabet, number, text, width, &error))
+        sqlite3_result_text(context, text, (int)width, SQLITE_TRANSIENT);
     else
-        refuse(context, &why);
+        set_call_error(context, &error);
 }
 
-static void encode(sqlite3_context *context, int count, sqlite3_value **given) {
+static void encode(sqlite3_context *context, int argc, sqlite3_value **argv) {
     base62_number number;
-    base62_alphabet own;
+    base62_alphabet copy;
     const base62_alphabet *alphabet;
     char text[BASE62_MAX_DIGITS];
     size_t length;
-    if (any_null(count, given) || !number_of(context, given[0], &number) ||
-        !alphabet_at(context, 1, count, given, &own, &alphabet))
+    if (any_null(argc, argv) || !read_number(context, argv[0], &number) ||
+        !read_alphabet(context, 1, argc, argv, &copy, &alphabet))
         return;
-    length = encode_own_or_standard(alphabet, number, text);
+    length = encode_shortest(alphabet, number, text);
     sqlite3_result_text(context, text, (int)length, SQLITE_TRANSIENT);
 }
 
-/* A function that has data accepts only canonical texts. */
-static int decoded(sqlite3_context *context, int count, sqlite3_value **given, base62_number *number) {
+/* Returns 0 if the result is null or an error. */
+static int decode_or_set_error(sqlite3_context *context, int argc, sqlite3_value **argv, base62_number *number) {
     const char *text;
     size_t length;
-    base62_alphabet own;
+    base62_alphabet copy;
     const base62_alphabet *alphabet;
-    bool canonical = sqlite3_user_data(context) != NULL;
-    refusal why;
-    if (any_null(count, given) || !text_of(context, given[0], &text, &length) ||
-        !alphabet_at(context, 1, count, given, &own, &alphabet))
+    call_error error;
+    if (any_null(argc, argv) || !read_text(context, argv[0], &text, &length) ||
+        !read_alphabet(context, 1, argc, argv, &copy, &alphabet))
         return 0;
-    return decode_own_or_standard(alphabet, text, length, canonical, number, &why) || refuse(context, &why);
+    return decode_text(alphabet, text, length, sqlite3_user_data(context) == &canonical, number, &error) ||
+           set_call_error(context, &error);
 }
 
-static void decode(sqlite3_context *context, int count, sqlite3_value **given) {
+static void decode(sqlite3_context *context, int argc, sqlite3_value **argv) {
     base62_number number;
-    int64_t whole;
-    if (!decoded(context, count, given, &number))
+    int64_t value;
+    if (!decode_or_set_error(context, argc, argv, &number))
         return;
-    if (int64_of_number(number, &whole))
-        sqlite3_result_int64(context, whole);
+    if (int64_of_number(number, &value))
+        sqlite3_result_int64(context, value);
     else
-        refuse_with(context, "base62: the number is 2^63 or more, which base62_decode_blob takes");
+        set_error(context, "base62: the number is 2^63 or more, which base62_decode_blob takes");
 }
 
-static void decode_blob(sqlite3_context *context, int count, sqlite3_value **given) {
+static void decode_blob(sqlite3_context *context, int argc, sqlite3_value **argv) {
     base62_number number;
     unsigned char uuid[BASE62_UUID_LENGTH];
-    if (!decoded(context, count, given, &number))
+    if (!decode_or_set_error(context, argc, argv, &number))
         return;
     base62_uuid_of_number(number, uuid);
     sqlite3_result_blob(context, uuid, sizeof uuid, SQLITE_TRANSIENT);
 }
 
-/* Whether decoding accepts the value, which has to be a text. If the function has data, the number has to be an
- * integer of SQLite too. */
-static void accepts(sqlite3_context *context, int count, sqlite3_value **given) {
+/* Whether the value is a text that the decoding functions accept. */
+static void is_text(sqlite3_context *context, int argc, sqlite3_value **argv) {
     const char *text;
     size_t length;
-    base62_alphabet own;
+    base62_alphabet copy;
     const base62_alphabet *alphabet;
+    const void *data = sqlite3_user_data(context);
     base62_number number;
-    int64_t whole;
-    refusal why;
+    int64_t value;
+    call_error error;
     int accepted = 0;
-    if (any_null(count, given) || !alphabet_at(context, 1, count, given, &own, &alphabet))
+    if (any_null(argc, argv) || !read_alphabet(context, 1, argc, argv, &copy, &alphabet))
         return;
-    if (sqlite3_value_type(given[0]) == SQLITE_TEXT) {
-        if (!text_of(context, given[0], &text, &length))
+    if (sqlite3_value_type(argv[0]) == SQLITE_TEXT) {
+        if (!read_text(context, argv[0], &text, &length))
             return;
-        accepted = decode_own_or_standard(alphabet, text, length, false, &number, &why) &&
-                   (sqlite3_user_data(context) == NULL || int64_of_number(number, &whole));
+        accepted = decode_text(alphabet, text, length, data == &canonical, &number, &error) &&
+                   (data != &integer || int64_of_number(number, &value));
     }
     sqlite3_result_int(context, accepted);
 }
 
-static void encode_key(sqlite3_context *context, int count, sqlite3_value **given) {
+static void encode_key(sqlite3_context *context, int argc, sqlite3_value **argv) {
     base62_number number;
-    if (!any_null(count, given) && number_of(context, given[0], &number))
+    if (!any_null(argc, argv) && read_number(context, argv[0], &number))
         result_fixed(context, NULL, number, BASE62_KEY_LENGTH);
 }
 
-static void encode_fixed(sqlite3_context *context, int count, sqlite3_value **given) {
+static void encode_fixed(sqlite3_context *context, int argc, sqlite3_value **argv) {
     base62_number number;
     size_t width;
-    base62_alphabet own;
+    base62_alphabet copy;
     const base62_alphabet *alphabet;
-    if (!any_null(count, given) && number_of(context, given[0], &number) && width_of(context, given[1], &width) &&
-        alphabet_at(context, 2, count, given, &own, &alphabet))
+    if (!any_null(argc, argv) && read_number(context, argv[0], &number) && read_width(context, argv[1], &width) &&
+        read_alphabet(context, 2, argc, argv, &copy, &alphabet))
         result_fixed(context, alphabet, number, width);
 }
 
-/* The numbers with a prefix among texts of a width over an alphabet; a key if there is no width. The answer is 0 if
- * there are none, or the result is an error or null. */
-static int range_of(sqlite3_context *context, int count, sqlite3_value **given, size_t *width, base62_range *range) {
+/* The numbers with a prefix, by texts of a width over an alphabet; by keys if there is no width. Returns 0 if the
+ * result is null or an error. */
+static int read_range(sqlite3_context *context, int argc, sqlite3_value **argv, size_t *width, base62_range *range) {
     const char *prefix;
     size_t length;
-    base62_alphabet own;
+    base62_alphabet copy;
     const base62_alphabet *alphabet;
-    bool none;
-    refusal why;
+    bool empty;
+    call_error error;
     *width = BASE62_KEY_LENGTH;
-    if (any_null(count, given) || !text_of(context, given[0], &prefix, &length) ||
-        (count > 1 && !width_of(context, given[1], width)) || !alphabet_at(context, 2, count, given, &own, &alphabet))
+    if (any_null(argc, argv) || !read_text(context, argv[0], &prefix, &length) ||
+        (argc > 1 && !read_width(context, argv[1], width)) || !read_alphabet(context, 2, argc, argv, &copy, &alphabet))
         return 0;
-    if (!range_of_prefix(alphabet, prefix, length, *width, range, &none, &why))
-        return refuse(context, &why);
-    return !none;
+    if (!range_of_prefix(alphabet, prefix, length, *width, range, &empty, &error))
+        return set_call_error(context, &error);
+    return !empty;
 }
 
-/* A function that has data answers the last key or number, and otherwise the first. */
-static void key_end(sqlite3_context *context, int count, sqlite3_value **given) {
+static void key_bound(sqlite3_context *context, int argc, sqlite3_value **argv) {
     size_t width;
     base62_range range;
-    if (range_of(context, count, given, &width, &range))
-        result_fixed(context, NULL, sqlite3_user_data(context) == NULL ? range.least : range.greatest, width);
+    if (read_range(context, argc, argv, &width, &range))
+        result_fixed(context, NULL, sqlite3_user_data(context) == &last ? range.greatest : range.least, width);
 }
 
-static void range_end(sqlite3_context *context, int count, sqlite3_value **given) {
+static void range_bound(sqlite3_context *context, int argc, sqlite3_value **argv) {
     size_t width;
     base62_range range;
-    int64_t whole;
-    if (range_of(context, count, given, &width, &range) &&
-        int64_end_of_range(range, sqlite3_user_data(context) != NULL, &whole))
-        sqlite3_result_int64(context, whole);
+    int64_t value;
+    if (read_range(context, argc, argv, &width, &range) &&
+        int64_bound(range, sqlite3_user_data(context) == &last, &value))
+        sqlite3_result_int64(context, value);
 }
 
-static void version(sqlite3_context *context, int count, sqlite3_value **given) {
-    (void)count;
-    (void)given;
+static void version(sqlite3_context *context, int argc, sqlite3_value **argv) {
+    (void)argc;
+    (void)argv;
     sqlite3_result_text(context, BASE62_VERSION, -1, SQLITE_STATIC);
 }
 
 /* The extension */
 
 static int create_functions(sqlite3 *db) {
-    static char canonical, integer, last;
     static const struct {
         const char *name;
-        int arguments;
+        int min_arguments, max_arguments;
         void *data;
         void (*call)(sqlite3_context *, int, sqlite3_value **);
     } functions[] = {
-        {"base62_encode", 1, NULL, encode},
-        {"base62_encode", 2, NULL, encode},
-        {"base62_decode", 1, NULL, decode},
-        {"base62_decode", 2, NULL, decode},
-        {"base62_decode_blob", 1, NULL, decode_blob},
-        {"base62_decode_blob", 2, NULL, decode_blob},
-        {"base62_decode_canonical", 1, &canonical, decode},
-        {"base62_decode_canonical", 2, &canonical, decode},
-        {"base62_decode_blob_canonical", 1, &canonical, decode_blob},
-        {"base62_decode_blob_canonical", 2, &canonical, decode_blob},
-        {"base62_is_text", 1, NULL, accepts},
-        {"base62_is_text", 2, NULL, accepts},
-        {"base62_is_integer", 1, &integer, accepts},
-        {"base62_is_integer", 2, &integer, accepts},
-        {"base62_encode_key", 1, NULL, encode_key},
-        {"base62_encode_fixed", 2, NULL, encode_fixed},
-        {"base62_encode_fixed", 3, NULL, encode_fixed},
-        {"base62_key_first", 1, NULL, key_end},
-        {"base62_key_first", 2, NULL, key_end},
-        {"base62_key_last", 1, &last, key_end},
-        {"base62_key_last", 2, &last, key_end},
-        {"base62_range_first", 2, NULL, range_end},
-        {"base62_range_first", 3, NULL, range_end},
-        {"base62_range_last", 2, &last, range_end},
-        {"base62_range_last", 3, &last, range_end},
-        {"base62_version", 0, NULL, version},
+        {"base62_encode", 1, 2, NULL, encode},
+        {"base62_decode", 1, 2, NULL, decode},
+        {"base62_decode_blob", 1, 2, NULL, decode_blob},
+        {"base62_decode_canonical", 1, 2, &canonical, decode},
+        {"base62_decode_blob_canonical", 1, 2, &canonical, decode_blob},
+        {"base62_is_text", 1, 2, NULL, is_text},
+        {"base62_is_integer", 1, 2, &integer, is_text},
+        {"base62_is_canonical", 1, 2, &canonical, is_text},
+        {"base62_encode_key", 1, 1, NULL, encode_key},
+        {"base62_encode_fixed", 2, 3, NULL, encode_fixed},
+        {"base62_key_first", 1, 2, NULL, key_bound},
+        {"base62_key_last", 1, 2, &last, key_bound},
+        {"base62_range_first", 2, 3, NULL, range_bound},
+        {"base62_range_last", 2, 3, &last, range_bound},
+        {"base62_version", 0, 0, NULL, version},
     };
     int status = SQLITE_OK;
-    for (size_t i = 0; status == SQLITE_OK && i < sizeof functions / sizeof *functions; i++)
-        status = sqlite3_create_function(db, functions[i].name, functions[i].arguments,
-                                         SQLITE_UTF8 | SQLITE_DETERMINISTIC | SQLITE_INNOCUOUS, functions[i].data,
-                                         functions[i].call, NULL, NULL);
+    for (size_t i = 0; i < sizeof functions / sizeof *functions; i++)
+        for (int n = functions[i].min_arguments; status == SQLITE_OK && n <= functions[i].max_arguments; n++)
+            status = sqlite3_create_function(db, functions[i].name, n,
+                                             SQLITE_UTF8 | SQLITE_DETERMINISTIC | SQLITE_INNOCUOUS, functions[i].data,
+                                             functions[i].call, NULL, NULL);
     return status;
 }
 
-/* SQLite tries the first name, and then sqlite3_base_init, which it makes of base62.so. The second name is for callers
- * that ask for it. The module exports only these two. */
-#ifdef _WIN32
+/* With SQLITE_CORE a program links this file with SQLite, and passes the entry point to sqlite3_auto_extension. */
+#ifdef SQLITE_CORE
+#define EXPORT
+#elif defined _WIN32
 #define EXPORT __declspec(dllexport)
 #else
 #define EXPORT __attribute__((visibility("default")))
 #endif
 
-EXPORT int sqlite3_extension_init(sqlite3 *db, char **error, const sqlite3_api_routines *api);
 EXPORT int sqlite3_base62_init(sqlite3 *db, char **error, const sqlite3_api_routines *api);
-
-int sqlite3_extension_init(sqlite3 *db, char **error, const sqlite3_api_routines *api) {
-    (void)error;
-    SQLITE_EXTENSION_INIT2(api);
-    return create_functions(db);
-}
 
 int sqlite3_base62_init(sqlite3 *db, char **error, const sqlite3_api_routines *api) {
     (void)error;
     SQLITE_EXTENSION_INIT2(api);
     return create_functions(db);
 }
+
+/* The entry point that SQLite tries first in a module. The module exports only these two names. */
+#ifndef SQLITE_CORE
+EXPORT int sqlite3_extension_init(sqlite3 *db, char **error, const sqlite3_api_routines *api);
+
+int sqlite3_extension_init(sqlite3 *db, char **error, const sqlite3_api_routines *api) {
+    return sqlite3_base62_init(db, error, api);
+}
+#endif

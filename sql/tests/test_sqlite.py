@@ -1,6 +1,6 @@
 # SPDX-License-Identifier: MIT
 # Copyright (c) 2026 the maintainers of base62 for Rattle
-"""Tests of the functions of SQLite, of the module that BASE62_SQLITE names, by the values that all tests read."""
+"""Tests of SQLite's functions, in the module that BASE62_SQLITE names, by the values that all packages are tested with."""
 
 from __future__ import annotations
 
@@ -29,7 +29,7 @@ BIGINT = 2**63 - 1
 KEY = 22
 WIDEST = 1000
 
-# The file of values stands in the repository's tests, and beside this one in an archive of the functions.
+# The file of values is in the repository's tests, and beside this one in an archive of the functions.
 HERE = Path(__file__).resolve().parent
 FOLDERS = HERE, HERE.parents[1] / "tests"
 VALUES = next(folder / "values.tsv" for folder in FOLDERS if (folder / "values.tsv").exists())
@@ -40,7 +40,7 @@ def rows(kind: str) -> list[list[str]]:
     return [row[1:] for row in ROWS if row[0] == kind]
 
 
-# Alphabets of ASCII letters other than a null byte.
+# Alphabets of ASCII characters other than a null byte.
 ALPHABETS = {
     name: unquote_to_bytes(letters).decode()
     for name, letters, ascii, _ in rows("alphabet")
@@ -48,19 +48,19 @@ ALPHABETS = {
 }
 STANDARD, ALTERNATIVE, OWN = (ALPHABETS[name] for name in ("standard", "alternative", "reversed"))
 REPEATED = "00" + STANDARD[1:61]
-# The message of each fault and of each byte. What follows is the index.
+# The message of each error and of each byte. The index follows.
 MESSAGES = {tuple(row[1:3]): re.sub(r"\d+$", "", unquote_to_bytes(row[0]).decode()) for row in rows("message")}
 # Canonical standard texts by their numbers.
 TEXTS = {int(number): text for alphabet, number, text in rows("encode") if alphabet == "standard"}
 
 
 def text(number: int, letters: str = STANDARD) -> str:
-    """The canonical text of one of these numbers, in letters of ASCII."""
+    """The canonical text of one of these numbers, in an ASCII alphabet."""
     return TEXTS[number].translate(str.maketrans(STANDARD, letters))
 
 
-def said(fault: list[str]) -> str:
-    return "base62: " + MESSAGES[tuple(fault[:2])] + "".join(fault[2:])
+def message(error: list[str]) -> str:
+    return "base62: " + MESSAGES[tuple(error[:2])] + "".join(error[2:])
 
 
 def blob(number: int) -> bytes:
@@ -83,19 +83,19 @@ class Case(unittest.TestCase):
     def row(self, expressions: str, *given: Any) -> Any:
         return self.db.execute("SELECT " + expressions, given).fetchone()
 
-    def answer(self, expression: str, *given: Any) -> Any:
-        """An answer, or what is said in its place."""
+    def result(self, expression: str, *given: Any) -> Any:
+        """A result, or the message of the error."""
         try:
             return self.row(expression, *given)[0]
         except sqlite3.Error as error:
             return str(error)
 
     def over(self, alphabet: str, call: str, *given: Any) -> Any:
-        """The answer of a call over an alphabet. Without it the standard one has to give the same."""
-        answer = self.answer(call, *given, ALPHABETS[alphabet])
+        """The result of a call with an alphabet. Without the standard one it has to be the same."""
+        result = self.result(call, *given, ALPHABETS[alphabet])
         if alphabet == "standard":
-            self.assertEqual(self.answer(call.replace(", ?)", ")"), *given), answer)
-        return answer
+            self.assertEqual(self.result(call.replace(", ?)", ")"), *given), result)
+        return result
 
 
 def as_text(field: str) -> Any:
@@ -117,6 +117,7 @@ class Values(Case):
             self.assertEqual(self.over(alphabet, "base62_decode_blob(?, ?)", encoded), blob(number))
             self.assertEqual(self.over(alphabet, "base62_decode_blob_canonical(?, ?)", encoded), blob(number))
             self.assertEqual(self.over(alphabet, "base62_is_text(?, ?)", encoded), 1)
+            self.assertEqual(self.over(alphabet, "base62_is_canonical(?, ?)", encoded), 1)
             self.assertEqual(self.over(alphabet, "base62_is_integer(?, ?)", encoded), number <= BIGINT)
             wanted = number if number <= BIGINT else LARGE
             self.assertEqual(self.over(alphabet, "base62_decode(?, ?)", encoded), wanted)
@@ -131,19 +132,20 @@ class Values(Case):
             wanted = number if number <= BIGINT else LARGE
             self.assertEqual(self.over(alphabet, "base62_decode(?, ?)", encoded), wanted)
             for call in ("base62_decode_canonical(?, ?)", "base62_decode_blob_canonical(?, ?)"):
-                self.assertEqual(self.over(alphabet, call, encoded), said(["zero"]))
+                self.assertEqual(self.over(alphabet, call, encoded), message(["zero"]))
             self.assertEqual(self.over(alphabet, "base62_is_text(?, ?)", encoded), 1)
+            self.assertEqual(self.over(alphabet, "base62_is_canonical(?, ?)", encoded), 0)
             self.assertEqual(self.over(alphabet, "base62_is_integer(?, ?)", encoded), number <= BIGINT)
 
     def test_refused(self) -> None:
-        """Texts that are no UTF-8, or go on after a null byte, among them."""
-        for alphabet, field, *fault in (row for row in rows("refused") if row[0] in ALPHABETS):
+        """Strings that are not UTF-8, or contain a null byte, among them."""
+        for alphabet, field, *error in (row for row in rows("refused") if row[0] in ALPHABETS):
             given = as_text(field)
             for name in ("decode", "decode_blob", "decode_canonical", "decode_blob_canonical"):
                 call = f"base62_{name}(CAST(? AS TEXT), ?)"
-                self.assertEqual(self.over(alphabet, call, given), said(fault), field)
-            self.assertEqual(self.over(alphabet, "base62_is_text(CAST(? AS TEXT), ?)", given), 0)
-            self.assertEqual(self.over(alphabet, "base62_is_integer(CAST(? AS TEXT), ?)", given), 0)
+                self.assertEqual(self.over(alphabet, call, given), message(error), field)
+            for name in ("is_text", "is_canonical", "is_integer"):
+                self.assertEqual(self.over(alphabet, f"base62_{name}(CAST(? AS TEXT), ?)", given), 0)
 
     def test_widths(self) -> None:
         for alphabet, digits, width, encoded in (row for row in rows("fixed") if row[0] in ALPHABETS):
@@ -151,11 +153,11 @@ class Values(Case):
             for given in [blob(number)] + [number] * (number <= BIGINT):
                 self.assertEqual(self.over(alphabet, "base62_encode_fixed(?, ?, ?)", given, int(width)), encoded)
                 if (alphabet, width) == ("standard", "22"):
-                    self.assertEqual(self.answer("base62_encode_key(?)", given), encoded)
+                    self.assertEqual(self.result("base62_encode_key(?)", given), encoded)
             self.assertEqual(self.over(alphabet, "base62_decode_blob(?, ?)", encoded), blob(number))
         for alphabet, digits, width in (row for row in rows("narrow") if row[0] in ALPHABETS):
             call = "base62_encode_fixed(?, ?, ?)"
-            wanted = WIDTH if width == "0" else said(["narrow"])
+            wanted = WIDTH if width == "0" else message(["narrow"])
             self.assertEqual(self.over(alphabet, call, blob(int(digits)), int(width)), wanted)
 
     def test_prefixes(self) -> None:
@@ -165,12 +167,12 @@ class Values(Case):
 
     def check_prefix(self, width: int, prefix: Any, found: list[str]) -> None:
         for name, place in (("base62_key_first", 1), ("base62_key_last", 2)):
-            wanted = said(found) if found[0] == "byte" else None
+            wanted = message(found) if found[0] == "byte" else None
             if found[0] == "numbers":
-                wanted = self.answer("base62_encode_fixed(?, ?)", blob(int(found[place])), width)
-            self.assertEqual(self.answer(f"{name}(CAST(? AS TEXT), ?)", prefix, width), wanted)
+                wanted = self.result("base62_encode_fixed(?, ?)", blob(int(found[place])), width)
+            self.assertEqual(self.result(f"{name}(CAST(? AS TEXT), ?)", prefix, width), wanted)
             if width == KEY:
-                self.assertEqual(self.answer(f"{name}(CAST(? AS TEXT))", prefix), wanted)
+                self.assertEqual(self.result(f"{name}(CAST(? AS TEXT))", prefix), wanted)
 
     def test_ranges(self) -> None:
         for alphabet, width, prefix, *found in (row for row in rows("range") if row[0] in ALPHABETS):
@@ -180,54 +182,37 @@ class Values(Case):
     def check_range(self, alphabet: str, width: int, prefix: Any, found: list[str]) -> None:
         first, last = (int(found[1]), int(found[2])) if found[0] == "numbers" else (BIGINT + 1, 0)
         for name, number in (("base62_range_first", first), ("base62_range_last", min(last, BIGINT))):
-            wanted = said(found) if found[0] == "byte" else number if first <= BIGINT else None
+            wanted = message(found) if found[0] == "byte" else number if first <= BIGINT else None
             self.assertEqual(self.over(alphabet, f"{name}(CAST(? AS TEXT), ?, ?)", prefix, width), wanted)
 
     def test_uuids(self) -> None:
         for _, name, encoded in rows("uuid"):
-            self.assertEqual(self.answer("base62_encode(?)", bytes.fromhex(name.replace("-", ""))), encoded)
+            self.assertEqual(self.result("base62_encode(?)", bytes.fromhex(name.replace("-", ""))), encoded)
 
     def test_repeats(self) -> None:
         for field, byte, index in rows("repeated"):
             letters = unquote_to_bytes(field)
             if letters.isascii() and b"\0" not in letters:
-                wanted = said(["repeated", byte, index])
-                self.assertEqual(self.answer("base62_encode(1, ?)", letters.decode()), wanted)
+                wanted = message(["repeated", byte, index])
+                self.assertEqual(self.result("base62_encode(1, ?)", letters.decode()), wanted)
 
 
-# Each function with arguments that it takes.
-CALLS = [
-    ("base62_encode", (1337,)),
-    ("base62_encode", (1337, OWN)),
-    ("base62_decode", ("LZ",)),
-    ("base62_decode", ("LZ", OWN)),
-    ("base62_decode_blob", ("LZ",)),
-    ("base62_decode_blob", ("LZ", OWN)),
-    ("base62_decode_canonical", ("LZ",)),
-    ("base62_decode_canonical", ("LZ", OWN)),
-    ("base62_decode_blob_canonical", ("LZ",)),
-    ("base62_decode_blob_canonical", ("LZ", OWN)),
-    ("base62_is_text", ("LZ",)),
-    ("base62_is_text", ("LZ", OWN)),
-    ("base62_is_integer", ("LZ",)),
-    ("base62_is_integer", ("LZ", OWN)),
-    ("base62_encode_key", (1337,)),
-    ("base62_encode_fixed", (1337, 7)),
-    ("base62_encode_fixed", (1337, 7, OWN)),
-    ("base62_key_first", ("1",)),
-    ("base62_key_first", ("1", 7)),
-    ("base62_key_last", ("1",)),
-    ("base62_key_last", ("1", 7)),
-    ("base62_range_first", ("1", 7)),
-    ("base62_range_first", ("1", 7, OWN)),
-    ("base62_range_last", ("1", 7)),
-    ("base62_range_last", ("1", 7, OWN)),
-    ("base62_version", ()),
-]
+def sample(name: str, count: int) -> tuple[Any, ...]:
+    """Arguments that a function accepts: a number or a string, then the width if it takes one, then the alphabet."""
+    first = 1337 if "encode" in name else "1"
+    width = [7] if re.search("fixed|key_|range", name) else []
+    return (first, *width, OWN)[:count]
 
 
-# What answers whether decoding accepts, and refuses no text.
-ASK = "base62_is_text", "base62_is_integer"
+def calls() -> list[tuple[str, tuple[Any, ...]]]:
+    """Each function with such arguments."""
+    db = opened()
+    listed = db.execute("SELECT name, narg FROM pragma_function_list WHERE name LIKE 'base62%'").fetchall()
+    db.close()
+    return [(name, sample(name, count)) for name, count in listed]
+
+
+CALLS = calls()
 
 
 def called(name: str, given: tuple[Any, ...]) -> str:
@@ -236,9 +221,9 @@ def called(name: str, given: tuple[Any, ...]) -> str:
 
 class Arguments(Case):
     def test_functions(self) -> None:
-        """There are these functions and no others."""
-        listed = self.db.execute("SELECT name, narg FROM pragma_function_list WHERE name LIKE 'base62%'").fetchall()
-        self.assertEqual(sorted(listed), sorted((name, len(given)) for name, given in CALLS))
+        """They are those of the table in README."""
+        column = [line.split("|")[2] for line in (HERE.parent / "README.md").read_text().splitlines() if line[:1] == "|"]
+        self.assertEqual({name for name, _ in CALLS}, set(re.findall(r"base62_\w+", "".join(column))))
 
     def test_version(self) -> None:
         """The one that the header has."""
@@ -249,57 +234,61 @@ class Arguments(Case):
         for name, given in CALLS:
             self.assertIsNotNone(self.row(called(name, given), *given)[0])
             for place in range(len(given)):
-                # A null comes before a fault of another argument.
+                # A null comes before an error of another argument.
                 for other in (given, (2.5,) * len(given)):
                     without = *other[:place], None, *other[place + 1 :]
                     self.assertEqual(self.row(called(name, given), *without), (None,))
 
     def test_types(self) -> None:
-        """What an argument of each kind refuses, by the argument that the function takes there."""
-        refused: dict[type, list[tuple[Any, str]]] = {
+        """The errors of a first argument, by the type that the function accepts."""
+        rejected: dict[type, list[tuple[Any, str]]] = {
             int: [(value, NUMBER) for value in (1337.0, 1e300, "1337", "", "1" * 16, b"", b"1" * 15, b"1" * 17)],
             str: [(value, TEXT) for value in (1337, 13.5, b"LZ", b"1" * 62)],
         }
-        refused[int] += [(-1, NEGATIVE), (-(2**63), NEGATIVE)]
-        for name, given in CALLS[:-1]:
-            for value, wanted in refused[type(given[0])]:
-                got = self.answer(called(name, given), value, *given[1:])
-                self.assertEqual(got, 0 if name in ASK else wanted, (name, value))
+        rejected[int] += [(-1, NEGATIVE), (-(2**63), NEGATIVE)]
+        for name, given in (call for call in CALLS if call[1]):
+            for value, wanted in rejected[type(given[0])]:
+                got = self.result(called(name, given), value, *given[1:])
+                self.assertEqual(got, 0 if "_is_" in name else wanted, (name, value))
 
     def test_alphabets(self) -> None:
         no_alphabets = ["", "01", STANDARD[:61], STANDARD + "-", "é" + STANDARD[2:], "é" * 31, "\0" + STANDARD[1:]]
-        faults: list[tuple[Any, str]] = [(value, LETTERS) for value in no_alphabets]
-        faults += [(1, TEXT), (b"1" * 62, TEXT), (REPEATED, "base62: Alphabet repeats the byte b'0' at index 1")]
+        errors: list[tuple[Any, str]] = [(value, LETTERS) for value in no_alphabets]
+        errors += [(1, TEXT), (b"1" * 62, TEXT), (REPEATED, "base62: Alphabet repeats the byte b'0' at index 1")]
         for name, given in CALLS:
             if given[-1:] == (OWN,):
-                for value, wanted in faults:
-                    self.assertEqual(self.answer(called(name, given), *given[:-1], value), wanted)
-        alphabet = "".join(map(chr, range(1, 63)))
-        self.assertEqual(self.row("base62_encode(61, ?)", alphabet), ("\x3e",))
+                for value, wanted in errors:
+                    self.assertEqual(self.result(called(name, given), *given[:-1], value), wanted)
+        for last in (62, 127):
+            alphabet = bytes(range(last - 61, last + 1))
+            self.assertEqual(self.result("base62_encode(61, CAST(? AS TEXT))", alphabet), chr(last))
+            for other in (0, 128, 255):
+                for letters in (bytes([other]) + alphabet[1:], alphabet[:61] + bytes([other])):
+                    self.assertEqual(self.result("base62_encode(61, CAST(? AS TEXT))", letters), LETTERS)
 
     def test_widths(self) -> None:
-        faults = [(value, WIDTH) for value in (0, -1, -(2**63), WIDEST + 1, 2**32 + 7, BIGINT, 7.0, "7", b"7")]
+        errors = [(value, WIDTH) for value in (0, -1, -(2**63), WIDEST + 1, 2**32 + 7, BIGINT, 7.0, "7", b"7")]
         wide = [call for call in CALLS if 7 in call[1]]
         for name, given in wide:
-            for value, wanted in faults:
-                self.assertEqual(self.answer(called(name, given), given[0], value, *given[2:]), wanted)
+            for value, wanted in errors:
+                self.assertEqual(self.result(called(name, given), given[0], value, *given[2:]), wanted)
         self.assertEqual(self.row("base62_encode_fixed(1337, 1000)"), ("LZ".rjust(WIDEST, "0"),))
         self.db.setlimit(sqlite3.SQLITE_LIMIT_LENGTH, 100)
         for call in ("encode_fixed(0, 101)", "encode_fixed(0, 101, ?)", "key_first('0', 101)", "key_last('0', 101)"):
-            self.assertEqual(self.answer("base62_" + call, *[OWN] * call.count("?")), TOO_BIG)
+            self.assertEqual(self.result("base62_" + call, *[OWN] * call.count("?")), TOO_BIG)
 
     def test_changing_letters(self) -> None:
-        """Letters that change from row to row, from run to run of a statement, and after a refusal."""
+        """Letters that change from row to row, from run to run of a statement, and after an error."""
         self.db.execute("CREATE TABLE chosen (id INTEGER PRIMARY KEY, letters TEXT)")
         chosen = OWN, ALTERNATIVE, OWN, STANDARD
         self.db.executemany("INSERT INTO chosen (letters) VALUES (?)", [(letters,) for letters in chosen])
         query = "SELECT base62_encode(1337, letters), base62_encode(id, ?) FROM chosen ORDER BY id"
         wanted = [(text(1337, letters), text(number, OWN)) for number, letters in enumerate(chosen, 1)]
         self.assertEqual(self.db.execute(query, (OWN,)).fetchall(), wanted)
-        refused = {REPEATED: "base62: Alphabet repeats the byte b'0' at index 1", OWN[1:]: LETTERS}
+        errors = {REPEATED: "base62: Alphabet repeats the byte b'0' at index 1", OWN[1:]: LETTERS}
         for letters in (*chosen, REPEATED, *chosen, OWN[1:], OWN):
-            one = refused[letters] if letters in refused else text(1337, letters)
-            self.assertEqual(self.answer("base62_encode(1337, ?)", letters), one)
+            one = errors[letters] if letters in errors else text(1337, letters)
+            self.assertEqual(self.result("base62_encode(1337, ?)", letters), one)
         both = "base62_encode(62, ?1), base62_encode(62, ?2), base62_decode(?3, ?1), base62_encode_fixed(62, 3, ?2)"
         wanted_both = text(62, OWN), text(62, ALTERNATIVE), 62, text(62, ALTERNATIVE).rjust(3, "0")
         self.assertEqual(self.row(both, OWN, ALTERNATIVE, text(62, OWN)), wanted_both)
@@ -317,25 +306,25 @@ class Arguments(Case):
         self.assertEqual(self.db.execute("SELECT own, alternative FROM entry").fetchall(), wanted)
 
     def test_columns(self) -> None:
-        """A column that makes a number of a text shows it by an error."""
+        """A column that has converted a text to a number is an error."""
         self.db.execute("CREATE TABLE wrong (x STRING)")
         self.db.execute("INSERT INTO wrong VALUES ('1E5')")
-        self.assertEqual(self.answer("base62_decode(x) FROM wrong"), TEXT)
+        self.assertEqual(self.result("base62_decode(x) FROM wrong"), TEXT)
 
     def test_utf16(self) -> None:
         for encoding in ("UTF-16le", "UTF-16be"):
             db = opened(before=f"PRAGMA encoding = '{encoding}'")
-            said = db.execute(
+            row = db.execute(
                 "SELECT base62_encode(1337), base62_decode('LZ'), base62_decode(?, ?), base62_encode_fixed(1337, 3, ?),"
                 " base62_key_last('2a', 4)",
                 (text(1337, OWN), OWN, OWN),
             ).fetchone()
-            self.assertEqual(said, ("LZ", 1337, 1337, text(1337, OWN).rjust(3, OWN[0]), "2azz"))
+            self.assertEqual(row, ("LZ", 1337, 1337, text(1337, OWN).rjust(3, OWN[0]), "2azz"))
             db.close()
 
 
 TABLES = """
-CREATE TABLE link (id INTEGER PRIMARY KEY, slug TEXT AS (base62_encode(id)) UNIQUE);
+CREATE TABLE link (id INTEGER PRIMARY KEY, slug TEXT AS (base62_encode(id)) UNIQUE CHECK (base62_is_canonical(slug)));
 CREATE TABLE item (u BLOB PRIMARY KEY, key TEXT AS (base62_encode_key(u)) STORED,
     code TEXT AS (base62_encode_fixed(u, 23)) CHECK (base62_is_text(code) AND base62_decode_blob(code) = u));
 CREATE INDEX item_key ON item (key);
@@ -397,7 +386,7 @@ class Tables(Case):
         self.assertEqual(self.row("* FROM shown WHERE t = ?", some), (some, 1337, "200"))
 
     def test_dump(self) -> None:
-        """A dump comes back, with what is generated."""
+        """A dump is restored, with the generated columns."""
         rows = "SELECT * FROM link", "SELECT u, key, code, base62_encode(u) FROM item ORDER BY u"
         again = opened()
         again.executescript("\n".join(self.db.iterdump()))
@@ -407,9 +396,9 @@ class Tables(Case):
             self.assertEqual(db.execute("PRAGMA integrity_check").fetchall(), [("ok",)])
         again.close()
 
-    def test_without(self) -> None:
-        """What needs the extension, and what does not."""
-        refused = (
+    def test_without_extension(self) -> None:
+        """Which queries need it, and that another does not."""
+        failing = (
             "SELECT slug FROM link",
             "INSERT INTO link VALUES (-1)",
             "INSERT INTO item VALUES (x'00')",
@@ -419,8 +408,8 @@ class Tables(Case):
         with tempfile.TemporaryDirectory() as folder:
             other = sqlite3.connect(folder + "/db")
             self.db.backup(other)
-            for query in refused:
-                with self.assertRaisesRegex(sqlite3.OperationalError, "(unknown|no such) function: base62_encode"):
+            for query in failing:
+                with self.assertRaisesRegex(sqlite3.OperationalError, "(unknown|no such) function: base62_"):
                     other.execute(query)
             read = other.execute("SELECT key FROM item ORDER BY key LIMIT 1").fetchone()
             self.assertEqual(read, ("0" * KEY,))
@@ -438,7 +427,7 @@ class Modules(unittest.TestCase):
             db.close()
 
     def test_busy(self) -> None:
-        """A function that can't be made, since a statement is using it, makes loading an error."""
+        """If a function cannot be created, since a statement uses it, loading fails."""
         db = opened()
         running = db.execute("SELECT base62_key_last(x) FROM (SELECT '1' AS x UNION ALL SELECT '2')")
         next(running)

@@ -1,4 +1,4 @@
-"""Tests of translate/rust: what it writes, what it refuses, and that the judge finds a mistake in it."""
+"""Tests of translate/rust.py: what it writes, what it refuses, and that the judge finds a mistake in it."""
 import re
 import shutil
 import subprocess
@@ -8,77 +8,58 @@ import unittest
 from pathlib import Path
 
 TOP = Path(__file__).resolve().parents[2]
-sys.path.insert(0, str(TOP / "translate/tests"))
-
-from cases import CASES, CLAUSES, NO_TWIN, modules_of_case, modules_of_clause  # noqa: E402: it is found by the line before
-
 # Edits of the source: a file of crates, what stands there, and what comes in its place. Each is refused.
-REFUSED = [
-    ("base62/src/codec/encoder.rt", "    let quotient = x / POWER_2;", "    proof { x }\n    let quotient = x / POWER_2;"),
-    ("base62/src/codec/encoder.rt", "    let quotient = x / POWER_2;", "    prove!(x < 5);\n    let quotient = x / POWER_2;"),
-    ("base62/src/codec/encoder.rt", "    let quotient = x / POWER_2;", "    let quotient = x.wrapping_div(POWER_2);"),
-    ("base62/src/codec/encoder.rt", "    let quotient = x / POWER_2;", "    ghost let y = { x };"),
-    ("base62/src/codec/encoder.rt", "    let quotient = x / POWER_2;", "    let quotient = unsafe { x };"),
-    ("base62/src/codec/encoder.rt", "    (top as u32, high, low)", "    (top as i32, high, low)"),
-    ("base62/src/codec/encoder.rt", "    requires fits { x < 62 ^ 2 }", "    decreases { x }"),
-    ("base62/src/codec/encoder.rt", "fn write_2(", "#[cycle(a)]\nfn write_2("),
-    ("base62/src/codec/decoder.rt", "            return i;", "            continue;"),
-    ("base62/src/codec/decoder.rt", "    for i in 0..part.len() {", "    'digits: for i in 0..part.len() {"),
-    ("base62/src/codec/decoder.rt", "    let mut total = number;", "    let mut total ≔ number;"),
-    ("base62/src/codec/decoder.rt", "    for i in 0..part.len() {", "    for i in 0..part.len() invariant { total } {"),
-    ("base62/src/codec/decoder.rt", "    let mut done = 0;", "    let mut done = 0; /* The rest. */"),
-    ("base62/src/codec/decoder.rt", "    let mut done = 0;", "    let mut done = 0; let work = done;"),
-    ("base62/src/codec/decoder.rt", "    let mut done = 0;", "    let mut done = (0;"),
-    ("base62/src/codec/decoder.rt", "number { number < 62 ^ 5 }", "number { number < length part.now }"),
-    ("base62/src/fault.rt", "use std::fmt::InlineText;", "use std::collections::HashMap;"),
-    ("base62/src/fault.rt", "#[derive(Clone, Copy,", "#[derive(Clone, Copy, Default,"),
-    ("base62/src/fault.rt", "impl error::Error for DecodeError {}", "trait Shown {}"),
-    ("base62/src/fault.rt", "impl error::Error for DecodeError {}", "macro_rules! a { () => {} }"),
-    ("base62/src/fault.rt", "    while left >= 10 {", "    loop {"),
-    ("base62/src/alphabet.rt", "    tables: Tables,\n}", "    tables: Tables,\n    ghost letters: List,\n}"),
-    ("base62/src/alphabet.rt", "    ghost Value = { List ℕ };", "    fn value(&self) {}"),
-    ("base62/src/alphabet.rt", "    ghost eq = { pointwise nat_eq };", "    ghost fn eq() { }"),
-    ("base62/src/alphabet.rt", "prove!(size_of::<Alphabet>", "prove!(align_of::<Alphabet>"),
-    ("base62/src/alphabet.rt", "requires { IsTrue (is_alphabet letters) }", "requires { IsTrue (is_ascending letters) }"),
-    ("base62/src/alphabet.rt", "            return Err(", "            unreachable!(), return Err("),
-    ("base62/src/alphabet.rt", "    pub const fn letters(", "    pub const unsafe fn letters("),
-    ("base62/src/target.rt", "    buf.reserve(letters.len())?;", "    buf.try_reserve(letters.len())?;"),
-    ("base62/src/target.rt", "    Ok(())\n", "    buf.push(1)\n"),
-    ("base62/src/target.rt", "If that is refused, `buf` stays as it was.", "If that is refused, `buf` stays."),
-    ("base62/src/target.rt", 'assert_eq!(rt; text.as_str(), "1LY7VK");', "rt.run();"),
-    ("base62/src/codec.rt", "encode_bytes_counted(num, buf, &mut", "encode_bytes_counted(buf, num, &mut"),
-    ("base62/src/codec.rt", "    encode_over(standard", "    // The text.\r    encode_over(standard"),
-    ("base62/src/codec.rt", "    encode_over(standard", "    // The text.\N{LINE SEPARATOR}\n    encode_over(standard"),
-    ("base62/src/codec.rt", "    encode_over(standard", "\tencode_over(standard"),
-    ("base62/src/codec.rt", "    ensures { EncodesInto", "    requires { 5 ≤ num }\n    ensures { EncodesInto"),
-    ("base62/src/codec.rt", "decode_over(standard_tables(), input, w", "decode_over(input, input, w"),
-    ("base62/src/text.rt", "use std::str;", "use std::snapshot::Snapshot;"),
-    ("base62/src/show.rt", "fmt<W: fmt::Write>", "fmt<V: fmt::Write>"),
-    ("base62/src/powers.rt", "    POWER_10,\n];", "    Natural::of(1),\n];"),
-    ("base62_cli/src/tool.rt", "writer.flush()", "writer.close()"),
-    ("base62_cli/src/reply.rt", "use std::str;", "use std::env;"),
-]
+REFUSED = {
+    "a word that is not known": ("base62/src/powers.rt", "    POWER_10,\n];", "    Natural::of(1),\n];"),
+    "a name of the library that is not known": ("base62/src/fault.rt",
+        "use std::fmt::InlineText;", "use std::collections::HashMap;"),
+    "a call that is not known": ("base62/src/codec/encoder.rt", "x / POWER_2;", "x.wrapping_div(POWER_2);"),
+    "a form of a loop": ("base62/src/fault.rt", "    while left >= 10 {", "    loop {"),
+    "a label": ("base62/src/codec/decoder.rt", "    for i in 0..part.len() {", "    'digits: for i in 0..part.len() {"),
+    "`unsafe`": ("base62/src/codec/encoder.rt", "    let quotient = x / POWER_2;", "    let quotient = unsafe { x };"),
+    "an attribute": ("base62/src/codec/encoder.rt", "fn write_2(", "#[cycle(a)]\nfn write_2("),
+    "a derived trait": ("base62/src/fault.rt", "#[derive(Clone, Copy,", "#[derive(Clone, Copy, Default,"),
+    "an item": ("base62/src/fault.rt", "impl error::Error for DecodeError {}", "trait Shown {}"),
+    "a ghost statement": ("base62/src/codec/encoder.rt", "    let quotient = x / POWER_2;", "    ghost let y = { x };"),
+    "a ghost member": ("base62/src/alphabet.rt", "    ghost Value = { List ℕ };", "    fn value(&self) {}"),
+    "a mark of the proof": ("base62/src/codec/decoder.rt",
+        "    let mut total = number;", "    let mut total ≔ number;"),
+    "a clause of another kind": ("base62/src/codec/encoder.rt",
+        "    requires fits { x < 62 ^ 2 }", "    decreases { x }"),
+    "numbers of two types in a clause": ("base62/src/codec/decoder.rt",
+        "number { number < 62 ^ 5 }", "number { number < length part.now }"),
+    "what a public call requires": ("base62/src/codec.rt",
+        "    ensures { EncodesInto", "    requires { 5 ≤ num }\n    ensures { EncodesInto"),
+    "a clause that never holds": ("base62/src/codec/encoder.rt",
+        "    requires fits { x < 62 ^ 2 }", "    requires fits { x < 0 }"),
+    "an input that is not handed on": ("base62/src/codec.rt",
+        "decode_over(standard_tables(), input, w", "decode_over(input, input, w"),
+    "no twin": ("base62/src/codec.rt", "encode_bytes_counted(num, buf, &mut", "encode_bytes_counted(buf, num, &mut"),
+    "memory that is refused": ("base62/src/target.rt",
+        "    buf.reserve(letters.len())?;", "    buf.try_reserve(letters.len())?;"),
+    "a text about it": ("base62/src/target.rt",
+        "If that is refused, `buf` stays as it was.", "If that is refused, `buf` stays."),
+    "an example": ("base62/src/target.rt", 'assert_eq!(rt; text.as_str(), "1LY7VK");', "rt.run();"),
+    "a comment": ("base62/src/codec/decoder.rt", "    let mut done = 0;", "    let mut done = 0; /* The rest. */"),
+    "a character": ("base62/src/codec.rt", "    encode_over(standard", "    // The text.\r    encode_over(standard"),
+    "a group without an end": ("base62/src/codec/decoder.rt", "    let mut done = 0;", "    let mut done = (0;"),
+    "a word of the program": ("base62_cli/src/tool.rt", "writer.flush()", "writer.close()"),
+}
 
-# Mistakes: what stands in translate/rust or in reader.py, and what comes in its place.
+# Mistakes: what stands in translate/rust.py or in reader.py, and what comes in its place.
 ANOTHER_RULE = r'(r"\(alloc, ", "(")'
 MISTAKES = {
     "an attribute of the prover stays": (r'text = re.sub(rf"\n? *({GHOST_ATTRIBUTE})(?=\n)", "", text)', "pass"),
     "a clause stays": ('{back}".rstrip()', '{back} requires {{}}".rstrip()'),
-    "a module is skipped": ('{"laws", "model", "number", "work"}, ', '{"laws", "model", "number", "work", "show"}, '),
     "a function is skipped": ('"letters_are_distinct"}', '"letters_are_distinct", "greatest"}'),
     "the members of impls are lost": ('if body.strip() else " {}"', 'if 0 else " {}"'),
-    "a call is dropped": (r"base62::laws::\w+)\(\w*\)", r"base62::laws::\w+|write_2)\([^;]*\)"),
-    "what is appended is dropped": (r'(r"(\.push_str\(\w+\))\.unwrap\(\);", r"\1;")', r'(r"\w+\.push_str.*", "")'),
+    "what is appended is dropped": (r'(r"(\.(push_str|extend_from_slice)\([^;]*\))\s*\.unwrap\(\);", r"\1;")',
+                                    r'(r"\w+\.push_str.*", "")'),
     "a test of an alphabet is dropped": ("self.panic_of(item)[1] if", "[] if"),
     "the place of a panic is lost": ('attributes.append("#[track_caller]")', "pass"),
     "parameters are exchanged": ("({', '.join(kept)})", "({', '.join(kept[::-1])})"),
     "two twins have one body": ("other.name == call[1]", 'other.name == call[1].replace("alternative_", "")'),
-    "a cast is narrowed": (ANOTHER_RULE, ANOTHER_RULE + ', ("as u32", "as u8 as u32")'),
     "a cast is widened": (ANOTHER_RULE, ANOTHER_RULE + ', ("n as u64", "n")'),
-    "a comparison is another": (ANOTHER_RULE, ANOTHER_RULE + ', (" > 4 ", " > 5 ")'),
-    "a remainder is a quotient": (ANOTHER_RULE, ANOTHER_RULE + ', (" % 10", " / 10")'),
-    "a power is another": (ANOTHER_RULE, ANOTHER_RULE + ', ("POWER_4", "POWER_3")'),
-    "an error is another": (ANOTHER_RULE, ANOTHER_RULE + ', ("EmptyInput", "ArithmeticOverflow")'),
     "an index is one too great": (ANOTHER_RULE, ANOTHER_RULE + ', ("digit as usize", "digit as usize + 1")'),
     "a text loses its first byte": (r"proved!(\1(\2))", r"proved!(\1(&\2[1..]))"),
     "an input loses its first byte": ("{name}.as_ref()", "{name}.as_ref().split_at(1).1"),
@@ -86,8 +67,6 @@ MISTAKES = {
     "a number is another": ('"num.into()")', '"(num.into() ^ 1)")'),
     "texts are exchanged": ("kept.pop(0)", "kept.pop()"),
     "a power in a clause is too small": (r".pow(\2)", r".pow(\2 - 1)"),
-    "a length in a clause is too small": (r'r"\1.len()"', r'r"(\1.len() - 1)"'),
-    "a clause is too strong": ('("≤", "<=")', '("≤", "<")'),
     "a writer has to have a size": (r'("W: Write", r"\g<0> + ?Sized"),', ""),
     "a feature is wanted nowhere": ("""['#[cfg(feature = "std")]'] if""", "[] if"),
 }
@@ -102,7 +81,7 @@ def copy(folder):
 
 
 def translate(folder):
-    return subprocess.run([sys.executable, folder / "translate/rust"], capture_output=True, text=True)
+    return subprocess.run([sys.executable, folder / "translate/rust.py"], capture_output=True, text=True)
 
 
 def modules(folder):
@@ -116,7 +95,7 @@ def edit(file, old, new):
 
 
 def plant(folder, mistake):
-    file = folder / "translate/rust"
+    file = folder / "translate/rust.py"
     edit(file if mistake[0] in file.read_text() else folder / "translate/reader.py", *mistake)
 
 
@@ -136,16 +115,12 @@ class Writes(Tree):
         (self.folder / "rust/src/key.rs").write_text("edited")
         self.assertEqual((translate(self.folder).returncode, modules(self.folder)), (0, written))
 
-    def test_the_version_of_the_crate(self):
-        version = (TOP / "VERSION").read_text().strip()
-        self.assertIn(f'\nversion = "{version}"\n', (TOP / "rust/Cargo.toml").read_text())
-
 
 class Refuses(Tree):
     def test_forms_that_are_not_known(self):
         written = modules(self.folder)
-        for name, old, new in REFUSED:
-            with self.subTest(f"{name}: {new}"):
+        for kind, (name, old, new) in REFUSED.items():
+            with self.subTest(kind):
                 file = self.folder / "crates" / name
                 text = file.read_text()
                 edit(file, old, new)
@@ -154,66 +129,6 @@ class Refuses(Tree):
                 self.assertRegex(refused.stderr, rf"^crates/{name}:\d+: [^\n]*\n$")
                 self.assertEqual(modules(self.folder), written)
                 file.write_text(text)
-
-
-REQUIRES = "macro_rules! requires { ($clause:expr) => { assert!($clause); }; }\n"
-
-
-class Cases(unittest.TestCase):
-    """Small functions, whose Rust is compiled with checks of overflow."""
-
-    def setUp(self):
-        folder = tempfile.TemporaryDirectory()
-        self.addCleanup(folder.cleanup)
-        self.folder = Path(folder.name)
-        shutil.copytree(TOP / "translate", self.folder / "translate", ignore=shutil.ignore_patterns("__pycache__"))
-        (self.folder / "rust/src").mkdir(parents=True)
-        (self.folder / "rust/src/lib.rs").write_text("")
-
-    def translate(self, texts):
-        """What translate/rust writes of these modules, or else how it refuses them."""
-        source = self.folder / "crates/base62/src"
-        shutil.rmtree(source, ignore_errors=True)
-        source.mkdir(parents=True)
-        for name, text in texts.items():
-            (source / f"{name}.rt").write_text(text)
-        done = translate(self.folder)
-        if done.returncode:
-            self.assertRegex(done.stderr, r"^crates/base62/src/\w+\.rt:\d+: [^\n]*\n$")
-            return None
-        return {name: (self.folder / f"rust/src/{name}.rs").read_text() for name in texts}
-
-    def test_cases(self):
-        texts = {f"{name}_{at}": text.replace("crate::other::", f"crate::other_{at}::")
-                 for at, (*_, before, body) in enumerate(CASES) for name, text in modules_of_case(before, body).items()}
-        texts = self.translate(texts)
-        mods, runs = "".join(f"mod {name};\n" for name in texts), range(len(CASES))
-        lines = "".join(f'    println!("{{}}", case_{at}::run(5));\n' for at in runs)
-        for name, text in {**texts, "main": f"{REQUIRES}{mods}fn main() {{\n{lines}}}\n"}.items():
-            (self.folder / f"{name}.rs").write_text(text)
-        build = ["rustc", "--edition=2021", "-Awarnings", "-Coverflow-checks=on", "main.rs"]
-        subprocess.run(build, cwd=self.folder, check=True)
-        said = subprocess.run(["./main"], cwd=self.folder, check=True, capture_output=True, text=True).stdout.split()
-        for (what, answer, *_), found in zip(CASES, said, strict=True):
-            with self.subTest(what):
-                self.assertEqual(int(found), answer)
-
-    def test_what_is_no_twin(self):
-        twin = NO_TWIN.replace("b: u64, a: u64, work", "a: u64, b: u64, work")
-        self.assertIn("pub fn minus(a: u64, b: u64) -> u64 {\n    a - b\n}", self.translate({"case": twin})["case"])
-        self.assertIsNone(self.translate({"case": NO_TWIN}))
-        self.assertIsNone(self.translate({"case": twin.replace("(a, b, &mut", "(b, a, &mut")}))
-
-    def test_clauses(self):
-        said = {f"clause_{at}": (said, modules_of_clause(clause, parameter)["case"])
-                for at, (clause, parameter, _, said) in enumerate(CLAUSES)}
-        texts = self.translate({name: text for name, (wanted, text) in said.items() if wanted is not None})
-        for name, (wanted, text) in said.items():
-            with self.subTest(text):
-                if wanted is None:
-                    self.assertIsNone(self.translate({name: text}))
-                else:
-                    self.assertEqual(re.findall(r"requires!\((.*)\);", texts[name]), [wanted] * bool(wanted))
 
 
 class Mistakes(unittest.TestCase):
@@ -226,7 +141,7 @@ class Mistakes(unittest.TestCase):
                 done = translate(tree)
                 self.assertNotIn("Traceback", done.stderr)
                 if done.returncode == 0:
-                    judge = [sys.executable, tree / "translate/judge"]
+                    judge = [sys.executable, tree / "translate/judge.py"]
                     self.assertRegex(subprocess.run(judge, capture_output=True, text=True).stderr, "^rust/src/")
 
 

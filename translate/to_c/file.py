@@ -12,7 +12,7 @@ from .writer import Writer
 
 # The names that the prelude has.
 NAMED = re.compile(r"^(?:#define (\w+)|static [^(]*\b(\w+)\(|(?:typedef .*|__extension__ .*|}) (\w+);)", re.M)
-FORMS = {"u8": "%s", "u32": "UINT32_C(%s)", "u64": "UINT64_C(%s)", "usize": "((size_t)%s)"}
+FORMS = {"u8": "%s", "u32": "((uint32_t)%s)", "u64": "UINT64_C(%s)", "usize": "((size_t)%s)"}
 
 
 class Constant(Values):
@@ -45,7 +45,7 @@ class Constant(Values):
             return "{" + ", ".join("'\\''" if c == "'" else f"'{c}'" for c in node.value.token[2:-1]) + "}"
         if node.kind == "number" and of == U128:
             high, low = divmod(node.number, 1 << 64)
-            return f"U128({high:#x}, {low:#x})" if high else f"U128(0, {f'UINT64_C({low})' if low >> 31 else low})"
+            return f"{{{high:#x}, {low:#x}}}" if high else f"{{0, {f'UINT64_C({low})' if low >> 31 else low}}}"
         if node.kind in ("number", "bool") or node.kind in ("cast", "path") and of[0] in INTS and of != U128:
             return self.text(node, of)
         refuse(node.token, "no static value")

@@ -7,11 +7,11 @@ WIDTH = 116
 
 
 def wrapped(line):
-    """The line, or several: cut after commas and semicolons in the fewest parentheses, or before && and ||."""
+    """The line, or several: cut after commas and semicolons in the fewest parentheses and braces, or before && and ||."""
     lines, indent = [], re.match(" *", line)[0]
     while len(line) > WIDTH and not re.match(" *(//|#)", line):
         code = re.sub(r'"(\\.|[^"\\])*"', lambda text: "x" * len(text[0]), line)
-        spots = [(code[:at].count("(") - code[:at].count(")"), -at) for at in range(len(indent) + 8, WIDTH)
+        spots = [(len(re.findall("[({]", code[:at])) - len(re.findall("[)}]", code[:at])), -at) for at in range(len(indent) + 8, WIDTH)
                  if code[at - 2:at] in (", ", "; ") or code[at:at + 3] in ("&& ", "|| ")]
         if not spots:
             break

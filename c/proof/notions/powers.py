@@ -25,7 +25,7 @@ def left(bits):
     return f"(bits == {bits} && n == whole" + (f" / {2**bits:#x})" if bits else ")")
 
 
-print("== after #define U128(high, low) {high, low}")
+print("== after typedef struct u128")
 for k in (2, 4, 5, 10, 20):
     print(f"#define ACSL_62_{k} {62**k}")
 print(f"""/*@ logic integer pow62(integer k) =
@@ -97,11 +97,16 @@ print(f"""/*@ logic integer pow62(integer k) =
     }}
 */
 
+== prove power, greatest, greatest_wide, greatest_narrow: with tables
 == contract power
 requires k <= 10; assigns \\nothing; ensures \\result == pow62(k);
 
 == contract greatest
 assigns \\nothing; ensures value(\\result) + 1 == span_of(k);
+
+== prove u64_ilog2: not split
+== prove u64_ilog2: z3 first
+// Each of its cases alone is harder than all of them, and they are many.
 
 == contract u64_ilog2
 requires n > 0;

@@ -7,7 +7,8 @@ def cases(name, values):
     return " ".join(f"if ({name} == {value}) return;" for value in values)
 
 
-print("""== after typedef char Alphabet_is_base62_alphabet
+print("""== prove standard_letter, standard_byte, alternative_letter, alternative_byte: with tables
+== after typedef char Alphabet_is_base62_alphabet
 /*@ ghost""")
 for tables, letters in (("STANDARD", "standard"), ("ALTERNATIVE", "alternative")):
     print(f"""

@@ -8,7 +8,7 @@ function(add_machine name triple qemu)
     endif()
     foreach(level IN ITEMS ${ARGN})
         set(options -DCMAKE_SYSTEM_NAME=Linux -DCMAKE_SYSTEM_PROCESSOR=${name} -DCMAKE_C_COMPILER=${triple}-gcc
-            -DCMAKE_CROSSCOMPILING_EMULATOR=${qemu} -DBASE62_UNMADE=20 -DBASE62_PAIRS=10000)
+            -DCMAKE_CROSSCOMPILING_EMULATOR=${qemu} -DBASE62_UNINITIALIZED=20 -DBASE62_PAIRS=10000)
         if(NOT level STREQUAL "-O2")
             list(APPEND options -DBUILD_SHARED_LIBS=OFF)
         endif()
@@ -24,12 +24,19 @@ add_machine(aarch64 aarch64-linux-gnu qemu-aarch64 -O2)
 add_machine(riscv64 riscv64-linux-gnu qemu-riscv64 -O2)
 add_machine(s390x s390x-linux-gnu qemu-s390x -O0 -O2 -O3)
 
+# A machine without a system: nothing can be shared, and no program of the tests be linked.
+look_for(bare-metal arm-linux-gnueabihf-gcc)
+if(bare-metal)
+    add_build(bare-metal "${c}" -O2 -DCMAKE_SYSTEM_NAME=Generic -DCMAKE_C_COMPILER=arm-linux-gnueabihf-gcc
+        -DCMAKE_TRY_COMPILE_TARGET_TYPE=STATIC_LIBRARY -DCMAKE_EXE_LINKER_FLAGS=-nostdlib)
+endif()
+
 look_for(windows x86_64-w64-mingw32-gcc x86_64-w64-mingw32-windres wine wineserver)
 if(windows)
     # wine wants a home that exists.
     set(home "${CMAKE_BINARY_DIR}/wine")
     file(MAKE_DIRECTORY "${home}")
-    add_build(windows "${c}" -O2 -DBASE62_UNMADE=200 -DCMAKE_SYSTEM_NAME=Windows -DCMAKE_SYSTEM_PROCESSOR=AMD64
+    add_build(windows "${c}" -O2 -DBASE62_UNINITIALIZED=200 -DCMAKE_SYSTEM_NAME=Windows -DCMAKE_SYSTEM_PROCESSOR=AMD64
         -DCMAKE_C_COMPILER=x86_64-w64-mingw32-gcc -DCMAKE_RC_COMPILER=x86_64-w64-mingw32-windres
         -DCMAKE_CROSSCOMPILING_EMULATOR=wine)
     add_test(NAME windows-ends COMMAND wineserver -w)

@@ -12,7 +12,7 @@ foreach(pair IN ITEMS gcc:g++ clang:clang++)
         continue()
     endif()
     set(by -DCMAKE_C_COMPILER=${compiler} -DCMAKE_CXX_COMPILER=${PROGRAM_${of_c++}})
-    set(static_by ${by} -DBUILD_SHARED_LIBS=OFF -DBASE62_UNMADE=200)
+    set(static_by ${by} -DBUILD_SHARED_LIBS=OFF -DBASE62_UNINITIALIZED=200)
     add_build(${compiler} "${c}" -O2 ${by})
     add_build(${compiler}-standards "${tests}/standards" -O0 ${by})
     add_build(${compiler}-O2-without-int128 "${c}" "-O2 ${without}" ${static_by})
@@ -27,14 +27,24 @@ endforeach()
 if(gcc)
     # CMake itself does not name a folder with a comma to the programs over a shared library in it.
     add_build("gcc in a folder, with a comma" "${c}" -O2 -DCMAKE_C_COMPILER=gcc -DBASE62_TEST=OFF)
-    add_build(gcc-shared-alone "${c}" -O2 -DCMAKE_C_COMPILER=gcc -DBUILD_SHARED_LIBS=ON)
-    add_build(gcc-threads "${c}" "${sanitized}thread" -DCMAKE_C_COMPILER=gcc -DBUILD_SHARED_LIBS=OFF -DBASE62_UNMADE=5)
-    # The optimizer of -O2 leaves out writes that nothing reads, and the analyzer then asks for them.
-    add_build(gcc-analyzer "${c}" "-O1 -fanalyzer" -DCMAKE_C_COMPILER=gcc -DBUILD_SHARED_LIBS=OFF -DBASE62_TEST=OFF)
+    # The static library fits into a shared one, by whatever flags.
+    add_build(gcc-shared-alone "${c}" "-O2 -fno-pie" -DCMAKE_C_COMPILER=gcc -DBUILD_SHARED_LIBS=ON
+        -DCMAKE_EXE_LINKER_FLAGS=-no-pie)
+    add_build(gcc-threads "${c}" "${sanitized}thread" -DCMAKE_C_COMPILER=gcc -DBUILD_SHARED_LIBS=OFF -DBASE62_UNINITIALIZED=5)
+    # The optimizer of -O2 leaves out writes that nothing reads, and the analyzer of a later version may then ask for them.
+    execute_process(COMMAND gcc -dumpversion OUTPUT_VARIABLE version)
+    set(levels -O1)
+    if(version VERSION_LESS 13)
+        list(APPEND levels -O2)
+    endif()
+    foreach(level IN LISTS levels)
+        add_build(gcc-analyzer${level} "${c}" "${level} -fanalyzer" -DCMAKE_C_COMPILER=gcc -DBUILD_SHARED_LIBS=OFF
+            -DBASE62_TEST=OFF)
+    endforeach()
 endif()
 if(clang)
     # No sum and no conversion changes a value, but for those that are named.
-    set(ignored "-fsanitize-ignorelist=${CMAKE_CURRENT_SOURCE_DIR}/wraps.txt")
+    set(ignored "-fsanitize-ignorelist=${CMAKE_CURRENT_SOURCE_DIR}/sanitizer_ignorelist.txt")
     add_build(clang-integers "${c}"
         "${sanitized}undefined,unsigned-integer-overflow,implicit-conversion,local-bounds ${ignored}" ${static_by})
     # No byte that is not set is read. GMP is left out: it is not compiled so.
@@ -44,7 +54,9 @@ if(clang)
     # And where one is, it is found.
     set(planted "${CMAKE_BINARY_DIR}/planted")
     file(COPY "${c}/" DESTINATION "${planted}/c")
-    file(COPY "${c}/../tests/values.tsv" DESTINATION "${planted}/tests")
+    if(NOT EXISTS "${c}/tests/values.tsv")
+        file(COPY "${c}/../tests/values.tsv" DESTINATION "${planted}/c/tests")
+    endif()
     file(READ "${c}/base62.c" code)
     string(REPLACE "uint64_t number = 0;" "uint64_t number;" code "${code}")
     file(WRITE "${planted}/c/base62.c" "${code}")

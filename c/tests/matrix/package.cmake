@@ -28,10 +28,14 @@ if(pkg-config)
     set_tests_properties(pkg-config-consumer PROPERTIES FIXTURES_REQUIRED both
         ENVIRONMENT "PKG_CONFIG_LIBDIR=${CMAKE_BINARY_DIR}/installed-both/lib/pkgconfig")
 endif()
+# The project may be in an older C.
 foreach(way IN ITEMS subdirectory fetch)
-    add_consumer(${way} ${way} STATIC_LIBRARY -DBASE62=${c})
+    add_consumer(${way} ${way} STATIC_LIBRARY -DBASE62=${c} -DCMAKE_C_STANDARD=90)
     add_consumer(${way}-shared ${way} SHARED_LIBRARY -DBASE62=${c} -DBUILD_SHARED_LIBS=ON)
 endforeach()
+
+add_test(NAME package-change-version COMMAND "${CMAKE_COMMAND}" -DBASE62=${c} -DCOPY=${CMAKE_BINARY_DIR}/changed
+    -P "${CMAKE_CURRENT_SOURCE_DIR}/change_version.cmake")
 
 # Installed with a project that it is a part of.
 set(prefix "${CMAKE_BINARY_DIR}/installed-with-project")

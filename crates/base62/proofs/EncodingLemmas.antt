@@ -1,9 +1,11 @@
 -- The answer of encoding into a buffer.
-use Rattle.std.proofs.Common.{◌≡◌, ℕ, ◌+◌, ◌^◌, ◌<◌, ◌≤◌, List, length, take, Ok, Err, refl, arith}
+use Rattle.std.proofs.Common.{◌≡◌, ℕ, ◌+◌, ◌^◌, ◌<◌, ◌≤◌, List, ◌++◌, length, take, Ok, Err, refl, sym, ◌∙◌, arith}
 use Rattle.std.proofs.lemmas.Bool.{false≢true}
+use Rattle.std.proofs.lemmas.List.{take_all, take_at}
 use Rattle.base62.specs.declared.fault.EncodeError.TheVariants.{BufferTooSmall}
 use Rattle.base62.specs.Alphabet.{IsAlphabet}
 use Rattle.base62.specs.Canonical.{IsCanonical, DigitCount}
+use Rattle.base62.specs.Decoding.{decoding}
 use Rattle.base62.specs.Fixed.{fixed, WritesFixed}
 use Rattle.base62.specs.Steps.{EncodesCounted, encoding_steps}
 use Rattle.base62.proofs.FixedLemmas.{length-fixed, digit_count_some, digit_count_exact, digit_count_canonical}
@@ -33,6 +35,20 @@ module _ (B : List ℕ) (ok : IsAlphabet B) (n count : ℕ) (small : n < 2 ^ 128
         steps = steps;
         most = omega (arith, most_steps count few);
       }
+
+  -- where they fill it, it is the text, also as the front of something longer
+  module _ (old new behind : List ℕ) (len : ℕ) (full : length old ≡ count) (is : len ≡ count) (writes : WritesFixed B count n old new) where
+    filled : take len (new ++ behind) ≡ fixed B count n
+    filled =
+        let size : length new ≡ count = omega (arith, full, written_length B count n old new writes (omega arith)) in
+        let front : take len (new ++ behind) ≡ new = rw is (take_at new behind count size) in
+        front ∙ sym (take_all count new (omega (arith, size))) ∙ written_front B count n old new writes
+
+    pub filled_canonical : IsCanonical B (take len (new ++ behind)) n
+    filled_canonical = rw filled (digit_count_canonical B ok n count has)
+
+    pub filled_back : decoding B (take len (new ++ behind)) ≡ Ok n
+    filled_back = decoding-denotes B ok n small (take len (new ++ behind)) filled_canonical.denotes
 
   -- where they do not, nothing is
   pub encodes_none : (old : List ℕ) (before : ℕ) → length old < count

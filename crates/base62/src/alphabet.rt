@@ -60,13 +60,17 @@ impl Model for Alphabet {
 impl Alphabet {
     /// The alphabet of these letters, which may be any bytes, ASCII or not.
     ///
-    /// `Err(Repeated(byte, index))` comes exactly if a byte is repeated. The index is the least one
-    /// whose byte stands at an earlier index too. The call takes no memory.
+    /// The call takes no memory.
     ///
     /// ```rust
     /// let repeated = base62::Alphabet::new([b'a'; 62]);
     /// assert_eq!(rt; repeated.err(), Some(base62::AlphabetError::Repeated(b'a', 1)));
     /// ```
+    ///
+    /// # Errors
+    ///
+    /// `Repeated(byte, index)` if a byte is repeated. The index is the least one whose byte stands at an
+    /// earlier index too.
     pub const fn new(letters: [u8; 62]) -> Result<Alphabet, AlphabetError>
         ensures ok { IfOk result (λ alphabet. alphabet ≡ letters) }
         ensures accepted { IsOk result ↔ IsAlphabet letters }

@@ -21,7 +21,7 @@ pub const MAX_DIGITS: usize = 22;
 /// assert_eq!(rt; base62::digit_count(u128::MAX), 22);
 /// ```
 #[inline(always)]
-pub fn digit_count(n: u128) -> usize
+pub const fn digit_count(n: u128) -> usize
     ensures counted { DigitCount n result }
     ensures exact { (B text : List ℕ) → IsAlphabet B → IsCanonical B text n → length text ≡ result }
     ensures within { (k : ℕ) → 0 < k → n < 62 ^ k → result ≤ k }
@@ -36,7 +36,7 @@ pub fn digit_count(n: u128) -> usize
 
 // The count of a number of 64 bits, or of more.
 #[inline(always)]
-fn letter_count(n: u128) -> usize
+const fn letter_count(n: u128) -> usize
     ensures { DigitCount n result }
 {
     if n <= 0xffffffff_ffffffff {
@@ -48,7 +48,7 @@ fn letter_count(n: u128) -> usize
 
 // A letter holds almost six bits. The highest bit tells the number of letters, or one less.
 #[inline(always)]
-fn narrow_count(n: u64) -> usize
+const fn narrow_count(n: u64) -> usize
     ensures { DigitCount n result }
 {
     if n == 0 {
@@ -60,7 +60,7 @@ fn narrow_count(n: u64) -> usize
 }
 
 #[inline(always)]
-fn wide_count(n: u128) -> usize
+const fn wide_count(n: u128) -> usize
     requires { 2 ^ 64 ≤ n }
     ensures { DigitCount n result }
 {

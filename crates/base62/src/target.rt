@@ -7,7 +7,9 @@ ghost use Rattle.base62.specs.Encoding.{AnswersCanonical, AppendsTo, WritesCanon
 ghost use Rattle.base62.specs.Tables.{AreTables};
 ghost use Rattle.base62.specs.Uuid.{uuid_number};
 
-use crate::alphabet::{Alphabet, Tables, alternative_tables, standard_tables};
+use crate::alphabet::{Alphabet, Tables, Work, alternative_tables, standard_tables};
+use crate::codec::encoder::write_text;
+use crate::count::{MAX_DIGITS, digit_count};
 use crate::number::Number;
 use crate::text::Text;
 use std::alloc::{AllocError, Global};
@@ -78,6 +80,7 @@ pub fn encode_with<T: Number>(
 /// ```
 ///
 /// [`decode_uuid`]: crate::decode_uuid
+#[inline]
 #[tactic(auto, using(crate::proofs::CanonicalLemmas::ascii_texts))]
 pub fn encode_uuid(alloc: Global, uuid: [u8; 16]) -> Result<String, AllocError>
     ensures { AnswersCanonical standard (uuid_number uuid) result }
@@ -92,6 +95,7 @@ pub fn encode_uuid(alloc: Global, uuid: [u8; 16]) -> Result<String, AllocError>
 /// let text = base62::encode_alternative_uuid(rt.alloc(), uuid)?;
 /// assert_eq!(rt; text.as_str(), "lz");
 /// ```
+#[inline]
 #[tactic(auto, using(crate::proofs::CanonicalLemmas::ascii_texts))]
 pub fn encode_alternative_uuid(alloc: Global, uuid: [u8; 16]) -> Result<String, AllocError>
     ensures { AnswersCanonical alternative (uuid_number uuid) result }
@@ -110,6 +114,7 @@ pub fn encode_alternative_uuid(alloc: Global, uuid: [u8; 16]) -> Result<String, 
 ///     assert_eq!(rt; text.as_str(), "lz");
 /// }
 /// ```
+#[inline]
 #[tactic(auto, using(crate::proofs::CanonicalLemmas::ascii_texts))]
 pub fn encode_uuid_with(
     alloc: Global,
@@ -185,16 +190,25 @@ fn number_of_uuid(uuid: [u8; 16]) -> u128
     u128::from_be_bytes(uuid)
 }
 
-// The text over the alphabet of the tables, in a string.
+// As many bytes as the longest text has.
+static ZEROS: [u8; MAX_DIGITS] = [0; MAX_DIGITS];
+
+// The text over the alphabet of the tables, in a string: written in place, not copied.
+#[inline]
 #[tactic(auto, using(crate::proofs::CanonicalLemmas::ascii_texts))]
 fn string_over<T: Number>(alloc: Global, tables: &Tables, num: T) -> Result<String, AllocError>
     requires tables { AreTables tables.now }
     requires ascii { IsAscii tables.now.letters }
     ensures { AnswersCanonical tables.now.letters (T.meaning num) result }
 {
-    let mut text = Text::new();
-    text.set(tables, num);
-    String::from_str(alloc, text.as_str())
+    let n = num.number();
+    let len = digit_count(n);
+    let mut bytes = Vec::with_capacity(alloc, len)?;
+    // There is room now.
+    bytes.extend_from_slice(&ZEROS[..len]).unwrap();
+    write_text(tables, n, len, bytes.as_mut_slice(), &mut Work::new());
+    // SAFETY: the letters are ASCII.
+    Ok(unsafe { String::from_utf8_unchecked(bytes) })
 }
 
 // Appends the text over the alphabet of the tables. A string of Rattle lends its bytes to no
@@ -227,15 +241,19 @@ fn append_copy(tables: &Tables, n: u128, buf: &mut String) -> Result<(), AllocEr
 
 /// Writes the standard text of `num`, which has 1 to 22 letters, to `w`.
 ///
-/// The text is handed to the writer whole, and the writer is not flushed. `Err` is the error of the
-/// writer's `write_all`. How many bytes the writer had taken by then is not specified. The call
-/// takes no memory of its own.
+/// The text is handed to the writer whole, and the writer is not flushed. The call takes
+/// no memory of its own.
 ///
 /// ```rust
 /// let mut out = Vec::new(rt.alloc());
 /// base62::encode_io(1337_u64, &mut out)?;
 /// assert_eq!(rt; out.as_slice(), b"LZ".as_slice());
 /// ```
+///
+/// # Errors
+///
+/// The error of the writer's `write_all`. How many bytes the writer had taken by then is not
+/// specified.
 pub fn encode_io<T: Number, W: Write>(num: T, w: &mut W) -> io::Result<()>
     ensures { OnOk result
         (WritesCanonical standard (T.meaning num) (W.contents w.old) (W.contents w.new)) }
@@ -250,6 +268,10 @@ pub fn encode_io<T: Number, W: Write>(num: T, w: &mut W) -> io::Result<()>
 /// base62::encode_alternative_io(1337_u64, &mut out)?;
 /// assert_eq!(rt; out.as_slice(), b"lz".as_slice());
 /// ```
+///
+/// # Errors
+///
+/// Those of [`encode_io`].
 pub fn encode_alternative_io<T: Number, W: Write>(num: T, w: &mut W) -> io::Result<()>
     ensures { OnOk result
         (WritesCanonical alternative (T.meaning num) (W.contents w.old) (W.contents w.new)) }
@@ -265,6 +287,10 @@ pub fn encode_alternative_io<T: Number, W: Write>(num: T, w: &mut W) -> io::Resu
 /// base62::encode_io_with(&alphabet, 1337_u64, &mut out)?;
 /// assert_eq!(rt; out.as_slice(), b"lz".as_slice());
 /// ```
+///
+/// # Errors
+///
+/// Those of [`encode_io`].
 pub fn encode_io_with<T: Number, W: Write>(alphabet: &Alphabet, num: T, w: &mut W) -> io::Result<()>
     ensures { OnOk result
         (WritesCanonical alphabet.now (T.meaning num) (W.contents w.old) (W.contents w.new)) }

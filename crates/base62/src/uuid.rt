@@ -13,9 +13,8 @@ use crate::laws::letters_are_distinct;
 
 /// The UUID of a text: the sixteen bytes of the number that [`decode`] answers, the highest first.
 ///
-/// `Err` comes exactly if [`decode`] answers it, with the same fault. Each number below 2^128 is
-/// that of one UUID, whose version and variant are not looked at. The text of a UUID's number gives
-/// the UUID back. The call takes no memory.
+/// Each number below 2^128 is that of one UUID, whose version and variant are not looked at. The
+/// text of a UUID's number gives the UUID back. The call takes no memory.
 ///
 /// ```rust
 /// let uuid = base62::decode_uuid(b"LZ").unwrap();
@@ -23,6 +22,10 @@ use crate::laws::letters_are_distinct;
 /// ```
 ///
 /// [`decode`]: crate::decode
+///
+/// # Errors
+///
+/// Those of [`decode`].
 #[tactic(auto, using(crate::proofs::AlphabetLemmas::standard_is_alphabet))]
 pub fn decode_uuid(input: &[u8]) -> Result<[u8; 16], DecodeError>
     ensures { DecodesUuid standard input.now result }
@@ -36,6 +39,10 @@ pub fn decode_uuid(input: &[u8]) -> Result<[u8; 16], DecodeError>
 /// let uuid = base62::decode_alternative_uuid(b"lz").unwrap();
 /// assert_eq!(rt; uuid, [0, 0, 0, 0, 0, 0, 0, 0, 0, 0, 0, 0, 0, 0, 5, 57]);
 /// ```
+///
+/// # Errors
+///
+/// Those of [`decode_uuid`].
 #[tactic(auto, using(crate::proofs::AlphabetLemmas::alternative_is_alphabet))]
 pub fn decode_alternative_uuid(input: &[u8]) -> Result<[u8; 16], DecodeError>
     ensures { DecodesUuid alternative input.now result }
@@ -50,6 +57,10 @@ pub fn decode_alternative_uuid(input: &[u8]) -> Result<[u8; 16], DecodeError>
 /// let uuid = base62::decode_uuid_with(&alphabet, b"lz").unwrap();
 /// assert_eq!(rt; uuid, [0, 0, 0, 0, 0, 0, 0, 0, 0, 0, 0, 0, 0, 0, 5, 57]);
 /// ```
+///
+/// # Errors
+///
+/// Those of [`decode_uuid`].
 pub fn decode_uuid_with(alphabet: &Alphabet, input: &[u8]) -> Result<[u8; 16], DecodeError>
     ensures { DecodesUuid alphabet.now input.now result }
 {
@@ -62,8 +73,7 @@ pub fn decode_uuid_with(alphabet: &Alphabet, input: &[u8]) -> Result<[u8; 16], D
 ///
 /// `Ok(Some(uuid))` comes exactly for the text that [`encode_bytes`] writes for the UUID's number,
 /// so one text alone gives each UUID. `Ok(None)` comes exactly if [`decode_uuid`] gives a UUID, but
-/// `input` begins with a needless zero. `Err` comes exactly if [`decode`] answers it, with the same
-/// fault. The call takes no memory.
+/// `input` begins with a needless zero. The call takes no memory.
 ///
 /// ```rust
 /// let uuid = base62::decode_uuid_canonical(b"LZ").unwrap();
@@ -74,6 +84,10 @@ pub fn decode_uuid_with(alphabet: &Alphabet, input: &[u8]) -> Result<[u8; 16], D
 /// [`decode`]: crate::decode
 /// [`decode_canonical`]: crate::decode_canonical
 /// [`encode_bytes`]: crate::encode_bytes
+///
+/// # Errors
+///
+/// Those of [`decode`].
 pub fn decode_uuid_canonical(input: &[u8]) -> Result<Option<[u8; 16]>, DecodeError>
     ensures { DecodesUuidCanonical standard input.now result }
 {
@@ -85,6 +99,10 @@ pub fn decode_uuid_canonical(input: &[u8]) -> Result<Option<[u8; 16]>, DecodeErr
 /// ```rust
 /// assert_eq!(rt; base62::decode_alternative_uuid_canonical(b"0lz"), Ok(None));
 /// ```
+///
+/// # Errors
+///
+/// Those of [`decode_uuid_canonical`].
 pub fn decode_alternative_uuid_canonical(input: &[u8]) -> Result<Option<[u8; 16]>, DecodeError>
     ensures { DecodesUuidCanonical alternative input.now result }
 {
@@ -97,6 +115,10 @@ pub fn decode_alternative_uuid_canonical(input: &[u8]) -> Result<Option<[u8; 16]
 /// let alphabet = base62::Alphabet::alternative();
 /// assert_eq!(rt; base62::decode_uuid_canonical_with(&alphabet, b"0lz"), Ok(None));
 /// ```
+///
+/// # Errors
+///
+/// Those of [`decode_uuid_canonical`].
 pub fn decode_uuid_canonical_with(
     alphabet: &Alphabet,
     input: &[u8],

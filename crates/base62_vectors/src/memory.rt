@@ -93,7 +93,7 @@ fn are_texts_read() -> bool {
         && key_range(b"7n") == Ok(Some((340236514539200045093703517809706795008, u128::MAX)))
 }
 
-// Says which step was refused memory, for `.ci/refused-memory`, which has each request refused in turn. The
+// Says in which step an allocation failed, for `.ci/failed-allocations`, which has each request fail in turn. The
 // last step is there for it to see that the calls made no further request.
 #[test]
 fn refused_memory(rt: HostRuntime) -> Result<(), Fail> {

@@ -20,25 +20,28 @@ pub fn high_letters() -> [u8; 62] {
     std::array::from_fn(|digit| 194 + digit as u8)
 }
 
-/// A file of the clone. In a packed crate it is beside the tests.
-pub fn shared(file: &str) -> String {
-    let (_, name) = file.rsplit_once('/').unwrap();
-    let folder = Path::new(env!("CARGO_MANIFEST_DIR"));
-    let packed = folder.join("tests").join(name);
-    let clone = folder.join("..").join(file);
-    let file = if packed.exists() { packed } else { clone };
-    fs::read_to_string(&file).unwrap_or_else(|fault| panic!("{}: {fault}", file.display()))
-}
-
-/// The values that the tests of all packages share.
-fn values() -> &'static str {
-    static VALUES: OnceLock<String> = OnceLock::new();
-    VALUES.get_or_init(|| shared("tests/values.tsv"))
+/// The values that the tests of all packages share. `make dist` packs them beside the tests. A crate that cargo alone has
+/// packed lacks them.
+fn values() -> Option<&'static str> {
+    static VALUES: OnceLock<Option<String>> = OnceLock::new();
+    let read = || {
+        let folder = Path::new(env!("CARGO_MANIFEST_DIR"));
+        let files = ["../tests/values.tsv", "tests/values.tsv"].map(|file| folder.join(file));
+        let found = files.iter().find(|file| file.exists());
+        let is_packed = folder.join("Cargo.toml.orig").exists();
+        assert!(found.is_some() || is_packed, "values.tsv is missing");
+        found.map(|file| fs::read_to_string(file).unwrap())
+    };
+    VALUES.get_or_init(read).as_deref()
 }
 
 /// The rows of a kind in tests/values.tsv, whose head tells of them, without the kind.
 pub fn rows(kind: &str) -> Vec<Vec<&'static str>> {
-    let lines = values().lines();
+    let Some(values) = values() else {
+        eprintln!("left out: values of {kind}, which the repository has in tests/values.tsv");
+        return Vec::new();
+    };
+    let lines = values.lines();
     let all = lines.map(|line| line.split('\t').collect::<Vec<_>>());
     let found: Vec<_> = all
         .filter(|row| row[0] == kind)

@@ -74,8 +74,8 @@ fn tell(rt: &HostRuntime, name: &str, is_told: bool) -> Result<(), Fail> {
     Ok(())
 }
 
-// Says which run was refused memory. `.ci/refused-memory` reads this, has each request refused in
-// turn, and wants as many requests of each run as are told here. The last step shows it that the
+// Says in which run an allocation failed. `.ci/failed-allocations` reads this, has each request fail
+// in turn, and wants as many requests of each run as are told here. The last step shows it that the
 // runs made no further request.
 #[test]
 fn refused_memory(rt: HostRuntime) -> Result<(), Fail> {

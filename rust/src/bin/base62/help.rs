@@ -1,45 +1,70 @@
 // SPDX-License-Identifier: MIT
 // Copyright (c) 2026 the maintainers of base62 for Rattle
 
-//! What help prints. A test runs the examples.
+//! The help, which is also the list of the options: the program parses its arguments by it, and `tests/share` writes
+//! the manual page and the completions from it. A test runs the examples.
 
 pub(crate) const VERSION: &str = concat!("base62 ", env!("CARGO_PKG_VERSION"), "\n");
 
+/// An option.
+#[derive(Clone, Copy, PartialEq)]
+pub(crate) struct Flag {
+    pub(crate) short: &'static str,
+    pub(crate) long: &'static str,
+    pub(crate) needs_value: bool,
+}
+
+/// The options that a help lists, in lines such as `  -w, --width N  ..`.
+pub(crate) fn flags(help: &'static str) -> impl Iterator<Item = Flag> {
+    help.lines().filter_map(|line| {
+        let (names, _) = line.strip_prefix("  ")?.split_once("  ")?;
+        let (short, long) = names.split_once(", ")?;
+        let mut words = long.split(' ');
+        Some(Flag {
+            short,
+            long: words.next()?,
+            needs_value: words.next().is_some(),
+        })
+    })
+}
+
 pub(crate) const COMMAND: &str = "\
 Usage: base62 SUBCOMMAND [OPTION].. [OPERAND]..
-Writes numbers below 2^128 as short texts of 0 to 9, A to Z and a to z, or of 62
-letters of your own, and reads them back.
+Encodes unsigned integers below 2^128 as short strings of 0 to 9, A to Z and
+a to z, or of a custom alphabet, and decodes them.
 
-  encode [NUMBER]..  print the text of each number
-  decode [TEXT]..    print the number of each text
+  encode [NUMBER]..  print each number as an encoded string
+  decode [TEXT]..    print the number that each string represents
   range [PREFIX]..   print the least and the greatest number of each prefix
-  help, -h, --help   print this help, or that of a subcommand
+  help [SUBCOMMAND]  print this help, or that of a subcommand
+
+  -h, --help         print this help, or that of a subcommand
   -V, --version      print the version
 
-Without an operand, a subcommand answers each line of standard input. Each
-operand or line gives one line: an empty one if it is bad.
+Without an operand, a subcommand reads the lines of standard input. For each
+operand or line it prints one line, which is empty if the input is invalid.
 
-Without arguments, base62 answers lines that begin with enc, dec, alt or adc.
+Without arguments, base62 reads lines that begin with enc, dec, alt or adc.
 
   $ echo enc 1337 | base62
   LZ
 
 Exit status:
-  0  all is answered
-  1  an input is bad, or a read, a write or a request for memory fails
-  2  an argument is wrong
+  0  all inputs are valid
+  1  an input is invalid, or a read, a write or an allocation fails
+  2  an argument is invalid
 ";
 
 pub(crate) const ENCODE: &str = "\
 Usage: base62 encode [OPTION].. [NUMBER]..
-Prints the text of each decimal number, or of each line of standard input.
-Spaces and tabs around a number are ignored. A bad one gives an empty line.
+Encodes each decimal number, or each line of standard input. Spaces and tabs
+around a number are ignored. An invalid number gives an empty line.
 
-  -a, --alternative      letters 0 to 9, a to z, A to Z
-  -l, --letters LETTERS  62 letters of your own, the zero first
-  -w, --width N          print texts of N letters, with zeros in front
+  -a, --alternative      use the alphabet 0 to 9, a to z, A to Z
+  -l, --letters LETTERS  use a custom alphabet of 62 characters, the zero first
+  -w, --width N          print exactly N characters, padded with leading zeros
   -u, --uuid             read numbers as UUIDs
-  -x, --hex              read hexadecimal numbers, with 0x in front or without
+  -x, --hex              read hexadecimal numbers, with or without 0x
 
   $ echo 1337 | base62 encode -w 4
   00LZ
@@ -47,12 +72,12 @@ Spaces and tabs around a number are ignored. A bad one gives an empty line.
 
 pub(crate) const DECODE: &str = "\
 Usage: base62 decode [OPTION].. [TEXT]..
-Prints the number of each text, or of each line of standard input. A bad one
-gives an empty line.
+Decodes each string, or each line of standard input. An invalid string gives an
+empty line.
 
-  -a, --alternative      letters 0 to 9, a to z, A to Z
-  -l, --letters LETTERS  62 letters of your own, the zero first
-  -s, --strict           refuse needless zeros in front of a text
+  -a, --alternative      use the alphabet 0 to 9, a to z, A to Z
+  -l, --letters LETTERS  use a custom alphabet of 62 characters, the zero first
+  -s, --strict           reject strings with leading zeros
   -u, --uuid             print numbers as UUIDs
   -x, --hex              print hexadecimal numbers
 
@@ -63,12 +88,12 @@ gives an empty line.
 pub(crate) const RANGE: &str = "\
 Usage: base62 range [OPTION].. [PREFIX]..
 For each prefix, or each line of standard input, prints the least and the
-greatest number below 2^128 whose text begins with it. A bad prefix, with which
-no text begins, gives an empty line.
+greatest number below 2^128 whose encoded string begins with it. An invalid
+prefix, with which no string begins, gives an empty line.
 
-  -a, --alternative      letters 0 to 9, a to z, A to Z
-  -l, --letters LETTERS  62 letters of your own, the zero first
-  -w, --width N          take texts of N letters; without this option, of 22
+  -a, --alternative      use the alphabet 0 to 9, a to z, A to Z
+  -l, --letters LETTERS  use a custom alphabet of 62 characters, the zero first
+  -w, --width N          for strings of N characters, which are 22 by default
 
   $ base62 range -w 5 000L
   1302 1363

@@ -1,11 +1,11 @@
 // SPDX-License-Identifier: MIT
 // Copyright (c) 2026 the maintainers of base62 for Rattle
 
-//! Bytes that grow, and say if memory is refused. With a `Vec` of Rust the program would end then.
+//! A buffer that returns an error if an allocation fails. With a `Vec` the program would end then.
 
 use std::io::{self, ErrorKind, Write};
 
-/// A `Vec<u8>` with the calls that the source makes.
+/// A `Vec<u8>` with the calls that the program needs.
 pub(crate) struct Bytes(Vec<u8>);
 
 impl Bytes {
@@ -20,18 +20,47 @@ impl Bytes {
     pub(crate) fn clear(&mut self) {
         self.0.clear();
     }
+
+    pub(crate) fn truncate(&mut self, length: usize) {
+        self.0.truncate(length);
+    }
+
+    /// Appends zero bytes, and returns them.
+    pub(crate) fn extend(&mut self, count: usize) -> io::Result<&mut [u8]> {
+        self.reserve(count)?;
+        let start = self.0.len();
+        self.0.resize(start + count, 0);
+        Ok(&mut self.0[start..])
+    }
+
+    fn reserve(&mut self, count: usize) -> io::Result<()> {
+        let reserved = self.0.try_reserve(count);
+        reserved.map_err(|_| ErrorKind::OutOfMemory.into())
+    }
 }
 
 impl Write for Bytes {
-    /// Appends all of the bytes. If memory is refused, it appends none.
+    /// Appends all bytes, or none if an allocation fails.
     fn write(&mut self, bytes: &[u8]) -> io::Result<usize> {
-        match self.0.try_reserve(bytes.len()) {
-            Ok(()) => self.0.write(bytes),
-            Err(_) => Err(ErrorKind::OutOfMemory.into()),
-        }
+        self.reserve(bytes.len())?;
+        self.0.write(bytes)
     }
 
     fn flush(&mut self) -> io::Result<()> {
         Ok(())
     }
+}
+
+/// A long line is read in parts. If each of them moved those before it, the time would be quadratic.
+#[cfg(test)]
+#[test]
+fn capacity_is_amortized() {
+    let mut bytes = Bytes::new();
+    let mut capacities = Vec::new();
+    for _ in 0..10_000 {
+        bytes.write_all(b"0").unwrap();
+        capacities.push(bytes.0.capacity());
+    }
+    capacities.dedup();
+    assert!(capacities.len() < 20, "{capacities:?}");
 }

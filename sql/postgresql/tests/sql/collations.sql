@@ -1,6 +1,9 @@
 -- SPDX-License-Identifier: MIT
 -- Copyright (c) 2026 the maintainers of base62 for Rattle
--- Keys in a database that sorts by a language, of a user who is no superuser.
+-- Keys in a database that sorts by the rules of a language, of a user who is not a superuser.
+\set ECHO none
+\pset format unaligned
+\pset tuples_only on
 SET client_min_messages = warning;
 DROP DATABASE IF EXISTS contrib_regression_language;
 DROP ROLE IF EXISTS regress_base62;
@@ -21,22 +24,22 @@ INSERT INTO code SELECT i * 461168601842738 FROM generate_series(0, 20000) i;
 INSERT INTO plain SELECT u, key, key FROM item;
 ANALYZE item, code, plain;
 
--- What functions return.
+\echo The collations of results
 \set own '\'zyxwvutsrqponmlkjihgfedcbaZYXWVUTSRQPONMLKJIHGFEDCBA9876543210\''
-SELECT DISTINCT pg_collation_for(answer) FROM (VALUES (base62_encode_key(1)),
+SELECT DISTINCT pg_collation_for(result) FROM (VALUES (base62_encode_key(1)),
     (base62_encode_key_uuid(gen_random_uuid())), (base62_encode_fixed(1, 5)), (base62_encode_fixed(1, 5, :own::text)),
     (base62_encode_fixed_uuid(gen_random_uuid(), 22, :own)), (base62_key_first('1')), (base62_key_first('1', 4)),
-    (base62_key_last('1')), (base62_key_last('1', 4))) answers (answer);
+    (base62_key_last('1')), (base62_key_last('1', 4))) results (result);
 SELECT pg_collation_for(base62_encode_key(1)) key, pg_collation_for(base62_encode_fixed(1, 5, :own::text)) fixed,
     pg_collation_for(base62_key_first('1'::text)) first, pg_collation_for(base62_key_last('1'::text, 4)) last,
     pg_collation_for(base62_encode(1)) encoded;
 
--- Keys sort as their numbers, and in a text column they do not.
+\echo Keys sort in numeric order, and in a text column they do not
 SELECT count(*) FROM (SELECT u, lag(u) OVER (ORDER BY key) p FROM item) i WHERE p >= u;
 SELECT count(*) FROM (SELECT id, lag(id) OVER (ORDER BY code) p FROM code) i WHERE p >= id;
 SELECT count(*) > 1000 FROM (SELECT u, lag(u) OVER (ORDER BY key) p FROM plain) i WHERE p >= u;
 
--- How many rows have a prefix, and how many more or fewer each other way finds.
+\echo Whether rows have a prefix, and how many more or fewer BETWEEN, LIKE and UUIDs find
 SELECT p prefix, count(*) FILTER (WHERE starts_with(key, p)) > 0 has,
     count(*) FILTER (WHERE starts_with(key, p))
     - count(*) FILTER (WHERE key BETWEEN base62_key_first(p) AND base62_key_last(p)) "between",
@@ -45,7 +48,7 @@ SELECT p prefix, count(*) FILTER (WHERE starts_with(key, p)) > 0 has,
         (WHERE u BETWEEN base62_decode_uuid(base62_key_first(p)) AND base62_decode_uuid(base62_key_last(p))) "uuid"
     FROM item, (VALUES ('2'), ('7n'), ('1a'), ('0000000'), ('')) prefixes (p) GROUP BY p ORDER BY p;
 
--- Over text columns: by constants, by the functions, by parameters of type text, and by an index.
+\echo In text columns: constants, the functions, parameters of type text, an index, and a declared collation
 SELECT count(*) FILTER (WHERE starts_with(key, '2a')) <> count(*) FILTER (WHERE key BETWEEN '2a' || repeat('0', 20)
     AND '2a' || repeat('z', 20)) wrong FROM plain;
 SELECT count(*) FILTER (WHERE starts_with(key, '2a')) - count(*) FILTER

@@ -1,25 +1,31 @@
 -- SPDX-License-Identifier: MIT
 -- Copyright (c) 2026 the maintainers of base62 for Rattle
--- Functions, their attributes, and the names of their arguments.
+-- Functions, their attributes and arguments, and custom alphabets that change.
+\set ECHO none
+\pset format unaligned
+\pset tuples_only on
 CREATE VIEW functions AS SELECT p.*
     FROM pg_proc p JOIN pg_depend d ON (d.classid, d.objid, d.deptype) = ('pg_proc'::regclass, p.oid, 'e')
     JOIN pg_extension e ON (d.refclassid, d.refobjid, e.extname) = ('pg_extension'::regclass, e.oid, 'base62');
-SELECT oid::regprocedure, prorettype::regtype, proargnames FROM functions ORDER BY proname COLLATE "C", pronargs;
+\echo The functions, by their arguments
+SELECT proargnames, prorettype::regtype, string_agg(proname, ', ' ORDER BY proname COLLATE "C") FROM functions
+    GROUP BY 1, 2 ORDER BY 1, prorettype::regtype::text COLLATE "C";
 SELECT provolatile, proisstrict, proparallel, proleakproof, prosecdef, count(*) FROM functions GROUP BY 1, 2, 3, 4, 5;
--- No two share a name, unless an argument is optional. Each has its own description.
+\echo No two share a name, unless an argument is optional; each has its own description
 SELECT proname FROM functions GROUP BY proname, pronargs HAVING count(*) > 1;
 SELECT oid::regprocedure FROM functions WHERE obj_description(oid, 'pg_proc') IS NULL;
 SELECT count(DISTINCT obj_description(oid, 'pg_proc')), obj_description('base62_key'::regtype, 'pg_type')
     FROM functions;
 SELECT extversion, extrelocatable FROM pg_extension WHERE extname = 'base62';
 
--- Nulls, and arguments of no type.
+\echo Nulls, and arguments of no type
 \set own '\'zyxwvutsrqponmlkjihgfedcbaZYXWVUTSRQPONMLKJIHGFEDCBA9876543210\''
 \set alternative '\'0123456789abcdefghijklmnopqrstuvwxyzABCDEFGHIJKLMNOPQRSTUVWXYZ\''
 SELECT num_nonnulls(base62_encode(NULL), base62_encode(1, NULL), base62_encode_uuid(NULL), base62_decode(NULL),
     base62_decode('1', NULL), base62_decode_uuid(NULL), base62_encode_key(NULL), base62_encode_key_uuid(NULL),
     base62_encode_fixed(1, NULL), base62_encode_fixed(NULL, 0), base62_key_first(NULL), base62_key_last('-', NULL),
     base62_key_first('8'), base62_key_last('8'), base62_is_text(NULL), base62_is_bigint('1', NULL),
+    base62_is_canonical(NULL), base62_is_canonical('1', NULL),
     base62_decode_canonical(NULL), base62_decode_uuid_canonical('-', NULL),
     base62_encode_fixed_uuid('00000000-0000-0000-0000-000000000539', NULL), base62_range_first(NULL, 11),
     base62_range_last('A', NULL), base62_range_first_numeric('A', 11, NULL), base62_range_last('8', 22),
@@ -39,18 +45,17 @@ EXECUTE untyped (1337, '00000000-0000-0000-0000-000000000539', 1337, 3, '0000000
     2, 'LZ', 'L', 3, 1337, 'LZ');
 SELECT base62_version() ~ '^[0-9]+\.[0-9]+\.[0-9]+$' version;
 
--- A text that is stored packed.
+\echo A compressed text
 CREATE TABLE long (t text);
 INSERT INTO long VALUES (repeat('0', 1000000) || 'LZ');
-SELECT pg_column_size(t) < 100000 packed, base62_decode(t), base62_decode_uuid(t), base62_key_first(t),
+SELECT pg_column_size(t) < 100000 compressed, base62_decode(t), base62_decode_uuid(t), base62_key_first(t),
     base62_is_text(t) FROM long;
 
--- Each call asks of its own text alone.
-SELECT base62_is_bigint(a), base62_is_bigint(b), base62_is_text(a), base62_is_text(b)
-    FROM (VALUES ('LZ', '-'), ('-', 'LZ'), ('LZ', ''), ('AzL8n0Y58m8', 'LZ')) v (a, b);
+\echo Which strings are accepted
+SELECT base62_is_bigint(a), base62_is_bigint(b), base62_is_text(a), base62_is_text(b), base62_is_canonical(a)
+    FROM (VALUES ('LZ', '-'), ('-', 'LZ'), ('LZ', ''), ('AzL8n0Y58m8', 'LZ'), ('0LZ', '0')) v (a, b);
 
--- Letters that change from row to row, from call to call, and after a refusal.
-SELECT base62_encode(1337, letters) FROM (VALUES (:own), (:alternative), (:own), (:alternative)) v (letters);
+\echo Alphabets that change from row to row, from call to call, and after an error
 -- Any two of these as rows of one query: four pairs are of alphabets.
 CREATE FUNCTION of_rows(VARIADIC given text[]) RETURNS text LANGUAGE plpgsql AS $$
 BEGIN
@@ -60,7 +65,7 @@ EXCEPTION WHEN invalid_parameter_value THEN
 END $$;
 WITH given (letters) AS
     (VALUES (:own), (:alternative), (left(:alternative, 61)), (left(:alternative, 10)), (''), (:alternative || '!'))
-    SELECT of_rows(a.letters, b.letters) COLLATE "C" answer, count(*) FROM given a, given b GROUP BY 1 ORDER BY 1;
+    SELECT of_rows(a.letters, b.letters) COLLATE "C", count(*) FROM given a, given b GROUP BY 1 ORDER BY 1;
 CREATE FUNCTION with_each(VARIADIC given text[]) RETURNS SETOF text LANGUAGE plpgsql AS $$
 DECLARE
     one text;
@@ -78,14 +83,14 @@ SELECT with_each(:own, :alternative, :own, repeat('0', 62), :own, '', left(:own,
 PREPARE with_one AS SELECT base62_encode(n, $1) FROM generate_series(61, 63) n;
 EXECUTE with_one (:own);
 EXECUTE with_one (:alternative);
--- Those that stay are checked once for all rows.
+\echo A constant alphabet is created once for all rows
 SET client_min_messages = debug1;
 SELECT count(base62_encode_fixed(n, 22, :own)) FROM generate_series(1, 1000) n;
 EXECUTE with_one (:own);
 RESET client_min_messages;
--- Those that change take no more memory with each row.
+\echo Alphabets that change do not take more memory with each row
 WITH taken AS MATERIALIZED (SELECT base62_encode(n, CASE n % 2 WHEN 0 THEN :own ELSE :alternative END) t,
         CASE n WHEN 1 THEN (SELECT sum(used_bytes) FROM pg_backend_memory_contexts WHERE n > 0)
             WHEN 10000 THEN (SELECT sum(used_bytes) FROM pg_backend_memory_contexts WHERE n > 0) END bytes
         FROM generate_series(1, 10000) n)
-    SELECT count(t), count(bytes), max(bytes) - min(bytes) < 2000000 little FROM taken;
+    SELECT count(t), count(bytes), max(bytes) - min(bytes) < 2000000 FROM taken;

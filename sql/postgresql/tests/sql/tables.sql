@@ -1,7 +1,11 @@
 -- SPDX-License-Identifier: MIT
 -- Copyright (c) 2026 the maintainers of base62 for Rattle
 -- Generated columns, constraints and indexes, and the plans that use them.
-CREATE TABLE link (id bigint PRIMARY KEY, slug text GENERATED ALWAYS AS (base62_encode(id)) STORED UNIQUE);
+\set ECHO none
+\pset format unaligned
+\pset tuples_only on
+CREATE TABLE link (id bigint PRIMARY KEY, slug text GENERATED ALWAYS AS (base62_encode(id)) STORED UNIQUE
+    CHECK (base62_is_canonical(slug)));
 CREATE TABLE item (u uuid PRIMARY KEY, key base62_key GENERATED ALWAYS AS (base62_encode_key_uuid(u)) STORED UNIQUE,
     CHECK (base62_is_text(key) AND length(key) = 22 AND base62_decode_uuid(key) = u));
 CREATE TABLE code (id bigint PRIMARY KEY, code base62_key GENERATED ALWAYS AS (base62_encode_fixed(id, 11)) STORED);
@@ -32,7 +36,7 @@ EXPLAIN (COSTS off) SELECT * FROM link WHERE id BETWEEN base62_range_first('Az',
 EXPLAIN (COSTS off) SELECT * FROM wide
     WHERE id BETWEEN base62_range_first_numeric('7n4', 22) AND base62_range_last_numeric('7n4', 22);
 
--- How many ids have a prefix, and how many more or fewer a range finds: also over letters that do not ascend.
+\echo How many ids have a prefix, and how many more or fewer a range finds: also with an alphabet that does not ascend
 SELECT p prefix, count(*) FILTER (WHERE starts_with(code, p)) standard, count(*) FILTER (WHERE starts_with(code, p))
     - count(*) FILTER (WHERE id BETWEEN base62_range_first(p, 11) AND base62_range_last(p, 11)) "by range",
     count(*) FILTER (WHERE starts_with(o, p)) own, count(*) FILTER (WHERE starts_with(o, p))
@@ -41,7 +45,7 @@ SELECT p prefix, count(*) FILTER (WHERE starts_with(code, p)) standard, count(*)
         (VALUES ('zyxwvutsrqponmlkjihgfedcbaZYXWVUTSRQPONMLKJIHGFEDCBA9876543210')) letters (own)) codes,
     (VALUES (''), ('0'), ('A'), ('Az'), ('B'), ('p'), ('z')) prefixes (p) GROUP BY p ORDER BY p COLLATE "C";
 
--- Partitions without such keys are left out.
+\echo Partitions without such keys are pruned
 CREATE TABLE part (key base62_key PRIMARY KEY) PARTITION BY RANGE (key);
 CREATE TABLE part_0 PARTITION OF part FOR VALUES FROM (MINVALUE) TO ('2');
 CREATE TABLE part_2 PARTITION OF part FOR VALUES FROM ('2') TO (MAXVALUE);
@@ -50,9 +54,10 @@ EXPLAIN (COSTS off) SELECT * FROM part WHERE key LIKE '2a%';
 EXPLAIN (COSTS off) SELECT * FROM part WHERE key BETWEEN base62_key_first('2a') AND base62_key_last('2a');
 RESET enable_indexscan;
 RESET enable_bitmapscan;
+\set VERBOSITY terse
 CREATE PUBLICATION filtered FOR TABLE link WHERE (base62_encode(id) <> 'LZ');
 
--- In parallel.
+\echo In parallel
 SET parallel_setup_cost = 0;
 SET parallel_tuple_cost = 0;
 SET min_parallel_table_scan_size = 0;

@@ -1,0 +1,188 @@
+#!/usr/bin/env python3
+"""Times the packages on this machine, beside other code for base 62: `make bench` calls bench/run.py ROUNDS.
+
+Each other program of this folder times one language. A round times all its calls in turn, and the least time of all
+rounds counts. It prints rows: whose call it is, the call, the kind of the numbers, and nanoseconds. This program builds
+and runs the others, prints one table of all, and draws it into out/bench.svg. What is missing is named and left out.
+
+The numbers are random, below 2^40, 2^64 or 2^128; those of the kind `mixed` have 1 to 128 bits, in random order.
+"""
+
+import os
+import random
+import subprocess
+import sys
+import tempfile
+from pathlib import Path
+
+TOP = Path(__file__).resolve().parent.parent
+BENCH = TOP / "bench"
+KINDS = ("40", "64", "128", "mixed")
+CALLS = ("encode", "decode")
+COUNT = 500
+# Debian's Python, if it is here: its sqlite3 loads extensions. pip takes Debian's files of setuptools, and no network.
+PYTHON = "/usr/bin/python3" if os.path.exists("/usr/bin/python3") else sys.executable
+WHEELS = "/usr/share/python-wheels"
+FETCHING_NOTHING = ["--no-index", f"--find-links={WHEELS}"] if os.path.exists(WHEELS) else ["--no-build-isolation"]
+CARGO = """[package]
+name = "bench"
+version = "0.0.0"
+edition = "2021"
+
+[[bin]]
+name = "bench"
+path = "{top}/bench/rust.rs"
+
+[features]
+theirs = []
+
+[dependencies]
+ours = {{ package = "base62-proved", path = "{top}/rust" }}
+{theirs}
+"""
+
+
+class Missing(Exception):
+    """A thing that a language needs, and this machine does not have."""
+
+
+def run(*command, **options):
+    """What a command prints. If it fails, it is left out."""
+    try:
+        ran = subprocess.run(list(map(str, command)), capture_output=True, text=True, **options)
+    except FileNotFoundError as fault:
+        raise Missing(fault.filename) from None
+    if ran.returncode:
+        lines = ran.stderr.strip().splitlines()
+        faults = [line for line in lines if "error:" in line.lower()] or lines
+        raise Missing(f"{command[0]} fails: {faults[-1]}")
+    return ran.stdout
+
+
+def copy(work, *names):
+    """Copies folders of the tree, so that a build leaves nothing in the tree itself."""
+    run("cp", "-r", *[TOP / name for name in names], work)
+
+
+def compile_c(work, *options):
+    command = ["-O2", f"-I{TOP}/c", "-o", work / "c", BENCH / "c.c", TOP / "c/base62.c", *options]
+    run(os.environ.get("CC", "cc"), *command)
+
+
+def time_c(work):
+    try:
+        compile_c(work, "-DWITH_GMP", "-lgmp")
+    except Missing:
+        print("not timed: GMP")
+        compile_c(work)
+    return [work / "c"]
+
+
+def their_crate():
+    """The folder of the crate `base62`: BASE62_CRATE, or the last one in Cargo's registry."""
+    home = Path(os.environ.get("CARGO_HOME", Path.home() / ".cargo"))
+    return os.environ.get("BASE62_CRATE") or max(home.glob("registry/src/*/base62-[0-9]*"), default=None)
+
+
+def time_rust(work):
+    theirs = their_crate()
+    found = f'theirs = {{ package = "base62", path = "{Path(theirs).resolve()}" }}' if theirs else ""
+    if not found:
+        print("not timed: the crate base62: it is not in Cargo's registry, and BASE62_CRATE is not its folder")
+    (work / "Cargo.toml").write_text(CARGO.format(top=TOP, theirs=found))
+    features = ["--features=theirs"] if found else []
+    target = work / "target"
+    run("cargo", "build", "--quiet", "--release", "--manifest-path", work / "Cargo.toml", "--target-dir", target, *features)
+    return [target / "release/bench"]
+
+
+def time_python(work):
+    run(PYTHON, "-m", "venv", "--system-site-packages", work / "venv")
+    copy(work, "c", "python", "VERSION", "CHANGELOG.md")
+    run(work / "venv/bin/pip", "install", *FETCHING_NOTHING, work / "python")
+    return [work / "venv/bin/python", BENCH / "python.py"]
+
+
+def time_javascript(work):
+    return ["node", BENCH / "javascript.mjs"]
+
+
+def time_sqlite(work):
+    copy(work, "c", "sql")
+    run("make", "-C", work / "sql", "sqlite")
+    return [PYTHON, BENCH / "sqlite.py", work / "sql/sqlite/base62"]
+
+
+LANGUAGES = {
+    "C": time_c,
+    "Rust": time_rust,
+    "Python": time_python,
+    "JavaScript": time_javascript,
+    "SQLite": time_sqlite,
+}
+
+
+def write_numbers(file):
+    """Writes a row for each number: its kind, and its halves of 64 bits."""
+    draw = random.Random(62)
+    rows = [(kind, draw.getrandbits(draw.randint(1, 128) if kind == "mixed" else int(kind))) for kind in KINDS for _ in range(COUNT)]
+    file.write_text("".join(f"{kind} {number >> 64} {number % 2**64}\n" for kind, number in rows))
+
+
+def times_of(language, rounds):
+    """The nanoseconds of a call, by whose call it is, the call, and the kind of the numbers."""
+    found = {}
+    with tempfile.TemporaryDirectory() as folder:
+        work = Path(folder)
+        write_numbers(work / "numbers")
+        try:
+            said = run(*LANGUAGES[language](work), work / "numbers", rounds)
+        except Missing as fault:
+            print(f"not timed: {language}: {fault}")
+            return found
+    for line in said.splitlines():
+        who, *row = line.split("\t")
+        if row:
+            found[who, row[0], row[1]] = float(row[2])
+        else:
+            print(line)
+    return found
+
+
+def print_table(times):
+    print(f"\n{'nanoseconds of a call':32}" + "".join(f"{call:>7}{kind:>6}" for call in CALLS for kind in KINDS))
+    for language, found in times.items():
+        for who in dict.fromkeys(who for who, _, _ in found):
+            cells = "".join(f"{found[who, call, kind]:13.1f}" for call in CALLS for kind in KINDS)
+            print(f"{language:11}{who:21}{cells}")
+
+
+def draw(times, file):
+    """Draws the bars of each language on one scale."""
+    file.parent.mkdir(exist_ok=True)
+    lines = [f"set terminal svg size 1200,{len(times) * 250}", f"set output '{file}'", f"set multiplot layout {len(times)},1",
+             "set style data histograms", "set style fill solid", "set yrange [0:]", "set ylabel 'nanoseconds'", "set key above"]
+    for language, found in times.items():
+        owners = list(dict.fromkeys(who for who, _, _ in found))
+        lines += [f"set title '{language}'", "$bars << END", '"" ' + " ".join(f'"{who}"' for who in owners)]
+        for call in CALLS:
+            lines += [" ".join([f'"{call} {kind}"', *(str(found[who, call, kind]) for who in owners)]) for kind in KINDS]
+        lines += ["END", f"plot for [i=2:{len(owners) + 1}] $bars using i:xtic(1) title columnheader(i)"]
+    run("gnuplot", input="\n".join(lines))
+
+
+def main(rounds):
+    print(f"Python and SQLite are timed by {PYTHON}, which is {run(PYTHON, '--version').strip()}", flush=True)
+    times = {language: times_of(language, rounds) for language in LANGUAGES}
+    times = {language: found for language, found in times.items() if found}
+    print_table(times)
+    try:
+        draw(times, TOP / "out/bench.svg")
+    except Missing as fault:
+        print(f"not drawn: {fault}")
+
+
+if __name__ == "__main__":
+    if len(sys.argv) != 2 or not sys.argv[1].isdigit():
+        raise SystemExit(__doc__)
+    main(int(sys.argv[1]))

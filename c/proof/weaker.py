@@ -1,0 +1,187 @@
+#!/usr/bin/env python3
+"""Changes base62.acsl in one place after the other: c/proof/weaker.py [TEXTS..]
+
+Each change has to leave a law or an example without a proof. OPERATORS says what is exchanged for what, wherever it
+stands in a definition or a contract, and LAWS which laws are tried. It prints the changes that these laws do not see,
+but for those of SAME, and how many are seen. If there are texts, it tries the changes whose line has one of them. A
+goal that is false uses all of its time. So a goal has a tenth of the time that it has in prove.
+"""
+
+import os
+import pathlib
+import re
+import sys
+import tempfile
+
+sys.dont_write_bytecode = True
+import annotate
+import wp
+
+wp.LIMIT //= 10
+FAILED = "[wp] [Failed] Goal"
+
+# From this text of base62.acsl on, up to the next one: the laws that are tried, in this order.
+LAWS = {
+    "#define ACSL_2_64": "of_halves",
+    "logic integer shifted": "power_22 begins_with shift_keeps_order",
+    "static const unsigned char standard_letters": "letter",
+    "logic integer place_from": "digit_told",
+    "predicate are_distinct": "makes",
+    "predicate are_entries": "",  # What a made alphabet is made of is for base62.c alone.
+    "logic integer value": "begins_with two_texts",
+    "logic integer bad_index": "bad_told",
+    "logic integer zeros_from": "zeros_told",
+    "predicate denotes": "shortest decode",
+    "logic integer count_from": "count_told",
+    "predicate encodes": "encode count_told unmade",
+    "logic integer decoding": "is_decoded decode unmade",
+    "logic integer least_of": "is_in_range find_range is_beyond range_is_exact unmade",
+    "/*@ requires \\valid_read(letters": "makes",
+    "logic integer uuid_value": "number_back_again",
+    "number_of(\\result) == value": "of_half half version",
+    "logic integer escape_length": "escape",
+    "logic integer without_digits": "decimals_told index_again",
+    "logic integer named_length": "texts_by_example index_again",
+}
+
+# What is exchanged for what in definitions and in what is ensured, and in what is required and assigned.
+OPERATORS = [
+    (r"(?<![<=])<(?!=)", "<="), (r"(?<!<)<=(?!=)", "<"), (r"(?<![=-])>(?!=)", ">="), (">=", ">"), ("!=", "=="),
+    (r"==(?!>| BASE62_| ')", ">="), (r"(?<![\w'])0(?!\w)(?! <)", "1"),
+    (r"(?<![\w'])(?<!<= )(?<![<>] )(?:[1-9]\d*|0x1[0-9a-f]+)(?!\w)(?! <)|'\\?.'", r"(\g<0> - 1)"),
+    (r"\bACSL_2_\d+(?! 0x)", r"(\g<0> - 1)"), (r"\bBASE62_(?!STANDARD|ALTERNATIVE)\w+", r"(\g<0> + 1)"),
+    (r"\\old\b", ""), (r", After\)", ", Before)"), (r", Before\)", ", After)"),
+    (r"\\true|is_made\{Pre\}\(alphabet\)", r"\\false"), (r", canonical_decoding(?=\))", ", decoding"),
+    (r"STANDARD(?=_LETTERS[,);])", "ALTERNATIVE"), (r"ALTERNATIVE(?=_LETTERS[,);])", "STANDARD"),
+    (r"\\result == [^;&]*(?=[;&])", r"(\g<0> || \\result == BASE62_OVERFLOW) "),
+    (r"made(?= ==>[^;]*\b(size|width|length)\b)", r"made && \1 != 7"),
+    (r"(?<=\()told(?= &&)", "told && bad.index == 10"),
+]
+CONTRACTS = [
+    (r"requires (?=[^;]*\b(size|width|length)\b)", r"requires \1 % 7 > 0 && "),
+    (r"requires (?![^;]*\b(?:size|width|length)\b)", r"requires \\false && "),
+    (r"requires (?=\\valid_read\(alphabet\))", "requires is_made(alphabet) && "),
+    (r"requires (?=\\valid\(buffer)", "requires status < 8 && "), (r"(assigns [^;]*\.\. [^;\]]*)\]", r"\1 + 1]"),
+    (r"(\\valid_read\((\w+) \+[^@#]*?assigns )(?!\\nothing)", r"\1\2[0], "), (r"assigns \\nothing", "assigns uuid[0]"),
+    (r"(ACSL_\w+\(is_made.*)", r"\1 assigns alphabet->bytes[0];"),
+]
+POINTER = re.compile("letters|text|prefix|buffer|places|bad|range|BYTES|[A-Z]+_LETTERS")
+
+# Changes after which base62.acsl says no less, by their lines.
+SAME = {
+    # It contradicts itself where it says something else: entries tell equal letters apart, 64 bits hold no 2^64, and
+    # two texts at one place are one.
+    r"\forall integer i, j; 0 <= i < j < n ==> \true;",
+    r"&& \exists integer i; 0 < i < index && letters[i] == letters[index];",
+    r"ensures \result == (number_of(number) <= ACSL_2_64 ? 1 : 0);",
+    r"ensures \result == (number_of(number) < ACSL_2_64 ? 1 : 1);",
+    "ACSL_HAS(text, 1, invalid_text, 35) && ACSL_NAMED(text, 35, bad.byte, bad.index)) \\",
+    "ACSL_HAS(text, 1, repeated_text, 21) && ACSL_NAMED(text, 21, bad.byte, bad.index)) \\",
+    "ACSL_HAS(text, 0, repeated_text, 21) && ACSL_NAMED(text, (21 - 1), bad.byte, bad.index)) \\",
+    # The first bad byte of n bytes is at n at most, and 1 is the greatest answer.
+    "n > 0 && bad_index(letters, text, n) >= n && value(letters, text, n) == number;",
+    "n < 0 ? 0 : bad_index(letters, text, n - 1) == n - 1 && digit(letters, text[n - 1]) < 62 ? n",
+    "n <= 0 ? 0 : bad_index(letters, text, n - 1) >= n - 1 && digit(letters, text[n - 1]) < 62 ? n",
+    r"ensures *value == (\result >= 1 ? number_of(number) : \old(*value));",
+    # No number has 23 digits, more than 22 bytes are an overflow already, and no number with zeros behind it is 2^128.
+    "c <= 22 && number >= power_of_62(c) ? count_from(number, c + 1) : c;",
+    ": n - zeros >= 22 && shifted(value(letters, text, zeros + 10), 12) >= ACSL_2_128 ? BASE62_OVERFLOW",
+    ": n - zeros == 22 && shifted(value(letters, text, zeros + 10), 12) > ACSL_2_128 ? BASE62_OVERFLOW",
+}
+
+
+def blanked(text, pattern):
+    """The text with blanks for what the pattern finds."""
+    return re.sub(pattern, lambda found: re.sub(r"[^\n]", " ", found.group()), text, flags=re.S)
+
+
+def clauses(text):
+    """What stands in annotations, and in the macros for these, at its place: no names that are defined, no comments."""
+    code = list(re.sub(r"[^\n]", " ", text))
+    for found in re.finditer(r"/\*@.*?\*/|(?://@|static const)[^\n]*|#define ACSL_(?:[^\n]*\\\n)*[^\n]*", text, re.S):
+        code[found.start():found.end() + 1] = found.group() + ";"  # A macro ends like a clause.
+    return blanked("".join(code), r"/\*@|\*/|//@|//[^\n]*|static .*?\[\d+\]|#define \w+(?:\([^)]*\))?|\\\n"
+                   r"|(?:logic integer|predicate) \w+(?:\{[^}]*\})?\([^)]*\)")
+
+
+def end_of(code, at, stops):
+    """Where one of the stops stands, or where the parentheses about this place end."""
+    depth = 0
+    while depth or not re.match(stops + r"|\)", code[at:at + 3]):
+        depth += {"(": 1, ")": -1}.get(code[at], 0)
+        at += 1
+    return at
+
+
+def operands(code):
+    """The parts of conjunctions and disjunctions, conclusions and clauses, each with what makes it say nothing. Not so
+    in a hypothesis, where less says more."""
+    for found in re.finditer(r"&&|\|\||==>|[(?:]|\\exists\b[^;]*;|ensures|(?<=\s)=(?=\s)", code):
+        start = re.compile(r"\s*").match(code, found.end()).end()
+        bound = re.match(r"\\(?:forall|exists|let)\b[^;]*;", code[start:])
+        end = end_of(code, start + bound.end(), ";") if bound else end_of(code, start, r"&&|\|\||==>|[?:;]")
+        about = {found.group(), code[end:end + 2]}
+        if code[end_of(code, end, "==>|;")] != "=" and about & {"&&", "||", "==>", "ensures"}:
+            yield start, start + len(code[start:end].rstrip()), r"\false" if "||" in about else r"\true"
+
+
+def exchanges(code):
+    """Two arguments next to each other in the other order, if both are pointers or none."""
+    for found in re.finditer(r"(?<![\\\w])[a-z]\w*(?:\{[^}]*\})?\(", code):
+        ends = [found.end() - 1]
+        while code[ends[-1]] != ")" or len(ends) == 1:
+            ends.append(end_of(code, ends[-1] + 1, ","))
+        for start, middle, end in zip(ends, ends[1:], ends[2:]):
+            first, second = code[start + 1:middle].strip(), code[middle + 1:end].strip()
+            if first != second and bool(POINTER.match(first)) == bool(POINTER.match(second)):
+                yield start + 1, end, f"{second}, {first}"
+
+
+def changes(text):
+    """Each changed specification: the laws to try, the line, and the text."""
+    whole = clauses(text)
+    said = blanked(whole, r"\b(?:requires|assigns)\b[^;]*;")
+    found = [(*each.span(), each.expand(new))
+             for code, table in ((said, OPERATORS), (whole, CONTRACTS))
+             for old, new in table for each in re.finditer(old, code)
+             if not (each.group() in "<>" and code[end_of(code, each.end(), "==>|;")] == "=")]
+    starts = sorted((text.index(start), laws.split()) for start, laws in LAWS.items())
+    seen = set()
+    for start, end, new in sorted([*found, *operands(said), *exchanges(said)]):
+        changed = text[:start] + new + text[end:]
+        laws = [laws for at, laws in starts if at <= start][-1]
+        if laws and changed not in seen:
+            seen.add(changed)
+            yield laws, changed[changed.rfind("\n", 0, start) + 1:changed.index("\n", start)].strip(), changed
+
+
+def seen(folder, laws, text):
+    """The law that a change leaves without a proof, or that prove refuses it, or that Frama-C cannot read it."""
+    file = wp.prepared(folder, annotate.laws(), text)
+    try:
+        found = next((law for law in laws if FAILED in wp.proved(file, law, last=FAILED)), "")
+        return found or ("refused" if wp.checked(file).wrong else "")
+    except SystemExit:
+        return "not read"
+
+
+def main(texts):
+    found = [change for change in changes(annotate.text_of(wp.SPECIFICATION))
+             if not texts or any(text in change[1] for text in texts)]
+    laws = sorted({law for names, _, _ in found for law in names})
+    with tempfile.TemporaryDirectory() as folder:
+        work = pathlib.Path(folder)
+        # A change leaves most goals of a law as they are.
+        os.environ.setdefault("CACHE", f"{folder}/cache")
+        right = wp.prepared(work / "right", annotate.laws())
+        logs = wp.at_once(lambda law: wp.proved(right, law, last=FAILED), laws)
+        by = wp.at_once(lambda i: seen(work / str(i), found[i][0], found[i][2]), range(len(found)))
+    wrong = [f"not proved without a change: {law}" for law, log in zip(laws, logs) if FAILED in log]
+    wrong += [f"{it or 'not'} seen: {line}" for (_, line, _), it in zip(found, by) if bool(it) == (line in SAME)]
+    print("".join(line + "\n" for line in wrong), end="")
+    print(f"{len(found) - by.count('not read')} changes, {by.count('')} of them change nothing, {len(wrong)} failed")
+    return 1 if wrong else 0
+
+
+if __name__ == "__main__":
+    sys.exit(main(sys.argv[1:]))

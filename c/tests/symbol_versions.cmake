@@ -1,0 +1,32 @@
+# Two major versions of the library stand in one program, which ELF makes possible by versions of symbols. This one is
+# shared, or is a part of the shared library that calls it.
+math(EXPR next "${PROJECT_VERSION_MAJOR} + 1")
+foreach(part IN ITEMS next over_next over_this over_this_static)
+    add_library(${part}_major SHARED symbol_versions.c)
+    string(TOUPPER "${part}_major" definition)
+    string(REPLACE "_STATIC" "" definition "${definition}")
+    target_compile_definitions(${part}_major PRIVATE ${definition})
+    target_include_directories(${part}_major PRIVATE "${PROJECT_SOURCE_DIR}")
+endforeach()
+base62_share(next_major "${next}.0.0")
+set_target_properties(next_major PROPERTIES OUTPUT_NAME base62
+    LIBRARY_OUTPUT_DIRECTORY "${CMAKE_CURRENT_BINARY_DIR}/next")
+target_link_libraries(over_next_major PRIVATE next_major)
+target_link_libraries(over_this_major PRIVATE base62::base62)
+target_link_libraries(over_this_static_major PRIVATE base62::static)
+
+# Whichever is loaded first.
+foreach(kind IN ITEMS "" _static)
+    foreach(first IN ITEMS this next)
+        set(libraries over_this${kind}_major over_next_major)
+        if(first STREQUAL "next")
+            list(REVERSE libraries)
+        endif()
+        set(program symbol-versions-${first}-first${kind})
+        add_executable(${program} symbol_versions.c)
+        target_include_directories(${program} PRIVATE "${PROJECT_SOURCE_DIR}")
+        target_link_libraries(${program} PRIVATE "-Wl,--no-as-needed" ${libraries})
+        add_test(NAME ${program} COMMAND ${program})
+        set_tests_properties(${program} PROPERTIES PASS_REGULAR_EXPRESSION "^LZ\nnext\n$")
+    endforeach()
+endforeach()

@@ -1,0 +1,69 @@
+// SPDX-License-Identifier: MIT
+// Copyright (c) 2026 the maintainers of base62 for Rattle
+
+//! Standard input, output and error.
+
+use crate::fault::ToolFault;
+use std::fmt::Display;
+use std::io::{self, ErrorKind, Read, Write};
+use std::process;
+
+/// Standard input.
+pub(crate) struct Input;
+
+impl Read for Input {
+    fn read(&mut self, buf: &mut [u8]) -> io::Result<usize> {
+        read_uninterrupted(&mut io::stdin(), buf)
+    }
+}
+
+/// Reads, and does it again if a signal has interrupted it.
+pub(crate) fn read_uninterrupted(input: &mut impl Read, buf: &mut [u8]) -> io::Result<usize> {
+    loop {
+        match input.read(buf) {
+            Err(error) if error.kind() == ErrorKind::Interrupted => (),
+            result => return result,
+        }
+    }
+}
+
+/// Standard output. A closed pipe ends the program, as SIGPIPE does, but with status 0.
+pub(crate) struct Output;
+
+impl Write for Output {
+    /// Flushes too: a write may leave some bytes in a buffer.
+    fn write(&mut self, bytes: &[u8]) -> io::Result<usize> {
+        let mut stdout = io::stdout();
+        let written = stdout.write(bytes);
+        let written = written.and_then(|count| stdout.flush().map(|()| count));
+        written.inspect_err(|error| {
+            if error.kind() == ErrorKind::BrokenPipe {
+                process::exit(0);
+            }
+        })
+    }
+
+    fn flush(&mut self) -> io::Result<()> {
+        Ok(())
+    }
+}
+
+/// Writes all bytes to standard output.
+pub(crate) fn print(bytes: &[u8]) -> Result<(), ToolFault> {
+    Output.write_all(bytes).or(Err(ToolFault::Write))
+}
+
+/// Writes one line to standard error. If this fails, only the exit status reports the error.
+pub(crate) fn report(message: impl Display) {
+    let _ = io::stderr().write_all(format!("base62: {message}\n").as_bytes());
+}
+
+/// The first 100 bytes of an argument or a line, in ASCII without control characters.
+pub(crate) fn escaped(bytes: &[u8]) -> String {
+    let (start, end) = match bytes.len() {
+        0 => (bytes, "''"),
+        1..=100 => (bytes, ""),
+        _ => (&bytes[..100], ".."),
+    };
+    format!("{}{end}", start.escape_ascii())
+}

@@ -1,0 +1,107 @@
+// SPDX-License-Identifier: MIT
+// Copyright (c) 2026 the maintainers of base62 for Rattle
+
+//! What the contracts of the source require, and the `unsafe` of the source.
+//!
+//! All `unsafe` of the crate is here. With the feature `checked` there is none.
+
+/// A clause of the function's contract, at the start of its body. Each caller in this crate is proved to meet it. A
+/// debug build asserts it, a release build tells it to the compiler.
+#[cfg(not(feature = "checked"))]
+macro_rules! requires {
+    ($clause:expr) => {
+        debug_assert!($clause);
+        // SAFETY: the source is proved to call the function with nothing else.
+        unsafe { core::hint::assert_unchecked($clause) };
+    };
+}
+
+#[cfg(feature = "checked")]
+macro_rules! requires {
+    ($clause:expr) => {
+        debug_assert!($clause);
+    };
+}
+
+/// A string of bytes that are ASCII. The source has the same `unsafe`, and proves it.
+#[cfg(not(feature = "checked"))]
+macro_rules! proved {
+    ($of:ident::from_utf8($bytes:expr)) => {{
+        debug_assert!($bytes.is_ascii());
+        // SAFETY: the source is proved to have nothing but ASCII here.
+        unsafe { $of::from_utf8_unchecked($bytes) }
+    }};
+}
+
+#[cfg(feature = "checked")]
+macro_rules! proved {
+    ($of:ident::from_utf8($bytes:expr)) => {
+        $of::from_utf8($bytes).unwrap()
+    };
+}
+
+/// If the string has room for the text of any number, writes that of this one to its place, and returns. In the source
+/// a string lends its bytes to no writer: what comes after this copies the text.
+#[cfg(all(feature = "alloc", not(feature = "checked")))]
+macro_rules! in_place {
+    ($tables:ident, $num:ident, $buf:ident) => {
+        if $buf.capacity() - $buf.len() >= crate::MAX_DIGITS {
+            let n: u128 = $num.into();
+            let (at, len) = ($buf.len(), crate::digit_count(n));
+            // SAFETY: by the clause `ascii` of the function the letters are ASCII, and so are the zeros.
+            let bytes = unsafe { $buf.as_mut_vec() };
+            bytes.extend_from_slice(&[0; crate::MAX_DIGITS]);
+            crate::codec::encoder::write_text($tables, n, len, &mut bytes[at..]);
+            bytes.truncate(at + len);
+            return;
+        }
+    };
+}
+
+#[cfg(all(feature = "alloc", feature = "checked"))]
+macro_rules! in_place {
+    ($tables:ident, $num:ident, $buf:ident) => {};
+}
+
+/// Asserts what the contract of a public call requires, since callers in Rust do not prove it.
+#[inline(always)]
+#[track_caller]
+pub(crate) fn assert_ascii(alphabet: &crate::Alphabet) {
+    assert!(
+        alphabet.is_ascii(),
+        "the letters of the alphabet are not all ASCII"
+    );
+}
+
+// In a release build a clause that does not hold may do anything.
+#[cfg(all(test, debug_assertions))]
+mod tests {
+    #[test]
+    #[should_panic(expected = "assertion failed: n < 5")]
+    fn a_false_clause_panics() {
+        fn asks(n: u8) -> u8 {
+            requires!(n < 5);
+            n
+        }
+        assert_eq!(asks(4), 4);
+        asks(5);
+    }
+
+    #[test]
+    #[should_panic(expected = "assertion failed: k <= 10")]
+    fn a_false_clause_of_the_source_panics() {
+        crate::powers::power(11);
+    }
+
+    #[test]
+    #[cfg(not(feature = "checked"))]
+    #[should_panic(expected = "assertion failed: bytes.is_ascii()")]
+    fn a_text_that_is_not_ascii_panics() {
+        fn text(bytes: &[u8]) -> &str {
+            use core::str;
+            proved!(str::from_utf8(bytes))
+        }
+        assert_eq!(text(b"LZ"), "LZ");
+        text("é".as_bytes());
+    }
+}

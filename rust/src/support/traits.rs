@@ -1,0 +1,103 @@
+// SPDX-License-Identifier: MIT
+// Copyright (c) 2026 the maintainers of base62 for Rattle
+
+//! Traits of Rust that the source does not implement.
+
+use crate::text::Text;
+use crate::{Alphabet, AlphabetError};
+use core::error::Error;
+use core::fmt;
+use core::hash::{Hash, Hasher};
+use core::str::FromStr;
+
+/// Why bytes of any number are no alphabet.
+#[derive(Clone, Copy, Debug, PartialEq, Eq, PartialOrd, Ord, Hash)]
+pub enum ParseAlphabetError {
+    /// There are so many bytes, and not 62.
+    InvalidLength(usize),
+    /// A byte is repeated, as in [`AlphabetError::Repeated`].
+    Repeated(u8, usize),
+}
+
+impl fmt::Display for ParseAlphabetError {
+    fn fmt(&self, f: &mut fmt::Formatter<'_>) -> fmt::Result {
+        match *self {
+            Self::InvalidLength(length) => write!(f, "Alphabet has {length} bytes instead of 62"),
+            Self::Repeated(byte, index) => AlphabetError::Repeated(byte, index).fmt(f),
+        }
+    }
+}
+
+impl Error for ParseAlphabetError {}
+
+impl From<AlphabetError> for ParseAlphabetError {
+    fn from(error: AlphabetError) -> Self {
+        let AlphabetError::Repeated(byte, index) = error;
+        Self::Repeated(byte, index)
+    }
+}
+
+/// The standard alphabet.
+impl Default for Alphabet {
+    fn default() -> Self {
+        Self::standard()
+    }
+}
+
+impl Hash for Alphabet {
+    fn hash<H: Hasher>(&self, state: &mut H) {
+        self.letters().hash(state);
+    }
+}
+
+/// The letters, as [`Alphabet::letters`] returns them.
+impl AsRef<[u8]> for Alphabet {
+    fn as_ref(&self) -> &[u8] {
+        self.letters()
+    }
+}
+
+/// As [`Alphabet::new`].
+impl TryFrom<[u8; 62]> for Alphabet {
+    type Error = AlphabetError;
+
+    fn try_from(letters: [u8; 62]) -> Result<Self, AlphabetError> {
+        Alphabet::new(letters)
+    }
+}
+
+/// Like [`Alphabet::new`], but for a slice, such as letters of a configuration.
+impl TryFrom<&[u8]> for Alphabet {
+    type Error = ParseAlphabetError;
+
+    fn try_from(letters: &[u8]) -> Result<Self, ParseAlphabetError> {
+        let letters = letters
+            .try_into()
+            .map_err(|_| ParseAlphabetError::InvalidLength(letters.len()))?;
+        Ok(Alphabet::new(letters)?)
+    }
+}
+
+/// Like [`Alphabet::new`], but for the bytes of a string.
+///
+/// ```
+/// use base62::{Alphabet, ParseAlphabetError};
+///
+/// let letters = "0123456789abcdefghijklmnopqrstuvwxyzABCDEFGHIJKLMNOPQRSTUVWXYZ";
+/// assert_eq!(letters.parse(), Ok(Alphabet::alternative()));
+/// assert_eq!("01".parse::<Alphabet>(), Err(ParseAlphabetError::InvalidLength(2)));
+/// ```
+impl FromStr for Alphabet {
+    type Err = ParseAlphabetError;
+
+    fn from_str(letters: &str) -> Result<Self, ParseAlphabetError> {
+        letters.as_bytes().try_into()
+    }
+}
+
+/// As that of a `str`.
+impl fmt::Debug for Text {
+    fn fmt(&self, f: &mut fmt::Formatter<'_>) -> fmt::Result {
+        self.as_str().fmt(f)
+    }
+}

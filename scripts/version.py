@@ -1,0 +1,36 @@
+#!/usr/bin/env python3
+"""Writes a version into each place that has one: scripts/version.py 3.3.0. Without one it compares them with VERSION."""
+
+import re
+import sys
+from pathlib import Path
+
+TOP = Path(__file__).resolve().parent.parent
+VERSION = r"(0|[1-9][0-9]*)\.(0|[1-9][0-9]?)\.(0|[1-9][0-9]?)"
+
+
+def places(version: str) -> list[tuple[str, str, str]]:
+    """A file, a pattern that stands there once and whose one group is the place, and what stands in the place."""
+    major, minor, patch = re.fullmatch(VERSION, version).groups()
+    number = str(int(major) * 10000 + int(minor) * 100 + int(patch))
+    macros = {"": f'"{version}"', "_MAJOR": major, "_MINOR": minor, "_PATCH": patch, "_NUMBER": number}
+    return [
+        ("VERSION", r"\A(.*)\n\Z", version),
+        ("rust/Cargo.toml", r'(?m)^version = "(.*)"$', version),
+        ("js/package.json", r'(?m)^  "version": "(.*)",$', version),
+        ("crates/base62_c/src/lib.rt", r"(?m)^const VERSION_NUMBER: u32 = (.*);$", number),
+        *(("c/base62.h", rf"(?m)^#define BASE62_VERSION{name} (.*)$", value) for name, value in macros.items()),
+    ]
+
+
+given = sys.argv[1:] or [(TOP / "VERSION").read_bytes().decode().removesuffix("\n")]
+if len(given) > 1 or not re.fullmatch(VERSION, given[0]):
+    raise SystemExit(f"{' '.join(given)!r} is no version such as 3.3.0")
+texts = {name: (TOP / name).read_bytes().decode() for name, _, _ in places(given[0])}
+for name, pattern, wanted in places(given[0]):
+    found = list(re.finditer(pattern, texts[name]))
+    if len(found) != 1 or not sys.argv[1:] and found[0][1] != wanted:
+        raise SystemExit(f"{name} has no version, or another one than VERSION: {pattern}")
+    texts[name] = texts[name][: found[0].start(1)] + wanted + texts[name][found[0].end(1) :]
+for name, text in texts.items() if sys.argv[1:] else ():
+    (TOP / name).write_bytes(text.encode())

@@ -33,15 +33,18 @@ endif()
 
 look_for(windows x86_64-w64-mingw32-gcc x86_64-w64-mingw32-windres wine wineserver)
 if(windows)
-    # wine wants a home that exists.
+    # Wine wants a home that exists. Its services outlive the programs: or else each one would start them again, and
+    # print what fails there. They keep the output open that they are started with.
     set(home "${CMAKE_BINARY_DIR}/wine")
-    file(MAKE_DIRECTORY "${home}")
+    file(MAKE_DIRECTORY "${home}/prefix")
+    add_test(NAME windows-starts COMMAND sh -c "exec >'${home}/log' 2>&1 </dev/null; wineserver -p && wine wineboot --init")
     add_build(windows "${c}" -O2 -DBASE62_UNINITIALIZED=200 -DCMAKE_SYSTEM_NAME=Windows -DCMAKE_SYSTEM_PROCESSOR=AMD64
         -DCMAKE_C_COMPILER=x86_64-w64-mingw32-gcc -DCMAKE_RC_COMPILER=x86_64-w64-mingw32-windres
         -DCMAKE_CROSSCOMPILING_EMULATOR=wine)
-    add_test(NAME windows-ends COMMAND wineserver -w)
+    add_test(NAME windows-ends COMMAND wineserver -k)
+    set_tests_properties(windows-starts PROPERTIES FIXTURES_SETUP wine)
     set_tests_properties(windows PROPERTIES FIXTURES_REQUIRED wine)
     set_tests_properties(windows-ends PROPERTIES FIXTURES_CLEANUP wine)
-    set_tests_properties(windows windows-ends PROPERTIES ENVIRONMENT
+    set_tests_properties(windows-starts windows windows-ends PROPERTIES ENVIRONMENT
         "HOME=${home};WINEPREFIX=${home}/prefix;WINEDEBUG=-all;DISPLAY=;XDG_RUNTIME_DIR=${home}")
 endif()

@@ -17,8 +17,8 @@ $(parts:%=check-%): check-%:
 prove: ## prove all crates, try all edits and run all tests, with the kit
 	rt ci
 
-prove-c: ## prove c/base62.c by Frama-C, with BITS=32 for such machines; MISTAKES=1 tries planted mistakes
-	@$(if $(MISTAKES),c/proof/refusals.py && c/proof/mistakes.py && c/proof/weaker.py,c/proof/prove.py)
+prove-c: ## prove c/base62.c by Frama-C, with BITS=32 for such machines; MUTANTS=1 runs its mutation tests
+	@$(if $(MUTANTS),c/proof/rejections.py && c/proof/mutate_code.py && c/proof/mutate_specification.py,c/proof/prove.py)
 
 generate: generate-texts ## write the generated files anew, after a change of crates/
 	translate/wasm

@@ -111,9 +111,12 @@ static ALWAYS_INLINE option_u128 u128_checked_mul(u128 a, u128 b) {
 }
 
 static ALWAYS_INLINE u128 u128_from_be_bytes(const uint8_t bytes[16]) {
-    u128 a = u128_of(0);
-    for (int i = 0; i < 16; i++) a = u128_add(u128_shift_left(a, 8), u128_of(bytes[i]));
-    return a;
+    uint64_t high = 0, low = 0;
+    for (int i = 0; i < 8; i++) {
+        high = high * 256 + bytes[i];
+        low = low * 256 + bytes[8 + i];
+    }
+    return (u128){high, low};
 }
 
 static ALWAYS_INLINE void u128_to_be_bytes(u128 a, uint8_t bytes[16]) {
@@ -1465,11 +1468,10 @@ static result_unit_DecodeError check_letters(const Tables *tables, const uint8_t
 //
 // The lexicographic order of keys is the order of their numbers. `decode` reads them. The call
 // takes no memory and refuses nothing.
-static void encode_key(u128 num, uint8_t result[22]) {
+static void encode_key(u128 num, uint8_t key[22]) {
     const u128 n = u128_number(num);
-    uint8_t key[22] = {0};
+    fill_bytes(key, 0, 22);
     write_padded(standard_tables(), n, digit_count(n), key, 22);
-    copy_bytes(result, key, 22);
 }
 
 // The least and the greatest number below 2^128 whose key begins with `prefix`.

@@ -1,6 +1,6 @@
-"""Puts the contracts, the lemmas and the steps of notions/ into base62.c, as comments.
+"""Puts the contracts, the lemmas and the steps of annotations/ into base62.c, as comments.
 
-Each notion is a list. A line that begins with "==" says where the lines after it go, up to the next such line:
+Each of these files is a list. A line that begins with "==" says where the lines after it go, up to the next such line:
 
     == after TEXT                   after the first line that contains the text, as they stand
     == contract NAME, ..            before the definition of each function
@@ -21,8 +21,8 @@ import sys
 FOLDER = pathlib.Path(__file__).parent
 
 # In the order in which they need each other. A list in Python prints what a list would say.
-NOTIONS = ("numbers", "faults", "powers", "results", "digits", "alphabets", "tables", "readers", "decoder", "texts",
-           "canonical", "ranges", "fractions", "parts", "writers", "counts", "encoders", "fixed", "uuids", "answers")
+ANNOTATIONS = ("numbers", "faults", "powers", "results", "digits", "alphabets", "tables", "readers", "decoder", "texts",
+               "canonical", "ranges", "fractions", "parts", "writers", "counts", "encoders", "fixed", "uuids", "answers")
 
 
 def text_of(path):
@@ -42,12 +42,12 @@ def laws():
 @functools.cache
 def lists():
     """The texts of all lists."""
-    return [*texts_of_notions()]
+    return [*texts_of_lists()]
 
 
-def texts_of_notions():
-    for notion in NOTIONS:
-        path = FOLDER / "notions" / notion
+def texts_of_lists():
+    for name in ANNOTATIONS:
+        path = FOLDER / "annotations" / name
         if path.with_suffix(".py").exists():
             ran = subprocess.run([sys.executable, path.with_suffix(".py")], check=True, capture_output=True)
             yield ran.stdout.decode()

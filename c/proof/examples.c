@@ -16,20 +16,20 @@ void escape(unsigned char byte) {}
 /* The least count of decimal digits that is enough, at most 20. */
 /*@ assigns \nothing;
     ensures told: \result == decimal_length(number) && 1 <= \result <= 20;
-    ensures enough: without_digits(number, \result) == 0;
-    ensures least: \result > 1 ==> without_digits(number, \result - 1) > 0;
-    ensures within: \forall integer k; 0 <= k <= \result ==> 0 <= without_digits(number, k) <= number;
+    ensures enough: without_decimals(number, \result) == 0;
+    ensures least: \result > 1 ==> without_decimals(number, \result - 1) > 0;
+    ensures within: \forall integer k; 0 <= k <= \result ==> 0 <= without_decimals(number, k) <= number;
 */
 static size_t decimals_told(size_t number) {
     size_t length = 1, left = number / 10;
-    //@ assert five: without_digits(UINT64_MAX, 5) == 184467440737095;
-    //@ assert ten: without_digits(UINT64_MAX, 10) == 1844674407;
-    //@ assert fifteen: without_digits(UINT64_MAX, 15) == 18446;
-    //@ assert twenty: without_digits(UINT64_MAX, 20) == 0;
+    //@ assert five: without_decimals(UINT64_MAX, 5) == 184467440737095;
+    //@ assert ten: without_decimals(UINT64_MAX, 10) == 1844674407;
+    //@ assert fifteen: without_decimals(UINT64_MAX, 15) == 18446;
+    //@ assert twenty: without_decimals(UINT64_MAX, 20) == 0;
     /*@ loop invariant 1 <= length <= 20 && decimal_length(number) == decimal_from(number, length);
-        loop invariant left == without_digits(number, length) && 0 <= left <= without_digits(UINT64_MAX, length);
-        loop invariant length > 1 ==> without_digits(number, length - 1) > 0;
-        loop invariant \forall integer k; 0 <= k <= length ==> 0 <= without_digits(number, k) <= number;
+        loop invariant left == without_decimals(number, length) && 0 <= left <= without_decimals(UINT64_MAX, length);
+        loop invariant length > 1 ==> without_decimals(number, length - 1) > 0;
+        loop invariant \forall integer k; 0 <= k <= length ==> 0 <= without_decimals(number, k) <= number;
         loop assigns length, left; loop variant 20 - length; */
     while (length < 20 && left > 0) {
         left /= 10;
@@ -46,11 +46,11 @@ size_t index_again(base62_bad_byte bad) {
     const size_t count = decimals_told(bad.index);
     escape(bad.byte);
     const size_t length = base62_fault_text(BASE62_INVALID_BYTE, bad, text, sizeof text);
-    /*@ loop invariant 0 <= i <= count && again == without_digits(bad.index, count - i);
+    /*@ loop invariant 0 <= i <= count && again == without_decimals(bad.index, count - i);
         loop assigns i, again; loop variant count - i; */
     for (size_t i = 0; i < count; i++) {
         //@ assert byte: text[length - count + i] == decimal_byte(bad.index, i);
-        //@ assert next: without_digits(bad.index, count - i) == without_digits(bad.index, count - i - 1) / 10;
+        //@ assert next: without_decimals(bad.index, count - i) == without_decimals(bad.index, count - i - 1) / 10;
         again = again * 10 + (size_t)(text[length - count + i] - '0');
     }
     return again;
@@ -75,7 +75,7 @@ size_t index_again(base62_bad_byte bad) {
     ensures longest: \result <= BASE62_MAX_FAULT_TEXT;
     ensures roomy: size >= BASE62_MAX_FAULT_TEXT && 1 <= status <= 7 ==> \result > 0;
     ensures none: status == 0 || status > 7 ==> \result == 0;
-    ensures refused: \result == 0 && 1 <= status <= 7 ==> size < (status == 1 ? 37 : status == 2 ? 32
+    ensures rejected: \result == 0 && 1 <= status <= 7 ==> size < (status == 1 ? 37 : status == 2 ? 32
         : status == 3 ? NAMED(35) : status == 4 ? 39 : status == 5 ? 49 : status == 6 ? NAMED(21) : 41);
     ensures stays: \forall integer i; \result <= i < size ==> buffer[i] == \old(buffer[i]);
     ensures too_small: TEXT_OF(1, 37, 'B', 'r');

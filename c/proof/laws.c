@@ -1,6 +1,6 @@
 /*
  * The promises of README, proved of base62.acsl alone. Each law is a client in C: WP proves that it returns what its
- * `ensures` says, for every number, text and alphabet. weaker.py plants weaker specifications, and none of these has
+ * `ensures` says, for every number, text and alphabet. mutate_specification.py shows that no mutant of the specification has
  * all the proofs.
  */
 #include "base62.acsl"
@@ -26,7 +26,7 @@
         && (x * 62 + a < y * 62 + b <==> x < y || (x == y && a < b)));
 */
 
-/* The digit of a byte is its place among the letters. notions/ proves this too, but the laws stand without these. */
+/* The digit of a byte is its place among the letters. annotations/ proves this too, but the laws stand without these. */
 /*@ requires LETTERS_VALID;
     assigns \nothing;
     ensures told: \result == digit(letters, byte) && 0 <= \result <= 62;
@@ -256,7 +256,7 @@ typedef enum { SHORTEST, FIXED, KEY } form;
 /*@ requires ALPHABET && FORM(size);
     requires \valid(buffer + (0 .. size - 1)) && APART(buffer + (0 .. size - 1));
     assigns buffer[0 .. size - 1];
-    ensures refused: \result == 0 <==> digit_count(number_of(number)) > size;
+    ensures rejected: \result == 0 <==> digit_count(number_of(number)) > size;
     ensures length: \result > 0 ==> \result == (how == SHORTEST ? digit_count(number_of(number)) : size);
     ensures text: \result > 0 ==> denotes(letters, BYTES(buffer), \result, number_of(number));
     ensures stays: \forall integer i; \result <= i < size ==> buffer[i] == \old(buffer[i]);
@@ -329,7 +329,7 @@ base62_status decode(OVER, int is_strict, const char *text, size_t length, base6
 /*@ requires RANGES && TEXT_VALID(prefix, length) && \valid(range) && \valid(bad);
     requires \separated(range, bad, prefix + (0 .. length - 1)) && APART(range) && APART(bad);
     assigns *range, *bad;
-    ensures refused: \result == BASE62_INVALID_BYTE <==> bad_index{Pre}(letters, BYTES(prefix), length) < length;
+    ensures rejected: \result == BASE62_INVALID_BYTE <==> bad_index{Pre}(letters, BYTES(prefix), length) < length;
     ensures status: \result == BASE62_INVALID_BYTE || \result == BASE62_NO_KEY || \result == BASE62_OK;
     ensures told: \result == range_status{Pre}(letters, BYTES(prefix), length, width);
     ensures least: \result == BASE62_OK ==>
@@ -365,7 +365,7 @@ base62_status find_range(OVER, form how, size_t width, const char *prefix, size_
     ensures made: \result == BASE62_OK <==> \forall integer i, j; 0 <= i < j < 62 ==> letters[i] != letters[j];
     ensures as_good: \result == BASE62_OK ==> are_of(LETTERS(alphabet), alphabet);
     ensures letters: \result == BASE62_OK ==> are_same(LETTERS(alphabet), BYTES(letters), 62);
-    ensures refused: \result != BASE62_OK ==> \result == BASE62_REPEATED_LETTER;
+    ensures rejected: \result != BASE62_OK ==> \result == BASE62_REPEATED_LETTER;
     ensures alphabet: \result != BASE62_OK ==>
         \forall integer i; 0 <= i < 318 ==> alphabet->bytes[i] == \old(alphabet->bytes[i]);
     ensures byte: \result != BASE62_OK ==> bad->index < 62 && bad->byte == BYTES(letters)[bad->index];

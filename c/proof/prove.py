@@ -2,7 +2,7 @@
 """Proves base62.c and laws.c by Frama-C's WP: c/proof/prove.py [FUNCTIONS..]
 
 It prints the goals without a proof, how many are proved and how many failed, and the time. It fails if a goal has no
-proof or rests on an axiom of WP that is false, if Frama-C warns of anything, if its tree has what tree.ml refuses, or
+proof or rests on an axiom of WP that is false, if Frama-C warns of anything, if its tree has what tree.ml rejects, or
 if the code without annotations and ghosts is not that of base62.c. Without names it fails too if WP's smoke tests find
 a requirement that nothing meets. It names each goal that takes over a third of its limit.
 

@@ -253,8 +253,8 @@ class walk = object (self)
   inherit Visitor.frama_c_inplace
   val passed = Hashtbl.create 1000
   method private name = match self#current_kf with Some kf -> Kernel_function.get_name kf | None -> ""
-  method private refuse place what = tell "refused" self#name (at_place place what)
-  method private refuse_if wrong place what = if wrong then self#refuse place what
+  method private reject place what = tell "rejected" self#name (at_place place what)
+  method private reject_if wrong place what = if wrong then self#reject place what
 
   method! vglob_aux g =
     let place = Cil_datatype.Global.loc g in
@@ -263,21 +263,21 @@ class walk = object (self)
         let kf = Globals.Functions.get f in
         tell (if Kernel_function.is_definition kf then "defined" else "declared") f.vname "";
         if Hashtbl.mem in_header f.vorig_name && f.vstorage <> Static then tell "public" f.vname "";
-        List.iter (fun what -> tell "refused" f.vname (at_place place what)) (contract kf)
-      | GAsm _ -> self#refuse place "assembler"
-      | GPragma _ -> self#refuse place "a pragma"
+        List.iter (fun what -> tell "rejected" f.vname (at_place place what)) (contract kf)
+      | GAsm _ -> self#reject place "assembler"
+      | GPragma _ -> self#reject place "a pragma"
       | GVar (v, _, _) -> if v.vstorage = Static && is_constant v && file_of place = "base62.c" then tell "constant" v.vname ""
       | GCompTag (c, _) ->
-        self#refuse_if (not c.cstruct) place "a union, whose fields WP keeps apart";
+        self#reject_if (not c.cstruct) place "a union, whose fields WP keeps apart";
         let is_bit_field f = f.fbitfield <> None in
-        self#refuse_if (List.exists is_bit_field (Option.value c.cfields ~default:[])) place
-          "a bit field, which WP takes for a whole number"
+        self#reject_if (List.exists is_bit_field (Option.value c.cfields ~default:[])) place
+          "a bit field, which WP takes for a whole object"
       | _ -> ());
     Cil.DoChildren
 
   method! vattr a =
     let name = Cil.attributeName a in
-    if not (List.mem name known_attributes) then tell "refused" self#name ("an attribute, " ^ name);
+    if not (List.mem name known_attributes) then tell "rejected" self#name ("an attribute, " ^ name);
     Cil.DoChildren
 
   method! vannotation a =
@@ -286,25 +286,25 @@ class walk = object (self)
       | Daxiomatic _ -> ()
       | Dlemma (name, _, _, { tp_kind = Admit; tp_statement }, _, _) ->
         (try tell "axiom" name (query tp_statement)
-         with Other_form -> self#refuse place ("an axiom of another form: " ^ name))
-      | Dlemma (name, _, _, _, _, _) -> self#refuse_if (name = "no_wp") place not_tried; tell "lemma" name ""
+         with Other_form -> self#reject place ("an axiom of another form: " ^ name))
+      | Dlemma (name, _, _, _, _, _) -> self#reject_if (name = "no_wp") place not_tried; tell "lemma" name ""
       | Dfun_or_pred (info, _) ->
-        List.iter (fun what -> self#refuse place (what ^ ": " ^ info.l_var_info.lv_name)) (definition info)
-      | _ -> self#refuse place "an annotation of another kind");
+        List.iter (fun what -> self#reject place (what ^ ": " ^ info.l_var_info.lv_name)) (definition info)
+      | _ -> self#reject place "an annotation of another kind");
     Cil.DoChildren
 
   method! vcode_annot a =
     let place = Option.value (Cil_datatype.Code_annotation.loc a) ~default:Cil_datatype.Location.unknown in
     (match a.annot_content with
-      | AAssert ([], p) | AInvariant ([], true, p) -> self#refuse_if (p.tp_kind = Admit) place "admit"
+      | AAssert ([], p) | AInvariant ([], true, p) -> self#reject_if (p.tp_kind = Admit) place "admit"
       | AVariant (_, None) | AAssigns ([], _) -> ()
-      | AVariant (_, Some _) -> self#refuse place "a variant for a relation"
-      | APragma _ -> self#refuse place "a pragma"
-      | _ -> self#refuse place "an annotation of another kind");
+      | AVariant (_, Some _) -> self#reject place "a variant for a relation"
+      | APragma _ -> self#reject place "a pragma"
+      | _ -> self#reject place "an annotation of another kind");
     Cil.DoChildren
 
   method! videntified_predicate p =
-    self#refuse_if (p.ip_content.tp_kind = Admit) p.ip_content.tp_statement.pred_loc "admit";
+    self#reject_if (p.ip_content.tp_kind = Admit) p.ip_content.tp_statement.pred_loc "admit";
     Cil.DoChildren
 
   method! vstmt_aux s =
@@ -312,41 +312,41 @@ class walk = object (self)
     let is_variant a = match a.annot_content with AVariant _ -> true | _ -> false in
     Hashtbl.replace passed s.sid ();
     (match s.skind with
-      | Loop _ -> self#refuse_if (Annotations.code_annot ~filter:is_variant s = []) place "a loop without a variant"
-      | Goto (target, _) -> self#refuse_if (Hashtbl.mem passed !target.sid) place "a jump back"
-      | Instr (Asm _) -> self#refuse place "assembler"
+      | Loop _ -> self#reject_if (Annotations.code_annot ~filter:is_variant s = []) place "a loop without a variant"
+      | Goto (target, _) -> self#reject_if (Hashtbl.mem passed !target.sid) place "a jump back"
+      | Instr (Asm _) -> self#reject place "assembler"
       | Instr (Call (_, { enode = Lval (Var f, NoOffset); _ }, _, _))
       | Instr (Local_init (_, ConsInit (f, _, _), _)) -> Hashtbl.add calls self#name f.vname
-      | Instr (Call _) -> self#refuse place "a call through a pointer"
+      | Instr (Call _) -> self#reject place "a call through a pointer"
       | _ -> ());
     Cil.DoChildren
 
   method! vexpr e = match e.enode with
     | SizeOfE _ | AlignOfE _ -> Cil.SkipChildren
     | CastE (to_, a) when is_through_a_number to_ (Cil.typeOf a) && not (Cil.isZero a) ->
-      self#refuse e.eloc through_a_number; Cil.DoChildren
+      self#reject e.eloc through_a_number; Cil.DoChildren
     | Lval _ | CastE _ when is_of_kind IChar (Cil.typeOf e) -> tell "char" self#name (at_place e.eloc plain_char); Cil.DoChildren
-    | Lval lval when has_array (Cil.typeOfLval lval) -> self#refuse e.eloc read_whole; Cil.DoChildren
+    | Lval lval when has_array (Cil.typeOfLval lval) -> self#reject e.eloc read_whole; Cil.DoChildren
     | _ -> Cil.DoChildren
 
   (* Where a clause names what is assigned, nothing is read. *)
   method! vassigns a =
     let is_tried (t, _) = not (List.mem "no_wp" t.it_content.term_name) in
     (match a with Writes all when List.for_all is_tried all -> () | WritesAny -> ()
-      | _ -> self#refuse Cil_datatype.Location.unknown not_tried);
+      | _ -> self#reject Cil_datatype.Location.unknown not_tried);
     Cil.SkipChildren
-  method! vpredicate p = self#refuse_if (List.mem "no_wp" p.pred_name) p.pred_loc not_tried; Cil.DoChildren
+  method! vpredicate p = self#reject_if (List.mem "no_wp" p.pred_name) p.pred_loc not_tried; Cil.DoChildren
   method! vterm t =
-    self#refuse_if (List.mem "no_wp" t.term_name) t.term_loc not_tried;
+    self#reject_if (List.mem "no_wp" t.term_name) t.term_loc not_tried;
     (match t.term_node with
-      | TCastE (to_, { term_type = Ctype from; _ }) when is_through_a_number to_ from -> self#refuse t.term_loc through_a_number
-      | TCastE (to_, { term_type = Linteger; _ }) when Cil.isPointerType to_ -> self#refuse t.term_loc through_a_number
-      | TCastE (to_, _) when is_of_kind IBool to_ -> self#refuse t.term_loc "a cast to _Bool, which WP leaves out"
+      | TCastE (to_, { term_type = Ctype from; _ }) when is_through_a_number to_ from -> self#reject t.term_loc through_a_number
+      | TCastE (to_, { term_type = Linteger; _ }) when Cil.isPointerType to_ -> self#reject t.term_loc through_a_number
+      | TCastE (to_, _) when is_of_kind IBool to_ -> self#reject t.term_loc "a cast to _Bool, which WP leaves out"
       | TLval _ | TCastE _ when (match t.term_type with Ctype typ -> is_of_kind IChar typ | _ -> false) ->
         tell "char" self#name (at_place t.term_loc (plain_char ^ " in a clause"))
       | _ -> ());
     match t.term_type with
-    | Ctype typ when has_array typ -> self#refuse t.term_loc read_whole; Cil.SkipChildren
+    | Ctype typ when has_array typ -> self#reject t.term_loc read_whole; Cil.SkipChildren
     | _ -> Cil.DoChildren
 end
 
@@ -360,7 +360,7 @@ let main file =
   read_files ();
   Visitor.visitFramacFileSameGlobals (new walk) (Ast.get ());
   let callers = List.sort_uniq compare (Hashtbl.fold (fun f _ all -> f :: all) calls []) in
-  List.iter (fun f -> tell "refused" f "it calls itself") (endless callers);
+  List.iter (fun f -> tell "rejected" f "it calls itself") (endless callers);
   let out = open_out file in
   List.iter (fun line -> output_string out (line ^ "\n")) (List.rev !found);
   close_out out

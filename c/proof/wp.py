@@ -25,7 +25,7 @@ FLAGS = f"-I{C} -D__FC_MACHDEP_X86_{BITS} -DBASE62_NO_INT128 -U__SIZEOF_INT128__
 LIMIT = int(os.environ.get("LIMIT", "30"))
 CORES = int(os.environ.get("CORES", os.cpu_count()))
 
-# How a line "== prove" of the notions or the laws says that WP proves a function. All others are proved without what
+# How a line "== prove" of the annotations or the laws says that WP proves a function. All others are proved without what
 # stands in constant tables, since it slows provers.
 HOW = {"with tables", "asserts named same with tables", "without a filter of hypotheses", "not split", "z3 first"}
 
@@ -78,11 +78,11 @@ def frama_c(file, name, options, last=None, **more):
 
 
 def tree(file):
-    """What tree.ml finds in a file: the kind, the name, and what. Warnings are refused too."""
+    """What tree.ml finds in a file: the kind, the name, and what. Warnings are rejected too."""
     said = file.parent / "tree.tsv"
     log = frama_c(file, "tree", [], TREE=str(said))
     found = [tuple(line.split("\t")) for line in said.read_text().splitlines()]
-    return found + [("refused", "", warning) for warning in warnings(log)]
+    return found + [("rejected", "", warning) for warning in warnings(log)]
 
 
 def preprocessed(file):
@@ -105,7 +105,7 @@ LEMMAS = "@lemma"
 @dataclasses.dataclass
 class Checked:
     """What is to be proved of a file, which calls of base62.h it defines or declares, which of its constants no pointer of
-    a caller points to, and what it has that is refused."""
+    a caller points to, and what it has that is rejected."""
 
     to_prove: set
     calls: set
@@ -119,8 +119,8 @@ def checked(file, bare=None, calls=None):
     found = tree(file)
     of = {kind: {name for each, name, _ in found if each == kind}
           for kind in ("defined", "declared", "public", "lemma", "constant")}
-    wrong = [f"refused: {name} {what}" for kind, name, what in dict.fromkeys(found)
-             if kind == "refused" or kind == "char" and bare]
+    wrong = [f"rejected: {name} {what}" for kind, name, what in dict.fromkeys(found)
+             if kind == "rejected" or kind == "char" and bare]
     wrong += [f"no body: {name}" for name in sorted(of["declared"] - (set() if bare else calls or of["public"]))]
     wrong += bits.wrong(found)
     if bare and code(file) != bare:
@@ -145,18 +145,18 @@ def is_proved(function, how):
     return (function, how) in hints()
 
 
-def proved(file, function, last=None):
-    """What WP says of a function or of all lemmas."""
+def proved(file, function, last=None, limit=LIMIT):
+    """What WP says of a function or of all lemmas, with a limit of seconds for each goal."""
     if not is_proved(function, "asserts named same with tables"):
-        return run(file, function, is_proved(function, "with tables"), [], last)
-    log = run(file, function, True, ["-wp-prop", "same"], last)
-    return log if last and last in log else log + run(file, function, False, ["-wp-prop=-same"], last)
+        return run(file, function, is_proved(function, "with tables"), [], last, limit)
+    log = run(file, function, True, ["-wp-prop", "same"], last, limit)
+    return log if last and last in log else log + run(file, function, False, ["-wp-prop=-same"], last, limit)
 
 
-def run(file, function, with_tables, options, last):
+def run(file, function, with_tables, options, last, limit):
     """What one run of WP says, with or without what stands in constant tables."""
     provers = "z3,cvc4" if is_proved(function, "z3 first") else "cvc4,z3"
-    options = [*options, "-wp", "-wp-rte", "-warn-invalid-pointer", "-wp-prover", provers, "-wp-timeout", str(LIMIT),
+    options = [*options, "-wp", "-wp-rte", "-warn-invalid-pointer", "-wp-prover", provers, "-wp-timeout", str(limit),
                "-wp-par", "1", "-wp-msg-key", "print-generated",
                "-wp-prop" if function == LEMMAS else "-wp-fct", function]
     options += [] if is_proved(function, "not split") else ["-wp-split"]

@@ -111,9 +111,12 @@ static ALWAYS_INLINE option_u128 u128_checked_mul(u128 a, u128 b) {
 }
 
 static ALWAYS_INLINE u128 u128_from_be_bytes(const uint8_t bytes[16]) {
-    u128 a = u128_of(0);
-    for (int i = 0; i < 16; i++) a = u128_add(u128_shift_left(a, 8), u128_of(bytes[i]));
-    return a;
+    uint64_t high = 0, low = 0;
+    for (int i = 0; i < 8; i++) {
+        high = high * 256 + bytes[i];
+        low = low * 256 + bytes[8 + i];
+    }
+    return (u128){high, low};
 }
 
 static ALWAYS_INLINE void u128_to_be_bytes(u128 a, uint8_t bytes[16]) {

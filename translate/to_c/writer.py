@@ -5,7 +5,7 @@ from reader import refuse, refusing, twin_of
 from .crates import Definition
 from .layout import WIDTH, comment_of
 from .library import Local
-from .types import HELD, INLINE_TEXT, INTS, STR, U8, U32, U64, U128, UNIT, USIZE, WORK, behind, is_slice
+from .types import HELD, INLINE_TEXT, INTS, STR, U8, U32, U64, U128, UNIT, USIZE, WORK, behind, is_slice, parts_of
 from .values import LEVEL, UNARY, Values
 
 STORAGE = {"#[inline]": "inline ", "#[inline(always)]": "ALWAYS_INLINE "}
@@ -19,6 +19,7 @@ class Writer(Values):
         super().__init__(library, definition)
         self.function, self.is_exported = library.function(definition), definition.item.is_exported
         self.cast, self.out_name, self.optional = "", None, []  # What stands before a result, its place, and lines.
+        self.returned = None  # The variable that is written to the place of the result.
         self.text_place = None  # The place of the text that it gives.
         self.places = {}  # The place and the type of what was lent to a call, by the name of its answer.
 
@@ -101,7 +102,8 @@ class Writer(Values):
         library, result = self.library, self.function.result
         parts = [part for local in self.function.parameters for part in self.parameter(local)]
         if result[0] == "array":
-            self.out_name = self.fresh("result")
+            self.returned = self.returned_bytes()
+            self.out_name = self.fresh(self.returned.name if self.returned else "result")
             parts.append(library.declared(result, self.out_name))
         if result == INLINE_TEXT:
             self.text_place = self.function.moved[0].c if self.function.moved else "*" + self.fresh("result")
@@ -116,6 +118,18 @@ class Writer(Values):
             storage += STORAGE.get(known, "")
         head = f"{library.name(self.definition)}({', '.join(parts) or 'void'})"
         return storage + library.declared(UNIT if self.out_name or self.text_place else result, head)
+
+    def returned_bytes(self):
+        """The variable of bytes that the function returns, if nothing else is returned and no parameter is a pointer. So
+        its place can be that of the result."""
+        body = self.body()
+        name = body.tail.path if body.tail and body.tail.kind == "path" else None
+        lets = [node for node in body.walk() if node.kind == "let" and node.pattern.kind == "binding"
+                and [node.pattern.name] == name]
+        types = [of[0] for local in self.function.parameters for of in parts_of(local.type)]
+        is_only = len(lets) == 1 and lets[0] in body.statements and lets[0].value.kind == "repeat"
+        others = {"ref", "array"} & {*types} or {"return", "try"} & {node.kind for node in body.walk()}
+        return lets[0].pattern if is_only and not others else None
 
     def parameter(self, local):
         of, library, self.scopes[0][local.name] = local.type, self.library, local
@@ -201,6 +215,8 @@ class Writer(Values):
             node.args and refuse(node.token, "an argument that no run has")
         elif node.kind == "tuple" and not node.items:
             pass
+        elif into == "return" and self.returned:
+            pass  # It is in its place.
         elif into == "return" and self.out_name:
             self.copy(self.out_name, node, result)
         elif into == "return" and self.text_place:
@@ -388,14 +404,18 @@ class Writer(Values):
         texts = [self.text(item, U8) for item in items]
         self.in_any_order(items)
         count = len(items) if value.kind == "array" else self.library.number(value.count, self.definition)
-        local = self.bind(pattern.name, ("array", U8, count))
-        if want not in (None, local.type):
+        of = ("array", U8, count)
+        local = self.bind(pattern.name, of, self.out_name if pattern is self.returned else None)
+        if want not in (None, of) or pattern is self.returned and of != self.function.result:
             refuse(value.token, "an array of another type")
         if value.kind == "array":
             const = "const " * (not pattern.is_mutable)
             self.emit(f"{const}{self.library.declared(local.type, local.c)} = {{{', '.join(texts)}}};")
             return
         byte = texts[0] if value.value.kind == "number" else refuse(value.token, "no list of bytes")
+        if pattern is self.returned:
+            self.emit(f"fill_bytes({local.c}, {byte}, {count});")
+            return
         self.emit(f"{self.library.declared(local.type, local.c)}{' = {0}' if byte == '0' else ''};")
         if byte != "0":
             self.emit(f"fill_bytes({local.c}, {byte}, sizeof {local.c});")

@@ -31,7 +31,7 @@ COVERED = {
     ("write_pair", "\\valid(buf + 1)"): "`write_pair` requires `2 ≤ length buf.old`",
 }
 
-# Of a text of an error Eva knows no length by which its bytes are set. `append` in ../proof/notions/faults.acsl sets each
+# Of a text of an error Eva knows no length by which its bytes are set. `append` in ../proof/annotations/faults.acsl sets each
 # byte before the length, and no byte behind it is copied.
 IN_MESSAGES = {("copy_bytes", "\\initialized(from + i)")}
 

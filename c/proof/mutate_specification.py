@@ -1,10 +1,13 @@
 #!/usr/bin/env python3
-"""Changes base62.acsl in one place after the other: c/proof/weaker.py [TEXTS..]
+"""Changes base62.acsl in one place after the other: c/proof/mutate_specification.py [TEXTS..]
 
 Each change has to leave a law or an example without a proof. OPERATORS says what is exchanged for what, wherever it
-stands in a definition or a contract, and LAWS which laws are tried. It prints the changes that these laws do not see,
-but for those of SAME, and how many are seen. If there are texts, it tries the changes whose line has one of them. A
-goal that is false uses all of its time. So a goal has a tenth of the time that it has in prove.
+stands in a definition or a contract, and LAWS which laws are tried. If there are texts, it tries the changes whose line
+has one of them.
+
+It prints the changes that leave all with a proof, but for those of SAME, and how many it tried. A goal that is false
+uses all of its time. So it has three times as long as the slowest goal of the function takes without a change, and two
+seconds more. A change that Frama-C cannot read is not tried.
 """
 
 import os
@@ -17,7 +20,6 @@ sys.dont_write_bytecode = True
 import annotate
 import wp
 
-wp.LIMIT //= 10
 FAILED = "[wp] [Failed] Goal"
 
 # From this text of base62.acsl on, up to the next one: the laws that are tried, in this order.
@@ -40,8 +42,8 @@ LAWS = {
     "logic integer uuid_value": "number_back_again",
     "number_of(\\result) == value": "of_half half version",
     "logic integer escape_length": "escape",
-    "logic integer without_digits": "decimals_told index_again",
-    "logic integer named_length": "texts_by_example index_again",
+    "logic integer without_decimals": "decimals_told index_again",
+    "logic integer byte_at_index_length": "texts_by_example index_again",
 }
 
 # What is exchanged for what in definitions and in what is ensured, and in what is required and assigned.
@@ -55,7 +57,7 @@ OPERATORS = [
     (r"STANDARD(?=_LETTERS[,);])", "ALTERNATIVE"), (r"ALTERNATIVE(?=_LETTERS[,);])", "STANDARD"),
     (r"\\result == [^;&]*(?=[;&])", r"(\g<0> || \\result == BASE62_OVERFLOW) "),
     (r"made(?= ==>[^;]*\b(size|width|length)\b)", r"made && \1 != 7"),
-    (r"(?<=\()told(?= &&)", "told && bad.index == 10"),
+    (r"(?<=\()written(?= &&)", "written && bad.index == 10"),
 ]
 CONTRACTS = [
     (r"requires (?=[^;]*\b(size|width|length)\b)", r"requires \1 % 7 > 0 && "),
@@ -75,9 +77,9 @@ SAME = {
     r"&& \exists integer i; 0 < i < index && letters[i] == letters[index];",
     r"ensures \result == (number_of(number) <= ACSL_2_64 ? 1 : 0);",
     r"ensures \result == (number_of(number) < ACSL_2_64 ? 1 : 1);",
-    "ACSL_HAS(text, 1, invalid_text, 35) && ACSL_NAMED(text, 35, bad.byte, bad.index)) \\",
-    "ACSL_HAS(text, 1, repeated_text, 21) && ACSL_NAMED(text, 21, bad.byte, bad.index)) \\",
-    "ACSL_HAS(text, 0, repeated_text, 21) && ACSL_NAMED(text, (21 - 1), bad.byte, bad.index)) \\",
+    "ACSL_HAS(text, 1, invalid_text, 35) && ACSL_BYTE_AT_INDEX(text, 35, bad.byte, bad.index)) \\",
+    "ACSL_HAS(text, 1, repeated_text, 21) && ACSL_BYTE_AT_INDEX(text, 21, bad.byte, bad.index)) \\",
+    "ACSL_HAS(text, 0, repeated_text, 21) && ACSL_BYTE_AT_INDEX(text, (21 - 1), bad.byte, bad.index)) \\",
     # The first bad byte of n bytes is at n at most, and 1 is the greatest answer.
     "n > 0 && bad_index(letters, text, n) >= n && value(letters, text, n) == number;",
     "n < 0 ? 0 : bad_index(letters, text, n - 1) == n - 1 && digit(letters, text[n - 1]) < 62 ? n",
@@ -155,33 +157,46 @@ def changes(text):
             yield laws, changed[changed.rfind("\n", 0, start) + 1:changed.index("\n", start)].strip(), changed
 
 
-def seen(folder, laws, text):
-    """The law that a change leaves without a proof, or that prove refuses it, or that Frama-C cannot read it."""
-    file = wp.prepared(folder, annotate.laws(), text)
+def seen(file, names, limits):
+    """The function that a change leaves without a proof, or that prove rejects it, or that Frama-C cannot read it."""
+    logs = []
     try:
-        found = next((law for law in laws if FAILED in wp.proved(file, law, last=FAILED)), "")
-        return found or ("refused" if wp.checked(file).wrong else "")
+        for name in names:
+            logs.append(wp.proved(file, name, FAILED, limits[name]))
+            if FAILED in logs[-1]:
+                return name
+        said = wp.checked(file)
+        return "rejected" if said.wrong or any([*wp.warnings(log, said.constants)] for log in logs) else ""
     except SystemExit:
         return "not read"
 
 
-def main(texts):
-    found = [change for change in changes(annotate.text_of(wp.SPECIFICATION))
-             if not texts or any(text in change[1] for text in texts)]
-    laws = sorted({law for names, _, _ in found for law in names})
+def tried(found, same, file_of):
+    """Prints which changes leave the functions proved, but for the same, and how many are tried. A change is the functions,
+    what it is called, and the text of which file_of makes a file in a folder."""
+    def result(i):
+        names, what, text = found[i]
+        by = seen(file_of(work / str(i), text), names, limits)
+        if bool(by) == (what in same):
+            print(f"{by or 'not'} seen: {what}", flush=True)
+        return by
+
     with tempfile.TemporaryDirectory() as folder:
         work = pathlib.Path(folder)
-        # A change leaves most goals of a law as they are.
-        os.environ.setdefault("CACHE", f"{folder}/cache")
-        right = wp.prepared(work / "right", annotate.laws())
-        logs = wp.at_once(lambda law: wp.proved(right, law, last=FAILED), laws)
-        by = wp.at_once(lambda i: seen(work / str(i), found[i][0], found[i][2]), range(len(found)))
-    wrong = [f"not proved without a change: {law}" for law, log in zip(laws, logs) if FAILED in log]
-    wrong += [f"{it or 'not'} seen: {line}" for (_, line, _), it in zip(found, by) if bool(it) == (line in SAME)]
-    print("".join(line + "\n" for line in wrong), end="")
-    print(f"{len(found) - by.count('not read')} changes, {by.count('')} of them change nothing, {len(wrong)} failed")
-    return 1 if wrong else 0
+        os.environ.setdefault("CACHE", f"{folder}/cache")  # A change leaves most goals as they are.
+        right, names = file_of(work / "right", None), sorted({name for names, _, _ in found for name in names})
+        logs = dict(zip(names, wp.at_once(lambda name: wp.proved(right, name, FAILED), names)))
+        limits = {name: 2 + 3 * max((took for _, _, took in wp.goals(log)), default=0) // 1000
+                  for name, log in logs.items()}
+        print("".join(f"not proved without a change: {name}\n" for name, log in logs.items() if FAILED in log), end="")
+        by = wp.at_once(result, range(len(found)))
+    failed = [what for (_, what, _), it in zip(found, by) if bool(it) == (what in same)]
+    failed += [name for name, log in logs.items() if FAILED in log]
+    print(f"{len(found) - by.count('not read')} changes, {by.count('')} of them change nothing, {len(failed)} failed")
+    return 1 if failed else 0
 
 
 if __name__ == "__main__":
-    sys.exit(main(sys.argv[1:]))
+    chosen = [change for change in changes(annotate.text_of(wp.SPECIFICATION))
+              if not sys.argv[1:] or any(text in change[1] for text in sys.argv[1:])]
+    sys.exit(tried(chosen, SAME, lambda folder, text: wp.prepared(folder, annotate.laws(), text)))

@@ -49,20 +49,20 @@ print(f"""/*@ logic integer pow62(integer k) =
 
     // A shift is a product by a power, or 2^128 or more.
     /@ assigns \\nothing;
-       ensures small: k < 22 ==> shifted(value(n), k) == value(n) * pow62(k);
-       ensures large: k >= 22 && value(n) > 0 ==> shifted(value(n), k) >= ACSL_2_128;
-       ensures zero: value(n) == 0 ==> shifted(value(n), k) == 0;
+       ensures small: k < 22 ==> shifted(number_of(n), k) == number_of(n) * pow62(k);
+       ensures large: k >= 22 && number_of(n) > 0 ==> shifted(number_of(n), k) >= ACSL_2_128;
+       ensures zero: number_of(n) == 0 ==> shifted(number_of(n), k) == 0;
     @/
     void shift_is(u128 n, size_t k) {{
         size_t i = 0;
-        /@ loop invariant small: i <= k && (i < 22 ==> shifted(value(n), i) == value(n) * pow62(i));
-           loop invariant large: i >= 22 && value(n) > 0 ==> shifted(value(n), i) >= ACSL_2_128;
-           loop invariant zero: value(n) == 0 ==> shifted(value(n), i) == 0;
+        /@ loop invariant small: i <= k && (i < 22 ==> shifted(number_of(n), i) == number_of(n) * pow62(i));
+           loop invariant large: i >= 22 && number_of(n) > 0 ==> shifted(number_of(n), i) >= ACSL_2_128;
+           loop invariant zero: number_of(n) == 0 ==> shifted(number_of(n), i) == 0;
            loop assigns i; loop variant k - i; @/
         while (i < k) {{
-            /@ assert shift: shifted(value(n), i + 1) == 62 * shifted(value(n), i); @/
+            /@ assert shift: shifted(number_of(n), i + 1) == 62 * shifted(number_of(n), i); @/
             /@ assert power: i < 22 ==> pow62(i + 1) == 62 * pow62(i); @/
-            /@ assert product: i < 22 ==> value(n) * pow62(i + 1) == 62 * (value(n) * pow62(i)); @/
+            /@ assert product: i < 22 ==> number_of(n) * pow62(i + 1) == 62 * (number_of(n) * pow62(i)); @/
             i = after(i);
         }}
     }}
@@ -102,7 +102,7 @@ print(f"""/*@ logic integer pow62(integer k) =
 requires k <= 10; assigns \\nothing; ensures \\result == pow62(k);
 
 == contract greatest
-assigns \\nothing; ensures value(\\result) + 1 == span_of(k);
+assigns \\nothing; ensures number_of(\\result) + 1 == span_of(k);
 
 == prove u64_ilog2: not split
 == prove u64_ilog2: z3 first
@@ -132,7 +132,7 @@ ghost highest_bit(whole, bits);
 == after static ALWAYS_INLINE size_t wide_count(u128 n);
 /*@ ghost""")
 # The tables of the greatest numbers of k letters.
-for kind, read, most, end in (("wide", "value(GREATEST[k])", 22, "ACSL_2_128"),
+for kind, read, most, end in (("wide", "number_of(GREATEST[k])", 22, "ACSL_2_128"),
                               ("narrow", "GREATEST_NARROW[k]", 11, "ACSL_2_64")):
     print(f"""
     /@ requires 1 <= k <= {most}; assigns \\nothing; ensures {read} == (k == {most} ? {end} : pow62(k)) - 1; @/

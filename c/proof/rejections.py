@@ -1,7 +1,7 @@
 #!/usr/bin/env python3
-"""Plants one way after the other to get something false accepted: c/proof/refusals.py [TEXTS..]
+"""Plants one way after the other to get something false accepted: c/proof/rejections.py [TEXTS..]
 
-Each has to be refused by what its table says. It prints those that are not, and how many are refused. It plants those
+Each has to be rejected by what its table says. It prints those that are not, and how many are rejected. It plants those
 that have one of the texts, if there are any.
 """
 
@@ -35,7 +35,7 @@ def ghost(body, contract="assigns \\nothing; ensures \\false;", before="", head=
     return f"{TOP}{before}\n/*@ ghost\n/@ {contract} @/\n{head} {{ {body} }}\n*/"
 
 
-# Lists, and what refuses each.
+# Lists, and what rejects each.
 LISTS = [
     # A definition that has no sense.
     (logic("logic integer f(integer n) = f(n) + 1;"), ENDS),
@@ -147,7 +147,7 @@ LISTS = [
     (ghost("return *t;", "requires \\valid_read(t); assigns \\nothing;", head="Tables planted(Tables *t)"), READ),
 ]
 
-# Changes of base62.c: what stands there, what takes its place, and what refuses it.
+# Changes of base62.c: what stands there, what takes its place, and what rejects it.
 GROWS = "    text->length += part_length;\n"
 SOURCES = [
     # Other code for a compiler than Frama-C reads.
@@ -214,8 +214,6 @@ void planted(struct all *s) {
 }
 """
 
-
-# A requirement that nothing meets.
 # A variable to which a pointer of the caller may point.
 VARIABLE = """
 unsigned char my_part;
@@ -223,6 +221,7 @@ unsigned char my_part;
 void planted(unsigned char *p) { my_part = 1; *p = 2; }
 """
 
+# A requirement that nothing meets.
 NEVER = """#include "base62.acsl"
 /*@ requires \\valid_read(p + (0 .. 3)) && p[1] == 0 && \\forall integer i; 0 <= i < 4 ==> p[i] == '0';
     assigns \\nothing;
@@ -289,7 +288,7 @@ def main(texts):
     failed = 0
     for (_, (text, by, _)), lines in zip(found, answers):
         if not any(by in line for line in lines) if by else lines:
-            print(f"not refused by {by!r}:\n{text}\nbut by {lines}")
+            print(f"not rejected by {by!r}:\n{text}\nbut by {lines}")
             failed += 1
     print(f"{len(answers) - failed} passed, {failed} failed")
     return 1 if failed else 0

@@ -1,0 +1,74 @@
+#!/usr/bin/env python3
+"""Changes base62.c in one place after the other: c/proof/mutate_code.py [FUNCTIONS..]
+
+Each change has to leave a goal of its function without a proof. OPERATORS says what is exchanged for what in a body;
+besides, each statement is left out, and two arguments next to each other are exchanged. TABLES has what is changed in
+constant tables, and the function that reads them. mutate_specification.py tries the changes, and says how.
+"""
+
+import re
+import sys
+
+sys.dont_write_bytecode = True
+import annotate
+import mutate_specification
+import wp
+
+NUMBER = r"(?<![\w'.])(?:0x[0-9a-f]+|\d+)(?!\w)"
+STATEMENT = (r"(?<=\n    )(?: {4})*(?!return|const|uint|size_t|bool|static|u128 |[A-Z]\w* \w+;"
+             r"|(?:base62|option|result|pair)_\w+ \w)\w[^;{}]*;(?=\n)")
+OPERATORS = [
+    (r"(?<![<-])<(?![<=])", "<="), ("<=", "<"), (r"(?<![->])>(?![>=])", ">="), (">=", ">"), ("==", "!="), ("!=", "=="),
+    ("&&", "||"), (r"\|\|", "&&"), (r"(?<= )\+(?= )", "-"), ("(?<= )-(?= )", "+"), (r"(?<= )\*(?= )", "+"),
+    ("(?<= )/(?= )", "%"), ("(?<= )%(?= )", "/"), ("<<", ">>"), ("(?<= )>>", "<<"), (r"(?<=[ (])!(?=\w)", ""),
+    ("(?<= )&(?= )", "|"), (r"(?<= )\|(?= )", "&"), (r"\.high\b", ".low"), (r"\.low\b", ".high"),
+    (r"\btrue\b", "false"), (r"\bfalse\b", "true"), (r"\bstandard_", "alternative_"), (r"\balternative_", "standard_"),
+    (NUMBER, r"(\g<0> + 1)"), (r"\b(?:POWER_\d+|[A-Z]+_[A-Z_]+|OK|OVERFLOW)\b(?!\()", r"(\g<0> + 1)"), (STATEMENT, ";"),
+]
+TEXT = (r'"(?=\w)', '"x')
+TABLES = [
+    ("POWERS", NUMBER, "power"), ("GREATEST", NUMBER, "greatest_wide"), ("GREATEST_NARROW", NUMBER, "greatest_narrow"),
+    ("STANDARD", "'A'", "standard_letter"), ("STANDARD", r"\b10\b", "standard_byte"),
+    ("ALTERNATIVE", "'A'", "alternative_letter"), ("ALTERNATIVE", r"\b10\b", "alternative_byte"),
+]
+
+# Changes that are no mistakes.
+SAME = {
+}
+
+# Of two arguments of these the order does not matter.
+COMMUTATIVE = re.compile(r"\b(?:u128_(?:add|and|equal|mul|mul_64|or|checked_add|checked_mul|saturating_add)"
+                         r"|u64_wrapping_add|usize_min)\($")
+
+
+def places(code):
+    """What is changed in code without comments, and the function that is tried."""
+    lines = code.split("\n")
+    bare = mutate_specification.blanked(code, r'"(?:\\.|[^"\\\n])*"').split("\n")
+    starts = [0]
+    for line in lines:
+        starts.append(starts[-1] + len(line) + 1)
+    for name, (first, last) in annotate.definitions(lines).items():
+        start = code.index("{", starts[first])
+        body = "\n".join(bare)[start:starts[last + 1]]
+        found = [(*each.span(), each.expand(new)) for old, new in OPERATORS for each in re.finditer(old, body)]
+        found += [(*each.span(), TEXT[1]) for each in re.finditer(TEXT[0], code[start:starts[last + 1]])]
+        found += [each for each in mutate_specification.exchanges(body) if not COMMUTATIVE.search(body[:each[0]])]
+        yield from ((name, start + first, start + last, new) for first, last, new in sorted(found))
+    for table, old, name in TABLES:
+        start = re.search(rf"\b{table}\b[^;(]*= {{", code).end()
+        for each in re.finditer(old, code[start:code.index("};", start)]):
+            yield name, start + each.start(), start + each.end(), f"({each.group()} + 1)"
+
+
+def changes(text):
+    """Each changed file: the function, its name and the line, and the text."""
+    for name, first, last, new in places(mutate_specification.blanked(text, r"/\*.*?\*/|//[^\n]*|#if[^\n]*\n(?:[^#]*#else)?")):
+        changed = text[:first] + new + text[last:]
+        yield [name], f"{name}: {changed[changed.rfind(chr(10), 0, first) + 1:changed.index(chr(10), first)].strip()}", changed
+
+
+if __name__ == "__main__":
+    annotated = annotate.annotated(annotate.text_of(wp.CODE))
+    chosen = [change for change in changes(annotated) if not sys.argv[1:] or change[0][0] in sys.argv[1:]]
+    sys.exit(mutate_specification.tried(chosen, SAME, lambda folder, text: wp.prepared(folder, text or annotated)))

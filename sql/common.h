@@ -1,7 +1,7 @@
 /* SPDX-License-Identifier: MIT */
 /* Copyright (c) 2026 the maintainers of base62 for Rattle */
 
-/* Hand-written. What the modules of both databases share: calls over the standard or a custom alphabet, and their
+/* Hand-written. What the modules of both databases share: functions over the standard or a custom alphabet, and their
  * errors. Every function is static, so that a program that links a module gets no further names from it.
  *
  * A function that returns bool writes its result and returns true, or stores why it fails in *error and returns false.
@@ -85,7 +85,7 @@ static inline bool check_width(int64_t width, call_error *error) {
     return valid || fail_with(error, INVALID_PARAMETER, "a width is an integer from 1 to 1000");
 }
 
-/* Calls */
+/* Encoding, decoding and ranges */
 
 /* The buffer has BASE62_MAX_DIGITS bytes. Returns the length. */
 static inline size_t encode_shortest(const base62_alphabet *alphabet, base62_number number, char *buffer) {
@@ -115,7 +115,7 @@ static inline bool decode_text(const base62_alphabet *alphabet, const char *text
     return status == BASE62_OK || fail_with_status(error, status, bad);
 }
 
-/* The numbers whose texts of the width begin with the prefix. If there are none, only sets *empty. */
+/* Finds the numbers whose strings of the width begin with the prefix. If there are none, only sets *empty. */
 static inline bool range_of_prefix(const base62_alphabet *alphabet, const char *prefix, size_t length, size_t width,
                                    base62_range *range, bool *empty, call_error *error) {
     base62_bad_byte bad = {0, 0};

@@ -1,7 +1,7 @@
 /*
  * Tests the two functions of base62.c that use extensions of the compiler, if it has them: u128_mul_64 and u64_ilog2.
  * Each result is compared with long multiplication and with a shift by one bit at a time. The command takes how many
- * random pairs to try, and a seed, or else draws one of the time.
+ * random pairs to try, and a seed, by default the current time.
  */
 #include "base62.c"
 

@@ -1,6 +1,7 @@
 /*
- * Compares the library with GMP, whose texts in base 62 have the same letters: random numbers, and random texts, of which
- * some denote too large numbers. The command takes how many of each, and a seed, or else draws one of the time.
+ * Compares the library with GMP, whose strings in base 62 have the same characters: random numbers, and random strings,
+ * some of which represent too large numbers. The command takes how many of each, and a seed, by default the current
+ * time.
  */
 #include <base62.h>
 

@@ -1,6 +1,6 @@
 /*
- * A program in which two major versions of the library stand, and their base62_encode takes different arguments. It is
- * compiled once for each of its parts:
+ * A program that loads two major versions of the library, whose base62_encode takes different arguments. It is compiled
+ * once for each of its parts:
  *
  *     -DNEXT_MAJOR         what stands for the next major version
  *     -DOVER_NEXT_MAJOR    a library that calls that one

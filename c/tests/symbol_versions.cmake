@@ -1,4 +1,4 @@
-# Two major versions of the library stand in one program, which ELF makes possible by versions of symbols. This one is
+# A program that loads two major versions of the library, which ELF makes possible by symbol versions. This version is
 # shared, or is a part of the shared library that calls it.
 math(EXPR next "${PROJECT_VERSION_MAJOR} + 1")
 foreach(part IN ITEMS next over_next over_this over_this_static)

@@ -1,5 +1,5 @@
-"""Tests of base62.c without a C library: what it calls from outside, and how much stack it takes. CC is the compiler, by
-default gcc."""
+"""Tests of base62.c without a C library: which external functions it calls, and how much stack it takes. CC is the
+compiler, by default gcc."""
 
 import os
 import pathlib
@@ -12,7 +12,7 @@ import unittest
 FOLDER = pathlib.Path(__file__).resolve().parents[1]
 COMPILER = shlex.split(os.environ.get("CC") or "gcc")
 IS_GCC = "Free Software Foundation" in subprocess.run([*COMPILER, "--version"], capture_output=True, text=True).stdout
-# As the page has it. GCC also writes who calls whom, and how much stack each takes.
+# As README.md says. GCC also writes which function calls which, and how much stack each takes.
 FREESTANDING = ["-std=c99", "-O2", "-ffreestanding", *(["-fcallgraph-info=su"] if IS_GCC else [])]
 
 
@@ -27,22 +27,22 @@ def compiled(*options):
 
 
 def stack(graph):
-    """The most bytes that each call takes, with all that it calls."""
-    sizes = {"memcpy": 0}  # It stands elsewhere.
+    """The most bytes of stack that each exported function takes, with all that it calls."""
+    sizes = {"memcpy": 0}  # It is defined elsewhere.
     sizes |= {name: int(size) for name, size in re.findall(r'node: \{ title: "(.*?)" .*?\\n(\d+) bytes \(', graph)}
     calls = re.findall(r'edge: \{ sourcename: "(.*?)" targetname: "(.*?)"', graph)
 
     def deepest(name):
-        # The call itself leaves its address.
+        # A call pushes its return address.
         return 8 + sizes[name] + max((deepest(to) for of, to in calls if of == name), default=0)
 
     return {name: deepest(name) for name in sizes if name.startswith("base62_")}
 
 
 class Freestanding(unittest.TestCase):
-    def test_as_the_page_says(self):
-        page = (FOLDER / "README.md").read_text()
-        most, others = (float(it) * 1000 for it in re.findall(r"at most (\d\.\d) kB of stack", page))
+    def test_as_readme_says(self):
+        readme = (FOLDER / "README.md").read_text()
+        most, others = (float(it) * 1000 for it in re.findall(r"at most (\d\.\d) kB of stack", readme))
         for option in "-DBASE62_ALL", "-DBASE62_NO_INT128":
             names, graph = compiled(option)
             self.assertEqual(names["base62_encode"], "T")

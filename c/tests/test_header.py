@@ -16,7 +16,7 @@ MACROS = {"BASE62_H", "BASE62_VERSION", "BASE62_VERSION_MAJOR", "BASE62_VERSION_
 MACROS |= {"BASE62_VERSION_NUMBER", "BASE62_MAX_DIGITS", "BASE62_KEY_LENGTH", "BASE62_ALPHABET_LENGTH"}
 MACROS |= {"BASE62_UUID_LENGTH", "BASE62_MAX_FAULT_TEXT", "BASE62_STANDARD_LETTERS", "BASE62_ALTERNATIVE_LETTERS"}
 
-# What a parameter of each type is given by a right call, and what takes a result, over the variables of PROGRAM.
+# A valid argument for each parameter type, and a variable for each type of result. PROGRAM declares the variables.
 ARGUMENTS = {
     "char *": "text",
     "size_t": "sizeof text",

@@ -1,7 +1,7 @@
 /*
- * Makes each call on the rows of the file that the command names, and compares all that it answers and writes. The file
- * says at its top what its rows mean. What a call reads or writes begins, and then ends, at memory that can't be
- * touched.
+ * Calls each function on the rows of the file that the command names, and compares its results and all it writes. The
+ * first lines of the file say what its rows mean. What a function reads or writes begins, and then ends, at
+ * inaccessible guard pages.
  */
 #define _DEFAULT_SOURCE
 #include <base62.h>
@@ -88,7 +88,7 @@ static size_t text_field(size_t i, char *text) {
 }
 
 /* Copies a text to where just its bytes can be read. */
-static const char *lend(const char *text, size_t length) {
+static const char *copy_guarded(const char *text, size_t length) {
     static char *memory = NULL;
     if (memory == NULL)
         memory = map_guarded();
@@ -190,7 +190,7 @@ static int is_alternative(const struct named *alphabet) {
 static base62_status make_over(const char *letters, int before, base62_alphabet *made, base62_bad_byte *bad) {
     char *place = fresh(sizeof *made);
     memset(place, before, sizeof *made);
-    const base62_status status = base62_make_alphabet(lend(letters, 62), (base62_alphabet *)place, bad);
+    const base62_status status = base62_make_alphabet(copy_guarded(letters, 62), (base62_alphabet *)place, bad);
     memcpy(made, place, sizeof *made);
     expect_written(sizeof *made, place, sizeof *made);
     return status;
@@ -257,41 +257,43 @@ static int fix_built_in(const struct named *alphabet, base62_number number, char
     return is_standard(alphabet) || is_alternative(alphabet);
 }
 
-/* Both decodings of a text have to answer so. */
+/* Expects these results of decoding and of canonical decoding, as a custom alphabet and as a built-in one. */
 static void expect_decoded(size_t alphabet_at, const char *text, size_t length, base62_status wanted,
-                           base62_status strictly_wanted, struct results results) {
+                           base62_status wanted_canonical, struct results results) {
     const struct named *alphabet = alphabet_field(alphabet_at);
     const base62_alphabet *own = alphabet->made[at_end];
-    const char *from = lend(text, length);
-    struct results strict_results = strictly_wanted == wanted ? results : unwritten;
-    struct results found = unwritten, strict = unwritten;
+    const char *from = copy_guarded(text, length);
+    struct results canonical_results = wanted_canonical == wanted ? results : unwritten;
+    struct results found = unwritten, canonical = unwritten;
     expect_of_row(base62_decode_with(own, from, length, &found.number, &found.bad) == wanted, "decode_with");
     expect_results(found, results);
-    expect_of_row(base62_decode_canonical_with(own, from, length, &strict.number, &strict.bad) == strictly_wanted,
-                  "decode_canonical_with");
-    expect_results(strict, strict_results);
-    found = strict = unwritten;
+    expect_of_row(
+        base62_decode_canonical_with(own, from, length, &canonical.number, &canonical.bad) == wanted_canonical,
+        "decode_canonical_with");
+    expect_results(canonical, canonical_results);
+    found = canonical = unwritten;
     if (is_standard(alphabet)) {
         expect_of_row(base62_decode(from, length, &found.number, &found.bad) == wanted, "decode");
-        expect_of_row(base62_decode_canonical(from, length, &strict.number, &strict.bad) == strictly_wanted,
+        expect_of_row(base62_decode_canonical(from, length, &canonical.number, &canonical.bad) == wanted_canonical,
                       "decode_canonical");
     } else if (is_alternative(alphabet)) {
         expect_of_row(base62_decode_alternative(from, length, &found.number, &found.bad) == wanted,
                       "decode_alternative");
-        expect_of_row(base62_decode_alternative_canonical(from, length, &strict.number, &strict.bad) == strictly_wanted,
-                      "decode_alternative_canonical");
+        expect_of_row(
+            base62_decode_alternative_canonical(from, length, &canonical.number, &canonical.bad) == wanted_canonical,
+            "decode_alternative_canonical");
     } else {
         return;
     }
     expect_results(found, results);
-    expect_results(strict, strict_results);
+    expect_results(canonical, canonical_results);
 }
 
-static void expect_number(size_t alphabet_at, const char *text, size_t length, base62_status strictly_wanted,
+static void expect_number(size_t alphabet_at, const char *text, size_t length, base62_status wanted_canonical,
                           base62_number number) {
     struct results wanted = unwritten;
     wanted.number = number;
-    expect_decoded(alphabet_at, text, length, BASE62_OK, strictly_wanted, wanted);
+    expect_decoded(alphabet_at, text, length, BASE62_OK, wanted_canonical, wanted);
 }
 
 /* What the header has inline. */
@@ -386,7 +388,7 @@ static void check_range(void) {
     if (!is_size(2))
         return;
     const size_t width = size_field(2), length = text_field(3, prefix);
-    const char *from = lend(prefix, length);
+    const char *from = copy_guarded(prefix, length);
     base62_status status = BASE62_OK;
     if (strcmp(field(4), "numbers") == 0) {
         wanted.range.least = number_field(5);
@@ -418,7 +420,7 @@ static void check_uuid(void) {
         const char pair[3] = {c[0], c[1], 0};
         bytes[i] = (char)strtoul(pair, NULL, 16);
     }
-    const unsigned char *from = (const unsigned char *)lend(bytes, sizeof bytes);
+    const unsigned char *from = (const unsigned char *)copy_guarded(bytes, sizeof bytes);
     expect_of_row(same(base62_number_of_uuid(from), number), "number_of_uuid");
     base62_uuid_of_number(number, (unsigned char *)fresh(sizeof bytes));
     expect_written(sizeof bytes, bytes, sizeof bytes);

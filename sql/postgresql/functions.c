@@ -28,10 +28,10 @@ static void raise_error(const call_error *error) {
     ereport(ERROR, (errcode(code), errmsg("%.*s", (int)error->length, error->message)));
 }
 
-/* Decimal digits, by which numeric is read and written: no other call of PostgreSQL takes more than 64 bits. */
+/* numeric is converted through decimal digits: PostgreSQL exports no conversion for integers of more than 64 bits. */
 
-/* 2^128 - 1 has 39 digits, which are written in parts of nine. */
-#define DIGITS_OF_PART 9
+/* 2^128 - 1 has 39 digits, which are written in groups of nine. */
+#define DIGITS_PER_GROUP 9
 #define MAX_DECIMAL_DIGITS 45
 
 /* Multiplies the number by 10, and adds the digit. If that is 2^128 or more, leaves the number and returns false. */
@@ -47,7 +47,7 @@ static bool append_digit(base62_number *number, unsigned digit) {
 }
 
 /* Divides the number by 10^9, and returns the remainder. */
-static uint64_t remove_part(base62_number *number) {
+static uint64_t divide_by_10_9(base62_number *number) {
     const uint64_t divisor = 1000000000;
     uint64_t middle = number->high % divisor << 32 | number->low >> 32;
     uint64_t low = middle % divisor << 32 | (number->low & UINT32_MAX);
@@ -60,9 +60,9 @@ static Datum numeric_of_number(base62_number number) {
     char digits[MAX_DECIMAL_DIGITS + 1], *first = digits + MAX_DECIMAL_DIGITS;
     *first = '\0';
     do {
-        uint64_t part = remove_part(&number);
-        for (int i = 0; i < DIGITS_OF_PART; i++, part /= 10)
-            *--first = (char)('0' + part % 10);
+        uint64_t group = divide_by_10_9(&number);
+        for (int i = 0; i < DIGITS_PER_GROUP; i++, group /= 10)
+            *--first = (char)('0' + group % 10);
     } while (number.high != 0 || number.low != 0);
     return DirectFunctionCall3(numeric_in, CStringGetDatum(first), ObjectIdGetDatum(InvalidOid), Int32GetDatum(-1));
 }
@@ -219,7 +219,7 @@ static Datum is_int8(FunctionCallInfo fcinfo) {
 
 /* Ranges */
 
-/* The numbers with a prefix, by texts of a width over an alphabet. Returns whether there are any. */
+/* Finds the numbers whose strings of the width begin with the prefix. Returns whether there are any. */
 static bool get_range(FunctionCallInfo fcinfo, base62_range *range) {
     const text *prefix = PG_GETARG_TEXT_PP(0);
     size_t width = get_width(fcinfo, 1);
@@ -253,8 +253,8 @@ static Datum range_bound_numeric(FunctionCallInfo fcinfo, bool last) {
     return numeric_of_number(last ? range.greatest : range.least);
 }
 
-/* The functions that the SQL scripts name, each with its result. The library's calls have the names that the functions
- * have in SQL, so these begin with pg_. */
+/* The functions that the SQL scripts name, each with its result. The library's functions have the names that these have
+ * in SQL, so these begin with pg_. */
 
 #define SQL_FUNCTION(name, result) \
     PG_FUNCTION_INFO_V1(name);     \

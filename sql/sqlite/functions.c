@@ -51,7 +51,8 @@ static int read_number(sqlite3_context *context, sqlite3_value *value, base62_nu
     return 1;
 }
 
-/* No other type is converted: a column of the type STRING has turned the text 1E5 into the number 100000. */
+/* Converts no other type. This catches columns declared STRING, which have NUMERIC affinity: they store the text 1E5 as
+ * 100000. */
 static int read_text(sqlite3_context *context, sqlite3_value *value, const char **text, size_t *length) {
     if (sqlite3_value_type(value) != SQLITE_TEXT)
         return set_error(context, "base62: the argument is no text");
@@ -99,9 +100,9 @@ static int read_width(sqlite3_context *context, sqlite3_value *value, size_t *wi
     return 1;
 }
 
-/* Functions. What those that share code differ in is their data: the address of one of these, or NULL. */
+/* Functions. Those that share code are told apart by their user data: NULL, or the address of one of these. */
 
-static char canonical, integer, last;
+static char canonical_tag, integer_tag, last_tag;
 
 static void result_fixed(sqlite3_context *context, const base62_alphabet *alphabet, base62_number number,
                          size_t width) {
@@ -136,7 +137,7 @@ static int decode_or_set_error(sqlite3_context *context, int argc, sqlite3_value
     if (any_null(argc, argv) || !read_text(context, argv[0], &text, &length) ||
         !read_alphabet(context, 1, argc, argv, &copy, &alphabet))
         return 0;
-    return decode_text(alphabet, text, length, sqlite3_user_data(context) == &canonical, number, &error) ||
+    return decode_text(alphabet, text, length, sqlite3_user_data(context) == &canonical_tag, number, &error) ||
            set_call_error(context, &error);
 }
 
@@ -176,8 +177,8 @@ static void is_text(sqlite3_context *context, int argc, sqlite3_value **argv) {
     if (sqlite3_value_type(argv[0]) == SQLITE_TEXT) {
         if (!read_text(context, argv[0], &text, &length))
             return;
-        accepted = decode_text(alphabet, text, length, data == &canonical, &number, &error) &&
-                   (data != &integer || int64_of_number(number, &value));
+        accepted = decode_text(alphabet, text, length, data == &canonical_tag, &number, &error) &&
+                   (data != &integer_tag || int64_of_number(number, &value));
     }
     sqlite3_result_int(context, accepted);
 }
@@ -198,8 +199,8 @@ static void encode_fixed(sqlite3_context *context, int argc, sqlite3_value **arg
         result_fixed(context, alphabet, number, width);
 }
 
-/* The numbers with a prefix, by texts of a width over an alphabet; by keys if there is no width. Returns 0 if the
- * result is null or an error. */
+/* Finds the numbers whose strings of the width begin with the prefix. Without a width, the strings are keys. Returns 0
+ * if the result is null or an error. */
 static int read_range(sqlite3_context *context, int argc, sqlite3_value **argv, size_t *width, base62_range *range) {
     const char *prefix;
     size_t length;
@@ -220,7 +221,7 @@ static void key_bound(sqlite3_context *context, int argc, sqlite3_value **argv) 
     size_t width;
     base62_range range;
     if (read_range(context, argc, argv, &width, &range))
-        result_fixed(context, NULL, sqlite3_user_data(context) == &last ? range.greatest : range.least, width);
+        result_fixed(context, NULL, sqlite3_user_data(context) == &last_tag ? range.greatest : range.least, width);
 }
 
 static void range_bound(sqlite3_context *context, int argc, sqlite3_value **argv) {
@@ -228,7 +229,7 @@ static void range_bound(sqlite3_context *context, int argc, sqlite3_value **argv
     base62_range range;
     int64_t value;
     if (read_range(context, argc, argv, &width, &range) &&
-        int64_bound(range, sqlite3_user_data(context) == &last, &value))
+        int64_bound(range, sqlite3_user_data(context) == &last_tag, &value))
         sqlite3_result_int64(context, value);
 }
 
@@ -250,17 +251,17 @@ static int create_functions(sqlite3 *db) {
         {"base62_encode", 1, 2, NULL, encode},
         {"base62_decode", 1, 2, NULL, decode},
         {"base62_decode_blob", 1, 2, NULL, decode_blob},
-        {"base62_decode_canonical", 1, 2, &canonical, decode},
-        {"base62_decode_blob_canonical", 1, 2, &canonical, decode_blob},
+        {"base62_decode_canonical", 1, 2, &canonical_tag, decode},
+        {"base62_decode_blob_canonical", 1, 2, &canonical_tag, decode_blob},
         {"base62_is_text", 1, 2, NULL, is_text},
-        {"base62_is_integer", 1, 2, &integer, is_text},
-        {"base62_is_canonical", 1, 2, &canonical, is_text},
+        {"base62_is_integer", 1, 2, &integer_tag, is_text},
+        {"base62_is_canonical", 1, 2, &canonical_tag, is_text},
         {"base62_encode_key", 1, 1, NULL, encode_key},
         {"base62_encode_fixed", 2, 3, NULL, encode_fixed},
         {"base62_key_first", 1, 2, NULL, key_bound},
-        {"base62_key_last", 1, 2, &last, key_bound},
+        {"base62_key_last", 1, 2, &last_tag, key_bound},
         {"base62_range_first", 2, 3, NULL, range_bound},
-        {"base62_range_last", 2, 3, &last, range_bound},
+        {"base62_range_last", 2, 3, &last_tag, range_bound},
         {"base62_version", 0, 0, NULL, version},
     };
     int status = SQLITE_OK;

@@ -31,8 +31,8 @@ COVERED = {
     ("write_pair", "\\valid(buf + 1)"): "`write_pair` requires `2 ≤ length buf.old`",
 }
 
-# Of a text of an error Eva knows no length by which its bytes are set. `append` in ../proof/annotations/faults.acsl sets each
-# byte before the length, and no byte behind it is copied.
+# Eva does not know that the bytes of an error message are set up to its length. The contract of `append`, which is in
+# proof/annotations/faults.acsl and is proved, says so, and only these bytes are copied.
 IN_MESSAGES = {("copy_bytes", "\\initialized(from + i)")}
 
 

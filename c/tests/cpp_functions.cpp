@@ -1,4 +1,4 @@
-// The pair for C++ that README has.
+// Tests the two functions for C++ of README.md.
 #include "base62.hpp"
 #include <cstdio>
 #include <initializer_list>

@@ -109,10 +109,10 @@ class Tree(unittest.TestCase):
 class Writes(Tree):
     def test_what_is_committed_and_nothing_stale(self):
         written = modules(self.folder)
-        stale = self.folder / "rust/src/codec/older.rs"
-        shutil.copy(self.folder / "rust/src/codec/encoder.rs", stale)
-        (self.folder / "rust/src/count.rs").unlink()
-        (self.folder / "rust/src/key.rs").write_text("edited")
+        generated = self.folder / "rust/src/generated"
+        shutil.copy(generated / "codec/encoder.rs", generated / "codec/older.rs")
+        (generated / "count.rs").unlink()
+        (generated / "key.rs").write_text("edited")
         self.assertEqual((translate(self.folder).returncode, modules(self.folder)), (0, written))
 
 

@@ -39,7 +39,7 @@ fn main() -> ExitCode {
         }
     };
     outcome.unwrap_or_else(|fault| {
-        report(fault.to_string().trim_start_matches("base62_cli: "));
+        report(fault);
         ExitCode::FAILURE
     })
 }

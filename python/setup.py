@@ -8,7 +8,7 @@ from setuptools import Extension, setup
 from setuptools.command.sdist import sdist
 
 # They are above this folder in the repository, and within it in an sdist.
-SHARED = ["VERSION", "CHANGELOG.md", "c/base62.c", "c/base62.h", "tests/model.py", "tests/values.tsv"]
+SHARED = ["VERSION", "CHANGELOG.md", "c/base62.c", "c/base62.h", "tests/values.tsv"]
 top = Path("." if Path("VERSION").exists() else "..")
 
 

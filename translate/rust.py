@@ -1,7 +1,7 @@
 #!/usr/bin/env python3
 """Writes the Rust crate of its proved source in Rattle: all that is not ghost, as modules of Rust.
 
-    translate/rust.py    writes the modules into rust/src, or refuses what it does not know, with file and line
+    translate/rust.py    writes the folders `generated`, or refuses what it does not know, with file and line
 """
 import os
 import re
@@ -292,15 +292,13 @@ class Crate:
 
 def main():
     os.chdir(Path(__file__).resolve().parent.parent)
-    texts = Crate("base62", "rust/src", USES, [], True).texts()
-    texts |= Crate("base62_cli", "rust/src/bin/base62", PROGRAM_USES, PROGRAM, False).texts()
-    head = HEAD[:HEAD.index("{")].encode()
-    stale = [it for it in Path("rust/src").rglob("*.rs") if it not in texts and it.read_bytes().startswith(head)]
+    texts = Crate("base62", "rust/src/generated", USES, [], True).texts()
+    texts |= Crate("base62_cli", "rust/src/bin/base62/generated", PROGRAM_USES, PROGRAM, False).texts()
     for file, text in texts.items():
         file.parent.mkdir(parents=True, exist_ok=True)
         file.with_suffix(".new").write_bytes(text.encode())
         os.replace(file.with_suffix(".new"), file)
-    for file in stale:
+    for file in {*Path("rust/src").glob("**/generated/**/*.rs")} - texts.keys():
         file.unlink()
 
 

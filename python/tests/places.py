@@ -12,4 +12,4 @@ PACKAGE = pathlib.Path(__file__).parents[1]
 TOP = next(folder for folder in (PACKAGE, PACKAGE.parent) if (folder / "VERSION").exists())
 VALUES = TOP / "tests/values.tsv"
 
-sys.path += [str(TOP / "tests"), str(PACKAGE / "examples")]
+sys.path.append(str(PACKAGE / "examples"))

@@ -27,24 +27,17 @@ from base62 import _base62, _types
 from calls import OWN
 from places import PACKAGE, TOP
 
-EXPORTED = """
-    Alphabet AlphabetError DecodeError EmptyInputError InvalidByteError NotCanonicalError OutOfRangeError
-    TooLargeError
-    decode decode_canonical decode_uuid decode_uuid_canonical digit_count encode encode_fixed encode_key encode_uuid
-    fixed_range key_bounds key_range
-""".split()
+# The calls, and the type that is called too.
+CALLS: list[Any] = [getattr(base62, it) for it in base62.__all__ if it == "Alphabet" or it.islower()]
 
 
 class Package(unittest.TestCase):
     def test_exports(self) -> None:
-        names: dict[str, object] = {}
-        exec("from base62 import *", names)
-        self.assertEqual(sorted(set(names) - {"__builtins__"}), sorted(EXPORTED))
-        for name in EXPORTED:
-            self.assertTrue(inspect.getdoc(names[name]), name)
-            self.assertEqual(getattr(names[name], "__module__"), "base62", name)
+        for name in base62.__all__:
+            self.assertTrue(inspect.getdoc(getattr(base62, name)), name)
+            self.assertEqual(getattr(base62, name).__module__, "base62", name)
         types = ["AnyAlphabet", "AnyUUID", "Number", "Text"]
-        self.assertEqual([name for name in dir(base62) if name[0] != "_"], sorted(EXPORTED + types))
+        self.assertEqual([name for name in dir(base62) if name[0] != "_"], sorted(base62.__all__ + types))
 
     def test_version(self) -> None:
         self.assertEqual(base62.__version__, (TOP / "VERSION").read_text().strip())
@@ -65,28 +58,12 @@ class Package(unittest.TestCase):
         self.assertRegex(package.read_text("WHEEL") or "", "(?m)^Tag: cp311-abi3-")
 
     def test_signatures(self) -> None:
-        """The names of parameters, which calls take in any order."""
-        own = base62.Alphabet(OWN)
-        values = {"number": 1337, "text": "LZ", "width": 4, "prefix": "00L", "letters": OWN, "alphabet": own}
-        rows: list[tuple[Callable[..., object], list[str]]] = [
-            (base62.encode, ["number", "alphabet"]),
-            (base62.decode, ["text", "alphabet"]),
-            (base62.encode_uuid, ["value", "alphabet"]),
-            (base62.decode_uuid, ["text", "alphabet"]),
-            (base62.encode_fixed, ["number", "width", "alphabet"]),
-            (base62.fixed_range, ["width", "prefix", "alphabet"]),
-            (base62.decode_canonical, ["text", "alphabet"]),
-            (base62.decode_uuid_canonical, ["text", "alphabet"]),
-            (base62.Alphabet, ["letters"]),
-            (base62.digit_count, ["number"]),
-            (base62.encode_key, ["number"]),
-            (base62.key_range, ["prefix"]),
-            (base62.key_bounds, ["prefix"]),
-        ]
-        for call, names in rows:
+        """Calls take their parameters by name, in any order."""
+        values: dict[str, object] = {"number": 1337, "text": "LZ", "width": 4, "prefix": "00L", "letters": OWN}
+        values |= {"value": uuid.UUID(int=1337), "alphabet": base62.Alphabet(OWN)}
+        for call in CALLS:
             parameters = inspect.signature(call).parameters
-            self.assertEqual([*parameters], names)
-            given = {name: values.get(name, uuid.UUID(int=1337)) for name in reversed(names)}
+            given = {name: values[name] for name in reversed(parameters)}
             self.assertEqual(call(**given), call(*reversed(given.values())))
             if given.pop("alphabet", None):
                 self.assertIs(parameters["alphabet"].default, base62.Alphabet.STANDARD)
@@ -102,8 +79,7 @@ class Package(unittest.TestCase):
 
     def test_wrong_arguments(self) -> None:
         """Too few or too many, one of another name, and one twice. The call is named."""
-        calls: list[Any] = [getattr(base62, name) for name in EXPORTED if name == "Alphabet" or name.islower()]
-        for call in calls:
+        for call in CALLS:
             names = [*inspect.signature(call).parameters]
             least = len(names) - ("alphabet" in names)
             wrong: list[tuple[int, list[str]]] = [(least - 1, []), (len(names) + 1, [])]

@@ -4,7 +4,6 @@
 
 from __future__ import annotations
 
-import random
 import sys
 import unittest
 import uuid
@@ -15,8 +14,6 @@ from urllib.parse import unquote_to_bytes
 import base62
 from base62 import Alphabet
 from places import VALUES
-
-import model
 
 
 def rows(kind: str) -> list[list[str]]:
@@ -38,7 +35,6 @@ KINDS: dict[str, type[ValueError]] = {
     "zero": base62.NotCanonicalError,
     "repeated": base62.AlphabetError,
 }
-WORDS = {kind: word for word, kind in KINDS.items()}
 
 
 def forms_of_text(escaped: str) -> list[str | bytes]:
@@ -175,53 +171,3 @@ class Values(unittest.TestCase):
             if kind == "repeated" and 0 < int(index) < 62:
                 letters = bad + bytes(other for other in range(256) if other != bad[0])[: int(index) - 1] + bad
                 self.raises([kind, byte, index], Alphabet, letters + bytes(range(192, 192 + 62 - len(letters))))
-
-
-class Drawn(unittest.TestCase):
-    """Numbers and texts that each run draws anew, by the plain arithmetic of tests/model.py."""
-
-    def told(self, call: Callable[..., Any], *given: object) -> tuple[object, ...]:
-        """The answer or the fault of a call, in the words of the model."""
-        try:
-            answer = call(*given)
-        except ValueError as error:
-            return WORDS[type(error)], *vars(error).values()
-        if isinstance(answer, tuple):
-            return "numbers", *answer
-        return ("none",) if answer is None else ("number", answer)
-
-    def test_numbers(self) -> None:
-        seed = random.randrange(2**32)
-        choice = random.Random(seed)
-        for _ in range(4000):
-            name = choice.choice(sorted(OF_ASCII))
-            letters, alphabet = LETTERS[name], ALPHABETS[name]
-            number, width = choice.getrandbits(choice.randint(1, 128)), choice.randrange(30)
-            with self.subTest(seed=seed, alphabet=name, number=number, width=width):
-                text = model.text_of(letters, number)
-                self.assertEqual(base62.encode(number, alphabet).encode(), text)
-                self.assertEqual(base62.decode(text, alphabet), number)
-                self.assertEqual(base62.digit_count(number), len(text))
-                if fixed := model.fixed_text(letters, number, width):
-                    self.assertEqual(base62.encode_fixed(number, width, alphabet).encode(), fixed)
-
-    def test_texts(self) -> None:
-        seed = random.randrange(2**32)
-        choice = random.Random(seed)
-        for _ in range(4000):
-            name = choice.choice([*LETTERS])
-            letters, alphabet = LETTERS[name], ALPHABETS[name]
-            text = letters[:1] * choice.choice([0, 0, 1, 30])
-            text += bytes(choice.choices(letters, k=choice.randrange(25)))
-            if choice.random() < 0.3:
-                place = choice.randrange(len(text) + 1)
-                text = text[:place] + choice.randbytes(1) + text[place:]
-            width = choice.choice([choice.randrange(30), len(text), len(text) + 1])
-            with self.subTest(seed=seed, alphabet=name, text=text, width=width):
-                self.assertEqual(self.told(base62.decode, text, alphabet), model.decoded(letters, text))
-                self.assertEqual(
-                    self.told(base62.decode_canonical, text, alphabet), model.decoded_canonical(letters, text)
-                )
-                self.assertEqual(
-                    self.told(base62.fixed_range, width, text, alphabet), model.range_of(letters, width, text)
-                )

@@ -75,23 +75,26 @@ extern crate alloc;
 #[cfg(feature = "std")]
 extern crate std;
 
-// The hand-written part. The other modules are translated.
 #[macro_use]
 mod support;
 
-mod alphabet;
-mod canonical;
-mod codec;
-mod count;
-mod fault;
-mod fixed;
-mod key;
-mod powers;
-mod show;
-#[cfg(feature = "alloc")]
-mod target;
-mod text;
-mod uuid;
+// Translated from `crates/base62`.
+mod generated {
+    pub(crate) mod alphabet;
+    pub(crate) mod canonical;
+    pub(crate) mod codec;
+    pub(crate) mod count;
+    pub(crate) mod fault;
+    pub(crate) mod fixed;
+    pub(crate) mod key;
+    pub(crate) mod powers;
+    pub(crate) mod show;
+    #[cfg(feature = "alloc")]
+    pub(crate) mod target;
+    pub(crate) mod text;
+    pub(crate) mod uuid;
+}
+use generated::*;
 
 pub use alphabet::Alphabet;
 pub use canonical::{decode_alternative_canonical, decode_canonical, decode_canonical_with};

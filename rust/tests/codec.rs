@@ -1,15 +1,12 @@
 // SPDX-License-Identifier: MIT
 // Copyright (c) 2026 the maintainers of base62 for Rattle
 
-//! Buffers, and decoding.
+//! Buffers of each size, alphabets as constants, and what is shown of alphabets and errors.
 
 mod support;
 
 use base62::{Alphabet, AlphabetError, DecodeError, EncodeError, MAX_DIGITS};
-use std::hash::{DefaultHasher, Hash, Hasher};
-use support::{
-    ALTERNATIVE, STANDARD, alphabets, borders, bytes, digits, fixed, high_letters, rows,
-};
+use support::{ALTERNATIVE, STANDARD, alphabets, borders, digits, fixed, high_letters};
 
 /// Runs a call on a buffer of each size, which has to get this text or to be refused. Other bytes stay.
 fn each_size(
@@ -44,15 +41,6 @@ fn encodes(
 fn fills(letters: &[u8; 62], number: u128, call: impl Fn(&mut [u8]) -> Result<(), EncodeError>) {
     let width_of = |places: &mut [u8]| call(places).map(|()| places.len());
     each_size(|width| fixed(letters, number, width), width_of);
-}
-
-#[test]
-fn texts_by_division_are_those_from_outside() {
-    let alphabets = alphabets();
-    for row in rows("encode") {
-        let text = digits(alphabets[row[0]].letters(), row[1].parse().unwrap());
-        assert_eq!(text, bytes(row[2]));
-    }
 }
 
 #[test]
@@ -92,20 +80,6 @@ fn fixed_widths() {
 }
 
 #[test]
-fn each_byte_alone() {
-    let own = Alphabet::new(high_letters()).unwrap();
-    let read = |letters: &[u8; 62], byte| match letters.iter().position(|&letter| letter == byte) {
-        Some(digit) => Ok(digit as u128),
-        None => Err(DecodeError::InvalidBase62Byte(byte, 0)),
-    };
-    for byte in 0..=255 {
-        assert_eq!(base62::decode([byte]), read(STANDARD, byte));
-        assert_eq!(base62::decode_alternative([byte]), read(ALTERNATIVE, byte));
-        assert_eq!(base62::decode_with(&own, [byte]), read(own.letters(), byte));
-    }
-}
-
-#[test]
 fn alphabets_of_constants() {
     const OWN: Alphabet = Alphabet::of(*ALTERNATIVE);
     const REPEATED: Result<Alphabet, AlphabetError> = Alphabet::new([7; 62]);
@@ -123,41 +97,6 @@ fn alphabets_of_constants() {
     assert_eq!(REPEATED, Err(AlphabetError::Repeated(7, 1)));
     assert_eq!((STANDARD_IS, OWN_IS), ([true, true], [true, false]));
     assert_eq!(LETTERS, ALTERNATIVE);
-}
-
-#[test]
-fn alphabets_are_told_apart_by_their_letters() {
-    let hash = |alphabet: &Alphabet| {
-        let mut hasher = DefaultHasher::new();
-        alphabet.hash(&mut hasher);
-        hasher.finish()
-    };
-    let high = Alphabet::try_from(high_letters()).unwrap();
-    assert_eq!(high, Alphabet::new(high_letters()).unwrap());
-    assert_eq!(hash(&high), hash(&high.clone()));
-    assert_eq!(
-        Alphabet::try_from([7; 62]),
-        Err(AlphabetError::Repeated(7, 1))
-    );
-    for place in 0..62 {
-        let mut letters = high_letters();
-        letters[place] = b'a';
-        let other = Alphabet::new(letters).unwrap();
-        assert_ne!(other, high);
-        assert_ne!(hash(&other), hash(&high));
-    }
-}
-
-#[test]
-fn one_letter_decides_the_kind() {
-    for place in 0..62 {
-        let mut letters = *STANDARD;
-        letters[place] = 200;
-        let alphabet = Alphabet::new(letters).unwrap();
-        assert!(!alphabet.is_ascii());
-        assert_eq!(alphabet.is_ascending(), place == 61);
-        assert!(format!("{alphabet:?}").contains(r"\xc8"));
-    }
 }
 
 #[test]

@@ -9,7 +9,7 @@ mod support;
 use base62::Alphabet;
 use std::ffi::{c_int, c_long, c_void};
 use std::slice;
-use support::{STANDARD, borders, bytes, digits, fixed, high_letters, rows};
+use support::{STANDARD, borders, bytes, fixed, high_letters, rows};
 
 extern "C" {
     fn mmap(
@@ -116,41 +116,5 @@ fn a_text() {
                 assert_eq!(base62::fixed_range_with(&alphabet, width, text), range);
             }
         }
-    }
-}
-
-#[test]
-fn an_alphabet() {
-    let mut page = Page::new();
-    for at_end in [false, true] {
-        let place = page
-            .edge(at_end, size_of::<Alphabet>())
-            .as_mut_ptr()
-            .cast::<Alphabet>();
-        assert!(place.is_aligned());
-        // SAFETY: the place is as large as an alphabet, and aligned.
-        let alphabet = unsafe {
-            place.write(Alphabet::new(high_letters()).unwrap());
-            &*place
-        };
-        let (mut buf, text) = ([0; 22], digits(alphabet.letters(), u128::MAX));
-        assert_eq!(
-            base62::encode_bytes_with(alphabet, u128::MAX, &mut buf),
-            Ok(22)
-        );
-        assert_eq!(buf.as_slice(), text);
-        assert_eq!(
-            base62::encode_fixed_with(alphabet, u128::MAX, &mut buf),
-            Ok(())
-        );
-        assert_eq!(base62::decode_with(alphabet, &text), Ok(u128::MAX));
-        assert_eq!(
-            base62::decode_canonical_with(alphabet, &text),
-            Ok(Some(u128::MAX))
-        );
-        assert_eq!(
-            base62::fixed_range_with(alphabet, 22, &text),
-            Ok(Some(u128::MAX..=u128::MAX))
-        );
     }
 }

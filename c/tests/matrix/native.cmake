@@ -47,21 +47,8 @@ if(clang)
     set(ignored "-fsanitize-ignorelist=${CMAKE_CURRENT_SOURCE_DIR}/sanitizer_ignorelist.txt")
     add_build(clang-integers "${c}"
         "${sanitized}undefined,unsigned-integer-overflow,implicit-conversion,local-bounds ${ignored}" ${static_by})
-    # No byte that is not set is read. GMP is left out: it is not compiled so.
-    set(memory "-g -O0 -fno-sanitize-recover=all -fsanitize=memory")
-    set(memory_by ${static_by} -DBASE62_PAIRS=10000 -Dbase62_gmp=OFF)
-    add_build(clang-memory "${c}" "${memory}" ${memory_by})
-    # And where one is, it is found.
-    set(planted "${CMAKE_BINARY_DIR}/planted")
-    file(COPY "${c}/" DESTINATION "${planted}/c")
-    if(NOT EXISTS "${c}/tests/values.tsv")
-        file(COPY "${c}/../tests/values.tsv" DESTINATION "${planted}/c/tests")
-    endif()
-    file(READ "${c}/base62.c" code)
-    string(REPLACE "uint64_t number = 0;" "uint64_t number;" code "${code}")
-    file(WRITE "${planted}/c/base62.c" "${code}")
-    add_build(clang-memory-planted "${planted}/c" "${memory} -Wno-uninitialized" ${memory_by})
-    set_tests_properties(clang-memory-planted PROPERTIES PASS_REGULAR_EXPRESSION "use-of-uninitialized-value")
+    # No byte that is not set is read.
+    add_build(clang-memory "${c}" "-g -O0 -fno-sanitize-recover=all -fsanitize=memory" ${static_by} -DBASE62_PAIRS=10000)
 endif()
 look_for(clang-tidy clang-tidy)
 if(clang AND clang-tidy)

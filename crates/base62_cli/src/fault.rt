@@ -1,18 +1,18 @@
-//! Why a run ended early.
+//! The error that ends a run.
 
 ghost use Rattle.std.specs.Prelude.{◌≡◌, Some};
 ghost use Rattle.base62_cli.specs.Fault.{tool_fault_text};
 
 use std::{error, fmt};
 
-/// Why a run ended before all was answered.
+/// An error that ends a run before all lines have their replies.
 #[derive(Clone, Copy, Debug, PartialEq, Eq)]
 pub enum ToolFault {
-    /// A read failed, or 2^64 - 1 reads met no end.
+    /// A read failed, or the input did not end within 2^64 - 1 reads.
     Read,
-    /// The writer or its flush failed, or the writer took nothing.
+    /// A write or the flush failed, or a write accepted no bytes.
     Write,
-    /// There was no memory for a line or its reply.
+    /// An allocation for a line or its reply failed.
     Memory,
 }
 
@@ -22,14 +22,14 @@ impl ToolFault {
         ensures { result.now ≡ tool_fault_text self }
     {
         match self {
-            ToolFault::Read => "base62_cli: read failed",
-            ToolFault::Write => "base62_cli: write failed",
-            ToolFault::Memory => "base62_cli: out of memory",
+            ToolFault::Read => "read failed",
+            ToolFault::Write => "write failed",
+            ToolFault::Memory => "out of memory",
         }
     }
 }
 
-/// Says what failed, and the same under any width, fill and alignment.
+/// Writes what failed. Width, precision, fill and alignment are ignored.
 impl fmt::Display for ToolFault {
     ghost output = { λ fault. Some (tool_fault_text fault) };
 

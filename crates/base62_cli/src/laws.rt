@@ -5,7 +5,7 @@ ghost use Rattle.std.specs.List.{All};
 ghost use Rattle.base62_cli.specs.Lines.{lines_of};
 ghost use Rattle.base62_cli.specs.Output.{IsOutput};
 
-/// Every input has an output, and only one.
+/// States that every input has exactly one output.
 pub fn one_output()
     ensures exists { (input : List ℕ) → (output : List ℕ) × IsOutput input output }
     ensures only { (input a b : List ℕ) → IsOutput input a → IsOutput input b → a ≡ b }
@@ -14,8 +14,8 @@ pub fn one_output()
     base62::laws::one_text();
 }
 
-/// Where lines end. An empty input has no line. A byte 10 ends the line before it. Nonempty bytes
-/// without a byte 10 are one line. These three say what the lines of every input are.
+/// States where lines end. An empty input has no line. A byte 10 ends the line before it. Nonempty
+/// bytes without a byte 10 are one line. These three determine the lines of every input.
 pub fn lines_of_an_input()
     ensures empty { lines_of [] ≡ [] }
     ensures ended { (line bytes : List ℕ) → All (λ b. b ≢ 10) line

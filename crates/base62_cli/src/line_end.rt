@@ -5,7 +5,7 @@ ghost use Rattle.std.specs.List.{All, AllWithin, HoldsAt};
 
 use std::simd::prelude::*;
 
-// The index of the first byte 10. Of 64 bytes it is the lowest bit of a mask.
+// Returns the index of the first byte 10. Of 64 bytes it is the lowest bit of a mask.
 pub(crate) fn line_end(bytes: &[u8]) -> Option<usize>
     ensures { MatchOption result (All (λ b. b ≢ 10) bytes.now)
         (λ end. (end < length bytes.now) × HoldsAt (λ b. b ≡ 10) bytes.now end

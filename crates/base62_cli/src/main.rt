@@ -1,5 +1,5 @@
-//! A line program over `base62`. It reads lines such as `enc 1337` and `dec LZ`, and for each
-//! writes the text, the number or what is wrong.
+//! Encodes and decodes the lines of standard input, such as `enc 1337` and `dec LZ`. Prints for each
+//! the encoded string, the number or an error.
 #![tactic(auto)]
 
 mod fault;
@@ -21,8 +21,8 @@ fn main(rt: HostRuntime) -> ExitCode {
     }
 }
 
-// If standard error takes nothing, the exit status alone tells the fault.
+// If standard error cannot be written, only the exit status reports the error.
 fn fail(rt: &impl Eprint, fault: ToolFault) -> ExitCode {
-    let _ = eprintln!(rt; "{fault}");
+    let _ = eprintln!(rt; "base62_cli: {fault}");
     ExitCode::FAILURE
 }

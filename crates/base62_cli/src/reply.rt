@@ -23,8 +23,11 @@ pub(crate) enum BuiltIn {
     Alternative,
 }
 
-/// Appends the reply to `line`, and `\n`. `Err(Memory)` says that there was no memory; a part of
-/// them may have been appended.
+/// Appends the reply to `line`, and `\n`.
+///
+/// # Errors
+///
+/// Returns `Memory` if an allocation fails. A part of the reply may have been appended.
 pub fn push_reply(line: &[u8], out: &mut Vec<u8>) -> Result<(), ToolFault>
     ensures { OnOk result ((reply : List ℕ) × IsReply line.now reply
         × (out.new.items ≡ out.old.items ++ (reply ++ 10 ∷ []))) }
@@ -57,7 +60,7 @@ fn push_encoded(alphabet: BuiltIn, text: &[u8], out: &mut Vec<u8>) -> Result<(),
     let Some(number) = number_of(text) else {
         return append(b"fault: not a number\n", out);
     };
-    // The text has 22 letters at most.
+    // An encoded string has at most 22 characters.
     let mut buf = [0u8; 23];
     let len = encode(alphabet, number, &mut buf);
     buf[len] = b'\n';
@@ -119,19 +122,19 @@ fn decode(alphabet: BuiltIn, text: &[u8]) -> Result<u128, DecodeError>
     }
 }
 
-// The number that decimal digits denote, if it is below 2^128.
-fn number_of(text: &[u8]) -> Option<u128>
+/// Returns the number that decimal digits represent, if it is below 2^128.
+pub(crate) fn number_of(text: &[u8]) -> Option<u128>
     ensures { result ≡ (if is_number text.now then Some (decimal_value text.now) else None) }
 {
     base62::laws::sums_over_places();
-    // `parse` takes a plus sign.
+    // `parse` accepts a plus sign.
     if text.starts_with(b"+") {
         return None;
     }
     let Ok(digits) = str::from_utf8(text) else {
         return None;
     };
-    // A `u64` has twenty digits at most, and is read without products of 128 bits.
+    // A `u64` has at most twenty digits, and is parsed without products of 128 bits.
     if text.len() <= 20 {
         if let Ok(number) = digits.parse::<u64>() {
             return Some(u128::from(number));

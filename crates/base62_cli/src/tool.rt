@@ -1,4 +1,4 @@
-//! The run over a reader and a writer.
+//! Runs the program over a reader and a writer.
 
 ghost use Rattle.std.specs.Prelude.{◌≡◌, ◌≢◌, List, [], ◌∷◌, ◌++◌, ℕ, Some, OnOk, IfSome, MatchOption};
 ghost use Rattle.std.specs.List.{All};
@@ -11,28 +11,34 @@ use crate::reply::{append, push_reply};
 use std::alloc::Global;
 use std::io::{Read, Write};
 
-// How many bytes a read may take.
+/// The length of the buffer for a read.
 pub(crate) const CHUNK_LEN: usize = 32768;
 
-/// Answers each line of the reader, in order, and writes nothing else.
+/// Writes the reply to each line of the reader, in order, and nothing else.
 ///
-/// A line ends with `\n`, but a last nonempty line needs none. A `\r` belongs to its line. A line
-/// is a command, one space and a text. The text goes up to the line's end and may be empty.
+/// A line ends with `\n`, but a last nonempty line needs none. A `\r` is part of its line. A line is
+/// a command, one space and a text. The text extends to the end of the line and may be empty.
 ///
-/// - `enc` with a decimal number below 2^128, with any count of leading zeros, gives the number's
-///   standard text, and `alt` its alternative text. Any other text gives `fault: not a number`.
-/// - `dec` with a text gives its number by [`base62::decode`], in decimal, and `adc` its number by
-///   [`base62::decode_alternative`]. A text that is refused gives `fault: ` and what the fault
-///   says.
-/// - Any other line gives `fault: unknown command`.
+/// - `enc` with a decimal number below 2^128, with any count of leading zeros, encodes it in the
+///   standard alphabet, and `alt` in the alternative one. For any other text the reply is
+///   `fault: not a number`.
+/// - `dec` decodes a text by [`base62::decode`], and `adc` by [`base62::decode_alternative`]. The
+///   reply is the number in decimal, or `fault: ` and the text of the error.
+/// - For any other line the reply is `fault: unknown command`.
 ///
-/// Each reply is followed by `\n`. The replies to what a read gave go out before the next read. The
-/// writer is flushed once, at the end.
+/// Each reply is followed by `\n`. The replies to the lines of a read are written before the next
+/// read. The writer is flushed once, at the end.
 ///
-/// `Err(Read)` comes if a read fails, or 2^64 - 1 reads meet no end. `Err(Write)` comes if the
-/// writer or its flush fails, or the writer takes nothing. `Err(Memory)` comes if there is no memory
-/// for a line, or for the replies to a read. A run takes no other memory. On `Err` some replies may
-/// have been written.
+/// # Errors
+///
+/// - `Read` if a read fails, or the input does not end within 2^64 - 1 reads.
+/// - `Write` if a write or the flush fails, or a write accepts no bytes.
+/// - `Memory` if an allocation for a line, or for the replies to a read, fails. A run allocates
+///   nothing else.
+///
+/// On an error some replies may have been written.
+///
+/// # Examples
 ///
 /// ```rust
 /// let mut input = b"enc 1337\ndec LZ".as_slice();
@@ -53,7 +59,7 @@ pub fn run<R: Read, W: Write>(
     let mut chunk = [0u8; CHUNK_LEN];
     let mut line = Vec::new(alloc);
     let mut out = Vec::new(alloc);
-    // A loop needs a bound, and no reader is read 2^64 - 1 times.
+    // A loop needs a bound, and no run makes 2^64 - 1 reads.
     for _ in 0..u64::MAX {
         let Ok(count) = reader.read(&mut chunk) else {
             return Err(ToolFault::Read);
@@ -70,8 +76,8 @@ pub fn run<R: Read, W: Write>(
     Err(ToolFault::Read)
 }
 
-// Answers the lines that end in the chunk. The first of them began with `line`. What has come of
-// the next is left in `line`.
+// Appends the replies to the lines that end in the chunk. The first of them began with `line`. Then
+// `line` has the start of the next one.
 fn answer(chunk: &[u8], line: &mut Vec<u8>, out: &mut Vec<u8>) -> Result<(), ToolFault>
     requires { All (λ b. b ≢ 10) line.old.items }
     ensures unended { OnOk result (All (λ b. b ≢ 10) line.new.items) }
@@ -85,7 +91,7 @@ fn answer(chunk: &[u8], line: &mut Vec<u8>, out: &mut Vec<u8>) -> Result<(), Too
     append(end, line)?;
     push_reply(line.as_slice(), out)?;
     line.clear();
-    // The others stand whole in the chunk.
+    // The chunk has the others whole.
     while let Some((whole, after)) = split_line(rest) {
         push_reply(whole, out)?;
         rest = after;
@@ -93,7 +99,7 @@ fn answer(chunk: &[u8], line: &mut Vec<u8>, out: &mut Vec<u8>) -> Result<(), Too
     append(rest, line)
 }
 
-// What stands before the first byte 10, and what after it.
+// Splits at the first byte 10, which is in neither part.
 fn split_line(bytes: &[u8]) -> Option<(&[u8], &[u8])>
     ensures { MatchOption result (All (λ b. b ≢ 10) bytes.now)
         (λ parts. All (λ b. b ≢ 10) parts.0.now × (bytes.now ≡ parts.0.now ++ 10 ∷ parts.1.now)) }
@@ -102,7 +108,7 @@ fn split_line(bytes: &[u8]) -> Option<(&[u8], &[u8])>
     Some((&bytes[..end], &bytes[end + 1..]))
 }
 
-// Answers a last line that no byte 10 ends, if there is one, and flushes.
+// Writes the replies, with that to a last line that no byte 10 ends, and flushes.
 fn finish<W: Write>(line: &[u8], out: &mut Vec<u8>, writer: &mut W) -> Result<(), ToolFault>
     requires unended { All (λ b. b ≢ 10) line.now }
     requires empty { out.old.items ≡ [] }

@@ -1,4 +1,4 @@
-//! What a fault says, and the traits that it derives.
+//! The messages of errors, and the traits that the type derives.
 
 ghost use Rattle.std.specs.Prelude.{◌≡◌, ◌++◌, codes, IfOk};
 ghost use Rattle.std.specs.String.{string_bytes};
@@ -30,20 +30,16 @@ fn is_shown(
 #[test]
 fn fault_texts(rt: HostRuntime) -> Result<(), Fail> {
     let cases = [
-        (
-            ToolFault::Read,
-            "base62_cli: read failed",
-            "base62_cli: read failed|base62_cli: read failed|",
-        ),
+        (ToolFault::Read, "read failed", "read failed|read failed|"),
         (
             ToolFault::Write,
-            "base62_cli: write failed",
-            "base62_cli: write failed|base62_cli: write failed|",
+            "write failed",
+            "write failed|write failed|",
         ),
         (
             ToolFault::Memory,
-            "base62_cli: out of memory",
-            "base62_cli: out of memory|base62_cli: out of memory|",
+            "out of memory",
+            "out of memory|out of memory|",
         ),
     ];
     for (fault, text, in_cells) in cases {

@@ -1,4 +1,4 @@
-//! What a run answers if it is refused memory.
+//! Runs in which an allocation fails.
 
 use super::streams::PartReader;
 use super::{STORED_INPUT, STORED_OUTPUT};

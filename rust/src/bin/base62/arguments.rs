@@ -3,8 +3,9 @@
 
 //! Parses the arguments.
 
-use crate::conversion::{Converter, Notation, Options, parse_decimal};
+use crate::conversion::{Converter, Notation, Options};
 use crate::help::{self, Flag, flags};
+use crate::reply::number_of;
 use crate::streams::escaped;
 use base62::Alphabet;
 
@@ -165,7 +166,8 @@ fn split(argument: &[u8]) -> Vec<(Vec<u8>, Option<Vec<u8>>)> {
 fn parse_width(value: &[u8]) -> Result<usize, String> {
     if value.iter().all(u8::is_ascii_digit) && value.iter().any(|digit| *digit != b'0') {
         // No memory holds so wide a string, and a prefix has the same range.
-        return Ok(parse_decimal(value).unwrap_or(usize::MAX));
+        let width = number_of(value).and_then(|it| it.try_into().ok());
+        return Ok(width.unwrap_or(usize::MAX));
     }
     let value = escaped(value);
     Err(format!("a width is a whole number from 1 on, not {value}"))

@@ -4,10 +4,10 @@
 //! The result of a subcommand for one input.
 
 use crate::memory::Bytes;
+use crate::reply::number_of;
 use base62::{Alphabet, MAX_DIGITS};
 use std::error::Error;
 use std::io::Write;
-use std::str::{self, FromStr};
 
 /// Appends the result for an input. Fails with an `io::Error` if an allocation fails, and else with what is wrong with
 /// the input.
@@ -31,7 +31,7 @@ impl Options {
     pub(crate) fn encode(&self, input: &[u8], out: &mut Bytes) -> Result<(), Box<dyn Error>> {
         let digits = trim_blanks(input);
         let number = match self.notation {
-            Notation::Decimal => parse_number(digits).ok_or("not a decimal number below 2^128"),
+            Notation::Decimal => number_of(digits).ok_or("not a decimal number below 2^128"),
             Notation::Hexadecimal => parse_hex(digits).ok_or("not 1 to 32 hexadecimal digits"),
             Notation::Uuid => parse_uuid(digits).ok_or("not a UUID"),
         }?;
@@ -80,21 +80,6 @@ fn trim_blanks(mut input: &[u8]) -> &[u8] {
         input = rest;
     }
     input
-}
-
-/// Most numbers are parsed without products of 128 bits.
-fn parse_number(digits: &[u8]) -> Option<u128> {
-    let short = parse_decimal::<u64>(digits).map(u128::from);
-    short.or_else(|| parse_decimal(digits))
-}
-
-/// The number of decimal digits, if its type has it.
-pub(crate) fn parse_decimal<T: FromStr>(digits: &[u8]) -> Option<T> {
-    match digits {
-        // `parse` would accept the sign.
-        [b'+', ..] => None,
-        _ => str::from_utf8(digits).ok()?.parse().ok(),
-    }
 }
 
 /// The number of 32 hexadecimal digits, with or without hyphens, also in braces or after `urn:uuid:`.

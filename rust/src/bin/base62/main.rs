@@ -6,17 +6,22 @@
 
 mod arguments;
 mod conversion;
-mod fault;
 mod help;
 mod line_end;
 mod memory;
 mod printer;
 mod protocol;
-mod reply;
 mod streams;
 #[cfg(test)]
 mod tests;
-mod tool;
+
+// Translated from `crates/base62_cli`.
+mod generated {
+    pub(crate) mod fault;
+    pub(crate) mod reply;
+    pub(crate) mod tool;
+}
+use generated::*;
 
 use arguments::Request;
 use std::process::ExitCode;
@@ -34,7 +39,7 @@ fn main() -> ExitCode {
         }
     };
     outcome.unwrap_or_else(|fault| {
-        report(fault.to_string().trim_start_matches("base62_cli: "));
+        report(fault);
         ExitCode::FAILURE
     })
 }

@@ -1,9 +1,8 @@
 // SPDX-License-Identifier: MIT
 // Copyright (c) 2026 the maintainers of base62 for Rattle
 
-//! The translated program, over readers and writers that move one byte a call, and that fail.
+//! The translated program, over readers and writers that move one byte a call.
 
-use crate::fault::ToolFault;
 use crate::streams::read_uninterrupted;
 use crate::tool::{CHUNK_LEN, run};
 use std::collections::VecDeque;
@@ -61,47 +60,44 @@ fn output() -> Vec<u8> {
         .concat()
 }
 
-/// Moves one byte a call, but fails at one call.
+/// Moves one byte a call. Its first read fails with the error, if there is one.
 #[derive(Default)]
 struct Slow {
     bytes: VecDeque<u8>,
     calls: usize,
-    failing: Option<(usize, ErrorKind)>,
+    error: Option<ErrorKind>,
 }
 
 impl Slow {
-    fn new(bytes: &[u8], failing: Option<(usize, ErrorKind)>) -> Slow {
+    fn new(bytes: &[u8], error: Option<ErrorKind>) -> Slow {
+        let bytes = bytes.to_vec().into();
         Slow {
-            bytes: bytes.to_vec().into(),
+            bytes,
             calls: 0,
-            failing,
-        }
-    }
-
-    fn call(&mut self) -> io::Result<()> {
-        self.calls += 1;
-        match self.failing {
-            Some((call, kind)) if call == self.calls => Err(kind.into()),
-            _ => Ok(()),
+            error,
         }
     }
 }
 
 impl Read for Slow {
     fn read(&mut self, buf: &mut [u8]) -> io::Result<usize> {
-        self.call()?;
-        self.bytes.read(&mut buf[..1])
+        self.calls += 1;
+        match self.error.take() {
+            Some(kind) => Err(kind.into()),
+            None => self.bytes.read(&mut buf[..1]),
+        }
     }
 }
 
 impl Write for Slow {
     fn write(&mut self, bytes: &[u8]) -> io::Result<usize> {
-        self.call()?;
+        self.calls += 1;
         self.bytes.write(&bytes[..1])
     }
 
     fn flush(&mut self) -> io::Result<()> {
-        self.call()
+        self.calls += 1;
+        Ok(())
     }
 }
 
@@ -139,51 +135,12 @@ fn lines_about_the_length_of_a_read() {
     }
 }
 
-/// The run ends at the read that fails, when the replies to the lines before it are written.
-#[test]
-fn failed_reads() {
-    let (input, output) = (input(), output());
-    // The last read meets the end.
-    for call in 1..=input.len() + 1 {
-        let mut reader = Slow::new(&input, Some((call, ErrorKind::Other)));
-        let mut writer = Slow::default();
-        assert_eq!(run(&mut reader, &mut writer), Err(ToolFault::Read));
-        assert_eq!(reader.calls, call);
-        let lines = input[..call - 1].split(|&byte| byte == b'\n').count() - 1;
-        let replies = output.split_inclusive(|&byte| byte == b'\n').take(lines);
-        assert_eq!(writer.bytes, replies.collect::<Vec<_>>().concat());
-        assert_eq!(writer.calls, writer.bytes.len());
-    }
-}
-
-/// Nothing is read or written after the write or the flush that fails.
-#[test]
-fn failed_writes() {
-    let (input, output) = (input(), output());
-    for call in 1..=output.len() + 1 {
-        let mut reader = Slow::new(&input, None);
-        let mut writer = Slow::new(b"", Some((call, ErrorKind::Other)));
-        assert_eq!(run(&mut reader, &mut writer), Err(ToolFault::Write));
-        assert_eq!(writer.bytes, &output[..call - 1]);
-        assert_eq!(writer.calls, call);
-        let read = &input[..input.len() - reader.bytes.len()];
-        assert!(read.ends_with(b"\n"));
-        let lines = output[..call - 1].split(|&byte| byte == b'\n').count();
-        assert_eq!(read.split(|&byte| byte == b'\n').count() - 1, lines.min(24));
-    }
-    // A writer that takes no byte.
-    assert_eq!(
-        run(&mut input.as_slice(), &mut [].as_mut_slice()),
-        Err(ToolFault::Write)
-    );
-}
-
 #[test]
 fn interrupted_reads() {
     let mut buf = [0; 2];
-    let mut reader = Slow::new(b"LZ", Some((1, ErrorKind::Interrupted)));
+    let mut reader = Slow::new(b"LZ", Some(ErrorKind::Interrupted));
     assert_eq!(read_uninterrupted(&mut reader, &mut buf).unwrap(), 1);
     assert_eq!((&buf, reader.calls), (b"L\0", 2));
-    let mut reader = Slow::new(b"LZ", Some((1, ErrorKind::Other)));
+    let mut reader = Slow::new(b"LZ", Some(ErrorKind::Other));
     assert!(read_uninterrupted(&mut reader, &mut buf).is_err());
 }

@@ -201,7 +201,7 @@ class Threads(unittest.TestCase):
         return seen == ["before", "after"]
 
     def test_others_run(self) -> None:
-        """While a call reads or writes a long text, others run. The interpreter lets none run by the clock."""
+        """Other threads run while a call reads or writes a long text. The switch interval lets none run."""
         self.addCleanup(sys.setswitchinterval, sys.getswitchinterval())
         sys.setswitchinterval(1000)
         zeros = "0" * 20_000_000
@@ -217,7 +217,7 @@ class Threads(unittest.TestCase):
             self.assertFalse(all(self.ends_alone(call) for _ in range(200)))
 
     def test_length(self) -> None:
-        """Others run from the length on that the page names."""
+        """Other threads run from the length on that README names."""
         self.addCleanup(sys.setswitchinterval, sys.getswitchinterval())
         sys.setswitchinterval(1000)
         for length in (4095, 4096):

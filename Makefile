@@ -6,7 +6,7 @@ help: ## print this list
 	@sed -n 's/^\([a-z-]*\):.* ## /  make \1	/p' $(MAKEFILE_LIST) | expand -t 24
 	@echo '  make check-PART       test one of them: $(parts)'
 
-check: ## test all packages without the kit, side by side
+check: ## test all packages without the kit, in parallel
 	@rm -rf out/check && mkdir -p out/check
 	@$(MAKE) --jobs=$$(nproc) --keep-going --output-sync=target --no-print-directory $(parts:%=check-%) || :
 	@scripts/count $(parts)
@@ -14,13 +14,13 @@ check: ## test all packages without the kit, side by side
 $(parts:%=check-%): check-%:
 	@scripts/check $*
 
-prove: ## prove all crates, try all edits and run all tests, with the kit
+prove: ## prove all crates, reject all mutants and run all tests, with the kit
 	rt ci
 
-prove-c: ## prove c/base62.c by Frama-C, with BITS=32 for such machines; MUTANTS=1 runs its mutation tests
+prove-c: ## prove c/base62.c by Frama-C; BITS=32 for 32-bit targets, MUTANTS=1 for its mutation tests
 	@$(if $(MUTANTS),c/proof/rejections.py && c/proof/mutate_code.py && c/proof/mutate_specification.py,c/proof/prove.py)
 
-generate: generate-texts ## write the generated files anew, after a change of crates/
+generate: generate-texts ## regenerate the generated files, after a change of crates/
 	translate/wasm
 
 generate-texts: # all but the WebAssembly
@@ -28,10 +28,10 @@ generate-texts: # all but the WebAssembly
 	translate/rust.py
 	translate/c.py
 
-check-generated: ## fail if a generated file is not what its writer writes
+check-generated: ## fail if a generated file is out of date
 	scripts/check-generated
 
-version: ## give each place of the version another one: make version V=3.3.0
+version: ## set the version everywhere: make version V=3.3.0
 	scripts/version.py '$(V)'
 	$(MAKE) --no-print-directory generate
 
@@ -40,7 +40,7 @@ bench: ## time the packages on this machine, beside other code for base 62
 	bench/run.py $(ROUNDS)
 
 PREFIX = /usr/local
-install-command: ## install the command, its page and completions: make install-command PREFIX=..
+install-command: ## install the command, its manual page and completions: make install-command PREFIX=..
 	cargo install --quiet --force --no-track --path rust --features std --root '$(DESTDIR)$(PREFIX)'
 	cp -R rust/share '$(DESTDIR)$(PREFIX)'
 

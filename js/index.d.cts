@@ -1,23 +1,29 @@
 // SPDX-License-Identifier: MIT
 // Copyright (c) 2026 the maintainers of base62 for Rattle
 
-// Hand-written. The types and the reference of the public calls.
+// Hand-written. The types and the reference of the public functions.
 
 /**
  * Encodes unsigned integers below 2**128 and UUIDs as short alphanumeric strings, and decodes them.
  *
  * An argument of a wrong type throws a `TypeError`. Any other invalid argument throws a {@link Base62Error}, whose
- * `code` is listed with each call. An `alphabet` that is left out is {@link Alphabet.standard}.
+ * `code` is listed with each function. An `alphabet` that is left out is {@link Alphabet.standard}.
  */
 
-/** A number: an integer from 0 to 2n ** 128n - 1n, or to 2**53 - 1 as a `number`. `false` is 0, and `true` is 1. */
+/**
+ * An unsigned integer: a `bigint` up to 2n ** 128n - 1n, or a `number` up to `Number.MAX_SAFE_INTEGER`. `false` is 0,
+ * and `true` is 1.
+ */
 export type Integer = number | bigint | boolean;
 
-/** An encoded string, or the bytes of one. A string is read as UTF-8, in which a lone surrogate has three bytes. */
+/**
+ * An encoded string, or the bytes of one. A string is encoded as UTF-8. A lone surrogate is encoded as its own three
+ * bytes, not as U+FFFD.
+ */
 export type Text = string | Uint8Array;
 
 /**
- * A UUID: 16 bytes in network order, or a string of 32 hexadecimal digits in either case. It may have hyphens as in
+ * A UUID: 16 bytes, big-endian, or a string of 32 hexadecimal digits in either case. It may have hyphens as in
  * `550e8400-e29b-41d4-a716-446655440000`, and be in braces or after `urn:uuid:`. Any 16 bytes are accepted: the bits of
  * the version and the variant are not checked.
  */
@@ -34,12 +40,13 @@ export type Uuid = string | Uint8Array;
 export function encode(number: Integer, alphabet?: Alphabet): string;
 
 /**
- * Encodes a number or a UUID as a string of exactly `width` characters, with leading zeros. Strings of one width sort
- * as their numbers if the characters of the alphabet ascend in ASCII, as those of the standard alphabet do.
+ * Encodes a number or a UUID as a string of exactly `width` characters, with leading zeros. Strings of the same width
+ * sort in numeric order if the alphabet's characters are in ascending ASCII order ({@link Alphabet.standard} is;
+ * {@link Alphabet.alternative} is not).
  *
  * @example encodeFixed(1337, 4) === '00LZ'
- * @param value a number as of {@link encode}, or a UUID as of {@link encodeUuid}. A string is always a UUID.
- * @param width an integer from 1 to 2**53 - 1, as memory allows. Each number fits in 22.
+ * @param value a number as in {@link encode}, or a UUID as in {@link encodeUuid}. A string is always a UUID.
+ * @param width an integer from 1 to 2**53 - 1, limited by memory. 22 characters are enough for any number.
  * @throws {Base62Error} `BUFFER_TOO_SMALL` if the number needs more characters or the width is 0, `OUT_OF_RANGE` if the
  *   number or the width is not such an integer, `INVALID_UUID`
  * @throws {Error} an error of the runtime, without a `code`, if an allocation fails
@@ -47,18 +54,17 @@ export function encode(number: Integer, alphabet?: Alphabet): string;
 export function encodeFixed(value: Integer | Uuid, width: number, alphabet?: Alphabet): string;
 
 /**
- * Encodes a number or a UUID as a key: exactly 22 characters of the standard alphabet. Keys sort as their numbers, and
- * as the bytes of their UUIDs.
+ * Encodes a number or a UUID as a key: exactly 22 characters of the standard alphabet. Keys sort in numeric order,
+ * and in the order of their UUIDs' bytes.
  *
  * @example encodeKey(1337) === '00000000000000000000LZ'
- * @param value as of {@link encodeFixed}
+ * @param value as in {@link encodeFixed}
  * @throws {Base62Error} `OUT_OF_RANGE`, `INVALID_UUID`
  */
 export function encodeKey(value: Integer | Uuid): string;
 
 /**
- * Encodes a UUID as the shortest string of the number with the same 16 bytes, the most significant first. It has 1 to
- * 22 characters.
+ * Encodes a UUID, read as a big-endian 128-bit integer, as its shortest string, of 1 to 22 characters.
  *
  * @example encodeUuid('550e8400-e29b-41d4-a716-446655440000') === '2aUyqjCzEIiEcYMKj7TZtw'
  * @throws {Base62Error} `INVALID_UUID` if the string or the bytes are not a {@link Uuid}
@@ -79,8 +85,8 @@ export function digitCount(number: Integer): number;
  * @example decode('LZ') === 1337n
  * @returns the number that the string represents, from 0n to 2n ** 128n - 1n
  * @throws {Base62Error} `EMPTY_INPUT` if it is empty, `INVALID_BYTE` if a byte is not in the alphabet, `OVERFLOW` if
- *   the number is 2**128 or more. docs/DEFINITIONS.md of the repository says which one a string with several errors
- *   gives.
+ *   the number is 2**128 or more. If the string has several errors, docs/DEFINITIONS.md of the repository says which
+ *   one is thrown.
  */
 export function decode(text: Text, alphabet?: Alphabet): bigint;
 
@@ -126,13 +132,13 @@ export function decodeUuid(text: Text, alphabet?: Alphabet): string;
 export function decodeUuidCanonical(text: Text, alphabet?: Alphabet): string;
 
 /**
- * Returns the least and the greatest number whose strings of `width` characters begin with `prefix`. The strings of all
- * numbers between them do too, and no other. Returns null if there are no such numbers.
+ * Returns the least and the greatest number whose strings of `width` characters begin with `prefix`. Exactly the
+ * numbers from the least to the greatest have such strings. Returns null if there are no such numbers.
  *
  * @example fixedRange(7, '00a') returns [531948096n, 546724431n]
  * @param width an integer from 0 to 2**53 - 1
  * @param prefix may be empty, or longer than the width
- * @returns numbers from 0n to 2n ** 128n - 1n. A column of 64 bits may not hold the greatest: see the README.
+ * @returns numbers from 0n to 2n ** 128n - 1n. The greatest may exceed a 64-bit column: see the README.
  * @throws {Base62Error} `INVALID_BYTE` for the prefix, `OUT_OF_RANGE` for the width
  */
 export function fixedRange(width: number, prefix: Text, alphabet?: Alphabet): [least: bigint, greatest: bigint] | null;
@@ -145,19 +151,20 @@ export function fixedRange(width: number, prefix: Text, alphabet?: Alphabet): [l
 export function keyRange(prefix: Text): [least: bigint, greatest: bigint] | null;
 
 /**
- * Like {@link keyRange}, but returns the keys of both numbers, as bounds for `BETWEEN` in a database.
+ * Like {@link keyRange}, but returns the keys of both numbers, as bounds for `BETWEEN` in a database column that
+ * compares byte by byte: `COLLATE "C"` in PostgreSQL, `BINARY` in SQLite.
  *
  * @example keyBounds('00000000000000000000L') returns ['00000000000000000000L0', '00000000000000000000Lz']
  * @throws {Base62Error} `INVALID_BYTE`
  */
 export function keyBounds(prefix: Text): [least: string, greatest: string] | null;
 
-/** An alphabet: the characters of the digits from 0 to 61. */
+/** An alphabet: 62 distinct ASCII characters in the order of their digit values, 0 to 61. */
 export class Alphabet {
   /**
    * Creates a custom alphabet. Create it once, not for each call.
    *
-   * @param letters 62 distinct ASCII characters, the zero first
+   * @param letters 62 distinct ASCII characters in the order of their digit values, 0 to 61
    * @throws {Base62Error} `REPEATED_LETTER` for the first character that equals an earlier one, `INVALID_ALPHABET` if
    *   they are not 62 ASCII characters
    */
@@ -166,12 +173,15 @@ export class Alphabet {
   readonly letters: string;
   /** `0` to `9`, `A` to `Z`, `a` to `z`, the default. */
   static readonly standard: Alphabet;
-  /** `0` to `9`, `a` to `z`, `A` to `Z`. Strings of one width do not sort as their numbers. */
+  /** `0` to `9`, `a` to `z`, `A` to `Z`. Strings of one width do not sort in numeric order. */
   static readonly alternative: Alphabet;
   #private;
 }
 
-/** An invalid argument of the right type. A structured clone, as of `postMessage`, has only its `message`. */
+/**
+ * Thrown for an argument of the right type with an invalid value. A structured clone, as made by `postMessage`, is an
+ * `Error` with the same `message`, without `code`, `byte` and `index`.
+ */
 export class Base62Error extends RangeError {
   private constructor();
   /** Which error it is. */

@@ -5,12 +5,12 @@
 import type * as base62 from './index.cjs';
 
 /**
- * Returns the calls of the package over a compiled module, for runtimes that do not compile WebAssembly. Each call of
- * `load` has 128 kB of memory of its own, and returns a copy: an {@link base62.Alphabet} works only with the copy that
- * it belongs to.
+ * Returns the functions of the package over a compiled module, for runtimes that do not compile WebAssembly. Each call
+ * of `load` has 128 kB of memory of its own, and returns a copy: an {@link base62.Alphabet} works only with the copy
+ * that it belongs to.
  *
  * @param module the `WebAssembly.Module` of `base62-proved/base62.wasm`. Its type is not named, so that these types
- *   need no library of browsers.
+ *   do not need TypeScript's `dom` library.
  * @throws {TypeError} if it is anything else
  */
 export function load(module: object): typeof base62;

@@ -2,11 +2,11 @@
 // Copyright (c) 2026 the maintainers of base62 for Rattle
 
 // Hand-written.
-// The public calls, over a compiled base62.wasm. They check types, and copy values to the memory of the WebAssembly and
-// back. The rules of encoding are in c/base62.c, from which it is compiled.
-import * as header from './constants.js';
+// The public functions, over a compiled base62.wasm. They check types, and copy values to the memory of the WebAssembly
+// and back. The rules of encoding are in c/base62.c, from which it is compiled.
+import * as constants from './constants.js';
 
-// Engines read their own constants faster than those of another module.
+// Local constants are faster to read than imported bindings.
 const {
   ALPHABET_LENGTH,
   ALPHABET_SIZE,
@@ -22,7 +22,7 @@ const {
   STANDARD_LETTERS,
   STATUSES,
   UUID_LENGTH,
-} = header;
+} = constants;
 
 // Built-in functions are taken as the script loads, so a prototype that changes later changes no result. A call runs no
 // code of the caller's.
@@ -34,27 +34,27 @@ const { fromCharCode } = String;
 const { ceil, floor, min } = Math;
 
 // Each of these takes its object as the first argument.
-const method = (call) => call.call.bind(call);
-const getter = (prototype, name) => method(getOwnPropertyDescriptor(prototype, name).get);
-const setter = (prototype, name) => method(getOwnPropertyDescriptor(prototype, name).set);
+const uncurryThis = (call) => call.call.bind(call);
+const getter = (prototype, name) => uncurryThis(getOwnPropertyDescriptor(prototype, name).get);
+const setter = (prototype, name) => uncurryThis(getOwnPropertyDescriptor(prototype, name).set);
 const { prototype: typedArray } = getPrototypeOf(Uint8Array);
-const kindOf = getter(typedArray, Symbol.toStringTag);
+const typedArrayName = getter(typedArray, Symbol.toStringTag);
 const lengthOf = getter(typedArray, 'length');
-const copy = method(typedArray.set);
-const charCodeAt = method(''.charCodeAt);
-const codePointAt = method(''.codePointAt);
-const match = method(/./.exec);
+const copy = uncurryThis(typedArray.set);
+const charCodeAt = uncurryThis(''.charCodeAt);
+const codePointAt = uncurryThis(''.codePointAt);
+const match = uncurryThis(/./.exec);
 const exportsOf = getter(Instance.prototype, 'exports');
-const grow = method(Memory.prototype.grow);
+const grow = uncurryThis(Memory.prototype.grow);
 const bufferOf = getter(Memory.prototype, 'buffer');
 const setGlobal = setter(Global.prototype, 'value');
-const getTable = method(WeakMap.prototype.get);
-const setTable = method(WeakMap.prototype.set);
+const getTable = uncurryThis(WeakMap.prototype.get);
+const setTable = uncurryThis(WeakMap.prototype.set);
 // Some runtimes, such as jsdom, have none.
 const decoder = TextDecoder && new TextDecoder();
-const decodeUtf8 = decoder && method(decoder.decode);
+const decodeUtf8 = decoder && uncurryThis(decoder.decode);
 
-const WORD = 2 ** 32;
+const TWO_TO_32 = 2 ** 32;
 const PAGE = 65536;
 const HEXADECIMAL = '0123456789abcdef';
 // Digits with hyphens or without, in braces or after urn:uuid:. It does not check that there are both braces.
@@ -121,7 +121,7 @@ function checkWidth(width) {
 }
 
 function isUint8Array(value) {
-  return kindOf(value) === 'Uint8Array';
+  return typedArrayName(value) === 'Uint8Array';
 }
 
 function isUuid(text) {
@@ -141,7 +141,8 @@ function notAnAlphabet(given) {
   return new TypeError(`${wanted}, not ${given}: give map a function such as (n) => encode(n)`);
 }
 
-// The first byte of several begins with as many ones as there are bytes. A lone surrogate is encoded in three.
+// The lead byte of a multibyte sequence starts with as many 1 bits as the sequence has bytes. A lone surrogate becomes
+// its own three bytes.
 function writeCodePoint(target, at, point) {
   let remaining = point < 0x800 ? 1 : point < 0x10000 ? 2 : 3;
   target[at++] = (-128 >> remaining) | (point >> (6 * remaining));
@@ -199,8 +200,8 @@ export function load(module) {
     return size > TEXT_CAPACITY ? instantiate(module, min(ceil((size - TEXT_CAPACITY) / PAGE), PAGE)) : main;
   }
 
-  // Copies the numbers and the bad byte.
-  function copyResults(from, to) {
+  // Copies the arguments and results of a call: the numbers and the bad byte.
+  function copyNumbers(from, to) {
     if (from !== to) copy(to.bytes, new Uint8Array(from.buffer, NUMBER, ALPHABET - NUMBER), NUMBER);
   }
 
@@ -212,7 +213,7 @@ export function load(module) {
     return instance.calls;
   }
 
-  // STATUSES[status] is the name of each.
+  // STATUSES[status] is the name of the status, which is the error's code.
   function errorOf(status) {
     const length = leave(main, enter(main).base62_fault_text(status, BAD_BYTE, TEXT, MAX_FAULT_TEXT));
     const hasByte = status === INVALID_BYTE || status === REPEATED_LETTER;
@@ -227,7 +228,7 @@ export function load(module) {
       if (!isUnsignedSafeInteger(number)) throw outOfRange();
       halves[NUMBER / 8] = 0n;
       words[NUMBER / 4 + 2] = number;
-      words[NUMBER / 4 + 3] = number / WORD;
+      words[NUMBER / 4 + 3] = number / TWO_TO_32;
     } else if (typeof number === 'bigint') {
       const upper = number >> 64n;
       if (upper < 0n || upper > 0xffffffffffffffffn) throw outOfRange();
@@ -325,7 +326,7 @@ export function load(module) {
 
   function readNumber() {
     const at = NUMBER / 4;
-    const number = words[at + 2] + words[at + 3] * WORD;
+    const number = words[at + 2] + words[at + 3] * TWO_TO_32;
     if (words[at] || words[at + 1] || number > MAX_SAFE_INTEGER) {
       throw new Base62Error('the number is above 2**53 - 1: use decode', 'UNSAFE_INTEGER');
     }
@@ -348,26 +349,26 @@ export function load(module) {
 
   // Calls
 
-  function encodeWritten(alphabet) {
+  function encodeNumberInMemory(alphabet) {
     writeAlphabet(main, alphabet);
     return readText(main, leave(main, enter(main).base62_encode_with(ALPHABET, NUMBER, TEXT, MAX_DIGITS)));
   }
 
   function encode(number, alphabet) {
     writeNumber(number);
-    return encodeWritten(alphabet);
+    return encodeNumberInMemory(alphabet);
   }
 
   function encodeUuid(uuid, alphabet) {
     writeUuid(uuid);
-    return encodeWritten(alphabet);
+    return encodeNumberInMemory(alphabet);
   }
 
   function encodeFixed(value, width, alphabet) {
     checkWidth(width);
     writeNumberOrUuid(value);
     const instance = instanceFor(width);
-    copyResults(main, instance);
+    copyNumbers(main, instance);
     writeAlphabet(instance, alphabet);
     const length = leave(instance, enter(instance).base62_encode_fixed_with(ALPHABET, NUMBER, TEXT, width));
     if (length === 0) throw errorOf(BUFFER_TOO_SMALL);
@@ -393,7 +394,7 @@ export function load(module) {
       ? calls.base62_decode_canonical_with(ALPHABET, TEXT, textLength, NUMBER, BAD_BYTE)
       : calls.base62_decode_with(ALPHABET, TEXT, textLength, NUMBER, BAD_BYTE);
     leave(instance, status);
-    copyResults(instance, main);
+    copyNumbers(instance, main);
     if (status !== OK) throw errorOf(status);
   }
 
@@ -434,10 +435,10 @@ export function load(module) {
     const { textLength } = instance;
     const calls = enter(instance);
     // A size_t has 32 bits. All greater widths have the same ranges, since no prefix is that long.
-    const size = min(width, WORD - 1);
+    const size = min(width, TWO_TO_32 - 1);
     const status = calls.base62_fixed_range_with(ALPHABET, size, TEXT, textLength, NUMBER, BAD_BYTE);
     leave(instance, status);
-    copyResults(instance, main);
+    copyNumbers(instance, main);
     if (status === NO_KEY) return null;
     if (status !== OK) throw errorOf(status);
     return [readBigInt(NUMBER), readBigInt(GREATEST)];

@@ -1,14 +1,14 @@
 #!/usr/bin/env python3
-"""Checks the pages of the repository, which are its files of Markdown.
+"""Checks the pages of the repository, which are its Markdown files.
 
-    scripts/pages.py links                 each link to a page, a heading or a file leads there
+    scripts/pages.py links                 checks that each link to a page, a heading or a file has a target
     scripts/pages.py write PAGE FOLDER     writes each block of PAGE whose fence names files, as in: ```c lz.c
-    scripts/pages.py run PAGE FOLDER       goes through PAGE in FOLDER: writes such files, runs the blocks of sh, and
+    scripts/pages.py run PAGE FOLDER       runs PAGE in FOLDER: writes such files, runs the blocks of sh, and
                                            compares what one prints with the block of text that follows it
     scripts/pages.py run-with-kit PAGE FOLDER, scripts/pages.py run-without-kit PAGE FOLDER
                                            the same, but run only the blocks that call `rt`, or only the others
 
-A file that several fences name has their blocks in a row.
+A file that several fences name has their blocks one after the other.
 """
 
 import re

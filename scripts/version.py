@@ -1,5 +1,5 @@
 #!/usr/bin/env python3
-"""Writes a version into each place that has one: scripts/version.py 3.3.0. Without one it compares them with VERSION."""
+"""Sets the version everywhere: scripts/version.py 3.3.0. Without an argument it compares each place with VERSION."""
 
 import re
 import sys
@@ -10,7 +10,7 @@ VERSION = r"(0|[1-9][0-9]*)\.(0|[1-9][0-9]?)\.(0|[1-9][0-9]?)"
 
 
 def places(version: str) -> list[tuple[str, str, str]]:
-    """A file, a pattern that stands there once and whose one group is the place, and what stands in the place."""
+    """(file, pattern, text): the pattern matches once; its one group is replaced by the text."""
     major, minor, patch = re.fullmatch(VERSION, version).groups()
     number = str(int(major) * 10000 + int(minor) * 100 + int(patch))
     macros = {"": f'"{version}"', "_MAJOR": major, "_MINOR": minor, "_PATCH": patch, "_NUMBER": number}

@@ -48,7 +48,7 @@ function refusesType(call) {
   if (!(fault instanceof TypeError)) throw fault;
 }
 
-// It ends a call that runs code of its own.
+// It throws if a call runs its code.
 const trap = new Proxy(function () {}, {
   get(_, name) {
     throw new Error(`read ${String(name)}`);
@@ -100,12 +100,12 @@ function contextOf(base62, rows) {
   const letters = Object.fromEntries(rows.alphabet.map(([name, field]) => [name, textOf(field)]));
   const names = Object.keys(letters).filter((it) => isAscii(letters[it]));
   const alphabets = Object.fromEntries(names.map((it) => [it, new Alphabet(letters[it])]));
-  const { standard, alternative, readable: own } = letters;
+  const { standard, alternative, readable: custom } = letters;
   const refused = (call, ...wanted) => refuses(base62, call, ...wanted);
   // The rows of a kind whose alphabet is one here.
   const rowsOf = (kind) => rows[kind].filter(([name]) => name in alphabets);
   const alphabet = alphabets.readable;
-  return { base62, rows, rowsOf, letters, Alphabet, alphabets, alphabet, standard, alternative, own, refused };
+  return { base62, rows, rowsOf, letters, Alphabet, alphabets, alphabet, standard, alternative, custom, refused };
 }
 
 const faults = {
@@ -229,7 +229,7 @@ const tests = {
     }
   },
 
-  'numbers that are none are refused'({ base62, refused }) {
+  'invalid numbers are rejected'({ base62, refused }) {
     // No memory has room for the second width.
     const ofUuids = [base62.encodeKey, ...[22, 2 ** 40].map((width) => (it) => base62.encodeFixed(it, width))];
     const calls = [base62.encode, base62.digitCount, ...ofUuids];
@@ -252,7 +252,7 @@ const tests = {
     same(base62.encode(2 ** 53 - 1), 'fFgnDxSe7');
   },
 
-  'widths that are none are refused'({ base62, refused }) {
+  'invalid widths are rejected'({ base62, refused }) {
     for (const width of [-1, 1.5, NaN, Infinity, 2 ** 53]) {
       refused(() => base62.encodeFixed(5, width), 'OUT_OF_RANGE');
       refused(() => base62.fixedRange(width, ''), 'OUT_OF_RANGE');
@@ -265,7 +265,7 @@ const tests = {
     same(base62.fixedRange(0, ''), null);
   },
 
-  'faults of a text are named'({ base62, rowsOf, alphabets, refused }) {
+  'each decoder reports the error of a text'({ base62, rowsOf, alphabets, refused }) {
     const { decodeNumber } = base62;
     for (const call of decodersOf(base62)) {
       for (const [name, field, ...fault] of rowsOf('refused')) {
@@ -281,7 +281,7 @@ const tests = {
     refused(() => decodeNumber(base62.encode(2n ** 64n)), 'UNSAFE_INTEGER');
   },
 
-  'each fault says what is wrong'({ base62, rows, refused }) {
+  'each error has its message'({ base62, rows, refused }) {
     const told = new Set();
     for (const [field, ...fault] of rows.message) {
       const call = callWith(base62, fault);
@@ -309,7 +309,7 @@ const tests = {
     }
   },
 
-  'what is no text, UUID or alphabet is refused'({ base62, alphabet, Alphabet, standard }) {
+  'arguments of wrong types are rejected'({ base62, alphabet, Alphabet, standard }) {
     const others = [undefined, null, 5, 5n, true, [], ['LZ'], {}, Symbol('LZ'), Object('LZ'), convertible, trap];
     const arrays = [new Uint8ClampedArray(2), new Int8Array(2), new ArrayBuffer(2), new DataView(new ArrayBuffer(2))];
     const { keyRange, keyBounds } = base62;
@@ -328,20 +328,20 @@ const tests = {
     }
   },
 
-  'what stands in the place of an alphabet is named'({ base62, own }) {
+  'the error names what was passed as an alphabet'({ base62, custom }) {
     const index = 'an alphabet is an Alphabet, not 0: give map a function such as (n) => encode(n)';
     const letters = 'an alphabet is an Alphabet, not a string: make one by new Alphabet(..)';
     const calls = [
       [() => [1, 2, 3].map(base62.encode), index],
       [() => ['LZ'].map(base62.decode), index],
-      [() => base62.encode(1337, own), letters],
-      [() => base62.encodeFixed(1337, 7, own), letters],
-      [() => base62.fixedRange(7, 'Pd', own), letters],
+      [() => base62.encode(1337, custom), letters],
+      [() => base62.encodeFixed(1337, 7, custom), letters],
+      [() => base62.fixedRange(7, 'Pd', custom), letters],
     ];
     for (const [call, said] of calls) same(faultOf(call) instanceof TypeError && faultOf(call).message, said);
   },
 
-  'strings and bytes for UUIDs, and for none'({ base62, rows, refused }) {
+  'valid and invalid UUIDs'({ base62, rows, refused }) {
     const calls = encodersOfUuids(base62).map(([call]) => call);
     for (const [field, uuid] of rows.form) {
       for (const call of calls) {
@@ -356,7 +356,8 @@ const tests = {
     refused(() => base62.encodeUuid(''), 'INVALID_UUID', `a UUID is 32 hexadecimal digits, ${forms}`);
   },
 
-  'an alphabet has its letters'({ base62, rows, letters, alphabets, refused, Alphabet, standard, alternative, own }) {
+  'an alphabet has its letters'({ base62, rows, letters, alphabets, refused, Alphabet, ...strings }) {
+    const { standard, alternative, custom } = strings;
     same(Alphabet.standard.letters, standard);
     same(Alphabet.alternative.letters, alternative);
     for (const [name, it] of Object.entries(letters)) {
@@ -375,13 +376,13 @@ const tests = {
     }
     same(base62.encode(1337, alphabets.readable), 'Pd');
     same(base62.encode(1337), 'LZ');
-    same(new Alphabet(own).letters, own);
+    same(new Alphabet(custom).letters, custom);
     same(base62.encode(1337), 'LZ');
     class More extends Alphabet {}
-    same(base62.encode(1337, new More(own)), 'Pd');
+    same(base62.encode(1337, new More(custom)), 'Pd');
   },
 
-  'bytes are read where they lie'({ base62 }) {
+  'subarrays and subclasses are read'({ base62 }) {
     const all = bytesOf('-LZ-');
     same(base62.decode(all.subarray(1, 3)), 1337n);
     class More extends Uint8Array {

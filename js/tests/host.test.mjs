@@ -12,7 +12,7 @@ import * as base62 from 'base62-proved';
 import { load } from 'base62-proved/module';
 
 const { Alphabet, decode, encode } = base62;
-const own = '23456789ABCDEFGHJKLMNPQRSTUVWXYZabcdefghijkmnpqrstuvwxyz-_.~!*';
+const custom = '23456789ABCDEFGHJKLMNPQRSTUVWXYZabcdefghijkmnpqrstuvwxyz-_.~!*';
 const MEGABYTE = 2 ** 20;
 const require = createRequire(import.meta.url);
 const commonJs = require.resolve('base62-proved');
@@ -30,7 +30,7 @@ test('a text of 100 MB is read, and no memory is kept', () => {
     const zeros = new Uint8Array(100 * MEGABYTE).fill(48);
     zeros.set([76, 90], zeros.length - 2);
     assert.equal(decode(zeros), 1337n);
-    assert.equal(decode('Pd'.padStart(100 * MEGABYTE, '2'), new Alphabet(own)), 1337n);
+    assert.equal(decode('Pd'.padStart(100 * MEGABYTE, '2'), new Alphabet(custom)), 1337n);
     const fault = { code: 'INVALID_BYTE', byte: 0xe2, index: 100 * MEGABYTE };
     assert.throws(() => decode(`${'0'.repeat(100 * MEGABYTE)}\u20ac`), fault);
     assert.equal(base62.encodeFixed(1337, 100 * MEGABYTE).length, 100 * MEGABYTE);
@@ -45,7 +45,7 @@ test('a thousand long texts need no more memory than one', () => {
   assert.ok(resident() - before < 50 * MEGABYTE);
 });
 
-test('a long string needs little memory beside its own', () => {
+test('a long string needs little memory besides its own', () => {
   const call = `require(${JSON.stringify(commonJs)}).encodeFixed(1337, 2e7)`;
   const script = `${call}; console.log(process.resourceUsage().maxRSS)`;
   const { stdout } = spawnSync(process.execPath, ['--eval', script], { encoding: 'utf8' });
@@ -55,7 +55,7 @@ test('a long string needs little memory beside its own', () => {
 
 test('a call keeps nothing in the heap', () => {
   const bytes = new Uint8Array(16);
-  const alphabet = new Alphabet(own);
+  const alphabet = new Alphabet(custom);
   const round = () => {
     for (let i = 0; i < 20_000; i++) {
       encode(i);
@@ -65,7 +65,7 @@ test('a call keeps nothing in the heap', () => {
       base62.decodeUuid('LZ');
       base62.encodeUuid(bytes);
       base62.keyRange('L');
-      new Alphabet(own);
+      new Alphabet(custom);
       try {
         decode('LZ-');
       } catch {}
@@ -110,7 +110,7 @@ test('a width that no memory holds is an error of the host', () => {
 });
 
 test('properties of errors and alphabets are enumerable and read-only', () => {
-  assert.deepEqual({ ...new Alphabet(own) }, { letters: own });
+  assert.deepEqual({ ...new Alphabet(custom) }, { letters: custom });
   assert.throws(() => decode('LZ-'), (error) => {
     assert.deepEqual({ ...error }, { code: 'INVALID_BYTE', byte: 45, index: 2 });
     assert.throws(() => (error.code = 'OVERFLOW'), TypeError);
@@ -124,7 +124,7 @@ test('calls go on after the stack has run out in one', async () => {
   const calls = [
     () => encode(1337),
     () => encode(2n ** 127n),
-    () => encode(1337, new Alphabet(own)),
+    () => encode(1337, new Alphabet(custom)),
     () => decode('7n42DGM5Tflk9n8mt7Fhc7'),
     () => decode('LZ-'),
     () => keyRange('5')[0],
@@ -164,9 +164,9 @@ test('calls go on after the stack has run out in one', async () => {
   assert.deepEqual(results, new Set(['LZ', '3tX16dB2jpss4tZORYcqo4', 'Pd', 2n ** 128n - 1n, message, least]));
 });
 
-test('copies do not meet', async () => {
+test('copies are independent', async () => {
   const other = await import(`${pathToFileURL(commonJs).href.replace(/cjs$/, 'js')}?copy`);
-  const alphabet = new other.Alphabet(own);
+  const alphabet = new other.Alphabet(custom);
   assert.notEqual(other.encode, encode);
   assert.throws(() => encode(1337, alphabet), TypeError);
   for (let i = 0; i < 1000; i++) {
@@ -176,11 +176,11 @@ test('copies do not meet', async () => {
   }
 });
 
-test('threads do not meet', async () => {
+test('threads are independent', async () => {
   const work = `
     const { parentPort, workerData } = require('worker_threads');
     const { Alphabet, decode, encode } = require(workerData);
-    const alphabet = new Alphabet('${own}');
+    const alphabet = new Alphabet('${custom}');
     let isRight = true;
     for (let i = 0n; i < 100_000n; i++) isRight &&= decode(encode(i * i * i, alphabet), alphabet) === i * i * i;
     parentPort.postMessage(isRight);`;
@@ -202,7 +202,7 @@ test('bytes of another realm and shared ones are read', () => {
 
 test('changed prototypes change no result', () => {
   for (const how of ['poison', 'freeze']) {
-    const program = fileURLToPath(new URL('changed.mjs', import.meta.url));
+    const program = fileURLToPath(new URL('patched_builtins.mjs', import.meta.url));
     const ran = spawnSync(process.execPath, [program, how], { encoding: 'utf8' });
     assert.equal(ran.stderr, '');
     assert.equal(ran.stdout, `${how}: right\n`);

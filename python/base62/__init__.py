@@ -7,7 +7,7 @@
 >>> decode("LZ")
 1337
 
-The calls are those of a C library that is translated from a proved source.
+The functions call a C library that Frama-C proves.
 """
 
 from uuid import UUID as _UUID
@@ -65,12 +65,12 @@ __all__ = [
 
 
 def encode_uuid(value: AnyUUID, alphabet: AnyAlphabet = Alphabet.STANDARD) -> str:
-    """Return the encoded string of the number of a UUID, as encode does.
+    """Return the encoded string of a UUID's 128-bit integer, UUID.int.
 
     value is a uuid.UUID, its 16 bytes, or a str of its 32 hexadecimal digits: with hyphens or without, in
     braces or after urn:uuid:, in either case. The bits of its version and variant are not checked.
 
-    Raises ValueError for another str or other bytes, and what encode raises for the alphabet.
+    Raises ValueError for any other str or bytes, and what encode raises for the alphabet.
 
     >>> encode_uuid(uuid.UUID("12345678-1234-5678-1234-567812345678"))
     'YLmNWW2NwaipfRR50HIPA'
@@ -81,10 +81,10 @@ def encode_uuid(value: AnyUUID, alphabet: AnyAlphabet = Alphabet.STANDARD) -> st
 
 
 def decode_uuid(text: Text, alphabet: AnyAlphabet = Alphabet.STANDARD) -> _UUID:
-    """Return the UUID of the number that a string represents.
+    """Return the UUID whose 128-bit integer a string represents.
 
-    Each number below 2**128 has one: the bits of its version and variant are not checked. Raises what decode
-    raises.
+    Every integer below 2**128 is the int of exactly one UUID: the bits of its version and variant are not
+    checked. Raises what decode raises.
 
     >>> decode_uuid("YLmNWW2NwaipfRR50HIPA")
     UUID('12345678-1234-5678-1234-567812345678')
@@ -93,7 +93,9 @@ def decode_uuid(text: Text, alphabet: AnyAlphabet = Alphabet.STANDARD) -> _UUID:
 
 
 def decode_uuid_canonical(text: Text, alphabet: AnyAlphabet = Alphabet.STANDARD) -> _UUID:
-    """Return the UUID of a string that encode_uuid returns. Raises what decode_canonical raises.
+    """Like decode_uuid, but accept only canonical strings: those that encode_uuid returns.
+
+    Raises what decode_canonical raises.
 
     >>> decode_uuid_canonical("YLmNWW2NwaipfRR50HIPA")
     UUID('12345678-1234-5678-1234-567812345678')
@@ -104,7 +106,8 @@ def decode_uuid_canonical(text: Text, alphabet: AnyAlphabet = Alphabet.STANDARD)
 def key_bounds(prefix: Text) -> tuple[str, str] | None:
     """Return the least and the greatest key that begins with prefix, or None if no key does.
 
-    In a database they are the bounds of a search. Raises InvalidByteError.
+    In a database they are bounds for BETWEEN, in a column that compares byte by byte: COLLATE "C" in
+    PostgreSQL, BINARY in SQLite. Raises InvalidByteError.
 
     >>> key_bounds("00000000000000000000L")
     ('00000000000000000000L0', '00000000000000000000Lz')

@@ -1,7 +1,7 @@
 /* SPDX-License-Identifier: MIT */
 /* Copyright (c) 2026 the maintainers of base62 for Rattle */
 
-/* The calls of base62.h for Python, hand-written: conversions of arguments and results, alphabets, and exceptions. */
+/* Hand-written. The functions of base62.h for Python: conversions of arguments and results, alphabets, exceptions. */
 #define Py_LIMITED_API 0x030b0000
 #include <Python.h>
 #include <base62.h>
@@ -63,16 +63,16 @@ static PyObject *new_ref(PyObject *object) {
 }
 
 /* Converts an argument of an uncommon type by a function of base62._types. */
-static PyObject *convert(struct state *state, int by, PyObject *argument) {
-    PyObject *function = borrow(state, by);
+static PyObject *convert(struct state *state, int converter, PyObject *argument) {
+    PyObject *function = borrow(state, converter);
     return function == NULL ? NULL : PyObject_CallFunctionObjArgs(function, argument, NULL);
 }
 
 /* Other threads run while the library reads or writes this many bytes or more. */
-enum { LONG = 4096 };
+enum { GIL_RELEASE_SIZE = 4096 };
 
 static PyThreadState *release_gil_if_long(size_t length) {
-    return length < LONG ? NULL : PyEval_SaveThread();
+    return length < GIL_RELEASE_SIZE ? NULL : PyEval_SaveThread();
 }
 
 static void restore_gil(PyThreadState *saved) {
@@ -87,33 +87,33 @@ struct parameters {
     Py_ssize_t least, most;
 };
 
-/* Python's own parser does the rare cases, and raises all exceptions. */
-static int parse(const struct parameters *of, PyObject *const *given, Py_ssize_t count, PyObject *keywords,
+/* PyArg_ParseTupleAndKeywords handles keywords and wrong argument counts, and raises the exceptions. */
+static int parse(const struct parameters *signature, PyObject *const *args, Py_ssize_t nargs, PyObject *kwnames,
                  PyObject *found[3]) {
-    Py_ssize_t named = keywords == NULL ? 0 : PyTuple_Size(keywords);
-    PyObject *tuple = named < 0 ? NULL : PyTuple_New(count), *dict = tuple == NULL ? NULL : PyDict_New();
+    Py_ssize_t named = kwnames == NULL ? 0 : PyTuple_Size(kwnames);
+    PyObject *tuple = named < 0 ? NULL : PyTuple_New(nargs), *dict = tuple == NULL ? NULL : PyDict_New();
     int ok = dict != NULL;
-    for (Py_ssize_t i = 0; ok && i < count; i++)
-        ok = PyTuple_SetItem(tuple, i, new_ref(given[i])) == 0;
+    for (Py_ssize_t i = 0; ok && i < nargs; i++)
+        ok = PyTuple_SetItem(tuple, i, new_ref(args[i])) == 0;
     for (Py_ssize_t i = 0; ok && i < named; i++) {
-        PyObject *name = PyTuple_GetItem(keywords, i);
-        ok = name != NULL && PyDict_SetItem(dict, name, given[count + i]) == 0;
+        PyObject *name = PyTuple_GetItem(kwnames, i);
+        ok = name != NULL && PyDict_SetItem(dict, name, args[nargs + i]) == 0;
     }
     found[0] = found[1] = found[2] = NULL;
-    ok = ok &&
-         PyArg_ParseTupleAndKeywords(tuple, dict, of->format, (char **)of->names, &found[0], &found[1], &found[2]);
+    ok = ok && PyArg_ParseTupleAndKeywords(tuple, dict, signature->format, (char **)signature->names, &found[0],
+                                           &found[1], &found[2]);
     Py_DecRef(tuple);
     Py_DecRef(dict);
     return ok ? 0 : -1;
 }
 
 /* Borrows the arguments from the caller. */
-static inline int unpack(const struct parameters *of, PyObject *const *given, Py_ssize_t count, PyObject *keywords,
+static inline int unpack(const struct parameters *signature, PyObject *const *args, Py_ssize_t nargs, PyObject *kwnames,
                          PyObject *found[3]) {
-    if (keywords != NULL || count < of->least || count > of->most)
-        return parse(of, given, count, keywords, found);
-    for (Py_ssize_t i = 0; i < of->most; i++)
-        found[i] = i < count ? given[i] : NULL;
+    if (kwnames != NULL || nargs < signature->least || nargs > signature->most)
+        return parse(signature, args, nargs, kwnames, found);
+    for (Py_ssize_t i = 0; i < signature->most; i++)
+        found[i] = i < nargs ? args[i] : NULL;
     return 0;
 }
 
@@ -188,8 +188,8 @@ static int steal_bytes_or_raise(PyObject *bytes, struct text *text) {
     return -1;
 }
 
-/* An ASCII str is its own UTF-8. Any other str would create a copy in UTF-8 and keep it as long as it lives, so its
-   bytes are converted apart. */
+/* An ASCII str is its own UTF-8. PyUnicode_AsUTF8AndSize caches a UTF-8 copy in a non-ASCII str, so such a str is
+   encoded separately. */
 static int text_or_raise(struct state *state, PyObject *argument, struct text *text) {
     if (!PyUnicode_Check(argument)) {
         PyObject *bytes = PyBytes_Check(argument) ? new_ref(argument) : convert(state, TO_BYTES, argument);
@@ -278,14 +278,13 @@ static int letters_or_raise(struct state *state, PyObject *argument, struct text
     return -1;
 }
 
-/* What an Alphabet adds to its letters. It lies behind the items of bytes, which end that object, as the fields of a
-   subclass in Python would. */
+/* The fields that Alphabet adds to bytes. bytes has a variable size, so they follow its items. */
 static struct alphabet *fields_of(const struct state *state, PyObject *object) {
     return (struct alphabet *)((char *)object + state->bytes_basicsize + Py_SIZE(object));
 }
 
-/* Borrows the fields of an Alphabet. From letters it creates such fields in *place. */
-static const struct alphabet *alphabet_or_raise(struct state *state, PyObject *argument, struct alphabet *place) {
+/* Borrows the fields of an Alphabet. From letters it creates such fields in *storage. */
+static const struct alphabet *alphabet_or_raise(struct state *state, PyObject *argument, struct alphabet *storage) {
     PyObject *object = argument == NULL ? borrow(state, STANDARD) : argument;
     if (object == NULL)
         return NULL;
@@ -294,14 +293,14 @@ static const struct alphabet *alphabet_or_raise(struct state *state, PyObject *a
     struct text letters;
     if (letters_or_raise(state, object, &letters) != 0)
         return NULL;
-    int failed = make_alphabet_or_raise(state, letters.bytes, place);
+    int failed = make_alphabet_or_raise(state, letters.bytes, storage);
     Py_DecRef(letters.owner);
-    return failed ? NULL : place;
+    return failed ? NULL : storage;
 }
 
 static const struct alphabet *ascii_alphabet_or_raise(struct state *state, PyObject *argument,
-                                                      struct alphabet *place) {
-    const struct alphabet *alphabet = alphabet_or_raise(state, argument, place);
+                                                      struct alphabet *storage) {
+    const struct alphabet *alphabet = alphabet_or_raise(state, argument, storage);
     if (alphabet == NULL || alphabet->is_ascii)
         return alphabet;
     PyErr_SetString(PyExc_ValueError, "an alphabet to encode has ASCII letters");
@@ -310,9 +309,10 @@ static const struct alphabet *ascii_alphabet_or_raise(struct state *state, PyObj
 
 PyDoc_STRVAR(Alphabet_doc,
              "Alphabet(letters)\n--\n\n"
-             "The 62 bytes of an alphabet, in the order of their digits. It is immutable and has no subclasses.\n\n"
-             "letters is an ASCII str or bytes. They are checked once. A call accepts such a str or bytes too, and\n"
-             "checks it each time. An alphabet with non-ASCII bytes decodes, but does not encode.\n\n"
+             "A custom alphabet: 62 distinct bytes, in the order of their digit values.\n\n"
+             "It is immutable and cannot be subclassed. letters, an ASCII str or bytes, is checked here once; a str\n"
+             "or bytes passed to a function is checked on every call. An alphabet with non-ASCII bytes can only\n"
+             "decode.\n\n"
              "Raises AlphabetError if a byte is repeated, ValueError if there are not 62, and UnicodeEncodeError if a\n"
              "str is not ASCII.\n\n"
              ">>> custom = Alphabet(\"23456789ABCDEFGHJKLMNPQRSTUVWXYZabcdefghijkmnpqrstuvwxyz-_.~!*\")\n"
@@ -445,23 +445,24 @@ static int add_built_in(PyObject *module, int which, const char *name, const cha
 PyDoc_STRVAR(encode_doc,
              "encode($module, /, number, alphabet=Alphabet.STANDARD)\n--\n\n"
              "Return the encoded string of a number: 1 to 22 characters, without leading zeros.\n\n"
-             "number is an int from 0 to 2**128 - 1, an object with such an __index__, or a uuid.UUID.\n\n"
-             "Raises OutOfRangeError for another number, ValueError if the alphabet is not ASCII, and what Alphabet\n"
-             "raises.\n\n"
+             "number is an int from 0 to 2**128 - 1, an object whose __index__() returns such an int, or a\n"
+             "uuid.UUID.\n\n"
+             "Raises OutOfRangeError for any other number, ValueError if the alphabet is not ASCII, and what\n"
+             "Alphabet raises.\n\n"
              ">>> encode(1337), encode(1337, Alphabet.ALTERNATIVE), encode(0)\n"
              "('LZ', 'lz', '0')\n"
              ">>> encode(uuid.UUID(\"12345678-1234-5678-1234-567812345678\"))\n"
              "'YLmNWW2NwaipfRR50HIPA'");
 
-static PyObject *encode(PyObject *module, PyObject *const *given, Py_ssize_t count, PyObject *keywords) {
-    static const struct parameters of = {"O|O:encode", {"number", "alphabet", NULL}, 1, 2};
+static PyObject *encode(PyObject *module, PyObject *const *args, Py_ssize_t nargs, PyObject *kwnames) {
+    static const struct parameters signature = {"O|O:encode", {"number", "alphabet", NULL}, 1, 2};
     struct state *state = state_of(module);
     PyObject *found[3];
     base62_number number;
-    struct alphabet place;
-    if (unpack(&of, given, count, keywords, found) != 0 || number_or_raise(state, found[0], &number) != 0)
+    struct alphabet storage;
+    if (unpack(&signature, args, nargs, kwnames, found) != 0 || number_or_raise(state, found[0], &number) != 0)
         return NULL;
-    const struct alphabet *alphabet = ascii_alphabet_or_raise(state, found[1], &place);
+    const struct alphabet *alphabet = ascii_alphabet_or_raise(state, found[1], &storage);
     if (alphabet == NULL)
         return NULL;
     char text[BASE62_MAX_DIGITS];
@@ -490,41 +491,41 @@ static PyObject *new_fixed_or_raise(struct state *state, const base62_alphabet *
 PyDoc_STRVAR(encode_fixed_doc,
              "encode_fixed($module, /, number, width, alphabet=Alphabet.STANDARD)\n--\n\n"
              "Return the encoded string of a number, padded with leading zeros to exactly width characters.\n\n"
-             "Strings of one width sort as their numbers, if each character of the alphabet is a greater byte than\n"
-             "the one before it, as in Alphabet.STANDARD. decode accepts them. Only memory limits the width: above\n"
-             "64, a buffer of width bytes is allocated besides the result.\n\n"
+             "Strings of the same width sort in numeric order if the alphabet's characters are in ascending byte\n"
+             "order, as in Alphabet.STANDARD. decode accepts them. Only memory limits the width: above 64, a buffer\n"
+             "of width bytes is allocated besides the result.\n\n"
              "Raises OutOfRangeError if the number has more characters, ValueError if the width is negative,\n"
              "MemoryError if an allocation fails, and what encode raises.\n\n"
              ">>> encode_fixed(1337, 4)\n"
              "'00LZ'");
 
-static PyObject *encode_fixed(PyObject *module, PyObject *const *given, Py_ssize_t count, PyObject *keywords) {
-    static const struct parameters of = {"OO|O:encode_fixed", {"number", "width", "alphabet", NULL}, 2, 3};
+static PyObject *encode_fixed(PyObject *module, PyObject *const *args, Py_ssize_t nargs, PyObject *kwnames) {
+    static const struct parameters signature = {"OO|O:encode_fixed", {"number", "width", "alphabet", NULL}, 2, 3};
     struct state *state = state_of(module);
     PyObject *found[3];
     base62_number number;
     size_t width;
-    struct alphabet place;
-    if (unpack(&of, given, count, keywords, found) != 0 || number_or_raise(state, found[0], &number) != 0 ||
+    struct alphabet storage;
+    if (unpack(&signature, args, nargs, kwnames, found) != 0 || number_or_raise(state, found[0], &number) != 0 ||
         width_or_raise(found[1], &width) != 0)
         return NULL;
-    const struct alphabet *alphabet = ascii_alphabet_or_raise(state, found[2], &place);
+    const struct alphabet *alphabet = ascii_alphabet_or_raise(state, found[2], &storage);
     return alphabet == NULL ? NULL : new_fixed_or_raise(state, &alphabet->tables, number, width);
 }
 
 PyDoc_STRVAR(encode_key_doc,
              "encode_key($module, /, number)\n--\n\n"
              "Return the key of a number: its standard string, padded with leading zeros to 22 characters.\n\n"
-             "Keys sort as their numbers. decode accepts them. Raises OutOfRangeError as encode does.\n\n"
+             "Keys sort in numeric order. decode accepts them. Raises OutOfRangeError as encode does.\n\n"
              ">>> encode_key(1337)\n"
              "'00000000000000000000LZ'");
 
-static PyObject *encode_key(PyObject *module, PyObject *const *given, Py_ssize_t count, PyObject *keywords) {
-    static const struct parameters of = {"O:encode_key", {"number", NULL}, 1, 1};
+static PyObject *encode_key(PyObject *module, PyObject *const *args, Py_ssize_t nargs, PyObject *kwnames) {
+    static const struct parameters signature = {"O:encode_key", {"number", NULL}, 1, 1};
     struct state *state = state_of(module);
     PyObject *found[3];
     base62_number number;
-    if (unpack(&of, given, count, keywords, found) != 0 || number_or_raise(state, found[0], &number) != 0)
+    if (unpack(&signature, args, nargs, kwnames, found) != 0 || number_or_raise(state, found[0], &number) != 0)
         return NULL;
     char key[BASE62_KEY_LENGTH];
     base62_encode_key(number, key);
@@ -538,12 +539,12 @@ PyDoc_STRVAR(digit_count_doc,
              ">>> digit_count(61), digit_count(62)\n"
              "(1, 2)");
 
-static PyObject *digit_count(PyObject *module, PyObject *const *given, Py_ssize_t count, PyObject *keywords) {
-    static const struct parameters of = {"O:digit_count", {"number", NULL}, 1, 1};
+static PyObject *digit_count(PyObject *module, PyObject *const *args, Py_ssize_t nargs, PyObject *kwnames) {
+    static const struct parameters signature = {"O:digit_count", {"number", NULL}, 1, 1};
     struct state *state = state_of(module);
     PyObject *found[3];
     base62_number number;
-    if (unpack(&of, given, count, keywords, found) != 0 || number_or_raise(state, found[0], &number) != 0)
+    if (unpack(&signature, args, nargs, kwnames, found) != 0 || number_or_raise(state, found[0], &number) != 0)
         return NULL;
     return PyLong_FromSize_t(base62_digit_count(number));
 }
@@ -558,8 +559,8 @@ static inline PyObject *decode_or_raise(decode_with *decode, struct state *state
     base62_number number;
     base62_bad_byte bad = {0, 0};
     base62_status status = BASE62_OK;
-    struct alphabet place;
-    const struct alphabet *alphabet = alphabet_or_raise(state, found[1], &place);
+    struct alphabet storage;
+    const struct alphabet *alphabet = alphabet_or_raise(state, found[1], &storage);
     if (alphabet != NULL) {
         PyThreadState *saved = release_gil_if_long((size_t)text.length);
         status = decode(&alphabet->tables, text.bytes, (size_t)text.length, &number, &bad);
@@ -574,7 +575,7 @@ static inline PyObject *decode_or_raise(decode_with *decode, struct state *state
 PyDoc_STRVAR(decode_doc,
              "decode($module, /, text, alphabet=Alphabet.STANDARD)\n--\n\n"
              "Return the number that a string represents, from 0 to 2**128 - 1. Leading zeros are ignored.\n\n"
-             "A str is decoded as UTF-8. A bytearray, a memoryview and a non-ASCII str are copied first.\n\n"
+             "A str is encoded as UTF-8 first. A bytearray, a memoryview and a non-ASCII str are copied.\n\n"
              "Raises EmptyInputError, InvalidByteError or TooLargeError, and what Alphabet raises.\n\n"
              ">>> decode(\"00LZ\"), decode(b\"lz\", Alphabet.ALTERNATIVE)\n"
              "(1337, 1337)\n"
@@ -582,29 +583,29 @@ PyDoc_STRVAR(decode_doc,
              "Traceback (most recent call last):\n"
              "base62.TooLargeError: Decoded number cannot fit into a `u128`");
 
-static PyObject *decode(PyObject *module, PyObject *const *given, Py_ssize_t count, PyObject *keywords) {
-    static const struct parameters of = {"O|O:decode", {"text", "alphabet", NULL}, 1, 2};
+static PyObject *decode(PyObject *module, PyObject *const *args, Py_ssize_t nargs, PyObject *kwnames) {
+    static const struct parameters signature = {"O|O:decode", {"text", "alphabet", NULL}, 1, 2};
     PyObject *found[3];
-    if (unpack(&of, given, count, keywords, found) != 0)
+    if (unpack(&signature, args, nargs, kwnames, found) != 0)
         return NULL;
     return decode_or_raise(base62_decode_with, state_of(module), found);
 }
 
 PyDoc_STRVAR(decode_canonical_doc,
              "decode_canonical($module, /, text, alphabet=Alphabet.STANDARD)\n--\n\n"
-             "Return the number of a string that encode returns. Each number has exactly one.\n\n"
-             "Raises NotCanonicalError if decode accepts the string, but it has a leading zero, and otherwise what\n"
-             "decode raises.\n\n"
+             "Like decode, but accept only canonical strings: those that encode returns.\n\n"
+             "Each number has exactly one. Raises NotCanonicalError if decode accepts the string, but it has a\n"
+             "leading zero, and otherwise what decode raises.\n\n"
              ">>> decode_canonical(\"LZ\"), decode_canonical(\"0\")\n"
              "(1337, 0)\n"
              ">>> decode_canonical(\"00LZ\")\n"
              "Traceback (most recent call last):\n"
              "base62.NotCanonicalError: Encoded input begins with a needless zero");
 
-static PyObject *decode_canonical(PyObject *module, PyObject *const *given, Py_ssize_t count, PyObject *keywords) {
-    static const struct parameters of = {"O|O:decode_canonical", {"text", "alphabet", NULL}, 1, 2};
+static PyObject *decode_canonical(PyObject *module, PyObject *const *args, Py_ssize_t nargs, PyObject *kwnames) {
+    static const struct parameters signature = {"O|O:decode_canonical", {"text", "alphabet", NULL}, 1, 2};
     PyObject *found[3];
-    if (unpack(&of, given, count, keywords, found) != 0)
+    if (unpack(&signature, args, nargs, kwnames, found) != 0)
         return NULL;
     return decode_or_raise(base62_decode_canonical_with, state_of(module), found);
 }
@@ -617,12 +618,12 @@ PyDoc_STRVAR(key_range_doc,
              "(1302, 1363)\n"
              ">>> key_range(\"8\")");
 
-static PyObject *key_range(PyObject *module, PyObject *const *given, Py_ssize_t count, PyObject *keywords) {
-    static const struct parameters of = {"O:key_range", {"prefix", NULL}, 1, 1};
+static PyObject *key_range(PyObject *module, PyObject *const *args, Py_ssize_t nargs, PyObject *kwnames) {
+    static const struct parameters signature = {"O:key_range", {"prefix", NULL}, 1, 1};
     struct state *state = state_of(module);
     PyObject *found[3];
     struct text prefix;
-    if (unpack(&of, given, count, keywords, found) != 0 || text_or_raise(state, found[0], &prefix) != 0)
+    if (unpack(&signature, args, nargs, kwnames, found) != 0 || text_or_raise(state, found[0], &prefix) != 0)
         return NULL;
     base62_range range = {{0, 0}, {0, 0}};
     base62_bad_byte bad = {0, 0};
@@ -636,26 +637,27 @@ static PyObject *key_range(PyObject *module, PyObject *const *given, Py_ssize_t 
 PyDoc_STRVAR(fixed_range_doc,
              "fixed_range($module, /, width, prefix, alphabet=Alphabet.STANDARD)\n--\n\n"
              "Return the least and the greatest number whose string of this width begins with prefix.\n\n"
-             "The strings are those of encode_fixed. The result is None if none begins so. A width has no upper\n"
-             "limit. Raises InvalidByteError, ValueError if the width is negative, and what Alphabet raises.\n\n"
+             "The strings are those of encode_fixed. Return None if there is no such number. The width is\n"
+             "unbounded.\n\n"
+             "Raises InvalidByteError, ValueError if the width is negative, and what Alphabet raises.\n\n"
              ">>> fixed_range(4, \"00L\")\n"
              "(1302, 1363)\n"
              ">>> fixed_range(4, \"000LZ\")");
 
-static PyObject *fixed_range(PyObject *module, PyObject *const *given, Py_ssize_t count, PyObject *keywords) {
-    static const struct parameters of = {"OO|O:fixed_range", {"width", "prefix", "alphabet", NULL}, 2, 3};
+static PyObject *fixed_range(PyObject *module, PyObject *const *args, Py_ssize_t nargs, PyObject *kwnames) {
+    static const struct parameters signature = {"OO|O:fixed_range", {"width", "prefix", "alphabet", NULL}, 2, 3};
     struct state *state = state_of(module);
     PyObject *found[3];
     size_t width;
     struct text prefix;
-    if (unpack(&of, given, count, keywords, found) != 0 || width_or_raise(found[0], &width) != 0 ||
+    if (unpack(&signature, args, nargs, kwnames, found) != 0 || width_or_raise(found[0], &width) != 0 ||
         text_or_raise(state, found[1], &prefix) != 0)
         return NULL;
     base62_range range = {{0, 0}, {0, 0}};
     base62_bad_byte bad = {0, 0};
     base62_status status = BASE62_OK;
-    struct alphabet place;
-    const struct alphabet *alphabet = alphabet_or_raise(state, found[2], &place);
+    struct alphabet storage;
+    const struct alphabet *alphabet = alphabet_or_raise(state, found[2], &storage);
     if (alphabet != NULL) {
         PyThreadState *saved = release_gil_if_long((size_t)prefix.length);
         status = base62_fixed_range_with(&alphabet->tables, width, prefix.bytes, (size_t)prefix.length, &range, &bad);
@@ -743,7 +745,8 @@ static void free_module(void *module) {
     clear(module);
 }
 
-/* Py_mod_multiple_interpreters with Py_MOD_PER_INTERPRETER_GIL_SUPPORTED, which 3.12 requires and 3.11 rejects. */
+/* Py_mod_multiple_interpreters (3) = Py_MOD_PER_INTERPRETER_GIL_SUPPORTED (2). An interpreter with its own GIL needs
+   it, from 3.12 on; 3.11 rejects it, and the limited API of 3.11 does not have the names. */
 static PyModuleDef_Slot slots[] = {{3, (void *)2}, {Py_mod_exec, execute}, {0, NULL}};
 
 #define DEFINITION(module_slots)                                                                                       \

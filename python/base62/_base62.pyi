@@ -10,10 +10,11 @@ __version__: str
 
 @final
 class Alphabet(bytes):
-    """The 62 bytes of an alphabet, in the order of their digits. It is immutable and has no subclasses.
+    """A custom alphabet: 62 distinct bytes, in the order of their digit values.
 
-    letters is an ASCII str or bytes. They are checked once. A call accepts such a str or bytes too, and
-    checks it each time. An alphabet with non-ASCII bytes decodes, but does not encode.
+    It is immutable and cannot be subclassed. letters, an ASCII str or bytes, is checked here once; a str
+    or bytes passed to a function is checked on every call. An alphabet with non-ASCII bytes can only
+    decode.
 
     Raises AlphabetError if a byte is repeated, ValueError if there are not 62, and UnicodeEncodeError if a
     str is not ASCII.
@@ -30,10 +31,11 @@ class Alphabet(bytes):
 def encode(number: Number, alphabet: AnyAlphabet = Alphabet.STANDARD) -> str:
     """Return the encoded string of a number: 1 to 22 characters, without leading zeros.
 
-    number is an int from 0 to 2**128 - 1, an object with such an __index__, or a uuid.UUID.
+    number is an int from 0 to 2**128 - 1, an object whose __index__() returns such an int, or a
+    uuid.UUID.
 
-    Raises OutOfRangeError for another number, ValueError if the alphabet is not ASCII, and what Alphabet
-    raises.
+    Raises OutOfRangeError for any other number, ValueError if the alphabet is not ASCII, and what
+    Alphabet raises.
 
     >>> encode(1337), encode(1337, Alphabet.ALTERNATIVE), encode(0)
     ('LZ', 'lz', '0')
@@ -44,9 +46,9 @@ def encode(number: Number, alphabet: AnyAlphabet = Alphabet.STANDARD) -> str:
 def encode_fixed(number: Number, width: SupportsIndex, alphabet: AnyAlphabet = Alphabet.STANDARD) -> str:
     """Return the encoded string of a number, padded with leading zeros to exactly width characters.
 
-    Strings of one width sort as their numbers, if each character of the alphabet is a greater byte than
-    the one before it, as in Alphabet.STANDARD. decode accepts them. Only memory limits the width: above
-    64, a buffer of width bytes is allocated besides the result.
+    Strings of the same width sort in numeric order if the alphabet's characters are in ascending byte
+    order, as in Alphabet.STANDARD. decode accepts them. Only memory limits the width: above 64, a buffer
+    of width bytes is allocated besides the result.
 
     Raises OutOfRangeError if the number has more characters, ValueError if the width is negative,
     MemoryError if an allocation fails, and what encode raises.
@@ -58,7 +60,7 @@ def encode_fixed(number: Number, width: SupportsIndex, alphabet: AnyAlphabet = A
 def encode_key(number: Number) -> str:
     """Return the key of a number: its standard string, padded with leading zeros to 22 characters.
 
-    Keys sort as their numbers. decode accepts them. Raises OutOfRangeError as encode does.
+    Keys sort in numeric order. decode accepts them. Raises OutOfRangeError as encode does.
 
     >>> encode_key(1337)
     '00000000000000000000LZ'
@@ -76,7 +78,7 @@ def digit_count(number: Number) -> int:
 def decode(text: Text, alphabet: AnyAlphabet = Alphabet.STANDARD) -> int:
     """Return the number that a string represents, from 0 to 2**128 - 1. Leading zeros are ignored.
 
-    A str is decoded as UTF-8. A bytearray, a memoryview and a non-ASCII str are copied first.
+    A str is encoded as UTF-8 first. A bytearray, a memoryview and a non-ASCII str are copied.
 
     Raises EmptyInputError, InvalidByteError or TooLargeError, and what Alphabet raises.
 
@@ -88,10 +90,10 @@ def decode(text: Text, alphabet: AnyAlphabet = Alphabet.STANDARD) -> int:
     """
 
 def decode_canonical(text: Text, alphabet: AnyAlphabet = Alphabet.STANDARD) -> int:
-    """Return the number of a string that encode returns. Each number has exactly one.
+    """Like decode, but accept only canonical strings: those that encode returns.
 
-    Raises NotCanonicalError if decode accepts the string, but it has a leading zero, and otherwise what
-    decode raises.
+    Each number has exactly one. Raises NotCanonicalError if decode accepts the string, but it has a
+    leading zero, and otherwise what decode raises.
 
     >>> decode_canonical("LZ"), decode_canonical("0")
     (1337, 0)
@@ -115,8 +117,10 @@ def fixed_range(
 ) -> tuple[int, int] | None:
     """Return the least and the greatest number whose string of this width begins with prefix.
 
-    The strings are those of encode_fixed. The result is None if none begins so. A width has no upper
-    limit. Raises InvalidByteError, ValueError if the width is negative, and what Alphabet raises.
+    The strings are those of encode_fixed. Return None if there is no such number. The width is
+    unbounded.
+
+    Raises InvalidByteError, ValueError if the width is negative, and what Alphabet raises.
 
     >>> fixed_range(4, "00L")
     (1302, 1363)

@@ -1,6 +1,6 @@
 # SPDX-License-Identifier: MIT
 # Copyright (c) 2026 the maintainers of base62 for Rattle
-"""Calls, and calls that are refused, with what they are given: the tests of memory make each many times."""
+"""Valid and invalid calls with their arguments, for the memory tests."""
 
 from __future__ import annotations
 
@@ -11,59 +11,59 @@ from typing import Any
 
 import base62
 
-OWN = "zyxwvutsrqponmlkjihgfedcbaZYXWVUTSRQPONMLKJIHGFEDCBA9876543210"
-LETTERS = base62.Alphabet(OWN)
+CUSTOM = "zyxwvutsrqponmlkjihgfedcbaZYXWVUTSRQPONMLKJIHGFEDCBA9876543210"
+LETTERS = base62.Alphabet(CUSTOM)
 REPEATED = "0" * 62
 HIGH = bytes(range(194, 256))
 WIDE = 2**128 - 1
 TEXT = "7n42DGM5Tflk9n8mt7Fhc7"
 
 Call = Callable[..., object]
-Made = tuple[Call, tuple[Any, ...], dict[str, Any]]
+Invocation = tuple[Call, tuple[Any, ...], dict[str, Any]]
 
 
-def made(call: Call, *given: Any, **named: Any) -> Made:
+def invocation(call: Call, *given: Any, **named: Any) -> Invocation:
     return call, given, named
 
 
-def calls() -> Iterator[Made]:
+def valid_calls() -> Iterator[Invocation]:
     for number in (1337, WIDE, uuid.UUID(int=WIDE), True):
-        yield made(base62.encode, number)
-        yield made(base62.digit_count, number)
-        yield made(base62.encode_key, number)
-        yield made(base62.encode_fixed, number, 22)
-    for letters in (base62.Alphabet.ALTERNATIVE, LETTERS, OWN, OWN.encode()):
-        yield made(base62.encode, WIDE, letters)
-        yield made(base62.decode, "LZ", letters)
-        yield made(base62.decode_canonical, "LZ", letters)
-        yield made(base62.encode_fixed, WIDE, 65, letters)
-        yield made(base62.fixed_range, 40, "0", letters)
+        yield invocation(base62.encode, number)
+        yield invocation(base62.digit_count, number)
+        yield invocation(base62.encode_key, number)
+        yield invocation(base62.encode_fixed, number, 22)
+    for letters in (base62.Alphabet.ALTERNATIVE, LETTERS, CUSTOM, CUSTOM.encode()):
+        yield invocation(base62.encode, WIDE, letters)
+        yield invocation(base62.decode, "LZ", letters)
+        yield invocation(base62.decode_canonical, "LZ", letters)
+        yield invocation(base62.encode_fixed, WIDE, 65, letters)
+        yield invocation(base62.fixed_range, 40, "0", letters)
     texts: list[Any] = ["LZ", TEXT, TEXT.encode(), bytearray(TEXT, "ascii"), memoryview(b"0L0Z")[::2]]
     for text in texts:
-        yield made(base62.decode, text)
-        yield made(base62.decode_canonical, text[-1:])
-        yield made(base62.key_range, text[:2])
-        yield made(base62.fixed_range, 22, text[:2])
+        yield invocation(base62.decode, text)
+        yield invocation(base62.decode_canonical, text[-1:])
+        yield invocation(base62.key_range, text[:2])
+        yield invocation(base62.fixed_range, 22, text[:2])
     for shown in (LETTERS, base62.Alphabet.STANDARD):
-        yield made(repr, shown)
-        yield made(shown.__reduce__)
-    yield made(base62.decode_uuid_canonical, TEXT)
-    yield made(base62.fixed_range, width=40, prefix="0", alphabet=OWN)
-    yield made(base62.encode, number=WIDE, alphabet=LETTERS)
-    yield made(base62.decode, "LZ", alphabet=OWN)
-    yield made(base62.Alphabet, OWN)
-    yield made(base62.key_bounds, "8")
-    yield made(base62.key_bounds, "7n")
-    yield made(base62.encode_uuid, uuid.UUID(int=WIDE))
-    yield made(base62.decode_uuid, TEXT)
+        yield invocation(repr, shown)
+        yield invocation(shown.__reduce__)
+    yield invocation(base62.decode_uuid_canonical, TEXT)
+    yield invocation(base62.fixed_range, width=40, prefix="0", alphabet=CUSTOM)
+    yield invocation(base62.encode, number=WIDE, alphabet=LETTERS)
+    yield invocation(base62.decode, "LZ", alphabet=CUSTOM)
+    yield invocation(base62.Alphabet, CUSTOM)
+    yield invocation(base62.key_bounds, "8")
+    yield invocation(base62.key_bounds, "7n")
+    yield invocation(base62.encode_uuid, uuid.UUID(int=WIDE))
+    yield invocation(base62.decode_uuid, TEXT)
 
 
-def refusals() -> Iterator[Made]:
-    # Texts whose bytes a call holds in each way, and what is no alphabet.
+def invalid_calls() -> Iterator[Invocation]:
+    # Texts of each type, and invalid alphabets.
     texts: list[object] = ["1", b"1", "é"]
     none: list[object] = [None, REPEATED, REPEATED.encode()]
     rows: list[tuple[Call, list[tuple[object, ...]]]] = [
-        (base62.encode, [(-1,), (WIDE + 1,), (10**100,), (1.0,), (), (1, OWN, 1)]),
+        (base62.encode, [(-1,), (WIDE + 1,), (10**100,), (1.0,), (), (1, CUSTOM, 1)]),
         (base62.encode, [(1, None), (1, "short"), (1, REPEATED), (1, HIGH), (1, "é" * 62)]),
         (base62.digit_count, [(-1,), ("1",)]),
         (base62.encode_key, [(WIDE + 1,), (None,)]),
@@ -81,5 +81,5 @@ def refusals() -> Iterator[Made]:
     ]
     for call, given in rows:
         for one in given:
-            yield made(call, *one)
-    yield made(base62.encode, 1, other=1)
+            yield invocation(call, *one)
+    yield invocation(base62.encode, 1, other=1)

@@ -10,7 +10,7 @@ import sqlite3
 import unittest
 
 import base62
-import places  # The folder of the example is on the path then.
+import paths  # The folder of the example is on the path then.
 
 import links
 

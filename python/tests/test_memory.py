@@ -1,6 +1,6 @@
 # SPDX-License-Identifier: MIT
 # Copyright (c) 2026 the maintainers of base62 for Rattle
-"""Tests of calls that are refused memory: each request in turn, alone and with all that follow."""
+"""Tests of failing allocations: each allocation of a call fails in turn, alone and with all later ones."""
 
 from __future__ import annotations
 
@@ -16,8 +16,8 @@ import calls
 from base62 import _types
 from calls import LETTERS, WIDE, Call
 
-# More requests than any of the calls makes.
-BEYOND = 240
+# More allocations than any of the calls makes.
+MAX_ALLOCATIONS = 240
 
 try:
     memory: Any = importlib.import_module("_testcapi")
@@ -30,13 +30,13 @@ def outcome(call: Call, given: tuple[object, ...], named: dict[str, object]) -> 
         return call(*given, **named)
     except (ValueError, TypeError, OverflowError) as error:
         if not str(error) and type(error) in (ValueError, TypeError, OverflowError):
-            # An earlier 3.11 drops a message for which there is no memory.
+            # An earlier 3.11 drops a message whose allocation fails.
             raise MemoryError from error
         return type(error), str(error), vars(error)
 
 
 def load_extension() -> str:
-    """What a new module of the extension answers, which CPython's own calls load."""
+    """Return a result of a new module of the extension, which CPython's own functions load."""
     spec = importlib.util.find_spec("base62._base62")
     assert spec is not None
     of_python: Any = importlib.import_module("_imp")
@@ -45,44 +45,44 @@ def load_extension() -> str:
     return str(module.encode(WIDE))
 
 
-@unittest.skipIf(memory is None, "this Python has no _testcapi, by which memory is refused")
-class Refusing(unittest.TestCase):
+@unittest.skipIf(memory is None, "this Python has no _testcapi, by which allocations fail")
+class AllocationTestCase(unittest.TestCase):
     def setUp(self) -> None:
-        self.told = 0
+        self.failures = 0
 
-    def is_told(self, wanted: object, first: int, last: int, call: Call, *given: Any, **named: Any) -> bool:
-        """Whether a call tells that requests from the first to before the last failed. Else it answers as ever. They
-        are counted from 0."""
+    def reports_failure(self, wanted: object, first: int, last: int, call: Call, *given: Any, **named: Any) -> bool:
+        """Return whether a call reports that an allocation failed: those from the first to before the last do,
+        counted from 0. Otherwise it returns what it always does."""
         try:
             memory.set_nomemory(first, last)
             try:
-                answer = outcome(call, given, named)
+                result = outcome(call, given, named)
             finally:
                 memory.remove_mem_hooks()
         except MemoryError:
             return True
         except SystemError as error:
-            # So CPython ends a function of Python for whose frame there is no memory.
+            # CPython raises this if it cannot allocate the frame of a function.
             self.assertRegex(str(error), "^<function .* returned NULL without setting an exception")
             return True
-        self.assertEqual(answer, wanted)
+        self.assertEqual(result, wanted)
         return False
 
     def sweep(self, call: Call, *given: Any, **named: Any) -> None:
-        """Each request of the call is refused in turn, first alone and then with all that follow."""
+        """Makes each allocation of the call fail in turn, first alone and then with all later ones."""
         wanted = outcome(call, given, named)
         for follow in (False, True):
-            told = [
-                self.is_told(wanted, first, 0 if follow else first + 1, call, *given, **named)
-                for first in range(BEYOND)
+            failures = [
+                self.reports_failure(wanted, first, 0 if follow else first + 1, call, *given, **named)
+                for first in range(MAX_ALLOCATIONS)
             ]
-            self.assertFalse(any(told[-20:]), f"{call} makes more requests")
-            self.told += sum(told)
+            self.assertFalse(any(failures[-20:]), f"{call} makes more allocations")
+            self.failures += sum(failures)
 
 
-class Refused(Refusing):
-    def is_refused(self, call: Call, *given: Any, **named: Any) -> None:
-        """No refusal keeps memory: ten sweeps would keep ten blocks. The first ones fill CPython's stores."""
+class AllocationFailures(AllocationTestCase):
+    def check_no_leak(self, call: Call, *given: Any, **named: Any) -> None:
+        """No failure leaks memory: ten sweeps would leak ten blocks. The first ones fill CPython's free lists."""
         blocks = []
         for sweeps in (5, 10):
             for _ in range(sweeps):
@@ -92,15 +92,15 @@ class Refused(Refusing):
         self.assertLess(blocks[1] - blocks[0], 10)
 
     def tearDown(self) -> None:
-        self.assertGreater(self.told, 50)
+        self.assertGreater(self.failures, 50)
 
     def test_calls(self) -> None:
-        for call, given, named in calls.calls():
-            self.is_refused(call, *given, **named)
+        for call, given, named in calls.valid_calls():
+            self.check_no_leak(call, *given, **named)
 
-    def test_refusals(self) -> None:
-        for call, given, named in calls.refusals():
-            self.is_refused(call, *given, **named)
+    def test_invalid_calls(self) -> None:
+        for call, given, named in calls.invalid_calls():
+            self.check_no_leak(call, *given, **named)
 
     def test_loading(self) -> None:
         """A module that fails to load releases what it has imported."""
@@ -110,10 +110,10 @@ class Refused(Refusing):
         self.assertEqual(sys.getrefcount(_types.to_int), before)
 
 
-class Asked(Refusing):
+class AllocationCount(AllocationTestCase):
     def test_alphabet(self) -> None:
-        """A call over an Alphabet asks for the memory of its answer at most, which an int may take of CPython's stores.
-        It makes no object of letters."""
+        """A call with an Alphabet allocates at most its result, which may be an int of CPython's free lists. It creates
+        no object of letters."""
         kept: list[tuple[Call, tuple[Any, ...]]] = [
             (base62.encode, (1337,)),
             (base62.encode_fixed, (1337, 22)),
@@ -122,8 +122,8 @@ class Asked(Refusing):
         ]
         for alphabet in (base62.Alphabet.STANDARD, base62.Alphabet.ALTERNATIVE, LETTERS):
             for call, given in kept:
-                # The first sweep fills CPython's stores.
+                # The first sweep fills CPython's free lists.
                 self.sweep(call, *given, alphabet)
-                self.told = 0
+                self.failures = 0
                 self.sweep(call, *given, alphabet)
-                self.assertIn(self.told, (0, 2) if call.__name__.startswith("decode") else (2,), call)
+                self.assertIn(self.failures, (0, 2) if call.__name__.startswith("decode") else (2,), call)

@@ -1,6 +1,6 @@
 # SPDX-License-Identifier: MIT
 # Copyright (c) 2026 the maintainers of base62 for Rattle
-"""Tests of the package: what it exports, what it keeps, and what it shares."""
+"""Tests of the package: its exports, leaks, reimports and subinterpreters."""
 
 from __future__ import annotations
 
@@ -24,8 +24,8 @@ from typing import Any
 import base62
 import calls
 from base62 import _base62, _types
-from calls import OWN
-from places import PACKAGE, TOP
+from calls import CUSTOM
+from paths import PACKAGE, TOP
 
 # The calls, and the type that is called too.
 CALLS: list[Any] = [getattr(base62, it) for it in base62.__all__ if it == "Alphabet" or it.islower()]
@@ -59,8 +59,8 @@ class Package(unittest.TestCase):
 
     def test_signatures(self) -> None:
         """Calls take their parameters by name, in any order."""
-        values: dict[str, object] = {"number": 1337, "text": "LZ", "width": 4, "prefix": "00L", "letters": OWN}
-        values |= {"value": uuid.UUID(int=1337), "alphabet": base62.Alphabet(OWN)}
+        values: dict[str, object] = {"number": 1337, "text": "LZ", "width": 4, "prefix": "00L", "letters": CUSTOM}
+        values |= {"value": uuid.UUID(int=1337), "alphabet": base62.Alphabet(CUSTOM)}
         for call in CALLS:
             parameters = inspect.signature(call).parameters
             given = {name: values[name] for name in reversed(parameters)}
@@ -94,8 +94,8 @@ class Package(unittest.TestCase):
         self.assertFalse(hasattr(extension, "base62_encode"))
 
 
-def made_again() -> Any:
-    """The package as another interpreter has it."""
+def reimported() -> Any:
+    """Imports another copy of the package, as another interpreter would."""
     names = [name for name in sys.modules if name.split(".")[0] == "base62"]
     stored = {name: sys.modules.pop(name) for name in names}
     try:
@@ -113,35 +113,35 @@ def interpreters() -> Any:
 
 
 class Modules(unittest.TestCase):
-    def test_made_again(self) -> None:
-        again = made_again()
+    def test_reimported(self) -> None:
+        again = reimported()
         self.assertIsNot(again.encode, base62.encode)
         self.assertIsNot(again.InvalidByteError, base62.InvalidByteError)
         for module in (again, base62):
             self.assertEqual(module.encode(1337, module.Alphabet.ALTERNATIVE), "lz")
             self.assertRaises(module.InvalidByteError, module.decode, "-")
 
-    def test_seen(self) -> None:
-        """The collector sees what the module holds, and what an alphabet does."""
-        seen = gc.get_referents(_base62)
+    def test_gc_traverse(self) -> None:
+        """The collector finds the objects that the module and an alphabet refer to."""
+        found = gc.get_referents(_base62)
         errors = [base62.AlphabetError, base62.EmptyInputError, base62.InvalidByteError]
         errors += [base62.NotCanonicalError, base62.OutOfRangeError, base62.TooLargeError]
         alphabets = [base62.Alphabet, base62.Alphabet.STANDARD, base62.Alphabet.ALTERNATIVE]
         conversions = [_types.to_int, _types.to_bytes, _types.to_letters]
-        for held in (*errors, *alphabets, *conversions):
-            self.assertTrue(any(one is held for one in seen), held)
-        self.assertEqual(gc.get_referents(base62.Alphabet(OWN)), [base62.Alphabet])
+        for owned in (*errors, *alphabets, *conversions):
+            self.assertTrue(any(one is owned for one in found), owned)
+        self.assertEqual(gc.get_referents(base62.Alphabet(CUSTOM)), [base62.Alphabet])
 
-    def test_let_go(self) -> None:
-        """A module that is gone leaves nothing of what it held."""
-        again = made_again()
+    def test_unload(self) -> None:
+        """An unloaded module releases its objects."""
+        again = reimported()
         left = [weakref.ref(one) for one in (again.encode, again.Alphabet, again.InvalidByteError, again.decode_uuid)]
         self.assertTrue(all(one() for one in left))
         del again
         gc.collect()
         self.assertEqual([one() for one in left], [None] * len(left))
 
-    def run_apart(self, isolated: bool) -> None:
+    def run_in_subinterpreter(self, isolated: bool) -> None:
         said = "import base62\nassert base62.decode(base62.encode(2**128 - 1)) == 2**128 - 1"
         maker = interpreters()
         for _ in range(3):
@@ -149,20 +149,20 @@ class Modules(unittest.TestCase):
                 other = maker.create("isolated" if isolated else "legacy")
             else:
                 other = maker.create(isolated=isolated)
-            # Some Pythons raise the fault, and some answer it.
+            # Some Pythons raise an error of the other interpreter, and some return it.
             self.assertIsNone(maker.run_string(other, said))
             maker.destroy(other)
         self.assertEqual(base62.encode(1337), "LZ")
 
     def test_interpreter(self) -> None:
-        self.run_apart(isolated=False)
+        self.run_in_subinterpreter(isolated=False)
 
     def test_isolated_interpreter(self) -> None:
-        """From 3.12 on it has a lock of its own, and takes only modules that say they can share none."""
-        self.run_apart(isolated=True)
+        """From 3.12 on it has its own GIL, and accepts only modules that support this."""
+        self.run_in_subinterpreter(isolated=True)
 
 
-def refused(call: Callable[..., object]) -> Callable[..., None]:
+def failing(call: Callable[..., object]) -> Callable[..., None]:
     def run(*given: object, **named: object) -> None:
         try:
             call(*given, **named)
@@ -174,8 +174,8 @@ def refused(call: Callable[..., object]) -> Callable[..., None]:
 
 
 @unittest.skipUnless(sys.getallocatedblocks(), "Python counts no blocks of memory of another malloc")
-class Kept(unittest.TestCase):
-    """Two thousand runs of each call, and of each refusal, leave memory and counts of references as they were."""
+class Leaks(unittest.TestCase):
+    """Two thousand runs of each valid and each invalid call leave memory and reference counts unchanged."""
 
     RUNS = 2_000
     # What calls borrow, besides what they are given.
@@ -184,7 +184,7 @@ class Kept(unittest.TestCase):
     SHARED += [base62.AlphabetError, base62.EmptyInputError, base62.InvalidByteError, base62.TooLargeError]
     SHARED += [base62.NotCanonicalError, base62.OutOfRangeError]
 
-    def kept(self, call: Callable[..., object], *given: object, **named: object) -> None:
+    def check_no_leak(self, call: Callable[..., object], *given: object, **named: object) -> None:
         def run(times: int) -> None:
             for _ in range(times):
                 call(*given, **named)
@@ -200,16 +200,16 @@ class Kept(unittest.TestCase):
             self.assertLess(abs(now - was), self.RUNS // 20, f"{call} of {given} and {named}")
 
     def test_calls(self) -> None:
-        for call, given, named in calls.calls():
-            self.kept(call, *given, **named)
+        for call, given, named in calls.valid_calls():
+            self.check_no_leak(call, *given, **named)
         for copied in (calls.LETTERS, base62.Alphabet.STANDARD):
-            self.kept(copy.copy, copied)
-            self.kept(base62.Alphabet, copied)
+            self.check_no_leak(copy.copy, copied)
+            self.check_no_leak(base62.Alphabet, copied)
 
-    def test_refusals(self) -> None:
-        for call, given, named in calls.refusals():
-            self.kept(refused(call), *given, **named)
-        self.kept(refused(base62.encode_fixed), 1, 2**62)
+    def test_invalid_calls(self) -> None:
+        for call, given, named in calls.invalid_calls():
+            self.check_no_leak(failing(call), *given, **named)
+        self.check_no_leak(failing(base62.encode_fixed), 1, 2**62)
 
 
 def load_tests(loader: unittest.TestLoader, tests: unittest.TestSuite, pattern: object) -> unittest.TestSuite:

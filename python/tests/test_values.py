@@ -1,6 +1,6 @@
 # SPDX-License-Identifier: MIT
 # Copyright (c) 2026 the maintainers of base62 for Rattle
-"""Tests of each call by the values of tests/values.tsv at the top, whose head tells what its rows are."""
+"""Tests of each call by the values of tests/values.tsv at the top, whose head says what its rows are."""
 
 from __future__ import annotations
 
@@ -13,7 +13,7 @@ from urllib.parse import unquote_to_bytes
 
 import base62
 from base62 import Alphabet
-from places import VALUES
+from paths import VALUES
 
 
 def rows(kind: str) -> list[list[str]]:
@@ -27,7 +27,7 @@ def rows(kind: str) -> list[list[str]]:
 LETTERS = {name: unquote_to_bytes(letters) for name, letters, *_ in rows("alphabet")}
 OF_ASCII = {name for name, _, is_ascii, _ in rows("alphabet") if is_ascii == "1"}
 ALPHABETS = {name: Alphabet(letters) for name, letters in LETTERS.items()}
-MESSAGES = {tuple(told): unquote_to_bytes(text).decode() for text, *told in rows("message")}
+MESSAGES = {tuple(expected): unquote_to_bytes(text).decode() for text, *expected in rows("message")}
 KINDS: dict[str, type[ValueError]] = {
     "empty": base62.EmptyInputError,
     "byte": base62.InvalidByteError,
@@ -52,21 +52,21 @@ def forms_of_alphabet(name: str) -> list[str | bytes]:
 
 
 def numbers_of_bounds(prefix: str | bytes) -> tuple[int, int] | None:
-    """What key_range answers, by key_bounds."""
+    """The result of key_range, by key_bounds."""
     bounds = base62.key_bounds(prefix)
     assert bounds is None or [*map(len, bounds)] == [22, 22]
     return bounds and (base62.decode(bounds[0]), base62.decode(bounds[1]))
 
 
 class Values(unittest.TestCase):
-    def raises(self, told: list[str], call: Callable[..., object], *given: object) -> None:
-        """A call tells exactly this fault, in these words if a row has them."""
-        with self.assertRaises(KINDS[told[0]]) as caught:
+    def raises(self, expected: list[str], call: Callable[..., object], *given: object) -> None:
+        """A call raises exactly this error, with the message of its row if there is one."""
+        with self.assertRaises(KINDS[expected[0]]) as caught:
             call(*given)
         error: Any = caught.exception
-        self.assertIs(type(error), KINDS[told[0]])
-        self.assertEqual(vars(error), dict(zip(("byte", "index"), map(int, told[1:]))))
-        self.assertEqual(str(error), MESSAGES.get(tuple(told), str(error)))
+        self.assertIs(type(error), KINDS[expected[0]])
+        self.assertEqual(vars(error), dict(zip(("byte", "index"), map(int, expected[1:]))))
+        self.assertEqual(str(error), MESSAGES.get(tuple(expected), str(error)))
 
     def test_canonical_texts(self) -> None:
         for name, digits, escaped in rows("encode"):
@@ -95,11 +95,11 @@ class Values(unittest.TestCase):
                 for call in (base62.decode_canonical, base62.decode_uuid_canonical):
                     self.raises(["zero"], call, text, ALPHABETS[name])
 
-    def test_refused(self) -> None:
-        for name, escaped, *told in rows("refused"):
+    def test_invalid(self) -> None:
+        for name, escaped, *expected in rows("refused"):
             for text in forms_of_text(escaped):
                 for call in (base62.decode, base62.decode_canonical):
-                    self.raises(told, call, text, ALPHABETS[name])
+                    self.raises(expected, call, text, ALPHABETS[name])
 
     def test_fixed(self) -> None:
         for name, number, width, escaped in rows("fixed"):
@@ -117,7 +117,7 @@ class Values(unittest.TestCase):
                     base62.encode_fixed(int(number), int(width), ALPHABETS[name])
 
     def test_ranges(self) -> None:
-        for name, width, escaped, kind, *told in rows("range"):
+        for name, width, escaped, kind, *expected in rows("range"):
             if int(width) > sys.maxsize:
                 continue
             for prefix in forms_of_text(escaped):
@@ -126,9 +126,9 @@ class Values(unittest.TestCase):
                     calls += [base62.key_range, numbers_of_bounds]
                 for call in calls:
                     if kind == "byte":
-                        self.raises([kind, *told], call, prefix)
+                        self.raises([kind, *expected], call, prefix)
                     else:
-                        self.assertEqual(call(prefix), tuple(map(int, told)) or None)
+                        self.assertEqual(call(prefix), tuple(map(int, expected)) or None)
 
     def test_uuids(self) -> None:
         for number, name, text in rows("uuid"):
@@ -157,14 +157,14 @@ class Values(unittest.TestCase):
             lambda letters: base62.decode_uuid_canonical("9", letters),
             lambda letters: base62.fixed_range(5, "9", letters),
         ]
-        for escaped, *told in rows("repeated"):
+        for escaped, *expected in rows("repeated"):
             for letters in forms_of_text(escaped):
                 for call in calls:
-                    self.raises(["repeated", *told], call, letters)
+                    self.raises(["repeated", *expected], call, letters)
 
     def test_messages(self) -> None:
-        """Each bad byte and each repeated letter is named in the words of its row."""
-        for kind, byte, index in (told for told in MESSAGES if len(told) == 3):
+        """Each invalid byte and each repeated letter has the message of its row."""
+        for kind, byte, index in (expected for expected in MESSAGES if len(expected) == 3):
             bad = bytes([int(byte)])
             if kind == "byte" and bad not in LETTERS["standard"] and int(index) < 10_000:
                 self.raises([kind, byte, index], base62.decode, b"0" * int(index) + bad)

@@ -1,6 +1,6 @@
 # SPDX-License-Identifier: MIT
 # Copyright (c) 2026 the maintainers of base62 for Rattle
-"""What mypy finds in calls: exactly these types, and a fault in each line that is marked. Nothing here is run."""
+"""What mypy finds in calls: exactly these types, and an error in each marked line. Nothing here is run."""
 
 from __future__ import annotations
 
@@ -11,16 +11,16 @@ import base62
 from base62 import Alphabet, AlphabetError, DecodeError, InvalidByteError
 
 
-def right(number: int, name: UUID, text: str, packed: bytes, own: Alphabet) -> None:
+def right(number: int, name: UUID, text: str, packed: bytes, custom: Alphabet) -> None:
     assert_type(base62.encode(number), str)
-    assert_type(base62.encode(number=name, alphabet=own), str)
+    assert_type(base62.encode(number=name, alphabet=custom), str)
     assert_type(base62.encode(True, text), str)
     assert_type(base62.decode(text), int)
     assert_type(base62.decode(packed, packed), int)
     assert_type(base62.decode(bytearray(packed), alphabet=text), int)
-    assert_type(base62.decode(text=memoryview(packed), alphabet=own), int)
+    assert_type(base62.decode(text=memoryview(packed), alphabet=custom), int)
     assert_type(base62.decode_canonical(text, packed), int)
-    assert_type(base62.decode_canonical(text=packed, alphabet=own), int)
+    assert_type(base62.decode_canonical(text=packed, alphabet=custom), int)
     assert_type(base62.digit_count(number), int)
     assert_type(base62.encode_fixed(number, number), str)
     assert_type(base62.encode_fixed(number=name, width=True, alphabet=text), str)
@@ -28,20 +28,20 @@ def right(number: int, name: UUID, text: str, packed: bytes, own: Alphabet) -> N
     assert_type(base62.key_range(text), tuple[int, int] | None)
     assert_type(base62.key_bounds(prefix=packed), tuple[str, str] | None)
     assert_type(base62.fixed_range(number, text), tuple[int, int] | None)
-    assert_type(base62.fixed_range(width=number, prefix=packed, alphabet=own), tuple[int, int] | None)
-    assert_type(base62.encode_uuid(name, own), str)
+    assert_type(base62.fixed_range(width=number, prefix=packed, alphabet=custom), tuple[int, int] | None)
+    assert_type(base62.encode_uuid(name, custom), str)
     assert_type(base62.encode_uuid(text), str)
     assert_type(base62.encode_uuid(packed, alphabet=text), str)
-    assert_type(base62.decode_uuid(text, own), UUID)
+    assert_type(base62.decode_uuid(text, custom), UUID)
     assert_type(base62.decode_uuid_canonical(text, alphabet=packed), UUID)
     assert_type(Alphabet(text), Alphabet)
     assert_type(Alphabet(packed), Alphabet)
-    assert_type(Alphabet(own), Alphabet)
+    assert_type(Alphabet(custom), Alphabet)
     assert_type((Alphabet.STANDARD, Alphabet.ALTERNATIVE), tuple[Alphabet, Alphabet])
     assert_type(base62.__version__, str)
 
 
-def told(invalid: InvalidByteError, repeated: AlphabetError) -> None:
+def attributes(invalid: InvalidByteError, repeated: AlphabetError) -> None:
     assert_type((invalid.byte, invalid.index), tuple[int, int])
     assert_type((repeated.byte, repeated.index), tuple[int, int])
     fault: DecodeError = invalid
@@ -49,7 +49,7 @@ def told(invalid: InvalidByteError, repeated: AlphabetError) -> None:
     fault = repeated  # type: ignore[assignment]
 
 
-def wrong(number: int, name: UUID, text: str, own: Alphabet) -> None:
+def wrong(number: int, name: UUID, text: str, custom: Alphabet) -> None:
     base62.encode(text)  # type: ignore[arg-type]
     base62.encode(1.0)  # type: ignore[arg-type]
     base62.encode(number, None)  # type: ignore[arg-type]
@@ -78,10 +78,10 @@ def wrong(number: int, name: UUID, text: str, own: Alphabet) -> None:
     base62.decode_uuid_canonical(name)  # type: ignore[arg-type]
     base62.decode_uuid_canonical(text, number)  # type: ignore[arg-type]
     Alphabet(number)  # type: ignore[arg-type]
-    own.letters  # type: ignore[attr-defined]
-    own.name = text  # type: ignore[attr-defined]
+    custom.letters  # type: ignore[attr-defined]
+    custom.name = text  # type: ignore[attr-defined]
     base62.check_alphabet(text)  # type: ignore[attr-defined]
 
 
-class Own(Alphabet):  # type: ignore[misc]
-    """An Alphabet has no subclasses."""
+class Subclass(Alphabet):  # type: ignore[misc]
+    """An Alphabet cannot be subclassed."""

@@ -1,10 +1,10 @@
-// Changes what it finds of the host once the package is loaded, and then calls it. Each function of a built-in object
-// throws, and each name of a fault has a setter; or all is frozen.
+// Patches or freezes the built-in objects after the package is loaded, and then calls it. When patched, each built-in
+// function throws, and each property name of an error has a setter on Object.prototype.
 import { writeSync } from 'node:fs';
 import * as base62 from 'base62-proved';
 
 const { Alphabet, decode, encode } = base62;
-const own = '23456789ABCDEFGHJKLMNPQRSTUVWXYZabcdefghijkmnpqrstuvwxyz-_.~!*';
+const custom = '23456789ABCDEFGHJKLMNPQRSTUVWXYZabcdefghijkmnpqrstuvwxyz-_.~!*';
 const bytes = Uint8Array.of(76, 90, 45);
 const uuid = Uint8Array.of(85, 14, 132, 0, 226, 155, 65, 212, 167, 22, 68, 102, 85, 68, 0, 0);
 const how = process.argv[2];
@@ -27,7 +27,7 @@ function answers() {
     [encode(1337), 'LZ'],
     [encode(2n ** 128n - 1n), '7n42DGM5Tflk9n8mt7Fhc7'],
     [encode(1337, Alphabet.alternative), 'lz'],
-    [encode(1337, new Alphabet(own)), 'Pd'],
+    [encode(1337, new Alphabet(custom)), 'Pd'],
     [decode('LZ'), 1337n],
     [base62.decodeNumber('LZ'), 1337],
     [base62.decodeNumberCanonical('LZ'), 1337],
@@ -51,8 +51,8 @@ function answers() {
     [faultOf(() => encode(-1)).code, 'OUT_OF_RANGE'],
     [faultOf(() => encode('5')) instanceof kept.TypeError, true],
     [faultOf(() => encode(5, {})) instanceof kept.TypeError, true],
-    [faultOf(() => encode(5, own)) instanceof kept.TypeError, true],
-    [faultOf(() => base62.encodeUuid(own)).code, 'INVALID_UUID'],
+    [faultOf(() => encode(5, custom)) instanceof kept.TypeError, true],
+    [faultOf(() => base62.encodeUuid(custom)).code, 'INVALID_UUID'],
     [long(), 1337n],
   ];
 }

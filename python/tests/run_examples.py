@@ -1,6 +1,6 @@
 # SPDX-License-Identifier: MIT
 # Copyright (c) 2026 the maintainers of base62 for Rattle
-"""Runs each example over another library, and names those whose library this Python lacks."""
+"""Runs each example that uses another library, and names those whose library this Python lacks."""
 
 from __future__ import annotations
 
@@ -9,10 +9,10 @@ import importlib
 import importlib.metadata
 import sys
 
-import places  # The folder of the examples is on the path then.
+import paths  # The folder of the examples is on the path then.
 
 # The module, and the library with the least major version.
-RECIPES = [("pydantic_type", "pydantic", 2), ("sqlalchemy_column", "SQLAlchemy", 1), ("django_field", "Django", 3),
+EXAMPLES = [("pydantic_type", "pydantic", 2), ("sqlalchemy_column", "SQLAlchemy", 1), ("django_field", "Django", 3),
            ("pandas_column", "pandas", 1)]
 
 
@@ -24,11 +24,11 @@ def is_here(library: str, least: int) -> bool:
 
 
 def main() -> int:
-    assert sorted(module for module, _, _ in RECIPES) == sorted(
-        file.stem for file in (places.PACKAGE / "examples").glob("*_*.py")
+    assert sorted(module for module, _, _ in EXAMPLES) == sorted(
+        file.stem for file in (paths.PACKAGE / "examples").glob("*_*.py")
     )
     failed = 0
-    for module, library, least in RECIPES:
+    for module, library, least in EXAMPLES:
         if is_here(library, least):
             result = doctest.testmod(importlib.import_module(module))
             failed += result.failed or not result.attempted

@@ -179,7 +179,7 @@ static inline void InlineText_and_str(InlineText *text, const uint8_t *part, siz
 
 /* -------------------- base62: alphabet::tables -------------------- */
 
-// The letters and the digits of an alphabet, and their readers.
+// Lookup tables of an alphabet: the letters of digits, and the digits of bytes.
 
 // The letters of an alphabet by their digits, and the digit of each byte, 255 if it has none.
 typedef struct Tables {
@@ -230,17 +230,17 @@ typedef struct pair_u8_u8 { uint8_t _0; uint8_t _1; } pair_u8_u8;
 static ALWAYS_INLINE pair_u8_u8 Tables_pair_of_digits(const Tables *self, uint64_t first_digit,
     uint64_t second_digit);
 
-// The digit of a byte, or 255 if it has none.
+// Returns the digit of a byte, or 255 if it has none.
 static inline uint8_t Tables_digit(const Tables *self, uint8_t byte) {
     return self->digits[byte];
 }
 
-// Whether a byte is the zero letter.
+// Returns whether a byte is the zero letter.
 static inline bool Tables_is_zero(const Tables *self, uint8_t byte) {
     return byte == self->letters[0];
 }
 
-// The letters of a number's two digits.
+// Returns the letters of the two digits of a number.
 static ALWAYS_INLINE pair_u8_u8 Tables_pair(const Tables *self, uint32_t number) {
     //@ assert requires: number < 3844;
     // The quotient by 62, since the number is small.
@@ -248,7 +248,7 @@ static ALWAYS_INLINE pair_u8_u8 Tables_pair(const Tables *self, uint32_t number)
     return Tables_pair_of_digits(self, (uint64_t)quotient, (uint64_t)(number - quotient * 62));
 }
 
-// The letters of two digits at once.
+// Returns the letters of two digits, in one step.
 static ALWAYS_INLINE pair_u8_u8 Tables_pair_of_digits(const Tables *self, uint64_t first_digit,
     uint64_t second_digit) {
     //@ assert requires: first_digit < 62 && second_digit < 62;
@@ -257,18 +257,18 @@ static ALWAYS_INLINE pair_u8_u8 Tables_pair_of_digits(const Tables *self, uint64
     return (pair_u8_u8){first, second};
 }
 
-// The letter of a digit.
+// Returns the letter of a digit.
 static ALWAYS_INLINE uint8_t Tables_letter(const Tables *self, uint64_t digit) {
     //@ assert requires: digit < 62;
     return self->letters[digit];
 }
 
-// The tables of the standard alphabet.
+// Returns the tables of the standard alphabet.
 static ALWAYS_INLINE const Tables *standard_tables(void) {
     return &STANDARD;
 }
 
-// The tables of the alternative alphabet.
+// Returns the tables of the alternative alphabet.
 static ALWAYS_INLINE const Tables *alternative_tables(void) {
     return &ALTERNATIVE;
 }
@@ -276,20 +276,18 @@ static ALWAYS_INLINE const Tables *alternative_tables(void) {
 
 /* -------------------- base62: fault -------------------- */
 
-// Why a text is not decoded, a number not encoded, and a list of letters no alphabet.
-//
-// Each is called a fault; only the types have `..Error` in their names.
+// The errors of decoding, encoding, and creating an alphabet. The code calls an error a fault.
 
-// Why a text is no number below 2^128.
+// An error that can be returned when decoding a string.
 typedef struct DecodeError {
     enum {
-        // The text denotes 2^128 or more, or more than 22 bytes follow its leading zeros. Or 22 bytes
-        // do, and the first ten of them, followed by twelve zeros, denote 2^128 or more.
+        // The string represents 2^128 or more, or more than 22 bytes follow its leading zeros. Or 22
+        // bytes do, and the first ten of them, followed by twelve zeros, represent 2^128 or more.
         DecodeError_ArithmeticOverflow_tag,
-        // The text is empty.
+        // The string is empty.
         DecodeError_EmptyInput_tag,
-        // The first byte that is no letter, and its index, counted from the start of the text with its
-        // leading zeros.
+        // A byte is not in the alphabet: the first such byte, and its index in the string, leading
+        // zeros included.
         DecodeError_InvalidBase62Byte_tag,
     } tag;
     struct { uint8_t _0; size_t _1; } InvalidBase62Byte;
@@ -307,10 +305,10 @@ static ALWAYS_INLINE DecodeError DecodeError_InvalidBase62Byte(uint8_t _0, size_
     return (DecodeError){.tag = DecodeError_InvalidBase62Byte_tag, .InvalidBase62Byte = {_0, _1}};
 }
 
-// Why a number is not written into a buffer.
+// An error that can be returned when encoding to a buffer.
 typedef struct EncodeError {
     enum {
-        // The buffer is shorter than the text of the number.
+        // The buffer is shorter than the encoded string.
         EncodeError_BufferTooSmall_tag,
     } tag;
 } EncodeError;
@@ -319,9 +317,9 @@ static ALWAYS_INLINE EncodeError EncodeError_BufferTooSmall(void) {
     return (EncodeError){.tag = EncodeError_BufferTooSmall_tag};
 }
 
-// Why 62 bytes are no alphabet.
+// An error that can be returned when creating an alphabet from 62 bytes.
 typedef struct AlphabetError {
-    // The first byte that stands at an earlier index too, and its index, which is 1 to 61.
+    // A byte is repeated: the first byte that is also at an earlier index, and its index, 1 to 61.
     struct { uint8_t _0; size_t _1; } Repeated;
 } AlphabetError;
 
@@ -336,11 +334,11 @@ static void append_decimal(InlineText *text, size_t number);
 static void append_bytes(InlineText *text, const uint8_t *bytes, size_t bytes_length);
 static void append(InlineText *text, const uint8_t *part, size_t part_length);
 
-// What the fault says, in at most 77 characters of ASCII.
+// Returns the error's message, at most 77 ASCII characters.
 //
-// A byte is shown in ASCII's default escape: `\t`, `\n`, `\r`, `\"`, `\'` or `\\`, any other
-// byte from 32 to 126 as itself, and the others as `\x` with two hexadecimal digits in lower
-// case. The call takes no memory and refuses nothing.
+// A byte is escaped as by `std::ascii::escape_default`: `\t`, `\n`, `\r`, `\"`, `\'` or `\\`,
+// any other byte from 32 to 126 as itself, and the others as `\x` and two lowercase
+// hexadecimal digits. Never fails, and does not allocate.
 static void DecodeError_text(const DecodeError *self, InlineText *result) {
     if (self->tag == DecodeError_ArithmeticOverflow_tag) {
         static const uint8_t part[] = "Decoded number cannot fit into a `u128`";
@@ -362,7 +360,7 @@ static void DecodeError_text(const DecodeError *self, InlineText *result) {
     append_byte_at_index(result, byte, index);
 }
 
-// What the fault says, in 37 characters of ASCII. It takes no memory and refuses nothing.
+// Returns the error's message, 37 ASCII characters. Never fails, and does not allocate.
 static void EncodeError_text(const EncodeError *self, InlineText *result) {
     (void)self;
     static const uint8_t part[] = "Buffer too small to encode the number";
@@ -370,8 +368,9 @@ static void EncodeError_text(const EncodeError *self, InlineText *result) {
     append(result, TEXT(part));
 }
 
-// What the fault says, in at most 63 characters of ASCII for any index, with the byte shown as
-// by `DecodeError::text`. The call takes no memory and refuses nothing.
+// Returns the error's message, at most 63 ASCII characters for any index.
+//
+// The byte is escaped as in `DecodeError::text`. Never fails, and does not allocate.
 static void AlphabetError_text(const AlphabetError *self, InlineText *result) {
     static const uint8_t part[] = "Alphabet repeats the ";
     const uint8_t byte = self->Repeated._0;
@@ -381,7 +380,7 @@ static void AlphabetError_text(const AlphabetError *self, InlineText *result) {
     append_byte_at_index(result, byte, index);
 }
 
-// A byte that is named, and its index.
+// Appends a byte, escaped, and its index.
 static void append_byte_at_index(InlineText *text, uint8_t byte, size_t index) {
     static const uint8_t part[] = "byte b'";
     static const uint8_t part_2[] = "' at index ";
@@ -440,7 +439,7 @@ static uint8_t hex_digit(uint8_t digit) {
 }
 
 static void append_decimal(InlineText *text, size_t number) {
-    // From the last digit to the first.
+    // Written from the last digit to the first.
     uint8_t digits[20] = {0};
     size_t start = 19;
     size_t left = number;
@@ -465,15 +464,15 @@ static void append(InlineText *text, const uint8_t *part, size_t part_length) {
 
 /* -------------------- base62: alphabet -------------------- */
 
-// Alphabets: their letters, and the digits of bytes.
+// Alphabets: their characters, and the digits of bytes.
 
-// 62 distinct bytes: the letters of the digits 0 to 61, in order. The first is the zero letter.
+// An alphabet of 62 distinct bytes: the characters of the digits 0 to 61, in order.
 //
-// The calls over an alphabet have `_with` in their names: `decode_with` is `decode` over your
-// own letters. An alphabet is 318 bytes: its letters, and the digits of all bytes. It takes no
-// memory besides.
+// The first character represents zero. The calls that use an alphabet have `_with` in their names:
+// `decode_with` is like `decode`, but uses a custom alphabet. An alphabet takes 318 bytes, for
+// its characters and the digits of all bytes, and does not allocate.
 //
-// The layout is part of the interface for C, whose callers hold alphabets and lend them to calls.
+// The layout is part of the C interface: callers own alphabets and pass pointers to them.
 typedef struct Alphabet {
     Tables tables;
 } Alphabet;
@@ -489,14 +488,14 @@ static ALWAYS_INLINE result_unit_AlphabetError err_unit_AlphabetError(AlphabetEr
     return (result_unit_AlphabetError){.is_ok = false, .err = err};
 }
 
-// The alphabet of these letters, which may be any bytes, ASCII or not.
+// Creates an alphabet from 62 bytes, ASCII or not.
 //
-// The call takes no memory.
+// Does not allocate.
 //
 // # Errors
 //
-// `Repeated(byte, index)` if a byte is repeated. The index is the least one whose byte stands at an
-// earlier index too.
+// Returns `Repeated(byte, index)` if a byte is repeated. The index is the least one whose byte
+// is also at an earlier index.
 static result_unit_AlphabetError Alphabet_new(const uint8_t letters[62], Alphabet *made) {
     uint8_t digits[256];
     fill_bytes(digits, 255, sizeof digits);
@@ -514,7 +513,7 @@ static result_unit_AlphabetError Alphabet_new(const uint8_t letters[62], Alphabe
     return ok_unit_AlphabetError();
 }
 
-// The tables that calls read.
+// Returns the tables for encoding and decoding.
 static ALWAYS_INLINE const Tables *Alphabet_as_tables(const Alphabet *self) {
     return &self->tables;
 }
@@ -534,7 +533,7 @@ static const uint64_t POWERS[11] = {1, 62, (uint64_t)POWER_2, (uint64_t)POWER_3,
     UINT64_C(56800235584), UINT64_C(3521614606208), UINT64_C(218340105584896), UINT64_C(13537086546263552),
     POWER_10};
 
-// The greatest number of k letters at place k, below 2^128.
+// At index k: the greatest number below 2^128 that k letters denote.
 static const u128 GREATEST[23] = {{0, 0}, {0, 61}, {0, 3843}, {0, 238327}, {0, 14776335}, {0, 916132831},
     {0, UINT64_C(56800235583)}, {0, UINT64_C(3521614606207)}, {0, UINT64_C(218340105584895)},
     {0, UINT64_C(13537086546263551)}, {0, UINT64_C(839299365868340223)}, {0x2, 0xd227003d8d2af7ff},
@@ -544,18 +543,18 @@ static const u128 GREATEST[23] = {{0, 0}, {0, 61}, {0, 3843}, {0, 238327}, {0, 1
     {0x87aac19e40aafc, 0xe20c98f580fffff}, {0x20db5ae453a9690b, 0x6bf0d0b753dfffff},
     {0xffffffffffffffff, 0xffffffffffffffff}};
 
-// The same below 2^64.
+// At index k: the greatest number below 2^64 that k letters denote.
 static const uint64_t GREATEST_NARROW[12] = {0, 61, 3843, 238327, 14776335, 916132831, UINT64_C(56800235583),
     UINT64_C(3521614606207), UINT64_C(218340105584895), UINT64_C(13537086546263551), UINT64_C(839299365868340223),
     UINT64_C(0xffffffffffffffff)};
 
-// 62 to the k.
+// Returns 62^k.
 static ALWAYS_INLINE uint64_t power(size_t k) {
     //@ assert requires: k <= 10;
     return POWERS[k];
 }
 
-// The greatest number of k letters below 2^128.
+// Returns the greatest number below 2^128 that k letters denote.
 static u128 greatest(size_t k) {
     return GREATEST[usize_min(k, 22)];
 }
@@ -563,24 +562,24 @@ static u128 greatest(size_t k) {
 
 /* -------------------- base62: count -------------------- */
 
-// How many letters a number takes.
+// The length of encoded strings.
 
-// The length of the longest text of a number below 2^128, as 2^128 - 1 has it.
+// The length of the longest encoded string, that of 2^128 - 1.
 #define MAX_DIGITS ((size_t)22)
 
 static ALWAYS_INLINE size_t letter_count(u128 n);
 static ALWAYS_INLINE size_t narrow_count(uint64_t n);
 static ALWAYS_INLINE size_t wide_count(u128 n);
 
-// The length of the text of `n`, which is 1 to 22, over any alphabet.
+// Returns the length of the encoded string of `n`, 1 to 22, which all alphabets share.
 //
-// It is at most 6 below 2^32, 9 below 2^53, and 11 below 2^64. The call takes no memory and
-// refuses nothing.
+// It is at most 6 for `n` below 2^32, 9 below 2^53, and 11 below 2^64. Never fails, and does not
+// allocate.
 static ALWAYS_INLINE size_t digit_count(u128 n) {
     return letter_count(n);
 }
 
-// The count of a number of 64 bits, or of more.
+// Returns the count of letters of a number of any size.
 static ALWAYS_INLINE size_t letter_count(u128 n) {
     if (!u128_less(u128_of(UINT64_C(0xffffffffffffffff)), n)) {
         return narrow_count(u128_low(n));
@@ -589,7 +588,8 @@ static ALWAYS_INLINE size_t letter_count(u128 n) {
     }
 }
 
-// A letter holds almost six bits. The highest bit tells the number of letters, or one less.
+// Returns the count of letters of a number below 2^64. A letter has almost six bits, so the index
+// of the highest bit gives the count, or one less.
 static ALWAYS_INLINE size_t narrow_count(uint64_t n) {
     if (n == 0) {
         return 1;
@@ -599,6 +599,7 @@ static ALWAYS_INLINE size_t narrow_count(uint64_t n) {
     return estimate + (size_t)(n > GREATEST_NARROW[estimate]);
 }
 
+// Returns the count of letters of a number of more than 64 bits.
 static ALWAYS_INLINE size_t wide_count(u128 n) {
     const uint32_t highest = u64_ilog2(u128_low(u128_shift_right(n, 64))) + 64;
     const size_t estimate = (size_t)((highest * 43) >> 8) + 1;
@@ -663,7 +664,7 @@ static ALWAYS_INLINE result_u64 read_10(const Tables *tables, const uint8_t *par
 static ALWAYS_INLINE result_u32 read_5(const Tables *tables, const uint8_t *part, size_t start);
 static ALWAYS_INLINE result_u32 read_digit(const Tables *tables, const uint8_t *part, size_t i, size_t start);
 
-// The decoder over any alphabet.
+// Decodes over the alphabet of the tables.
 static ALWAYS_INLINE result_u128 decode_over(const Tables *tables, const uint8_t *input, size_t input_length) {
     if (input_length == 0) {
         return err_u128(DecodeError_EmptyInput());
@@ -672,7 +673,7 @@ static ALWAYS_INLINE result_u128 decode_over(const Tables *tables, const uint8_t
     return decode_after(tables, input, input_length, zeros);
 }
 
-// The number of a text whose leading zeros are counted.
+// Decodes a text, whose count of leading zeros is given.
 static ALWAYS_INLINE result_u128 decode_after(const Tables *tables, const uint8_t *input, size_t input_length,
     size_t zeros) {
     //@ assert requires: 0 < input_length;
@@ -689,10 +690,10 @@ static ALWAYS_INLINE result_u128 decode_after(const Tables *tables, const uint8_
     return read_long(tables, after_zeros, after_zeros_length, zeros);
 }
 
-// How many zero letters a text begins with.
+// Returns how many zero letters a text begins with.
 static ALWAYS_INLINE size_t count_zeros(const Tables *tables, const uint8_t *input, size_t input_length) {
     //@ assert requires: 0 < input_length;
-    // Most texts have none, and need no loop to tell.
+    // Most texts have none. This test avoids the loop for them.
     if (!Tables_is_zero(tables, input[0])) {
         return 0;
     }
@@ -705,8 +706,8 @@ static ALWAYS_INLINE size_t count_zeros(const Tables *tables, const uint8_t *inp
     return input_length;
 }
 
-// The 11 to 22 bytes that follow the leading zeros of a text. The first ten are tested for an
-// overflow before a later one is read.
+// Decodes the 11 to 22 bytes after the leading zeros. If the first ten show an overflow, it is
+// reported before a later byte is read.
 static ALWAYS_INLINE result_u128 read_long(const Tables *tables, const uint8_t *after_zeros,
     size_t after_zeros_length, size_t zeros) {
     //@ assert requires: 10 < after_zeros_length && after_zeros_length <= 22;
@@ -731,7 +732,7 @@ static ALWAYS_INLINE result_u128 read_long(const Tables *tables, const uint8_t *
     return answer.is_some ? ok_u128(answer.some) : err_u128(DecodeError_ArithmeticOverflow());
 }
 
-// A part of 11 or 12 bytes: ten, and the others.
+// Decodes a part of 11 or 12 bytes: the first ten, and the others.
 static ALWAYS_INLINE result_u128 read_11_or_12(const Tables *tables, const uint8_t *part, size_t part_length,
     size_t start) {
     //@ assert requires: 10 < part_length && part_length <= 12;
@@ -739,7 +740,7 @@ static ALWAYS_INLINE result_u128 read_11_or_12(const Tables *tables, const uint8
     const size_t first_length = 10;
     const uint8_t *later = part + 10;
     const size_t later_length = part_length - 10;
-    // The compiler makes slower code of `read_10` here.
+    // Compilers generate slower code for `read_10` here.
     const result_u64 high = read_up_to_10(tables, first, first_length, start);
     if (!high.is_ok) return err_u128(high.err);
     const result_u64 low = read_on(tables, 0, later, later_length, start + 10);
@@ -747,7 +748,7 @@ static ALWAYS_INLINE result_u128 read_11_or_12(const Tables *tables, const uint8
     return ok_u128(u128_add(u128_mul(u128_of(high.ok), u128_of(power(later_length))), u128_of(low.ok)));
 }
 
-// A part of at most ten bytes.
+// Decodes a part of at most ten bytes.
 static ALWAYS_INLINE result_u64 read_up_to_10(const Tables *tables, const uint8_t *part, size_t part_length,
     size_t start) {
     //@ assert requires: part_length <= 10;
@@ -765,7 +766,7 @@ static ALWAYS_INLINE result_u64 read_up_to_10(const Tables *tables, const uint8_
     return read_on(tables, number, later, later_length, start + done);
 }
 
-// At most five bytes more, after a number that has been read.
+// Decodes at most five bytes more, after the number of the bytes before them.
 static ALWAYS_INLINE result_u64 read_on(const Tables *tables, uint64_t number, const uint8_t *part,
     size_t part_length, size_t start) {
     //@ assert requires: number < 916132832 && part_length <= 5;
@@ -778,7 +779,7 @@ static ALWAYS_INLINE result_u64 read_on(const Tables *tables, uint64_t number, c
     return ok_u64(total);
 }
 
-// A part of ten bytes, as two numbers of five digits.
+// Decodes a part of ten bytes, as two numbers of five digits.
 static ALWAYS_INLINE result_u64 read_10(const Tables *tables, const uint8_t *part, size_t start) {
     const uint8_t *first = part;
     const uint8_t *later = part + 5;
@@ -789,7 +790,7 @@ static ALWAYS_INLINE result_u64 read_10(const Tables *tables, const uint8_t *par
     return ok_u64((uint64_t)high.ok * POWER_5 + (uint64_t)low.ok);
 }
 
-// A part of five bytes.
+// Decodes a part of five bytes.
 static ALWAYS_INLINE result_u32 read_5(const Tables *tables, const uint8_t *part, size_t start) {
     const result_u32 a = read_digit(tables, part, 0, start);
     if (!a.is_ok) return err_u32(a.err);
@@ -804,7 +805,7 @@ static ALWAYS_INLINE result_u32 read_5(const Tables *tables, const uint8_t *part
     return ok_u32(a.ok * POWER_4 + b.ok * POWER_3 + c.ok * POWER_2 + d.ok * 62 + e.ok);
 }
 
-// The byte at a place of a part.
+// Returns the digit of the byte at index `i` of a part.
 static ALWAYS_INLINE result_u32 read_digit(const Tables *tables, const uint8_t *part, size_t i, size_t start) {
     const uint8_t digit = Tables_digit(tables, part[i]);
     if (digit > 61) {
@@ -816,7 +817,7 @@ static ALWAYS_INLINE result_u32 read_digit(const Tables *tables, const uint8_t *
 
 /* -------------------- base62: canonical -------------------- */
 
-// Decoding of canonical texts alone.
+// Canonical decoding.
 
 typedef struct result_option_u128 { bool is_ok; option_u128 ok; DecodeError err; } result_option_u128;
 
@@ -831,39 +832,40 @@ static ALWAYS_INLINE result_option_u128 err_option_u128(DecodeError err) {
 static ALWAYS_INLINE result_option_u128 read_canonical(const Tables *tables, const uint8_t *input,
     size_t input_length);
 
-// The number below 2^128 whose canonical standard text is `input`.
+// Decodes `input` in the standard alphabet if it is canonical, and returns the number.
 //
-// `Ok(Some(number))` comes exactly for the text that `encode_bytes` writes for the number, so
-// one text alone gives each number. `Ok(None)` comes exactly if `decode` gives a number, but
-// `input` begins with a needless zero. The call takes no memory.
+// The result is `Ok(Some(number))` exactly for the string that `encode_bytes` writes for the
+// number, 0 to 2^128 - 1, so only one string decodes to it. It is `Ok(None)` exactly if `decode`
+// returns a number, but `input` begins with a zero that other characters follow. Does not
+// allocate.
 //
 // # Errors
 //
-// Those of `decode`.
+// Returns the errors of `decode`.
 static result_option_u128 decode_canonical(const uint8_t *input, size_t input_length) {
     return read_canonical(standard_tables(), input, input_length);
 }
 
-// As `decode_canonical`, over the alternative alphabet.
+// Like `decode_canonical`, but uses the alternative alphabet.
 //
 // # Errors
 //
-// Those of `decode_canonical`.
+// Returns the errors of `decode`.
 static result_option_u128 decode_alternative_canonical(const uint8_t *input, size_t input_length) {
     return read_canonical(alternative_tables(), input, input_length);
 }
 
-// As `decode_canonical`, over an alphabet of the caller's.
+// Like `decode_canonical`, but uses a custom alphabet.
 //
 // # Errors
 //
-// Those of `decode_canonical`.
+// Returns the errors of `decode`.
 static result_option_u128 decode_canonical_with(const Alphabet *alphabet, const uint8_t *input,
     size_t input_length) {
     return read_canonical(Alphabet_as_tables(alphabet), input, input_length);
 }
 
-// The number of a canonical text over the alphabet of the tables.
+// Decodes a text over the alphabet of the tables if it is canonical.
 static ALWAYS_INLINE result_option_u128 read_canonical(const Tables *tables, const uint8_t *input,
     size_t input_length) {
     if (input_length == 0) {
@@ -883,12 +885,12 @@ static ALWAYS_INLINE result_option_u128 read_canonical(const Tables *tables, con
 
 // The encoder, over the tables of any alphabet.
 //
-// Each piece writes a text of a given width to the start of a buffer. Quotients and remainders by
-// powers of 62 cut a number into parts.
+// Each function that writes fills the start of a buffer with a text of a given width. Division by
+// powers of 62 splits a number into parts.
 //
-// Ten letters come from a fraction f, in units of 1 / 2^64. They are the letters of the number
-// f * 62^10 / 2^64. The upper half of f * 62 is the first digit, and the lower half is the fraction
-// of the digits after it.
+// Ten letters are computed from a fraction f, in units of 1 / 2^64. They are the letters of the
+// number f * 62^10 / 2^64. The upper half of f * 62 is the first digit, and the lower half is the
+// fraction of the digits after it.
 
 typedef struct result_usize { bool is_ok; size_t ok; EncodeError err; } result_usize;
 
@@ -927,7 +929,7 @@ static ALWAYS_INLINE uint64_t first_digit(uint64_t fraction);
 static ALWAYS_INLINE uint64_t after_5(uint64_t fraction);
 static ALWAYS_INLINE pair_u64_u64 whole_and_fraction(u128 n);
 
-// The encoder over any alphabet.
+// Encodes over the alphabet of the tables.
 static ALWAYS_INLINE result_usize encode_over(const Tables *tables, u128 n, uint8_t *restrict buf,
     size_t buf_length) {
     const size_t count = digit_count(n);
@@ -938,7 +940,7 @@ static ALWAYS_INLINE result_usize encode_over(const Tables *tables, u128 n, uint
     return ok_usize(count);
 }
 
-// The text of a number, whose count of letters is given.
+// Writes the text of a number, whose count of letters is given.
 static ALWAYS_INLINE void write_text(const Tables *tables, u128 n, size_t count, uint8_t *restrict buf) {
     if (!u128_less(u128_of(UINT64_C(0xffffffffffffffff)), n)) {
         write_narrow(tables, u128_low(n), count, buf);
@@ -947,7 +949,7 @@ static ALWAYS_INLINE void write_text(const Tables *tables, u128 n, size_t count,
     }
 }
 
-// The text of a number below 2^64.
+// Writes the text of a number below 2^64.
 static void write_narrow(const Tables *tables, uint64_t n, size_t count, uint8_t *restrict buf) {
     //@ assert requires: 1 <= count && count <= 11;
     if (count < 10) {
@@ -955,13 +957,13 @@ static void write_narrow(const Tables *tables, uint64_t n, size_t count, uint8_t
     } else {
         const pair_u64_u64 first_fraction = cut_narrow_by_10(n);
         const uint64_t first = first_fraction._0, fraction = first_fraction._1;
-        // A text of ten letters then overwrites this letter with its first.
+        // If the text has ten letters, its first overwrites this one, which is a zero.
         buf[0] = Tables_letter(tables, first);
         write_10(tables, fraction, buf + (count - 10));
     }
 }
 
-// The text of a number from 2^64 on.
+// Writes the text of a number of 2^64 or more.
 static void write_wide(const Tables *tables, u128 n, size_t count, uint8_t *restrict buf) {
     //@ assert requires: 11 <= count && count <= 22;
     if (count > 20) {
@@ -983,10 +985,10 @@ static void write_wide(const Tables *tables, u128 n, size_t count, uint8_t *rest
     }
 }
 
-// Divides by 62^20, and gives the remainder as two fractions, of which neither waits for a remainder.
-// The number in units of 62^20 / 2^64 is the quotient and a fraction of all twenty letters. The last
-// ten add up to 22 units to it. 16 times their own fraction is taken off, which leaves few enough, as
-// in `fraction_of`.
+// Divides by 62^20, and returns the remainder as two fractions. Neither is computed from a
+// remainder. The number in units of 62^20 / 2^64 is the quotient and a fraction of all twenty
+// letters. The last ten add up to 22 units to it. Subtracting 16 times their own fraction leaves
+// few enough units, as in `fraction_of`.
 static ALWAYS_INLINE pair_u32_u64_u64 cut_by_20(u128 n) {
     const uint64_t low = last_10(n);
     const pair_u64_u64 top_high = whole_and_fraction(u128_sub(scaled_by_20(n), u128_of(low >> 60)));
@@ -994,9 +996,9 @@ static ALWAYS_INLINE pair_u32_u64_u64 cut_by_20(u128 n) {
     return (pair_u32_u64_u64){(uint32_t)top, high, low};
 }
 
-// The fraction of the last ten letters. It is the number in units of 62^10 / 2^64, at most eight above,
-// and its wholes wrap around. 2^64 has 2^128 / 62^10 of these units: 21 wholes, the first factor, and
-// the second times 2^-64, rounded up. The third factor is 2^123 / 62^10, rounded up.
+// Returns the fraction of the last ten letters: the number in units of 62^10 / 2^64, at most eight
+// too large, modulo 2^64. 2^64 has 2^128 / 62^10 of these units: 21 times 2^64, the first factor,
+// and the second times 2^-64, rounded up. The third factor is 2^123 / 62^10, rounded up.
 static ALWAYS_INLINE uint64_t last_10(u128 n) {
     const uint64_t upper = u128_low(u128_shift_right(n, 64));
     const uint64_t lower = u128_low(u128_and(n, u128_of(UINT64_C(0xffffffffffffffff))));
@@ -1009,8 +1011,8 @@ static ALWAYS_INLINE uint64_t last_10(u128 n) {
     return u64_wrapping_add(u64_wrapping_add(u64_wrapping_add(first, second), third), 2);
 }
 
-// A number in units of 62^20 / 2^64, at most five above. 2^64 has 2^128 / 62^20 of these units: the
-// second factor, and the first times 2^-64, rounded up.
+// Returns a number in units of 62^20 / 2^64, at most five too large. 2^64 has 2^128 / 62^20 of
+// these units: the second factor, and the first times 2^-64, rounded up.
 static ALWAYS_INLINE u128 scaled_by_20(u128 n) {
     const uint64_t upper = u128_low(u128_shift_right(n, 64));
     const uint64_t lower = u128_low(u128_and(n, u128_of(UINT64_C(0xffffffffffffffff))));
@@ -1019,8 +1021,8 @@ static ALWAYS_INLINE u128 scaled_by_20(u128 n) {
     return u128_add(u128_mul(u128_of(upper), u128_of(483)), u128_of(rest + (((lower >> 32) * 483) >> 32) + 4));
 }
 
-// Divides by 62^10, and gives the remainder as a fraction. The upper bits times 2^120 / 62^10 give
-// the quotient, or one less: then the fraction has a whole too many.
+// Divides by 62^10, and returns the remainder as a fraction. The upper bits times 2^120 / 62^10 are
+// the quotient, or one less: then `fraction_of` returns a whole, which is added.
 static ALWAYS_INLINE pair_u64_u64 cut_by_10(u128 n) {
     const uint64_t upper = u128_low(u128_shift_right(n, 56));
     const uint64_t estimate = u128_low(u128_shift_right(u128_mul(u128_of(upper),
@@ -1031,27 +1033,27 @@ static ALWAYS_INLINE pair_u64_u64 cut_by_10(u128 n) {
     return (pair_u64_u64){estimate + whole, fraction};
 }
 
-// A number as a fraction, and a whole for each 62^10. The fractions of a number are 21 or more, from
-// the number times 2^64 / 62^10 on. This one is at most two above that product. The factor is
-// 2^124 / 62^10 - 2^64, rounded up.
+// Returns the whole part and the fraction of a number in units of 62^10. Each number has at least
+// 21 fractions, from the number times 2^64 / 62^10 upwards. This one is at most two above that
+// product. The factor is 2^124 / 62^10 - 2^64, rounded up.
 static ALWAYS_INLINE pair_u64_u64 fraction_of(uint64_t n) {
     //@ assert requires: n < 1152921504606846976;
     const uint64_t scaled = n * 16;
     const uint64_t upper = u128_low(u128_shift_right(u128_mul(u128_of(scaled),
         u128_of(UINT64_C(6893020016967578278))), 64));
     const uint64_t fraction = u64_wrapping_add(scaled + 1, upper);
-    // A sum that wraps around is less than what was added.
+    // If the sum has wrapped around, it is less than either operand.
     return (pair_u64_u64){(uint64_t)(fraction < upper), fraction};
 }
 
-// Divides a number below 2^64 by 62^10, and gives the remainder as a fraction: at most five above the
-// product, as in `fraction_of`. The factor is 2^123 / 62^10, rounded up.
+// Divides a number below 2^64 by 62^10, and returns the remainder as a fraction, at most five above
+// the product in `fraction_of`. The factor is 2^123 / 62^10, rounded up.
 static ALWAYS_INLINE pair_u64_u64 cut_narrow_by_10(uint64_t n) {
     return whole_and_fraction(u128_add(u128_shift_right(u128_mul(u128_of(n),
         u128_of(UINT64_C(12669882045338564947))), 59), u128_of(1)));
 }
 
-// One to nine letters. If there are more than four, the last four are written first.
+// Writes one to nine letters. If there are more than four, it writes the last four first.
 static ALWAYS_INLINE void write_up_to_9(const Tables *tables, uint64_t n, size_t places, uint8_t *restrict buf) {
     //@ assert requires: 1 <= places && places <= 9;
     if (places > 4) {
@@ -1064,7 +1066,7 @@ static ALWAYS_INLINE void write_up_to_9(const Tables *tables, uint64_t n, size_t
     }
 }
 
-// One to five letters, from the last to the first.
+// Writes one to five letters, from the last to the first.
 static ALWAYS_INLINE void write_up_to_5(const Tables *tables, uint32_t n, size_t places, uint8_t *restrict buf) {
     //@ assert requires: 1 <= places && places <= 5;
     if (places > 4) {
@@ -1080,8 +1082,8 @@ static ALWAYS_INLINE void write_up_to_5(const Tables *tables, uint32_t n, size_t
     }
 }
 
-// One or two letters, as a pair whose second letter goes to the last place. A single letter is the
-// second one, written over the first.
+// Writes one or two letters, as a pair. If there is one place, the second letter overwrites the
+// first, which is a zero.
 static ALWAYS_INLINE void write_1_or_2(const Tables *tables, uint32_t x, size_t places, uint8_t *restrict buf) {
     //@ assert requires: 1 <= places && places <= 2;
     const pair_u8_u8 first_second = Tables_pair(tables, x);
@@ -1090,13 +1092,13 @@ static ALWAYS_INLINE void write_1_or_2(const Tables *tables, uint32_t x, size_t 
     buf[places - 1] = second;
 }
 
-// Two letters.
+// Writes two letters.
 static ALWAYS_INLINE void write_2(const Tables *tables, uint32_t x, uint8_t *restrict buf) {
     //@ assert requires: x < 3844;
     write_1_or_2(tables, x, 2, buf);
 }
 
-// Four letters.
+// Writes four letters.
 static ALWAYS_INLINE void write_4(const Tables *tables, uint32_t x, uint8_t *restrict buf) {
     //@ assert requires: x < 14776336;
     const uint32_t quotient = x / POWER_2;
@@ -1104,19 +1106,20 @@ static ALWAYS_INLINE void write_4(const Tables *tables, uint32_t x, uint8_t *res
     write_2(tables, quotient, buf);
 }
 
-// Twenty letters of two fractions. The last ten come first, since their fraction is known first.
+// Writes twenty letters of two fractions, the last ten first, since their fraction is computed
+// first.
 static ALWAYS_INLINE void write_20(const Tables *tables, uint64_t high, uint64_t low, uint8_t *restrict buf) {
     write_10(tables, low, buf + 10);
     write_10(tables, high, buf);
 }
 
-// Ten letters of a fraction. The last five do not wait for the first five.
+// Writes ten letters of a fraction. The last five are computed independently of the first five.
 static ALWAYS_INLINE void write_10(const Tables *tables, uint64_t fraction, uint8_t *restrict buf) {
     write_5(tables, fraction, buf);
     write_5(tables, after_5(fraction), buf + 5);
 }
 
-// Five letters of a fraction.
+// Writes the first five letters of a fraction.
 static ALWAYS_INLINE void write_5(const Tables *tables, uint64_t fraction, uint8_t *restrict buf) {
     const pair_u64_u64 first_after_1 = next_digit(fraction);
     const uint64_t first = first_after_1._0, after_1 = first_after_1._1;
@@ -1131,7 +1134,7 @@ static ALWAYS_INLINE void write_5(const Tables *tables, uint64_t fraction, uint8
     write_pair(tables, fourth, first_digit(after_4), buf + 3);
 }
 
-// The letters of two digits.
+// Writes the letters of two digits.
 static ALWAYS_INLINE void write_pair(const Tables *tables, uint64_t first, uint64_t second, uint8_t *restrict buf) {
     //@ assert requires: first < 62 && second < 62;
     const pair_u8_u8 first_letter_second_letter = Tables_pair_of_digits(tables, first, second);
@@ -1140,23 +1143,23 @@ static ALWAYS_INLINE void write_pair(const Tables *tables, uint64_t first, uint6
     buf[1] = second_letter;
 }
 
-// The first digit of a fraction, and the fraction of those after it.
+// Returns the first digit of a fraction, and the fraction of the digits after it.
 static ALWAYS_INLINE pair_u64_u64 next_digit(uint64_t fraction) {
     return whole_and_fraction(u128_mul(u128_of(fraction), u128_of(62)));
 }
 
-// The first digit of a fraction alone.
+// Returns only the first digit of a fraction.
 static ALWAYS_INLINE uint64_t first_digit(uint64_t fraction) {
     return u128_low(u128_shift_right(u128_mul(u128_of(fraction), u128_of(62)), 64));
 }
 
-// The fraction of the digits after the first five.
+// Returns the fraction of the digits after the first five.
 static ALWAYS_INLINE uint64_t after_5(uint64_t fraction) {
     const u128 product = u128_mul(u128_of(fraction), u128_of(POWER_5));
     return u128_low(u128_and(product, u128_of(UINT64_C(0xffffffffffffffff))));
 }
 
-// The whole part of a number in units of 1 / 2^64, and its fraction.
+// Returns the whole part and the fraction of a number in units of 1 / 2^64.
 static ALWAYS_INLINE pair_u64_u64 whole_and_fraction(u128 n) {
     return (pair_u64_u64){u128_low(u128_shift_right(n, 64)),
         u128_low(u128_and(n, u128_of(UINT64_C(0xffffffffffffffff))))};
@@ -1180,77 +1183,83 @@ static inline u128 bytes_16_number(const uint8_t self[16]) {
 
 // Encoding into a buffer, and decoding.
 
-// Writes the standard text of `num` to the start of `buf`, and answers its length, 1 to 22.
+// Writes the encoded string of `num` to the start of `buf`, and returns its length, 1 to 22.
 //
-// The text is the shortest nonempty one that denotes the number. Its letters are `0` to `9`, `A`
-// to `Z`, `a` to `z`, with the digits 0 to 61 in this order. On `Ok` every byte after the text is
-// as before. The call takes no memory.
+// It is the shortest nonempty string that represents `num` in the standard alphabet: `0` to `9`,
+// `A` to `Z`, `a` to `z`, for the digits 0 to 61 in this order. The bytes after it are left
+// unchanged. Does not allocate.
 //
 // # Errors
 //
-// `BufferTooSmall` if `buf` is shorter than the text, so never at 22 bytes or more. It leaves `buf`
-// as it was.
+// Returns `BufferTooSmall` if `buf` is shorter than the encoded string, so never for 22 bytes or
+// more. `buf` is then left unchanged.
 static result_usize encode_bytes(u128 num, uint8_t *restrict buf, size_t buf_length) {
     return encode_over(standard_tables(), u128_number(num), buf, buf_length);
 }
 
-// As `encode_bytes`, over the alternative alphabet.
+// Like `encode_bytes`, but uses the alternative alphabet.
 //
 // # Errors
 //
-// Those of `encode_bytes`.
+// Returns the errors of `encode_bytes`.
 static result_usize encode_alternative_bytes(u128 num, uint8_t *restrict buf, size_t buf_length) {
     return encode_over(alternative_tables(), u128_number(num), buf, buf_length);
 }
 
-// As `encode_bytes`, over an alphabet of the caller's. Its first letter takes the place of `0`.
+// Like `encode_bytes`, but uses a custom alphabet.
+//
+// The first character of the alphabet represents zero, as `0` does in the standard one.
 //
 // # Errors
 //
-// Those of `encode_bytes`.
+// Returns the errors of `encode_bytes`.
 static result_usize encode_bytes_with(const Alphabet *alphabet, u128 num, uint8_t *restrict buf,
     size_t buf_length) {
     return encode_over(Alphabet_as_tables(alphabet), u128_number(num), buf, buf_length);
 }
 
-// The number that the standard text `input` denotes, from 0 to 2^128 - 1.
+// Decodes `input` in the standard alphabet, and returns the number, 0 to 2^128 - 1.
 //
-// The leading zeros are the letters `0` that the text begins with. The first of these cases that
-// fits decides:
+// Leading zeros are the characters `0` at the start of `input`. The first of these cases that
+// applies determines the result:
 //
-// 1. The text is empty: `EmptyInput`.
+// 1. `input` is empty: `EmptyInput`.
 // 2. More than 22 bytes follow the leading zeros, whatever they are: `ArithmeticOverflow`.
-// 3. Among the first ten of those bytes, one is no letter: `InvalidBase62Byte` names the first.
-// 4. There are 22 of them, and the first ten, followed by twelve zeros, denote 2^128 or more:
+// 3. One of the first ten of those bytes is not in the alphabet: `InvalidBase62Byte`.
+// 4. There are 22 of them, and the first ten, followed by twelve zeros, represent 2^128 or more:
 //    `ArithmeticOverflow`.
-// 5. A later byte is no letter: `InvalidBase62Byte` names the first.
-// 6. The text denotes 2^128 or more: `ArithmeticOverflow`.
-// 7. Any other text: the number that it denotes.
+// 5. A later byte is not in the alphabet: `InvalidBase62Byte`.
+// 6. `input` represents 2^128 or more: `ArithmeticOverflow`.
+// 7. Otherwise: the number that `input` represents.
 //
-// Any count of leading zeros is allowed and changes no number. Zeros alone denote 0. The index of
-// a byte is counted from the start of `input`, leading zeros included. The call takes no memory.
+// Any number of leading zeros is accepted, and they do not change the result. Zeros alone decode
+// to 0. Does not allocate.
 //
 // # Errors
 //
-// `EmptyInput`, `ArithmeticOverflow` and `InvalidBase62Byte` in the cases 1 to 6.
+// Returns `EmptyInput`, `ArithmeticOverflow` or `InvalidBase62Byte` in the cases 1 to 6. The last
+// has the first byte that is not in the alphabet, and its index in `input`, leading zeros
+// included.
 static ALWAYS_INLINE result_u128 decode(const uint8_t *input, size_t input_length) {
     return decode_over(standard_tables(), input, input_length);
 }
 
-// As `decode`, over the alternative alphabet, whose zero letter is `0` too.
+// Like `decode`, but uses the alternative alphabet.
 //
 // # Errors
 //
-// Those of `decode`.
+// Returns the errors of `decode`.
 static ALWAYS_INLINE result_u128 decode_alternative(const uint8_t *input, size_t input_length) {
     return decode_over(alternative_tables(), input, input_length);
 }
 
-// As `decode`, over an alphabet of the caller's. Its first letter takes the place of `0`.
+// Like `decode`, but uses a custom alphabet.
+//
+// The first character of the alphabet represents zero, as `0` does in the standard one.
 //
 // # Errors
 //
-// Those of `decode`.
+// Returns the errors of `decode`.
 static result_u128 decode_with(const Alphabet *alphabet, const uint8_t *input, size_t input_length) {
     return decode_over(Alphabet_as_tables(alphabet), input, input_length);
 }
@@ -1258,7 +1267,7 @@ static result_u128 decode_with(const Alphabet *alphabet, const uint8_t *input, s
 
 /* -------------------- base62: fixed -------------------- */
 
-// Texts of a fixed width, with leading zeros, and the range of the texts that share a prefix.
+// Strings of a fixed width, with leading zeros, and the ranges of prefixes.
 
 typedef struct result_unit { bool is_ok; EncodeError err; } result_unit;
 
@@ -1314,41 +1323,43 @@ static result_option_pair_u128_u128 range_found(const Tables *tables, size_t wid
 static ALWAYS_INLINE option_pair_u128_u128 ends_of(u128 number, size_t width, size_t len);
 static result_unit_DecodeError check_letters(const Tables *tables, const uint8_t *prefix, size_t prefix_length);
 
-// Fills `places` with the standard text of `num`, with leading zeros.
+// Writes `num` to `places` as exactly `places.len()` characters, padded with leading zeros.
 //
-// The lexicographic order of texts of one length is the order of their numbers. `decode` reads
-// them. The call takes no memory.
+// The characters are those of the standard alphabet. The lexicographic order of strings of one
+// length is the order of their numbers. `decode` decodes them. Does not allocate.
 //
 // # Errors
 //
-// `BufferTooSmall` if there are no places, or fewer than `num` has letters, so never at 22 places
-// or more. It leaves `places` as they were.
+// Returns `BufferTooSmall` if `places` is shorter than the encoded string, so always if it is
+// empty, and never for 22 bytes or more. `places` is then left unchanged.
 static result_unit encode_fixed(u128 num, uint8_t *restrict places, size_t places_length) {
     return fill_places(standard_tables(), u128_number(num), places, places_length);
 }
 
-// As `encode_fixed`, over the alternative alphabet. Its texts do not sort as their numbers do.
+// Like `encode_fixed`, but uses the alternative alphabet.
+//
+// The strings do not sort in the order of their numbers.
 //
 // # Errors
 //
-// Those of `encode_fixed`.
+// Returns the errors of `encode_fixed`.
 static result_unit encode_alternative_fixed(u128 num, uint8_t *restrict places, size_t places_length) {
     return fill_places(alternative_tables(), u128_number(num), places, places_length);
 }
 
-// As `encode_fixed`, over an alphabet of the caller's. Its first letter takes the place of `0`.
+// Like `encode_fixed`, but uses a custom alphabet, and pads with its first character.
 //
-// The texts sort as their numbers do if the letters ascend, as `Alphabet::is_ascending` tells.
+// The strings sort in the order of their numbers if `Alphabet::is_ascending` returns `true`.
 //
 // # Errors
 //
-// Those of `encode_fixed`.
+// Returns the errors of `encode_fixed`.
 static result_unit encode_fixed_with(const Alphabet *alphabet, u128 num, uint8_t *restrict places,
     size_t places_length) {
     return fill_places(Alphabet_as_tables(alphabet), u128_number(num), places, places_length);
 }
 
-// The text of as many letters as there are places, over the alphabet of the tables.
+// Writes the text of as many letters as there are places, over the alphabet of the tables.
 static ALWAYS_INLINE result_unit fill_places(const Tables *tables, u128 n, uint8_t *restrict places,
     size_t places_length) {
     const size_t count = digit_count(n);
@@ -1359,7 +1370,7 @@ static ALWAYS_INLINE result_unit fill_places(const Tables *tables, u128 n, uint8
     return ok_unit();
 }
 
-// The text of a number, whose count of letters is given, with leading zeros.
+// Writes the text of a number, whose count of letters is given, with leading zeros.
 static void write_padded(const Tables *tables, u128 n, size_t count, uint8_t *restrict places,
     size_t places_length) {
     //@ assert requires: count <= places_length;
@@ -1370,42 +1381,44 @@ static void write_padded(const Tables *tables, u128 n, size_t count, uint8_t *re
     write_text(tables, n, count, text);
 }
 
-// The least and the greatest number below 2^128 whose standard text of `width` letters begins with
-// `prefix`.
+// Returns the least and the greatest number below 2^128 whose string of `width` characters begins
+// with `prefix`, in the standard alphabet.
 //
-// `Ok(None)` says that the prefix is letters, but no text of `width` letters of a number below
-// 2^128 begins with them, for example if they are more than `width`, or `width` is 0. Any other
-// prefix, of k letters and value v, has the ends `v * 62^(width-k)` and the lesser of `(v+1) *
-// 62^(width-k) - 1` and 2^128 - 1. The numbers from one end to the other are exactly those whose
-// texts begin with the prefix. The call takes no memory.
+// The numbers from the least to the greatest are exactly those whose strings begin with `prefix`.
+// If `prefix` has k characters and represents v, these are `v * 62^(width-k)` and the lesser of
+// `(v+1) * 62^(width-k) - 1` and 2^128 - 1. An empty prefix has v = 0. The result is `Ok(None)` if
+// all bytes of `prefix` are in the alphabet, but no string of `width` characters of a number below
+// 2^128 begins with it, for example if it is longer than `width`, or `width` is 0. Does not
+// allocate.
 //
 // # Errors
 //
-// `InvalidBase62Byte` if a byte of the prefix is no standard letter. It names the first such byte.
+// Returns `InvalidBase62Byte`, with the first such byte and its index, if a byte of `prefix` is
+// not in the standard alphabet.
 static result_option_pair_u128_u128 fixed_range(size_t width, const uint8_t *prefix, size_t prefix_length) {
     return range_over(standard_tables(), width, prefix, prefix_length);
 }
 
-// As `fixed_range`, over an alphabet of the caller's.
+// Like `fixed_range`, but uses a custom alphabet.
 //
-// There is no such call over the alternative alphabet. Its letters do not ascend, so a scan from
-// the text of the one end to the text of the other can miss texts.
+// There is no such call for the alternative alphabet. It does not ascend, so a scan from the
+// string of the least number to that of the greatest can miss strings that begin with `prefix`.
 //
 // # Errors
 //
-// Those of `fixed_range`.
+// Returns the errors of `fixed_range`, for the custom alphabet.
 static result_option_pair_u128_u128 fixed_range_with(const Alphabet *alphabet, size_t width,
     const uint8_t *prefix, size_t prefix_length) {
     return range_over(Alphabet_as_tables(alphabet), width, prefix, prefix_length);
 }
 
-// The range over the alphabet of the tables.
+// Returns the range over the alphabet of the tables.
 static result_option_pair_u128_u128 range_over(const Tables *tables, size_t width, const uint8_t *prefix,
     size_t prefix_length) {
     return range_found(tables, width, prefix, prefix_length);
 }
 
-// The range, by what decoding the prefix gives.
+// Returns the range, by the result of decoding the prefix.
 static result_option_pair_u128_u128 range_found(const Tables *tables, size_t width, const uint8_t *prefix,
     size_t prefix_length) {
     const result_u128 answer = decode_over(tables, prefix, prefix_length);
@@ -1418,7 +1431,7 @@ static result_option_pair_u128_u128 range_found(const Tables *tables, size_t wid
         return ok_option_pair_u128_u128(ends_of(u128_of(0), width, 0));
     }
     if (!answer.is_ok && answer.err.tag == DecodeError_ArithmeticOverflow_tag) {
-        // A bad byte of the prefix comes before its overflow.
+        // A bad byte is reported rather than an overflow.
         const result_unit_DecodeError answer_2 = check_letters(tables, prefix, prefix_length);
         if (!answer_2.is_ok) return err_option_pair_u128_u128(answer_2.err);
         return ok_option_pair_u128_u128(none_pair_u128_u128());
@@ -1427,7 +1440,7 @@ static result_option_pair_u128_u128 range_found(const Tables *tables, size_t wid
     return err_option_pair_u128_u128(fault);
 }
 
-// The ends of the interval of a prefix of this value and length, if it has any.
+// Returns the ends of the interval of a prefix of this value and length, if it is not empty.
 static ALWAYS_INLINE option_pair_u128_u128 ends_of(u128 number, size_t width, size_t len) {
     if (width == 0 || len > width) {
         return none_pair_u128_u128();
@@ -1441,11 +1454,11 @@ static ALWAYS_INLINE option_pair_u128_u128 ends_of(u128 number, size_t width, si
     if (!span.is_some) return none_pair_u128_u128();
     const option_u128 least = u128_checked_mul(number, span.some);
     if (!least.is_some) return none_pair_u128_u128();
-    // The sum saturates at 2^128 - 1, and so is the lesser of the two.
+    // The sum saturates at 2^128 - 1, which makes it the lesser of the two.
     return some_pair_u128_u128((pair_u128_u128){least.some, u128_saturating_add(least.some, last)});
 }
 
-// Refuses a prefix with a byte that is no letter, and names the first.
+// Returns an error with the first byte of the prefix that is no letter, if there is one.
 static result_unit_DecodeError check_letters(const Tables *tables, const uint8_t *prefix, size_t prefix_length) {
     for (size_t index = 0; index < prefix_length; index++) {
         const uint8_t *byte = prefix + index;
@@ -1459,31 +1472,33 @@ static result_unit_DecodeError check_letters(const Tables *tables, const uint8_t
 
 /* -------------------- base62: key -------------------- */
 
-// Keys of 22 letters, which sort as their numbers, and the range of the keys that share a prefix.
+// Keys of 22 characters, which sort in the order of their numbers, and the ranges of prefixes.
 
-// A key is as long as the longest text.
+// The length of a key is that of the longest text.
 #define KEY_LEN MAX_DIGITS
 
-// The key of `num`: the standard text of exactly 22 letters that denotes it, with leading zeros.
+// Encodes `num` as a key: exactly 22 characters of the standard alphabet, with leading zeros.
 //
-// The lexicographic order of keys is the order of their numbers. `decode` reads them. The call
-// takes no memory and refuses nothing.
+// The lexicographic order of keys is the order of their numbers. `decode` decodes them. Never
+// fails, and does not allocate.
 static void encode_key(u128 num, uint8_t key[22]) {
     const u128 n = u128_number(num);
     fill_bytes(key, 0, 22);
     write_padded(standard_tables(), n, digit_count(n), key, 22);
 }
 
-// The least and the greatest number below 2^128 whose key begins with `prefix`.
+// Returns the least and the greatest number below 2^128 whose key begins with `prefix`.
 //
-// `Ok(None)` says that the prefix is letters, but no key of a number below 2^128 begins with them,
-// for example if they are more than 22. Any other prefix, of k letters and value v, has the ends
-// `v * 62^(22-k)` and the lesser of `(v+1) * 62^(22-k) - 1` and 2^128 - 1. The numbers from one
-// end to the other are exactly those whose keys begin with the prefix. The call takes no memory.
+// The numbers from the least to the greatest are exactly those whose keys begin with `prefix`. If
+// `prefix` has k characters and represents v, these are `v * 62^(22-k)` and the lesser of `(v+1) *
+// 62^(22-k) - 1` and 2^128 - 1. An empty prefix has v = 0. The result is `Ok(None)` if all bytes
+// of `prefix` are in the alphabet, but no key of a number below 2^128 begins with it, for example
+// if it has more than 22. Does not allocate.
 //
 // # Errors
 //
-// `InvalidBase62Byte` if a byte of the prefix is no standard letter. It names the first such byte.
+// Returns `InvalidBase62Byte`, with the first such byte and its index, if a byte of `prefix` is
+// not in the standard alphabet.
 static result_option_pair_u128_u128 key_range(const uint8_t *prefix, size_t prefix_length) {
     return fixed_range(KEY_LEN, prefix, prefix_length);
 }
@@ -1491,7 +1506,7 @@ static result_option_pair_u128_u128 key_range(const uint8_t *prefix, size_t pref
 
 /* -------------------- base62_c: number -------------------- */
 
-// Numbers in two halves of 64 bits.
+// Numbers as two halves of 64 bits.
 
 static u128 joined(base62_number number) {
     return u128_or(u128_shift_left(u128_of(number.high), 64), u128_of(number.low));
@@ -1505,7 +1520,7 @@ static base62_number halves(u128 n) {
 
 /* -------------------- base62_c: answer -------------------- */
 
-// How answers are told by a status and through pointers.
+// Results as a status, and values that are stored through pointers.
 
 #define OK ((uint32_t)0)
 #define BUFFER_TOO_SMALL ((uint32_t)1)
@@ -1518,7 +1533,7 @@ static base62_number halves(u128 n) {
 
 static uint32_t tell_fault(DecodeError fault, base62_bad_byte *bad);
 
-// The count of the places, or 0 if they are too few.
+// Returns the count of places, or 0 if they are too few.
 static size_t count_filled(result_unit answer, size_t places) {
     if (answer.is_ok) return places;
     return 0;
@@ -1575,7 +1590,7 @@ static uint32_t tell_repeat(AlphabetError fault, base62_bad_byte *bad) {
 }
 
 static size_t tell_text(const uint8_t *text, size_t text_length, uint8_t *restrict buf, size_t buf_length) {
-    // No byte is copied if there is none, and then `buf` may be empty too.
+    // An empty text is not copied, since `buf` may then be empty too.
     if (text_length == 0 || buf_length < text_length) {
         return 0;
     }
@@ -1586,7 +1601,7 @@ static size_t tell_text(const uint8_t *text, size_t text_length, uint8_t *restri
 
 /* -------------------- base62_c: fault -------------------- */
 
-// The texts of faults.
+// The messages of errors.
 
 static void whole(const uint8_t *text, size_t text_length, InlineText *result);
 
@@ -1637,12 +1652,12 @@ static void whole(const uint8_t *text, size_t text_length, InlineText *result) {
 
 /* -------------------- base62_c: lib -------------------- */
 
-// The calls of `base62` for C: `c/base62.h` declares them and says what they do.
+// The C interface of `base62`, which `c/base62.h` declares and documents.
 //
 // In C a `&[u8]` is a pointer and then a length. Any other reference is a pointer, and a struct is
 // a value.
 
-// The major version times 10000, the minor one times 100, and the patch.
+// The version: major times 10000, plus minor times 100, plus patch.
 #define VERSION_NUMBER ((uint32_t)30300)
 
 size_t base62_encode(base62_number number, char *buffer, size_t size) {
@@ -1728,8 +1743,7 @@ base62_status base62_fixed_range_with(const base62_alphabet *alphabet, size_t wi
         length), range, bad);
 }
 
-// Nothing that stands at `alphabet` before is read, so C can hand over memory that it has not
-// written.
+// What `alphabet` points to is not read, so callers can pass uninitialized memory.
 base62_status base62_make_alphabet(const char letters[BASE62_ALPHABET_LENGTH], base62_alphabet *alphabet,
     base62_bad_byte *bad) {
     Alphabet made;

@@ -26,9 +26,10 @@ ATTRIBUTE = (r"#\[(inline(\(\w+\))?|repr\(C\)|cfg\(test\)|derive\(Drop\)"
              r"|derive\(((Clone|Copy|Debug|Hash|(Partial)?(Eq|Ord))(, )?)+\))\]")
 # What a public call requires: when it panics, and what asserts that, if its body does not. All else that one requires
 # would be lost, and is refused.
-PANICS = {"IsAscii alphabet . now": ("If a letter is not ASCII.",
+PANICS = {"IsAscii alphabet . now": ("Panics if the alphabet contains a non-ASCII character.",
                                      ["crate::support::contract::assert_ascii(alphabet);"]),
-          "IsTrue ( is_alphabet letters )": ("If a byte is repeated. In a constant, the build fails.", [])}
+          "IsTrue ( is_alphabet letters )":
+              ("Panics if a byte is repeated. In a constant, this is a compile error.", [])}
 # What the body of a function begins with by hand: a macro of contract.rs.
 BY_HAND_LINES = {"append_over": "in_place!(tables, num, buf);"}
 # Words that mean the same in Rust. All others have to be names of the crates or of the function.
@@ -63,7 +64,7 @@ ALLOCATING = [(r"((\.reserve|\bVec::with_capacity)\([^;?]*\))\?;", r"\1;"),
               (r"(\.(push_str|extend_from_slice)\([^;]*\))\s*\.unwrap\(\);", r"\1;"),
               (r"\n *Ok\(\(\)\)\s*\}$", "\n}"), (r"\n( *)Ok\((proved!.*)\)(?=\s*\}$)", r"\n\1\2"),
               (r"\?|\b(Ok|Err)\b", "unwritten")]
-REFUSED_MEMORY = [(r"(If that is refused, )`buf` stays as it was\.", r"\1the program ends.")]
+REFUSED_MEMORY = [(r"(If the allocation fails, )`buf` is left unchanged\.", r"\1the program aborts.")]
 PROGRAM_USES = [("use (base62::DecodeError|crate::reply::.*);", r"use crate::memory::Bytes;\n\g<0>")]
 PROGRAM = [(r"\bVec<u8>", "Bytes"), (r"\bVec::new\(alloc\)", "Bytes::new()")]
 EXAMPLES = [(r"println!\(rt; (.*)\)\?;", r"println!(\1);"), (r"\((rt; |rt\.alloc\(\)(, |(?=\))))", "("),
@@ -195,8 +196,8 @@ class Crate:
         if re.search(r"//[/!].*\brt\b", text):
             refuse(item.first, "an example that is not known stands before")
         text = edit(text, REFUSED_MEMORY)
-        if item.name in self.refusing and "stays" in text:
-            refuse(item.first, "what stays if memory is refused is told before")
+        if item.name in self.refusing and "unchanged" in text:
+            refuse(item.first, "a text that is not known says what a failed allocation leaves unchanged, before")
         return edit(text, [(rf"\n *//[/!] \[`(?:\w+::)*({hidden})`\]: .*", ""),
                            (rf"\[(`(?:\w+::)*({hidden})`)\](\([\w:]+\))?", r"\1"),
                            (r"( *///\n)+(?= *(///\n|[^/ ]|$))", "")])

@@ -16,8 +16,8 @@ LINK = '#[must_use = "this allocates a new `String`"]\n'
 # A file of rust/src, what stands there, and what takes its place. None: the file goes. A file that is not there comes.
 CHANGES = {
     "bytes, and comments that hide code": [
-        ("generated/fixed.rs", "comes before its overflow.\n", "comes before its overflow.\r"),
-        ("generated/alphabet.rs", "several letters at once.\n", "several letters at once.\r"),
+        ("generated/fixed.rs", "rather than an overflow.\n", "rather than an overflow.\r"),
+        ("generated/alphabet.rs", "vectorizes the loop.\n", "vectorizes the loop.\r"),
         ("generated/powers.rs", "    ", "\t"),
         ("generated/powers.rs", ";\n", ";\r\n"),
         ("generated/powers.rs", "// ", "// \0"),
@@ -71,7 +71,7 @@ CHANGES = {
         ("support/traits.rs", "impl Hash", '#[link(name = "c")]\nextern "C" {}\nimpl Hash'),
         ("support/traits.rs", "impl Hash", 'extern "C" fn compare() {}\nimpl Hash'),
         ("support/traits.rs", "//! Traits", '#![cfg(feature = "std")]\n\n//! Traits'),
-        ("support/inline.rs", "//! A text", "#![cfg(unix)]\n\n//! A text"),
+        ("support/inline.rs", "//! A string", "#![cfg(unix)]\n\n//! A string"),
         ("support/contract.rs", "        alphabet.is_ascii(),", "        alphabet.is_ascii() || cfg!(debug_assertions),"),
         ("support/traits.rs", "impl Hash", "#[cfg(debug_assertions)]\nimpl Hash"),
         ("support/traits.rs", "impl Hash", "pub fn encode_key_of() {}\nimpl Hash"),
@@ -221,7 +221,7 @@ class Judge(unittest.TestCase):
     def test_bytes_of_a_source(self):
         source = self.folder / "crates/base62/src/fixed.rt"
         text = source.read_bytes()
-        source.write_bytes(text.replace(b"comes before its overflow.\n", b"comes before its overflow.\r"))
+        source.write_bytes(text.replace(b"rather than an overflow.\n", b"rather than an overflow.\r"))
         self.assertNotEqual(source.read_bytes(), text)
         self.assertRegex(self.judge()[1], r"^crates/base62/src/fixed\.rt:\d+: no token that is known")
 

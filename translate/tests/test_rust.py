@@ -37,7 +37,7 @@ REFUSED = {
     "memory that is refused": ("base62/src/target.rt",
         "    buf.reserve(letters.len())?;", "    buf.try_reserve(letters.len())?;"),
     "a text about it": ("base62/src/target.rt",
-        "If that is refused, `buf` stays as it was.", "If that is refused, `buf` stays."),
+        "If the allocation fails, `buf` is left unchanged.", "If it fails, `buf` is left unchanged."),
     "an example": ("base62/src/target.rt", 'assert_eq!(rt; text.as_str(), "1LY7VK");', "rt.run();"),
     "a comment": ("base62/src/codec/decoder.rt", "    let mut done = 0;", "    let mut done = 0; /* The rest. */"),
     "a character": ("base62/src/codec.rt", "    encode_over(standard", "    // The text.\r    encode_over(standard"),

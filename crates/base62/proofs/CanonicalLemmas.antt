@@ -8,7 +8,7 @@ use Rattle.base62.proofs.AlphabetLemmas.{standard_is_ascii, alternative_is_ascii
 use Rattle.base62.proofs.LetterLemmas.{letters_ascii}
 use Rattle.base62.proofs.ValueLemmas.{value-lt_most, same_text}
 
--- n takes k letters at least: it is 1, or one letter less cannot hold n
+-- n needs at least k letters: k is 1, or one letter less does not suffice
 abbrev pub NeedsLetters : ℕ → ℕ → Type 0
 NeedsLetters k n = (k ≡ 1) ⊎ (62 ^ (k - 1) ≤ n)
 
@@ -20,7 +20,7 @@ module _ (B : List ℕ) (ok : IsAlphabet B) where
   too_short k n (inr big) other d less =
       let below = value-lt_most B ok other (k - 1) (omega arith) in omega (arith, d.value_is)
 
-  -- a text that denotes n is canonical where it has one letter, or one letter less can't hold n
+  -- a text that denotes n is canonical if it has one letter, or one letter less does not suffice
   pub canonical_is : (text : List ℕ) (n : ℕ) → Denotes B text n → NeedsLetters (length text) n
       → IsCanonical B text n
   canonical_is text n d least = record {

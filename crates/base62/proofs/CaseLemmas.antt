@@ -141,7 +141,7 @@ stays b bad = elim (cases_lt b 128) [
   | inr more ↦ other_case-past b more
 ]
 
--- a byte at an index, after the exchange; past the end stands 0, which stays
+-- a byte at an index, after the exchange; past the end it is 0, which is unchanged
 at_exchanged : (text : List ℕ) (i : ℕ)
     → get_or (exchange_case text) i 0 ≡ other_case (get_or text i 0)
 unfolding other_case
@@ -151,7 +151,7 @@ no_letter_past : is_letter alternative 0 ≡ false
 unfolding alternative digit_of
 no_letter_past = refl
 
--- what stands where the letters end is no letter
+-- the byte after the leading letters is no letter
 bad_or_past : (text : List ℕ)
     → is_letter alternative (get_or text (invalid_index alternative text) 0) ≡ false
 bad_or_past text =
@@ -171,7 +171,7 @@ first_invalid_exchanged text =
     let byte : get_or (exchange_case text) i 0 ≡ get_or text i 0 = at_exchanged text i ∙ stays (get_or text i 0) (bad_or_past text) in
     rw (← place, byte)
 
--- decoding answers alike, since each of its tests does
+-- decoding has the same result, since each of its tests has
 pub decoding_exchanged : (text : List ℕ)
     → decoding alternative text ≡ decoding standard (exchange_case text)
 unfolding decoding

@@ -12,7 +12,7 @@ use Rattle.base62.proofs.FixedLemmas.{digit_count_is}
 abbrev estimate : ℕ → ℕ
 estimate b = b * 43 / 256 + 1
 
--- the number stands between two powers of 64
+-- the number is between two powers of 64
 from_power_of_64 : (n b : ℕ) → b < 128 → 2 ^ b ≤ n → 64 ^ (b * 43 / 256) ≤ n
 from_power_of_64 n b few low =
     let below = at_most_on_range (λ b. 64 ^ (b * 43 / 256)) (λ b. 2 ^ b) 0 128 refl b (omega arith) few in omega (arith, low, below)
@@ -29,7 +29,7 @@ power_of_62_le_64 k = pow-le-pow_left {n = 62} {m = 64} (omega arith) k
 power_of_64_le_62 : (e : ℕ) → e ≤ 22 → 64 ^ e ≤ 62 ^ (e + 1)
 power_of_64_le_62 e few = at_most_on_range (λ e. 64 ^ e) (λ e. 62 ^ (e + 1)) 0 23 refl e (omega arith) (omega arith)
 
--- the written-out thresholds are the greatest numbers of so many letters, below the limit of their type
+-- the literal thresholds are the greatest numbers of each length, below the limit of their type
 pub greatest_is : (k : ℕ) → k < 23 → get_or GREATEST k 0 + 1 ≡ min (62 ^ k) (2 ^ 128)
 greatest_is k few = same_on_range (λ k. get_or GREATEST k 0 + 1) (λ k. min (62 ^ k) (2 ^ 128)) 0 23 refl k (omega arith) few
 

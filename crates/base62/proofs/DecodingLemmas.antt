@@ -1,4 +1,4 @@
--- What decoding answers and how many steps it takes, by what is read of the bytes after the leading zeros.
+-- The results and the steps of decoding, by what is read of the bytes after the leading zeros.
 use Rattle.std.proofs.Common.{◌≡◌, ◌+◌, ◌-◌, ◌*◌, ◌^◌, ◌<◌, ◌≤◌, ◌∙◌}
 use Rattle.std.proofs.Common.{ℕ, Option, Some, None, Bool, true, false, eqb, ltb, leb, List, length, get_or, take, drop, Result, Ok, Err, if◌then◌else◌, refl, sym, ap, arith, inl, inr}
 use Rattle.std.specs.List.{prefix_len, list_all}
@@ -21,7 +21,7 @@ use Rattle.base62.specs.Laws.{number_or_overflow}
 use Rattle.base62.proofs.ZeroLemmas.{zeros_within, value-after_zeros, zeros_letters}
 use Rattle.base62.proofs.PartLemmas.{prefix_len-letters, read_below, refuses_cut, reads_cut}
 
--- the first bad byte of the text stands among the bytes after the leading zeros
+-- the first bad byte of the text is among the bytes after the leading zeros
 invalid_index-after_zeros : (B text : List ℕ) → IsAlphabet B
     → invalid_index B text ≡ leading_zeros B text + invalid_index B (after_zeros B text)
 invalid_index-after_zeros B text ok =
@@ -42,7 +42,7 @@ first_invalid-after_zeros B text ok =
     let byte : get_or (after_zeros B text) i 0 ≡ get_or text (z + i) 0 = get_or-drop z text i 0 in
     rw (place, byte) refl
 
--- a text that is read up to a bad byte is not letters alone
+-- a text that is read up to a bad byte has not only letters
 not_all : (B part : List ℕ) (start old new : ℕ) (fault : DecodeError) (b : Bool)
     → HasRefused B part start old new fault → list_all (is_letter B) part ≡ b → b ≡ false
 not_all B part start old new fault false refused e = refl
@@ -64,7 +64,7 @@ decodes_long B text old some long =
     let above = lt-ltb 22 (length (after_zeros B text)) long in
     record { answer = rw (not_empty text some, above) refl; steps = rw (not_empty text some, above) (omega arith); most = omega arith }
 
--- a number, or an overflow if it is 2^128 or more; a fault stays
+-- a number, or an overflow if it is 2^128 or more; an error is unchanged
 abbrev pub or_overflow : Result ℕ DecodeError → Result ℕ DecodeError
 or_overflow (Ok number) = number_or_overflow number
 or_overflow (Err fault) = Err fault
@@ -73,7 +73,7 @@ module _ (B text : List ℕ) (ok : IsAlphabet B) (some : 0 < length text) (short
   not_above : ltb 22 (length (after_zeros B text)) ≡ false
   not_above = le-ltb 22 (length (after_zeros B text)) short
 
-  -- a bad byte, where letters alone among the first ten show no overflow
+  -- a bad byte, if the first ten, where they are letters, show no overflow
   refused_answer : (fault : DecodeError) (first : Bool)
       → HasRefused B (after_zeros B text) (leading_zeros B text) old new fault
       → list_all (is_letter B) (first_ten B text) ≡ first
@@ -104,7 +104,7 @@ module _ (B text : List ℕ) (ok : IsAlphabet B) (some : 0 < length text) (short
       refused_answer fault _ (refuses_cut B (after_zeros B text) (first_ten B text) 10 z old refl new fault refused) refl
       (λ e. absurd (false≢true (sym (not_all B (first_ten B text) z old new fault _ refused refl) ∙ e)))
 
-  -- letters alone, of which the first ten show no overflow
+  -- only letters, of which the first ten show no overflow
   read_answer : (number : ℕ) → shows_overflow B text ≡ false
       → HasRead B (after_zeros B text) old new number → (over : Bool)
       → leb (2 ^ 128) (value B (after_zeros B text)) ≡ over
@@ -238,15 +238,15 @@ module _ {B text first later : List ℕ} {zeros old : ℕ} (ok : IsAlphabet B) (
 
 -- ---- checked arithmetic
 
--- what the first ten bytes are weighed with
+-- the weight of the first ten bytes
 pub weight_is : (n : ℕ) → 10 ≤ n → 62 ^ (n - 10) * 62 ^ 10 ≡ 62 ^ n
 weight_is n h = let back : n - 10 + 10 ≡ n = omega arith in sym (pow-add 62 (n - 10) 10) ∙ ap (λ k. 62 ^ k) back
 
--- what checked arithmetic refuses is 2^128 or more
+-- where checked arithmetic fails, the result is 2^128 or more
 pub too_large : (n : ℕ) → (n < 2 ^ 128 → ⊥) → 2 ^ 128 ≤ n
 too_large n h = elim (cases_lt n (2 ^ 128)) [ inl less ↦ absurd (h less) | inr more ↦ more ]
 
--- the sum if it fits, and else the overflow
+-- the sum if it fits, and otherwise the overflow
 pub sum_or_overflow : (o : Option ℕ) (sum : ℕ) → SomeIff o (sum < 2 ^ 128) sum
     → ok_or o ArithmeticOverflow ≡ number_or_overflow sum
 sum_or_overflow None sum h = rw (le-ltb sum (2 ^ 128) (too_large sum h)) refl

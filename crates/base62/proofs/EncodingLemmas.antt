@@ -1,4 +1,4 @@
--- The answer of encoding into a buffer.
+-- The result of encoding into a buffer.
 use Rattle.std.proofs.Common.{◌≡◌, ℕ, ◌+◌, ◌^◌, ◌<◌, ◌≤◌, List, ◌++◌, length, take, Ok, Err, refl, sym, ◌∙◌, arith}
 use Rattle.std.proofs.lemmas.Bool.{false≢true}
 use Rattle.std.proofs.lemmas.List.{take_all, take_at}
@@ -9,11 +9,11 @@ use Rattle.base62.specs.Decoding.{decoding}
 use Rattle.base62.specs.Fixed.{fixed, WritesFixed}
 use Rattle.base62.specs.Steps.{EncodesCounted, encoding_steps}
 use Rattle.base62.proofs.FixedLemmas.{length-fixed, digit_count_some, digit_count_exact, digit_count_canonical}
-use Rattle.base62.proofs.AnswerLemmas.{decoding-denotes}
+use Rattle.base62.proofs.ResultLemmas.{decoding-denotes}
 use Rattle.base62.proofs.WritingLemmas.{written_front, written_others, written_length}
 use Rattle.base62.proofs.StepsLemmas.{most_steps}
 
--- a number of so many letters
+-- a number of a given count of letters
 module _ (B : List ℕ) (ok : IsAlphabet B) (n count : ℕ) (small : n < 2 ^ 128) (has : DigitCount n count) (few : count ≤ 22) where
   -- where they fit, they are written
   pub encodes : (old new : List ℕ) (before after : ℕ) → count ≤ length old

@@ -20,7 +20,7 @@ unfolding fixed
 length-fixed B zero n = refl
 length-fixed B (suc w) n = length_push (fixed B w (n / 62)) (slice_index B (n % 62)) ∙ omega (arith, length-fixed B w (n / 62))
 
--- of n its last w digits alone count
+-- of n only the last w digits count
 fixed-remainder : (B : List ℕ) (w n : ℕ) → fixed B w (n % 62 ^ w) ≡ fixed B w n
 unfolding fixed
 fixed-remainder B zero n = refl
@@ -49,7 +49,7 @@ module _ (B : List ℕ) (ok : IsAlphabet B) where
   letters-fixed (suc w) n =
       All-push (IsLetter B) (fixed B w (n / 62)) _ (letters-fixed w (n / 62)) (is_letter-letter B ok (n % 62) (omega arith))
 
-  -- it has the value n where w letters hold n
+  -- it has the value n if n is below 62^w
   value-fixed : (w n : ℕ) → n < 62 ^ w → value B (fixed B w n) ≡ n
   unfolding fixed
   value-fixed zero n h = value-nil B ∙ omega arith
@@ -58,12 +58,12 @@ module _ (B : List ℕ) (ok : IsAlphabet B) where
       let last = digit_or_zero-letter B ok (n % 62) (omega arith) in
       rw (value_push B (fixed B w (n / 62)) (slice_index B (n % 62)), front, last) (omega arith)
 
-  -- a text of w letters denotes n where w letters hold it
+  -- a text of w letters denotes n if n is below 62^w
   pub denotes-fixed : (w n : ℕ) → 0 < w → n < 62 ^ w → Denotes B (fixed B w n) n
   denotes-fixed w n some fits =
       record { nonempty = omega (arith, length-fixed B w n); letters = letters-fixed w n; value_is = value-fixed w n fits }
 
-  -- n in the least number of letters from 1 on that holds it
+  -- n in the least number of letters from 1 on that suffices
   canonical-fixed : (w n : ℕ) → 0 < w → n < 62 ^ w → NeedsLetters w n
       → IsCanonical B (fixed B w n) n
   canonical-fixed w n some fits least =
@@ -71,7 +71,7 @@ module _ (B : List ℕ) (ok : IsAlphabet B) where
 
   -- a number of w letters
   module _ (n w : ℕ) (has : DigitCount n w) where
-    -- they hold it
+    -- they suffice
     pub digit_count_fits : n < 62 ^ w
     digit_count_fits =
         let one = has B ok in
@@ -86,7 +86,7 @@ module _ (B : List ℕ) (ok : IsAlphabet B) where
     digit_count_most k some small =
         let one = has B ok in omega (arith, one.1.shortest (fixed B k n) (denotes-fixed k n some small), one.2, length-fixed B k n)
 
-    -- and one letter less would not hold it
+    -- and one letter less does not suffice
     digit_count_least : NeedsLetters w n
     digit_count_least = elim (cases_lt n (62 ^ (w - 1))) [
       | inr more ↦ inr more
@@ -104,6 +104,6 @@ module _ (B : List ℕ) (ok : IsAlphabet B) where
     pub digit_count_exact : (text : List ℕ) → IsCanonical B text n → length text ≡ w
     digit_count_exact text canonical = let one = has B ok in ap length (one_canonical B ok n text one.0 canonical one.1) ∙ one.2
 
--- n has a canonical text of the least number of letters from 1 on that holds it
+-- n has a canonical text of the least number of letters from 1 on that suffices
 pub digit_count_is : (n w : ℕ) → 0 < w → n < 62 ^ w → NeedsLetters w n → DigitCount n w
 digit_count_is n w some fits least = λ B ok. (fixed B w n, canonical-fixed B ok w n some fits least, length-fixed B w n)

@@ -34,7 +34,7 @@ module _ (B : List ℕ) (ok : IsAlphabet B) where
     | inr some ↦ omega arith
   ]
 
-  -- such a leading letter alone weighs more than all that can come after it
+  -- such a leading letter has a greater value than all that can come after it
   pub first_weighs : (text : List ℕ) → 0 < length text → IsLetter B (get_or text 0 0)
       → get_or text 0 0 ≢ zero_letter B → 62 ^ (length text - 1) ≤ value B text
   first_weighs [] some letter other = absurd (omega arith)
@@ -43,7 +43,7 @@ module _ (B : List ℕ) (ok : IsAlphabet B) where
       let weight : 62 ^ length text ≤ digit_or_zero B b * 62 ^ length text = omega (arith, le-mul_of_pos_right (62 ^ length text) (digit_some b letter other)) in
       rw (back, value-cons B b text) (omega arith)
 
-  -- one letter less could not hold the value of a text that has no needless zero letter
+  -- one letter less does not suffice for the value of a text that has no needless zero
   pub needs_each : (text : List ℕ) → AreLetters B text → HasNoNeedlessZero B text
       → NeedsLetters (length text) (value B text)
   needs_each text letters has = elim has.1 [

@@ -1,4 +1,4 @@
--- What holds of the bytes of an alphabet holds of letters.
+-- What is true of each byte of an alphabet is true of letters.
 use Rattle.std.proofs.Common.{ℕ, ◌<◌, List, subst}
 use Rattle.std.specs.List.{All}
 use Rattle.std.specs.Str.{IsAscii}

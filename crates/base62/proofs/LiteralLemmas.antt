@@ -1,4 +1,4 @@
--- Texts that are written out: what they denote, and which are canonical.
+-- Literal texts: what they denote, and which are canonical.
 use Rattle.std.proofs.Common.{◌≡◌, ℕ, ◌-◌, ◌^◌, ◌<◌, ◌≤◌, true, List, codes, length, Ok, Err, refl, inr, lit≤, arith}
 use Rattle.std.specs.List.{list_all}
 use Rattle.std.proofs.lemmas.List.Sums.{AllPass-from_list_all}
@@ -36,7 +36,7 @@ pub denotes_above : Denotes standard (codes "7n42DGM5Tflk9n8mt7Fhc8") (2 ^ 128)
 unfolding base62_on_literals
 denotes_above = denotes_by standard (codes "7n42DGM5Tflk9n8mt7Fhc8") (2 ^ 128) (omega arith) refl refl
 
--- ---- texts of so many letters
+-- ---- texts of a fixed width
 
 pub fixed_by : (B : List ℕ) (w : ℕ) (text : List ℕ) (n : ℕ) → length text ≡ w → 0 < w
     → list_all (is_letter B) text ≡ true → value B text ≡ n → IsFixed B w text n
@@ -48,7 +48,7 @@ fixed_by B w text n size some letters is = record { size = size; denotes = denot
 pub needless_1337 : IsCanonical standard (codes "0LZ") 1337 → ⊥
 needless_1337 h = let less : 3 ≤ 2 = h.shortest (codes "LZ") denotes_1337 in omega (arith, less)
 
--- its text has two letters, so no room for one holds it
+-- its text has two letters, so it does not fit into one
 pub fits_1337 : CanonicalFits standard 1337 2
 fits_1337 = (codes "LZ", canonical_1337, lit≤ tt)
 
@@ -68,7 +68,7 @@ encodes_1337 = record {
   roomy = λ _. refl;
 }
 
--- and refused by a shorter one
+-- and does not fit into a shorter one
 pub refuses_1337 : EncodesInto standard 1337 (codes ".") (codes ".") (Err BufferTooSmall)
 refuses_1337 = record {
   fits = (λ e. cc, λ fits. absurd (too_long_1337 fits));

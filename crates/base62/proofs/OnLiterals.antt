@@ -1,4 +1,4 @@
--- What unfolds if a clause names written-out texts, so that computing proves it.
+-- What unfolds in a clause about literal texts, so that computation proves it.
 use Rattle.std.specs.Prelude.{⊤}
 use Rattle.std.specs.Char.{encode_utf8}
 use Rattle.std.specs.Fmt.{char_count, digits}

@@ -33,7 +33,7 @@ ascends_by_test B test d h =
     let place : get_or places d 0 ≡ d = get_or-range_with_len 0 61 d 0 h ∙ omega arith in
     ltb-true _ _ (subst (λ k. rises B k ≡ true) place at)
 
--- what tests of letters that are written out show
+-- what the tests of literal letters show
 pub ruleset letters_by_test = (alphabet_by_test, ascends_by_test, ascii_by_test)
 
 -- the standard letters ascend by byte
@@ -41,12 +41,12 @@ pub standard_ascends : Ascends standard
 unfolding standard
 standard_ascends = ascends_by_test standard refl
 
--- what a comparison of two numbers answers
+-- the result of comparing two numbers
 compared : (m n : ℕ) (answer : Ordering) → MatchOrdering answer (m < n) (m ≡ n) (n < m)
     → nat_cmp m n ≡ answer
 compared m n answer h = sym (nat_cmp_is m n answer h)
 
--- two numbers compare as two others that stand as they do
+-- two numbers compare as two others in the same relation
 compared_alike : (x y m n : ℕ) → (x < y → m < n) → (x ≡ y → m ≡ n) → (y < x → n < m)
     → nat_cmp m n ≡ nat_cmp x y
 compared_alike x y m n less equal greater = elim (cases_order x y) [
@@ -128,7 +128,7 @@ module _ (B : List ℕ) (ok : IsAlphabet B) where
     fixed_compare w a b m n p q =
         rw (p.denotes.value_is, q.denotes.value_is) at (texts_compare a b p.denotes.letters q.denotes.letters (p.size ∙ sym q.size))
 
-    -- by `<` they compare alike
+    -- and so they do by `<`
     pub fixed_compare_partly : (w : ℕ) (a b : List ℕ) (m n : ℕ) → IsFixed B w a m → IsFixed B w b n
         → partial_order a b ≡ Some (nat_cmp m n)
     fixed_compare_partly w a b m n p q =

@@ -1,4 +1,4 @@
--- That a text denotes 2^128 or more, whatever letters stand in place of its bad bytes.
+-- A text denotes 2^128 or more, whatever letters replace its bad bytes.
 use Rattle.std.proofs.Common.{◌≡◌, ℕ, ◌+◌, ◌-◌, ◌*◌, ◌^◌, ◌<◌, ◌≤◌, List, length, get_or, take, drop, sym, ap, ◌∙◌, arith, min}
 use Rattle.std.proofs.lemmas.List.{length-drop, length-take, get_or-drop, get_or-take, ext_get_or}
 use Rattle.std.proofs.lemmas.List.Elements.{All-drop, All-take}
@@ -18,7 +18,7 @@ value-drop-le B text k = omega (arith, value-cut B text k)
 
 -- texts that agree at letters
 module _ (B text other : List ℕ) (a : AgreesAtLetters B text other) where
-  -- do so from any place on
+  -- agree from any place on
   agrees-drop : (k : ℕ) → AgreesAtLetters B (drop k text) (drop k other)
   agrees-drop k = record {
     size = length-drop k other ∙ ap (λ n. n - k) a.size ∙ sym (length-drop k text);
@@ -39,7 +39,7 @@ module _ (B text other : List ℕ) (a : AgreesAtLetters B text other) where
         get_or-take k other i 0 within ∙ a.agrees i (omega (arith, length-take k text)) (ap (is_letter B) (sym same) ∙ p) ∙ sym same;
   }
 
-  -- and no other letters can stand in a text of letters
+  -- and a text of letters agrees only with itself
   agrees_same : AreLetters B text → other ≡ text
   agrees_same letters = ext_get_or 0 other text a.size (λ i h. a.agrees i (omega (arith, a.size)) (letters i 0 (omega (arith, a.size))))
 
@@ -68,7 +68,7 @@ module _ (B : List ℕ) (ok : IsAlphabet B) (text other : List ℕ) (a : AgreesA
       let first : 2 ^ 128 ≤ value B (take 10 o) * 62 ^ length (drop 10 o) = rw (same, twelve) big in
       omega (arith, value-cut B o 10, value-drop-le B other (leading_zeros B text))
 
-  -- letters alone after the leading zeros
+  -- only letters after the leading zeros
   pub over_letters : AreLetters B (after_zeros B text) → 2 ^ 128 ≤ value B (after_zeros B text)
       → 2 ^ 128 ≤ value B other
   over_letters letters big =

@@ -24,7 +24,7 @@ take_chars_all n (b ∷ text) short = cond_both (is_char_start b) _ _ (λ shown.
     (λ start. rw (ne_eqb n 0 (λ e. omega arith), take_chars_all (n - 1) text (omega arith)) refl)
     (λ inside. rw (take_chars_all n text (omega arith)) refl)
 
--- how much of the padding stands before the text, by the number of the alignment
+-- how much of the padding precedes the text, by the number of the alignment
 abbrev in_front : ℕ → ℕ → ℕ
 in_front number padding =
     let align = cond (eqb number 0) 1 number in cond (eqb align 1) 0 (cond (eqb align 2) (padding / 2) padding)
@@ -36,7 +36,7 @@ module _ (fill : ℕ) (text : List ℕ) where
   aligned-none Right = refl
   aligned-none Center = append-nil text
 
-  -- a width asks for as many fills as the text is short of characters
+  -- a width requires as many fills as the text is shorter than it, in characters
   padded_to-some : (width : ℕ) (a : Alignment)
       → padded_to (Some width) fill a text ≡ aligned a fill (width - char_count text) text
   padded_to-some width a = elim (cases_lt (char_count text) width) [
@@ -56,11 +56,11 @@ module _ (fill : ℕ) (text : List ℕ) where
     | inr some ↦ rw (ne_eqb width 0 some) (padded_to-some width a)
   ]
 
-  -- the text with so much of the padding before it, and what is left behind it
+  -- the text with so much of the padding before it, and the rest after it
   around : (front padding : ℕ) → List ℕ
   around front padding = fills fill front ++ (text ++ fills fill (padding - front))
 
-  -- with what an alignment asks for before it, that is the aligned text
+  -- with what an alignment requires before it, that is the aligned text
   aligned-around : (number padding : ℕ)
       → IfSome (alignment_of number)
       (λ a. around (in_front number padding) padding ≡ aligned a fill padding text)
@@ -81,7 +81,7 @@ mapped : (o : Option Alignment) (f g : Alignment → List ℕ) (text : List ℕ)
 mapped None f g text same h = tt
 mapped (Some a) f g text same h = h ∙ sym (same a)
 
--- what `pad` writes by the numbers that the options hold: the text, cut to the precision, with its padding around it
+-- what `pad` writes by the numbers in the options: the text, truncated to the precision, with its padding around it
 abbrev written : ℕ → ℕ → ℕ → ℕ → List ℕ → List ℕ
 written precision width fill number text =
     let shown = take_chars precision text in
@@ -139,7 +139,7 @@ repeat-one b (suc count) = rw (repeat-one b count) refl
 fills-ascii : (fill : ℕ) → fill < 128 → (count : ℕ) → fills fill count ≡ replicate count fill
 fills-ascii fill ascii count = rw (encode_ascii fill ascii) (repeat-one fill count)
 
--- a text that stands right has as many fills before it as it is short of bytes
+-- a right-aligned text has as many fills before it as it is shorter than the width, in bytes
 pub padded_right : (width fill : ℕ) (text : List ℕ) → IsAscii text → fill < 128
     → padded_to (Some width) fill Right text ≡ replicate (width - length text) fill ++ text
 padded_right width fill text ascii small =

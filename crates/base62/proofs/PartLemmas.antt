@@ -16,7 +16,7 @@ use Rattle.base62.specs.Parts.{HasRead, HasRefused, ReadsPart, ReadsOn, after_nu
 use Rattle.base62.proofs.ValueLemmas.{value-nil, value-one, value-append, value-lt_most}
 use Rattle.base62.proofs.TableLemmas.{digit-letter, digit-value, digit-no_letter}
 
--- in letters alone no byte stops
+-- in a text of letters no byte is bad
 pub prefix_len-letters : (B text : List ℕ) → AreLetters B text
     → prefix_len (is_letter B) text ≡ length text
 prefix_len-letters B text letters =
@@ -103,7 +103,7 @@ module _ (B part a : List ℕ) (k start old : ℕ) (front : a ≡ take k part) w
   refuses_cut new fault refused =
       subst (λ xs. HasRefused B xs start old new fault) (ap (λ xs. xs ++ drop k part) front ∙ take-append-drop k part) (refuses_before B a (drop k part) start old new fault refused)
 
-  -- n bytes are behind the cut
+  -- n bytes are after the cut
   pub reads_cut : (b : List ℕ) (mid new number n : ℕ) (r : Result ℕ DecodeError) → b ≡ drop k part
       → k + n ≡ length part → HasRead B a old mid number
       → ReadsPart B b (start + k) mid new r
@@ -115,13 +115,13 @@ module _ (B part a : List ℕ) (k start old : ℕ) (front : a ≡ take k part) w
       let both = reads_on B a b start old mid new number r read (rw first later) in
       subst (λ xs. ReadsPart B xs start old new (after_number number n r)) whole (rw second at both)
 
-  -- what is behind the cut is read behind the number
+  -- what is after the cut is read after the number
   pub reads_on_cut : (b : List ℕ) (mid new number : ℕ) (r : Result ℕ DecodeError) → b ≡ drop k part
       → k + length b ≡ length part → HasRead B a old mid number
       → ReadsOn B number b (start + k) mid new r → ReadsPart B part start old new r
   reads_on_cut b mid new number r back size read later = rw later.2 (reads_cut b mid new number (length b) later.0 back size read later.1)
 
--- a part that is read behind nothing
+-- a part that is read after nothing
 alone_is : (n : ℕ) (alone : Result ℕ DecodeError) → after_number 0 n alone ≡ alone
 alone_is n (Ok m) = ap Ok (omega arith)
 alone_is n (Err fault) = refl
@@ -130,7 +130,7 @@ pub reads_alone : (B part : List ℕ) (start old new : ℕ) (r : Result ℕ Deco
     → ReadsOn B 0 part start old new r → ReadsPart B part start old new r
 reads_alone B part start old new r on = rw (on.2, alone_is (length part) on.0) on.1
 
--- a number below 62^5 and at most five letters behind it
+-- a number below 62^5 and at most five letters after it
 pub on_below : (number m i k : ℕ) → number < 62 ^ 5 → m < 62 ^ i → i ≤ k
     → number * 62 ^ i + m < 62 ^ 5 * 62 ^ k
 on_below number m i k small less few =

@@ -11,7 +11,7 @@ use Rattle.base62.specs.Places.{at_place, sum_over_places}
 pow_one : (base : ℕ) → base ^ 1 ≡ base
 pow_one base = pow-suc base 0 ∙ rw (pow-zero base) (omega arith)
 
--- a digit keeps its weight when another stands before it
+-- a digit keeps its weight if another precedes it
 at_place_later : (base d : ℕ) (ds : List ℕ) (i : ℕ)
     → at_place base (d ∷ ds) (i + 1) ≡ at_place base ds i
 at_place_later base d ds i =
@@ -38,7 +38,7 @@ places-cons base d ds =
     let e : suc (length ds) - 1 - 0 ≡ length ds = omega arith in
     rw (sum_by-cons (at_place base (d ∷ ds)) 0 (range_with_len (0 + 1) (length ds)), e, sum_by_later base d ds (length ds) 0)
 
--- digits before others are worth their sum at the place where the others begin
+-- the sum of digits before others is multiplied by the base to the number of the others
 pub places-append : (base : ℕ) (xs ys : List ℕ)
     → sum_over_places base (xs ++ ys)
     ≡ sum_over_places base xs * base ^ length ys + sum_over_places base ys
@@ -50,7 +50,7 @@ places-append base (d ∷ ds) ys =
     let weight : base ^ length (ds ++ ys) ≡ base ^ length ds * base ^ length ys = rw (length-append ds ys, pow-add base (length ds) (length ys)) in
     rw (front, ih, back, weight) (omega arith)
 
--- one digit behind moves each other one place on
+-- one digit appended multiplies the others by the base
 pub places_push : (base : ℕ) (ds : List ℕ) (d : ℕ)
     → sum_over_places base (ds ++ d ∷ []) ≡ sum_over_places base ds * base + d
 places_push base ds d =

@@ -17,6 +17,6 @@ quotient_fits n v w t both fits =
     let whole : n < 62 ^ (v + w) = rw both fits in
     (div-lt_iff_lt-mul {k = 62 ^ w} {x = n} {y = 62 ^ v} (omega (arith, some))).1 (omega (arith, whole, pow-add 62 v w))
 
--- a number without the part that its quotient stands for is the remainder
+-- a number less its quotient times the divisor is the remainder
 pub remainder_is : (n p : ℕ) → n - n / p * p ≡ n % p
 remainder_is n p = sym (mod-eq-sub-div-mul n p)

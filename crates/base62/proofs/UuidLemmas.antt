@@ -11,7 +11,7 @@ use Rattle.base62.specs.Canonical.{Denotes}
 use Rattle.base62.specs.Decoding.{decoding, DecodesCanonical}
 use Rattle.base62.specs.Uuid.{IsUuid, uuid_number, DecodesUuid, DecodesUuidCanonical}
 use Rattle.base62.proofs.PlacesLemmas.{places-nil, places-cons, places-lt, same_digits}
-use Rattle.base62.proofs.AnswerLemmas.{decoding-denotes, names_first}
+use Rattle.base62.proofs.ResultLemmas.{decoding-denotes, names_first}
 
 -- std's number of sixteen bytes is their sum over places
 pub number_from_bytes : (uuid : List ℕ) → length uuid ≡ 16
@@ -32,7 +32,7 @@ bytes_small zero n i = omega arith
 bytes_small (suc k) n zero = omega (arith, byte_at_is k n)
 bytes_small (suc k) n (suc i) = bytes_small k n i
 
--- the lowest k bytes of a number denote what they hold of it
+-- the lowest k bytes of a number denote the number modulo 256^k
 sum_of_lowest : (k n : ℕ) → sum_over_places 256 (bytes_high_first k n) ≡ n % 256 ^ k
 sum_of_lowest zero n = rw (places-nil 256, pow-zero 256) (omega arith)
 sum_of_lowest (suc k) n =
@@ -61,7 +61,7 @@ module _ (B : List ℕ) (ok : IsAlphabet B) (text : List ℕ) where
       → decoding B text ≡ Ok (uuid_number uuid)
   decoded uuid is denotes = decoding-denotes B ok (uuid_number uuid) (uuid_number-lt uuid is) text denotes
 
-  -- what a number that was decoded is as a UUID, and a fault
+  -- the result as a UUID of decoding: a number, and an error
   pub number_decoded : (n : ℕ) → n < 2 ^ 128 → decoding B text ≡ Ok n
       → DecodesUuid B text (Ok (to_be_bytes w128 n))
   number_decoded n small is =
@@ -86,7 +86,7 @@ module _ (B : List ℕ) (ok : IsAlphabet B) (text : List ℕ) where
   }
 
 module _ (B text : List ℕ) where
-  -- what strict decoding answers as a UUID: a number, none, and a fault
+  -- the result as a UUID of canonical decoding: a number, none, and an error
   pub canonical_decoded : (n : ℕ) → n < 2 ^ 128 → DecodesCanonical B text (Ok (Some n))
       → DecodesUuidCanonical B text (Ok (Some (to_be_bytes w128 n)))
   canonical_decoded n small is =

@@ -22,7 +22,7 @@ value-cons B b text =
     places-cons 62 (digit_or_zero B b) (map (digit_or_zero B) text)
     ∙ ap (λ k. digit_or_zero B b * 62 ^ k + value B text) (length-map text (digit_or_zero B))
 
--- a text before another is worth its value at the place where the other begins
+-- the value of a text before another is multiplied by 62 to the length of the other
 pub value-append : (B a b : List ℕ) → value B (a ++ b) ≡ value B a * 62 ^ length b + value B b
 unfolding value
 value-append B a b =
@@ -34,7 +34,7 @@ pub value-cut : (B text : List ℕ) (k : ℕ)
     → value B text ≡ value B (take k text) * 62 ^ length (drop k text) + value B (drop k text)
 value-cut B text k = ap (value B) (sym (take-append-drop k text)) ∙ value-append B (take k text) (drop k text)
 
--- one letter behind moves each other one place on
+-- one letter appended multiplies the others by 62
 pub value_push : (B text : List ℕ) (b : ℕ)
     → value B (text ++ b ∷ []) ≡ value B text * 62 + digit_or_zero B b
 unfolding value

@@ -99,7 +99,7 @@ pair_written B [] x first second room small one two = absurd (omega arith)
 pair_written B (_ ∷ []) x first second room small one two = absurd (omega arith)
 pair_written B (_ ∷ _ ∷ old) x first second room small one two = let same : x / 62 % 62 ≡ x / 62 = omega arith in rw (one, two, same) refl
 
--- two letters, of which the second is written over the first if there is one place alone
+-- two letters, of which the second overwrites the first if there is only one place
 pub ends_written : (B old : List ℕ) (places x first second : ℕ) → 1 ≤ places → places ≤ 2
     → places ≤ length old → x < 62 ^ places
     → first ≡ get_or B (x / 62) 0 → second ≡ get_or B (x % 62) 0

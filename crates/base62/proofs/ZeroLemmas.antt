@@ -74,7 +74,7 @@ module _ (B : List ℕ) (ok : IsAlphabet B) where
       let below : k < z = omega (arith, h, length-take-le z text (zeros_within B text)) in
       ap (is_letter B) (get_or-take z text k 0 below ∙ zero_before B text k below) ∙ zero_is_letter)
 
-  -- so a text is letters alone if what follows them is
+  -- so a text has only letters if what follows them has
   pub letters_from_after_zeros : (text : List ℕ) → AreLetters B (after_zeros B text)
       → AreLetters B text
   letters_from_after_zeros text letters =
@@ -101,7 +101,7 @@ module _ (B : List ℕ) (ok : IsAlphabet B) where
   pub value_front : (text : List ℕ) → value B (zero_letter B ∷ text) ≡ value B text
   value_front text = rw (value-cons B (zero_letter B) text, zero_digit) (omega arith)
 
-  -- and a bad byte stands one place further on
+  -- and the index of a bad byte is one greater
   first_invalid_front : (text : List ℕ)
       → first_invalid B (zero_letter B ∷ text)
       ≡ InvalidBase62Byte (get_or text (invalid_index B text) 0) (invalid_index B text + 1)
@@ -111,7 +111,7 @@ module _ (B : List ℕ) (ok : IsAlphabet B) where
       let more : suc index ≡ index + 1 = omega arith in
       ap (λ k. InvalidBase62Byte (get_or (zero_letter B ∷ text) k 0) k) place ∙ ap (InvalidBase62Byte (get_or text index 0)) more
 
-  -- so it moves a bad byte one place on, and changes no other answer
+  -- so it adds one to the index of a bad byte, and changes no other result
   pub decoding-zero_front : (text : List ℕ) → 0 < length text
       → decoding B (zero_letter B ∷ text) ≡ one_place_on (decoding B text)
   unfolding decoding

@@ -1,4 +1,4 @@
--- The one text that is written for a number.
+-- Canonical texts: the one text that encoding writes for a number.
 use Rattle.std.specs.Prelude.{◌≡◌, ℕ, ◌<◌, ◌≤◌, List, length}
 use Rattle.base62.specs.Alphabet.{IsAlphabet, AreLetters}
 use Rattle.base62.specs.Value.{value}
@@ -14,7 +14,7 @@ pub record IsCanonical (B text : List ℕ) (n : ℕ) : Type 0 where
   pub denotes : Denotes B text n
   pub shortest : (other : List ℕ) → Denotes B other n → length text ≤ length other
 
--- a canonical text of n is no longer than the room
+-- a canonical text of n has at most `room` letters
 abbrev pub CanonicalFits : List ℕ → ℕ → ℕ → Type 0
 CanonicalFits B n room = (text : List ℕ) × IsCanonical B text n × (length text ≤ room)
 

@@ -1,7 +1,8 @@
--- Exchange of capital and small letters.
+-- Exchange of uppercase and lowercase letters.
 use Rattle.std.specs.Prelude.{ℕ, ◌+◌, ◌-◌, ◌&&◌, nat_le, if◌then◌else◌, List, map}
 
--- a letter of ASCII in its other case: capitals are 65 to 90, small letters 97 to 122; others stay
+-- an ASCII letter in its other case: uppercase is 65 to 90, lowercase 97 to 122; other bytes are
+-- unchanged
 unfoldable pub other_case : ℕ → ℕ
 other_case b =
     if nat_le 65 b && nat_le b 90 then b + 32

@@ -1,4 +1,4 @@
--- The texts of the faults.
+-- The messages of errors, which the code calls faults, and their order.
 use Rattle.std.specs.Prelude.{ℕ, ◌==◌, ◌&&◌, nat_le, if◌then◌else◌, List, [], ◌∷◌, ◌++◌, codes, decimal}
 use Rattle.std.specs.Char.Escape.{hex_digit_at}
 use Rattle.std.specs.Ordering.{nat_cmp, ordering_then}
@@ -10,9 +10,9 @@ use Rattle.base62.specs.declared.fault.DecodeError.TheVariants.{ArithmeticOverfl
 use Rattle.base62.specs.declared.fault.EncodeError.{EncodeError}
 use Rattle.base62.specs.declared.fault.EncodeError.TheVariants.{BufferTooSmall}
 
--- A byte in ASCII's default escape. A tab, a line feed, a carriage return, a quote of either kind
--- and a backslash become a backslash and one character. Any other byte from 32 to 126 stays. All
--- others become `\x` and two hexadecimal digits in lower case.
+-- A byte escaped as by `std::ascii::escape_default`. A tab, a line feed, a carriage return, a quote
+-- of either kind and a backslash become a backslash and one character. Any other byte from 32 to
+-- 126 is unchanged. All others become `\x` and two lowercase hexadecimal digits.
 unfoldable pub escaped : ℕ → List ℕ
 escaped b =
     if b == 9 then codes "\\t"
@@ -24,22 +24,22 @@ escaped b =
     else if nat_le 32 b && nat_le b 126 then b ∷ []
     else codes "\\x" ++ hex_digit_at 16 b ∷ hex_digit_at 1 b ∷ []
 
--- how a text names a byte and its index
+-- a byte and its index in a message
 unfoldable pub byte_at_index : ℕ → ℕ → List ℕ
 byte_at_index byte index = codes "byte b'" ++ escaped byte ++ codes "' at index " ++ decimal index
 
--- what a fault of decoding says
+-- the message of an error of decoding
 unfoldable pub decode_error_text : DecodeError → List ℕ
 decode_error_text ArithmeticOverflow = codes "Decoded number cannot fit into a `u128`"
 decode_error_text EmptyInput = codes "Encoded input is an empty string"
 decode_error_text (InvalidBase62Byte byte index) =
     codes "Encoded input contains the invalid " ++ byte_at_index byte index
 
--- what a fault of encoding says
+-- the message of an error of encoding
 unfoldable pub encode_error_text : EncodeError → List ℕ
 encode_error_text BufferTooSmall = codes "Buffer too small to encode the number"
 
--- what a fault of an alphabet says
+-- the message of an error of an alphabet
 unfoldable pub alphabet_error_text : AlphabetError → List ℕ
 alphabet_error_text (Repeated byte index) =
     codes "Alphabet repeats the " ++ byte_at_index byte index
@@ -48,17 +48,17 @@ alphabet_error_text (Repeated byte index) =
 abbrev pub byte_then_index : ℕ → ℕ → ℕ → ℕ → Ordering
 byte_then_index b i c j = ordering_then (nat_cmp b c) (nat_cmp i j)
 
--- the place of each kind of fault in the order
+-- the rank of each kind of error in the order
 abbrev pub decode_error_rank : DecodeError → ℕ
 decode_error_rank ArithmeticOverflow = 0
 decode_error_rank EmptyInput = 1
 decode_error_rank (InvalidBase62Byte byte index) = 2
 
--- two bad bytes compare by byte and then by index, and any other two faults by their kinds
+-- two bad bytes compare by byte and then by index, and any other two errors by their kinds
 abbrev pub decode_error_order : DecodeError → DecodeError → Ordering
 decode_error_order (InvalidBase62Byte b i) (InvalidBase62Byte c j) = byte_then_index b i c j
 decode_error_order d e = nat_cmp (decode_error_rank d) (decode_error_rank e)
 
--- the order of faults of alphabets
+-- the order of errors of alphabets
 abbrev pub alphabet_error_order : AlphabetError → AlphabetError → Ordering
 alphabet_error_order (Repeated b i) (Repeated c j) = byte_then_index b i c j

@@ -12,6 +12,6 @@ unfoldable pub fixed : List ℕ → ℕ → ℕ → List ℕ
 fixed B zero n = []
 fixed B (suc w) n = fixed B w (n / 62) ++ slice_index B (n % 62) ∷ []
 
--- that text replaces the first w bytes of a buffer, and all others stay
+-- that text replaces the first w bytes of a buffer, and all others are unchanged
 abbrev pub WritesFixed : List ℕ → ℕ → ℕ → List ℕ → List ℕ → Type 0
 WritesFixed B w n old new = new ≡ fixed B w n ++ drop w old

@@ -1,4 +1,4 @@
--- Definitions that the laws on texts cite.
+-- Definitions in the laws on texts.
 use Rattle.std.specs.Prelude.{◌≡◌, ◌≢◌, ℕ, ◌+◌, ◌<◌, ◌≤◌, ◌==◌, ◌^◌, ◌↔◌, ◌⊎◌, nat_lt, true, if◌then◌else◌, List, [], ◌∷◌, length, slice_index, Result, Ok, Err, IsOk}
 use Rattle.base62.specs.declared.fault.DecodeError.{DecodeError}
 use Rattle.base62.specs.declared.fault.DecodeError.TheVariants.{ArithmeticOverflow, EmptyInput, InvalidBase62Byte}
@@ -17,17 +17,18 @@ abbrev pub without_zeros : List ℕ → List ℕ → List ℕ
 without_zeros B text =
     if length (after_zeros B text) == 0 then zero_letter B ∷ [] else after_zeros B text
 
--- the other text is as long and has letters alone, and keeps each letter of the text at its place
+-- the other text has the same length and only letters, and agrees with the text at each letter of
+-- it
 pub record AgreesAtLetters (B text other : List ℕ) : Type 0 where
   pub size : length other ≡ length text
   pub letters : AreLetters B other
   pub agrees : (i : ℕ) → i < length text → is_letter B (slice_index text i) ≡ true
       → slice_index other i ≡ slice_index text i
 
--- What the answer of decoding tells of the text: which texts are accepted, and their values and
--- canonical texts; which byte a fault names; and what an overflow says if a letter follows the
--- leading zeros: with any letters in place of the bad bytes the text denotes 2^128 or more. It also
--- tells all that a call of `decode` does.
+-- What the result of decoding says of the text: which texts are accepted, and their values and
+-- canonical texts; which byte an error has; and what an overflow means if a letter follows the
+-- leading zeros: with any letters in place of the bad bytes the text denotes 2^128 or more. It
+-- includes all that the contract of `decode` says.
 pub record AnswerTells (B text : List ℕ) : Type 0 where
   pub decodes : Decodes B text (decoding B text)
   pub accepted : IsOk (decoding B text)
@@ -45,7 +46,7 @@ pub record AnswerTells (B text : List ℕ) : Type 0 where
 abbrev pub number_or_overflow : ℕ → Result ℕ DecodeError
 number_or_overflow n = if nat_lt n (2 ^ 128) then Ok n else Err ArithmeticOverflow
 
--- the same answer, but the index of a bad byte is one greater
+-- the same result, but the index of a bad byte is one greater
 abbrev pub one_place_on : Result ℕ DecodeError → Result ℕ DecodeError
 one_place_on (Err (InvalidBase62Byte byte index)) = Err (InvalidBase62Byte byte (index + 1))
 one_place_on answer = answer

@@ -1,5 +1,5 @@
--- Callers need not read Tables, Parts, or what Fixed says of writing. Only private contracts cite
--- these, and the model of Alphabet cites Tables.
+-- Callers need not read Tables, Parts, or what Fixed says of writing. Only private contracts use
+-- these, and the model of Alphabet uses Tables.
 pub mod Alphabet
 pub mod Tables
 pub mod Places

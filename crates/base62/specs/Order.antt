@@ -10,7 +10,7 @@ use Rattle.std.specs.declared.cmp.Ordering.{Ordering}
 abbrev pub lexicographic_order : List ℕ → List ℕ → Ordering
 lexicographic_order a b = slice_cmp nat_cmp a b
 
--- the same order as `<` of two slices or arrays answers it
+-- the same order as the result of `<` of two slices or arrays
 abbrev pub partial_order : List ℕ → List ℕ → Option Ordering
 partial_order a b = slice_partial_cmp (λ x y. Some (nat_cmp x y)) a b
 
@@ -26,7 +26,7 @@ shortlex_order a b = ordering_then (nat_cmp (length a) (length b)) (lexicographi
 abbrev pub Ascends : List ℕ → Type 0
 Ascends B = (d : ℕ) → d < 61 → slice_index B d < slice_index B (d + 1)
 
--- the test of letters that are written out: each is a greater byte than the one before it
+-- the test of literal letters: each is a greater byte than the one before it
 abbrev pub is_ascending : List ℕ → Bool
 is_ascending letters =
     list_all (λ d. nat_lt (slice_index letters d) (slice_index letters (d + 1)))

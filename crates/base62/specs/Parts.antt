@@ -1,4 +1,4 @@
--- What reading a part of a text answers: its value, or its first byte that is no letter.
+-- The result of reading a part of a text: its value, or its first byte that is no letter.
 use Rattle.std.specs.Prelude.{◌≡◌, ℕ, ◌+◌, ◌*◌, ◌^◌, ◌<◌, List, length, slice_index, Result, Ok, Err}
 use Rattle.base62.specs.declared.fault.DecodeError.{DecodeError}
 use Rattle.base62.specs.declared.fault.DecodeError.TheVariants.{InvalidBase62Byte}
@@ -6,26 +6,27 @@ use Rattle.base62.specs.Alphabet.{AreLetters}
 use Rattle.base62.specs.Value.{value}
 use Rattle.base62.specs.Decoding.{invalid_index}
 
--- the part is letters alone and has this value, and each letter took a step
+-- the part has only letters and this value, and each letter took a step
 pub record HasRead (B part : List ℕ) (old new number : ℕ) : Type 0 where
   pub letters : AreLetters B part
   pub value_is : number ≡ value B part
   pub steps : new ≡ old + length part
 
--- the fault names the first byte of the part that is no letter, and its index in the text; the part
--- begins at start, and that byte and each before it took a step
+-- the error has the first byte of the part that is no letter, and its index in the text; the part
+-- begins at `start`, and that byte and each before it took a step
 pub record HasRefused (B part : List ℕ) (start old new : ℕ) (fault : DecodeError) : Type 0 where
   pub within : invalid_index B part < length part
   pub names : fault
       ≡ InvalidBase62Byte (slice_index part (invalid_index B part)) (start + invalid_index B part)
   pub steps : new ≡ old + invalid_index B part + 1
 
--- one of the two, as the counter goes from old to new
+-- one of the two, as the counter goes from `old` to `new`
 abbrev pub ReadsPart : List ℕ → List ℕ → ℕ → ℕ → ℕ → Result ℕ DecodeError → Type 0
 ReadsPart B part start old new (Ok number) = HasRead B part old new number
 ReadsPart B part start old new (Err fault) = HasRefused B part start old new fault
 
--- the answer for the n last bytes, joined to the number of the bytes before them; a fault stays
+-- the result for the n last bytes, joined to the number of the bytes before them; an error is
+-- unchanged
 abbrev pub after_number : ℕ → ℕ → Result ℕ DecodeError → Result ℕ DecodeError
 after_number number n (Ok m) = Ok (number * 62 ^ n + m)
 after_number number n (Err fault) = Err fault

@@ -31,7 +31,7 @@ BeginsTextsBetween B w prefix least greatest = (low text high : List ℕ) (n : �
     → IsFixed B w low least → IsFixed B w text n → IsFixed B w high greatest
     → (BeginsWith prefix text ↔ (IsNotAfter low text × IsNotAfter text high))
 
--- how many texts of w letters begin with a prefix of k letters, for k up to w: 62^(w-k)
+-- the number of texts of w letters that begin with a prefix of k letters, for k up to w: 62^(w-k)
 abbrev pub span : ℕ → List ℕ → ℕ
 span w prefix = 62 ^ (w - length prefix)
 
@@ -53,17 +53,17 @@ interval_ends B w prefix =
     else Some
     (value B prefix * span w prefix, min ((value B prefix + 1) * span w prefix - 1) (2 ^ 128 - 1))
 
--- the range of a prefix: the ends of its interval, or the fault of its first byte that is no letter
+-- the range of a prefix: the ends of its interval, or the error of its first byte that is no letter
 abbrev pub range_of : List ℕ → ℕ → List ℕ → Result (Option (ℕ × ℕ)) DecodeError
 range_of B w prefix =
     if list_all (is_letter B) prefix then Ok (interval_ends B w prefix)
     else Err (first_invalid B prefix)
 
--- What the range of a prefix tells. A prefix of letters is accepted. If it has ends, the numbers
+-- What the range of a prefix says. A prefix of letters is accepted. If it has ends, the numbers
 -- below 2^128 from the one to the other are those whose texts of w letters begin with it. If the
 -- alphabet ascends, these texts are those from the one end's text to the other's in lexicographic
--- order. If a prefix has no ends, no text begins with it. Any other prefix is refused by its first
--- byte that is no letter, and no text begins with it.
+-- order. If a prefix has no ends, no text begins with it. Any other prefix is rejected with its
+-- first byte that is no letter, and no text begins with it.
 pub record TellsRange
     (B : List ℕ) (w : ℕ) (prefix : List ℕ) (result : Result (Option (ℕ × ℕ)) DecodeError)
     : Type 0 where

@@ -1,5 +1,5 @@
--- How many steps calls take. A step reads the digit of a byte, the letter of a digit, or two
--- letters at once.
+-- The steps of calls. A step looks up the digit of a byte, the letter of a digit, or the letters of
+-- two digits at once.
 use Rattle.std.specs.Prelude.{◌≡◌, ℕ, ◌+◌, ◌-◌, ◌≤◌, ◌==◌, nat_lt, not, if◌then◌else◌, List, [], ◌∷◌, length, slice_index, Result, MatchResult}
 use Rattle.std.specs.List.{list_all}
 use Rattle.base62.specs.declared.fault.DecodeError.{DecodeError}
@@ -8,7 +8,7 @@ use Rattle.base62.specs.Alphabet.{is_letter}
 use Rattle.base62.specs.Decoding.{decoding, leading_zeros, after_zeros, first_ten, invalid_index, shows_overflow}
 use Rattle.base62.specs.Encoding.{EncodesInto}
 
--- one for each byte after the leading zeros, up to the first that is no letter and with it
+-- one for each byte after the leading zeros, up to and including the first that is no letter
 abbrev pub steps_to_invalid : List ℕ → List ℕ → ℕ
 steps_to_invalid B text = invalid_index B text - leading_zeros B text + 1
 
@@ -25,7 +25,7 @@ decoding_steps B text =
     else if not (list_all (is_letter B) (after_zeros B text)) then steps_to_invalid B text
     else length (after_zeros B text)
 
--- a counted call answers what decoding does, and moves the counter by exactly its steps, at most 22
+-- a counted call returns the result of decoding, and adds exactly its steps, at most 22
 pub record DecodesCounted
     (B text : List ℕ) (old new : ℕ) (result : Result ℕ DecodeError) : Type 0 where
   pub answer : result ≡ decoding B text
@@ -39,8 +39,8 @@ encoding_steps d = slice_index
     ∷ 7 ∷ 8 ∷ 8 ∷ 9 ∷ 9 ∷ 10 ∷ 10 ∷ 11 ∷ 12 ∷ 13 ∷ 13 ∷ [])
     (d - 1)
 
--- a counted call encodes into a buffer, and moves the counter by exactly the steps for the length
--- that it answers, at most 13; a refusal takes none
+-- a counted call encodes into a buffer, and adds exactly the steps for the length that it returns,
+-- at most 13; an error takes none
 pub record EncodesCounted
     (B : List ℕ) (n : ℕ) (old new : List ℕ) (before after : ℕ) (result : Result ℕ EncodeError)
     : Type 0 where

@@ -11,11 +11,11 @@ pub record IsUuid (uuid : List ℕ) : Type 0 where
   pub size : length uuid ≡ 16
   pub bytes : (i : ℕ) → slice_index uuid i < 256
 
--- the number of the bytes, the highest first
+-- the number of the bytes, the most significant first
 abbrev pub uuid_number : List ℕ → ℕ
 uuid_number uuid = sum_over_places 256 uuid
 
--- A text is decoded to the UUID of its number, and has the faults of decoding.
+-- A text is decoded to the UUID of its number, and has the errors of decoding.
 pub record DecodesUuid (B text : List ℕ) (result : Result (List ℕ) DecodeError) : Type 0 where
   pub number : (uuid : List ℕ) → result ≡ Ok uuid → decoding B text ≡ Ok (uuid_number uuid)
   pub uuid : (uuid : List ℕ) → IsUuid uuid → decoding B text ≡ Ok (uuid_number uuid)
@@ -25,9 +25,9 @@ pub record DecodesUuid (B text : List ℕ) (result : Result (List ℕ) DecodeErr
   pub fault : (fault : DecodeError) → decoding B text ≡ Err fault → result ≡ Err fault
   pub named : IfErr result (NamesFirst B text)
 
--- Strict decoding to a UUID. A UUID is answered exactly for the canonical text of its number. None is
--- answered exactly for the other texts that decode to a number, and these begin with a needless
--- zero. Every other text has its fault of decoding.
+-- Canonical decoding to a UUID. The result is a UUID exactly for the canonical text of its number.
+-- It is None exactly for the other texts that decode to a number, and these begin with a needless
+-- zero. For every other text it is the error of decoding.
 pub record DecodesUuidCanonical
     (B text : List ℕ) (result : Result (Option (List ℕ)) DecodeError) : Type 0 where
   pub accepted : (uuid : List ℕ) → IsUuid uuid → IsCanonical B text (uuid_number uuid)

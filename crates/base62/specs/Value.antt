@@ -3,7 +3,7 @@ use Rattle.std.specs.Prelude.{ℕ, List, map, unwrap_or}
 use Rattle.base62.specs.Alphabet.{digit_of}
 use Rattle.base62.specs.Places.{sum_over_places}
 
--- the digit of a letter; other bytes count as 0, but the value is asked of letters alone
+-- the digit of a letter; other bytes count as 0, but only the value of letters is used
 abbrev pub digit_or_zero : List ℕ → ℕ → ℕ
 digit_or_zero B b = unwrap_or (digit_of B b) 0
 

@@ -1,4 +1,4 @@
-//! Alphabets: their letters, and the digits of bytes.
+//! Alphabets: their characters, and the digits of bytes.
 
 ghost use Rattle.std.specs.Prelude.{◌≡◌, ◌↔◌, ℕ, Err, IsTrue, IsOk, IfOk, nat_eq};
 ghost use Rattle.std.specs.Cmp.{partial_equiv_from_equiv};
@@ -18,14 +18,14 @@ use std::marker::Model;
 pub(crate) use tables::{Tables, alternative_tables, standard_tables};
 pub use work::Work;
 
-/// 62 distinct bytes: the letters of the digits 0 to 61, in order. The first is the zero letter.
+/// An alphabet of 62 distinct bytes: the characters of the digits 0 to 61, in order.
 ///
-/// The calls over an alphabet have `_with` in their names: [`decode_with`] is [`decode`] over your
-/// own letters. An alphabet is 318 bytes: its letters, and the digits of all bytes. It takes no
-/// memory besides.
+/// The first character represents zero. The calls that use an alphabet have `_with` in their names:
+/// [`decode_with`] is like [`decode`], but uses a custom alphabet. An alphabet takes 318 bytes, for
+/// its characters and the digits of all bytes, and does not allocate.
 ///
 /// ```rust
-/// // Digits and letters, but none that look alike, and some marks.
+/// // Digits and letters, but none that look alike, and some punctuation.
 /// let letters = *b"23456789ABCDEFGHJKLMNPQRSTUVWXYZabcdefghijkmnpqrstuvwxyz-_.~!*";
 /// let alphabet = base62::Alphabet::of(letters);
 /// assert_eq!(rt; base62::decode_with(&alphabet, b"32"), Ok(62));
@@ -33,7 +33,7 @@ pub use work::Work;
 ///
 /// [`decode`]: crate::decode
 /// [`decode_with`]: crate::decode_with
-// The layout is part of the interface for C, whose callers hold alphabets and lend them to calls.
+// The layout is part of the C interface: callers own alphabets and pass pointers to them.
 #[repr(C)]
 #[derive(Clone, Copy)]
 pub struct Alphabet {
@@ -42,7 +42,7 @@ pub struct Alphabet {
 
 const _: () = prove!(size_of::<Alphabet>() == 318);
 
-// Contracts see an alphabet as the list of its letters.
+// In contracts the value of an alphabet is the list of its letters.
 impl Model for Alphabet {
     ghost use Rattle.std.specs.Prelude.{ℕ, List};
     ghost use Rattle.base62.specs.Tables.{AreTables, digits_of_bytes};
@@ -58,9 +58,9 @@ impl Model for Alphabet {
 }
 
 impl Alphabet {
-    /// The alphabet of these letters, which may be any bytes, ASCII or not.
+    /// Creates an alphabet from 62 bytes, ASCII or not.
     ///
-    /// The call takes no memory.
+    /// Does not allocate.
     ///
     /// ```rust
     /// let repeated = base62::Alphabet::new([b'a'; 62]);
@@ -69,8 +69,8 @@ impl Alphabet {
     ///
     /// # Errors
     ///
-    /// `Repeated(byte, index)` if a byte is repeated. The index is the least one whose byte stands at an
-    /// earlier index too.
+    /// Returns `Repeated(byte, index)` if a byte is repeated. The index is the least one whose byte
+    /// is also at an earlier index.
     pub const fn new(letters: [u8; 62]) -> Result<Alphabet, AlphabetError>
         ensures ok { IfOk result (λ alphabet. alphabet ≡ letters) }
         ensures accepted { IsOk result ↔ IsAlphabet letters }
@@ -92,10 +92,9 @@ impl Alphabet {
         })
     }
 
-    /// The alphabet of letters that are written out in the program.
+    /// Creates an alphabet from a literal, whose 62 bytes have to be distinct.
     ///
-    /// It requires 62 distinct bytes. Letters that come as input go to [`new`](Alphabet::new). The
-    /// call takes no memory.
+    /// Use [`new`](Alphabet::new) for characters that come from input. Does not allocate.
     ///
     /// ```rust
     /// let letters = *b"ABCDEFGHIJKLMNOPQRSTUVWXYZabcdefghijklmnopqrstuvwxyz0123456789";
@@ -115,7 +114,7 @@ impl Alphabet {
         }
     }
 
-    /// The standard alphabet: `0` to `9`, `A` to `Z`, `a` to `z`.
+    /// Returns the standard alphabet: `0` to `9`, `A` to `Z`, `a` to `z`.
     ///
     /// ```rust
     /// let alphabet = base62::Alphabet::standard();
@@ -129,7 +128,7 @@ impl Alphabet {
         }
     }
 
-    /// The alternative alphabet: `0` to `9`, `a` to `z`, `A` to `Z`.
+    /// Returns the alternative alphabet: `0` to `9`, `a` to `z`, `A` to `Z`.
     ///
     /// ```rust
     /// let alphabet = base62::Alphabet::alternative();
@@ -143,7 +142,7 @@ impl Alphabet {
         }
     }
 
-    /// The letters: the one at index d has digit d.
+    /// Returns the 62 characters: the one at index d has the digit d.
     ///
     /// ```rust
     /// assert_eq!(rt; base62::Alphabet::standard().letters()[10], b'A');
@@ -155,7 +154,9 @@ impl Alphabet {
         &self.tables.letters
     }
 
-    /// Whether each letter is below 128. The calls that make strings and displays require it.
+    /// Returns whether each character is ASCII.
+    ///
+    /// The calls that encode to a `String` or a `&str`, or for a format string, require this.
     ///
     /// ```rust
     /// assert!(rt; base62::Alphabet::standard().is_ascii());
@@ -167,15 +168,16 @@ impl Alphabet {
         let mut is_ascii = true;
         let mut index = 0;
         while index < letters.len() {
-            // Without a branch, the compiler tests several letters at once.
+            // Without a branch, the compiler vectorizes the loop.
             is_ascii &= letters[index] < 128;
             index += 1;
         }
         is_ascii
     }
 
-    /// Whether each letter is a greater byte than the one before it. Then the lexicographic order
-    /// of texts of one length is the order of their numbers.
+    /// Returns whether each character is a greater byte than the one before it.
+    ///
+    /// If so, the lexicographic order of strings of one length is the order of their numbers.
     ///
     /// ```rust
     /// assert!(rt; base62::Alphabet::standard().is_ascending());
@@ -195,7 +197,7 @@ impl Alphabet {
         true
     }
 
-    // The tables that calls read.
+    // Returns the tables for encoding and decoding.
     #[inline(always)]
     pub(crate) fn as_tables(&self) -> &Tables
         ensures tables { AreTables result.now }
@@ -205,7 +207,7 @@ impl Alphabet {
     }
 }
 
-/// Two alphabets are equal if their letters are.
+/// Two alphabets are equal if their characters are.
 impl PartialEq for Alphabet {
     ghost eq = { pointwise nat_eq };
 
@@ -220,7 +222,7 @@ impl Eq for Alphabet {
     ghost laws = { nat_list_eq_equiv };
 }
 
-/// Shows the letters alone, as `Alphabet(b"0123..")`, escaped as ASCII.
+/// Writes the characters, as `Alphabet(b"0123..")`, with non-printable and non-ASCII bytes escaped.
 impl fmt::Debug for Alphabet {
     fn fmt<W: fmt::Write>(&self, f: &mut fmt::Formatter<W>) -> fmt::Result {
         let letters = self.tables.letters.escape_ascii();

@@ -1,4 +1,4 @@
-//! How many letters a number takes.
+//! The length of encoded strings.
 
 ghost use Rattle.std.specs.Prelude.{◌≡◌, ◌<◌, ◌≤◌, ◌^◌, ℕ, List, length};
 ghost use Rattle.base62.specs.declared.count.TheConstants.{MAX_DIGITS};
@@ -7,13 +7,13 @@ ghost use Rattle.base62.specs.Canonical.{IsCanonical, DigitCount};
 
 use crate::powers::{GREATEST, GREATEST_NARROW};
 
-/// The length of the longest text of a number below 2^128, as 2^128 - 1 has it.
+/// The length of the longest encoded string, that of 2^128 - 1.
 pub const MAX_DIGITS: usize = 22;
 
-/// The length of the text of `n`, which is 1 to 22, over any alphabet.
+/// Returns the length of the encoded string of `n`, 1 to 22, which all alphabets share.
 ///
-/// It is at most 6 below 2^32, 9 below 2^53, and 11 below 2^64. The call takes no memory and
-/// refuses nothing.
+/// It is at most 6 for `n` below 2^32, 9 below 2^53, and 11 below 2^64. Never fails, and does not
+/// allocate.
 ///
 /// ```rust
 /// assert_eq!(rt; base62::digit_count(61), 1);
@@ -34,7 +34,7 @@ pub const fn digit_count(n: u128) -> usize
     letter_count(n)
 }
 
-// The count of a number of 64 bits, or of more.
+// Returns the count of letters of a number of any size.
 #[inline(always)]
 const fn letter_count(n: u128) -> usize
     ensures { DigitCount n result }
@@ -46,7 +46,8 @@ const fn letter_count(n: u128) -> usize
     }
 }
 
-// A letter holds almost six bits. The highest bit tells the number of letters, or one less.
+// Returns the count of letters of a number below 2^64. A letter has almost six bits, so the index
+// of the highest bit gives the count, or one less.
 #[inline(always)]
 const fn narrow_count(n: u64) -> usize
     ensures { DigitCount n result }
@@ -59,6 +60,7 @@ const fn narrow_count(n: u64) -> usize
     estimate + (n > GREATEST_NARROW[estimate]) as usize
 }
 
+// Returns the count of letters of a number of more than 64 bits.
 #[inline(always)]
 const fn wide_count(n: u128) -> usize
     requires { 2 ^ 64 ≤ n }

@@ -1,6 +1,4 @@
-//! Why a text is not decoded, a number not encoded, and a list of letters no alphabet.
-//!
-//! Each is called a fault; only the types have `..Error` in their names.
+//! The errors of decoding, encoding, and creating an alphabet. The code calls an error a fault.
 
 ghost use Rattle.std.specs.Prelude.{◌≡◌, ◌+◌, ◌<◌, ◌≤◌, ◌++◌, Some, decimal, length};
 ghost use Rattle.std.specs.Char.{digit_char};
@@ -13,47 +11,48 @@ ghost use Rattle.base62.specs.Fault.{alphabet_error_text, byte_at_index, decode_
 use std::fmt::InlineText;
 use std::{error, fmt, str};
 
-/// Why a text is no number below 2^128.
+/// An error that can be returned when decoding a string.
 #[derive(Clone, Copy, Debug, PartialEq, Eq, PartialOrd, Ord, Hash)]
 pub enum DecodeError {
-    /// The text denotes 2^128 or more, or more than 22 bytes follow its leading zeros. Or 22 bytes
-    /// do, and the first ten of them, followed by twelve zeros, denote 2^128 or more.
+    /// The string represents 2^128 or more, or more than 22 bytes follow its leading zeros. Or 22
+    /// bytes do, and the first ten of them, followed by twelve zeros, represent 2^128 or more.
     ArithmeticOverflow,
-    /// The text is empty.
+    /// The string is empty.
     EmptyInput,
-    /// The first byte that is no letter, and its index, counted from the start of the text with its
-    /// leading zeros.
+    /// A byte is not in the alphabet: the first such byte, and its index in the string, leading
+    /// zeros included.
     InvalidBase62Byte(u8, usize),
 }
 
-/// Why a number is not written into a buffer.
+/// An error that can be returned when encoding to a buffer.
 #[derive(Clone, Copy, Debug, PartialEq, Eq, PartialOrd, Ord, Hash)]
 pub enum EncodeError {
-    /// The buffer is shorter than the text of the number.
+    /// The buffer is shorter than the encoded string.
     BufferTooSmall,
 }
 
-/// Why 62 bytes are no alphabet.
+/// An error that can be returned when creating an alphabet from 62 bytes.
 #[derive(Clone, Copy, Debug, PartialEq, Eq, PartialOrd, Ord, Hash)]
 pub enum AlphabetError {
-    /// The first byte that stands at an earlier index too, and its index, which is 1 to 61.
+    /// A byte is repeated: the first byte that is also at an earlier index, and its index, 1 to 61.
     Repeated(u8, usize),
 }
 
-/// The most characters that the text of a fault has: a byte has up to four, its index up to twenty.
+/// The maximum length of an error's message: a byte has up to four characters, its index up to
+/// twenty.
 pub const MAX_FAULT_TEXT: usize = 77;
 
 impl DecodeError {
-    /// What the fault says, in at most 77 characters of ASCII.
+    /// Returns the error's message, at most 77 ASCII characters.
     ///
-    /// A byte is shown in ASCII's default escape: `\t`, `\n`, `\r`, `\"`, `\'` or `\\`, any other
-    /// byte from 32 to 126 as itself, and the others as `\x` with two hexadecimal digits in lower
-    /// case. The call takes no memory and refuses nothing.
+    /// A byte is escaped as by `std::ascii::escape_default`: `\t`, `\n`, `\r`, `\"`, `\'` or `\\`,
+    /// any other byte from 32 to 126 as itself, and the others as `\x` and two lowercase
+    /// hexadecimal digits. Never fails, and does not allocate.
     ///
     /// ```rust
-    /// let fault = base62::decode(b"LZ-").unwrap_err();
+    /// let error = base62::decode(b"LZ-").unwrap_err();
     /// let text = "Encoded input contains the invalid byte b'-' at index 2";
-    /// assert_eq!(rt; fault.text().as_str(), text);
+    /// assert_eq!(rt; error.text().as_str(), text);
     /// ```
     #[tactic(auto, unfolding(crate::specs::Fault::decode_error_text))]
     pub fn text(&self) -> InlineText<MAX_FAULT_TEXT>
@@ -75,7 +74,7 @@ impl DecodeError {
     }
 }
 
-/// Prints the text of the error, the same under any width, fill and alignment.
+/// Writes the error's message, and ignores the formatter's options.
 impl fmt::Display for DecodeError {
     ghost output = { λ e. Some (decode_error_text e) };
 
@@ -89,11 +88,11 @@ impl fmt::Display for DecodeError {
 impl error::Error for DecodeError {}
 
 impl EncodeError {
-    /// What the fault says, in 37 characters of ASCII. It takes no memory and refuses nothing.
+    /// Returns the error's message, 37 ASCII characters. Never fails, and does not allocate.
     ///
     /// ```rust
-    /// let fault = base62::encode_bytes(1337_u64, &mut [0u8; 1]).unwrap_err();
-    /// assert!(rt; fault.text().as_str().starts_with("Buffer too small"));
+    /// let error = base62::encode_bytes(1337_u64, &mut [0u8; 1]).unwrap_err();
+    /// assert!(rt; error.text().as_str().starts_with("Buffer too small"));
     /// ```
     #[tactic(auto, unfolding(crate::specs::Fault::encode_error_text))]
     pub fn text(&self) -> InlineText<MAX_FAULT_TEXT>
@@ -107,7 +106,7 @@ impl EncodeError {
     }
 }
 
-/// Prints the text of the error, the same under any width, fill and alignment.
+/// Writes the error's message, and ignores the formatter's options.
 impl fmt::Display for EncodeError {
     ghost output = { λ e. Some (encode_error_text e) };
 
@@ -121,12 +120,13 @@ impl fmt::Display for EncodeError {
 impl error::Error for EncodeError {}
 
 impl AlphabetError {
-    /// What the fault says, in at most 63 characters of ASCII for any index, with the byte shown as
-    /// by [`DecodeError::text`]. The call takes no memory and refuses nothing.
+    /// Returns the error's message, at most 63 ASCII characters for any index.
+    ///
+    /// The byte is escaped as in [`DecodeError::text`]. Never fails, and does not allocate.
     ///
     /// ```rust
-    /// let fault = base62::Alphabet::new([b'a'; 62]).unwrap_err();
-    /// assert_eq!(rt; fault.text().as_str(), "Alphabet repeats the byte b'a' at index 1");
+    /// let error = base62::Alphabet::new([b'a'; 62]).unwrap_err();
+    /// assert_eq!(rt; error.text().as_str(), "Alphabet repeats the byte b'a' at index 1");
     /// ```
     #[tactic(auto, unfolding(crate::specs::Fault::alphabet_error_text))]
     pub fn text(&self) -> InlineText<MAX_FAULT_TEXT>
@@ -141,7 +141,7 @@ impl AlphabetError {
     }
 }
 
-/// Prints the text of the error, the same under any width, fill and alignment.
+/// Writes the error's message, and ignores the formatter's options.
 impl fmt::Display for AlphabetError {
     ghost output = { λ e. Some (alphabet_error_text e) };
 
@@ -154,7 +154,7 @@ impl fmt::Display for AlphabetError {
 
 impl error::Error for AlphabetError {}
 
-// Writes the text as it is, whatever options the formatter has.
+// Writes the text unpadded, whatever options the formatter has.
 fn write_unpadded<W: fmt::Write>(
     text: InlineText<MAX_FAULT_TEXT>,
     f: &mut fmt::Formatter<W>,
@@ -165,7 +165,7 @@ fn write_unpadded<W: fmt::Write>(
     f.write_str(text.as_str())
 }
 
-// A byte that is named, and its index.
+// Appends a byte, escaped, and its index.
 #[tactic(auto, using(crate::proofs::AppendLemmas::appends), unfolding(crate::specs::Fault::byte_at_index))]
 fn append_byte_at_index(
     text: InlineText<MAX_FAULT_TEXT>,
@@ -217,7 +217,7 @@ fn append_decimal(text: InlineText<MAX_FAULT_TEXT>, number: usize) -> InlineText
     requires { length (inline_text text) + length (decimal number) ≤ MAX_FAULT_TEXT }
     ensures { inline_text result ≡ inline_text text ++ decimal number }
 {
-    // From the last digit to the first.
+    // Written from the last digit to the first.
     let mut digits = [0u8; 20];
     let mut start = 19;
     let mut left = number;

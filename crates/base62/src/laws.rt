@@ -1,4 +1,4 @@
-//! What follows from the definitions alone. No call here does anything in a run.
+//! Laws: what follows from the definitions alone. These functions do nothing at run time.
 
 ghost use Rattle.std.specs.Prelude.{◌≡◌, ◌+◌, ◌-◌, ◌*◌, ◌<◌, ◌≤◌, ◌^◌, ◌↔◌, [], ◌∷◌, ◌++◌, ℕ, Bool, IsTrue, List, length, map, nat_lt, replicate, true, Result, Ok, Some, None};
 ghost use Rattle.std.specs.List.{AllPass, list_all, range_with_len};
@@ -37,8 +37,8 @@ pub fn built_in_alphabets()
     ensures ascends { Ascends standard }
 {}
 
-/// The letters of an alphabet are 62 bytes, of which no two are equal. Laws over any alphabet ask
-/// for this.
+/// The letters of an alphabet are 62 bytes, of which no two are equal. Laws over any alphabet
+/// require this.
 pub fn letters_are_distinct(alphabet: &Alphabet)
     ensures { IsAlphabet alphabet.now }
 {
@@ -64,8 +64,8 @@ pub fn one_text()
         → IsCanonical B text n → HasNoNeedlessZero B text }
 {}
 
-/// A text without needless zeros is the only canonical text of the number that decoding gives for
-/// it. With literals, computing shows both conditions: no needless zeros, and the number.
+/// A text without needless zeros is the only canonical text of the number that it decodes to. For
+/// a literal, the prover computes both conditions: no needless zeros, and the number.
 pub fn text_of_number(alphabet: &Alphabet, text: &[u8], number: u128)
     ensures { decoding alphabet.now text.now ≡ Ok number
         → without_zeros alphabet.now text.now ≡ text.now
@@ -85,7 +85,7 @@ pub fn round_trip()
         → IsCanonical B text m → IsCanonical B text n → m ≡ n }
 {}
 
-/// Over any alphabet decoding answers n exactly if the text denotes n, and n is below 2^128.
+/// Over any alphabet a text decodes to n exactly if it denotes n, and n is below 2^128.
 pub fn decoded_numbers()
     ensures decoded { (B : List ℕ) → IsAlphabet B → (text : List ℕ) (n : ℕ)
         → Denotes B text n → n < 2 ^ 128 → decoding B text ≡ Ok n }
@@ -105,8 +105,8 @@ pub fn texts_of_two(alphabet: &Alphabet, first: &[u8], second: &[u8], m: u128, n
     letters_are_distinct(alphabet);
 }
 
-/// A number below 62^k has at most k letters, for k from 1 on: so `digit_count` answers, and so long
-/// is its canonical text over any alphabet.
+/// For k from 1 on, a number below 62^k has at most k letters: `digit_count` returns at most k, and
+/// the canonical text over any alphabet has at most that length.
 pub fn of_number(n: u128, k: usize)
     ensures count { 0 < k → n < 62 ^ k → (count : ℕ) → DigitCount n count → count ≤ k }
     ensures length { 0 < k → n < 62 ^ k → (B text : List ℕ) → IsAlphabet B → IsCanonical B text n
@@ -124,29 +124,29 @@ pub fn uuids_of_two(a: [u8; 16], b: [u8; 16])
 {}
 
 /// Over any alphabet decoding accepts exactly the nonempty texts of letters whose value is below
-/// 2^128. The canonical text of that value is the text without its needless zeros. A fault that
-/// names a byte names the first that is no letter. If a text overflows, and a letter follows its
-/// leading zeros, it denotes 2^128 or more whatever letters replace its bad bytes.
+/// 2^128. The canonical text of that value is the text without its needless zeros. If an error has
+/// a byte, it is the first that is no letter. If a text overflows, and a letter follows its leading
+/// zeros, it denotes 2^128 or more whatever letters replace its bad bytes.
 pub fn accepted_and_refused()
     ensures { (B : List ℕ) → IsAlphabet B → (text : List ℕ) → AnswerTells B text }
 {}
 
-/// All that [`accepted_and_refused`] says, of one text.
+/// Like [`accepted_and_refused`], but for one text.
 pub fn answer_for(alphabet: &Alphabet, text: &[u8])
     ensures { AnswerTells alphabet.now text.now }
 {
     letters_are_distinct(alphabet);
 }
 
-/// Two texts in a row, over any alphabet: the first has the number m, and the second k letters and
-/// the number n. Together they decode to m * 62^k + n, or overflow if that is 2^128 or more.
+/// Over any alphabet let a text decode to m, and another, of k letters, to n. Their concatenation
+/// decodes to m * 62^k + n, or overflows if that is 2^128 or more.
 pub fn concatenation()
     ensures { (B : List ℕ) → IsAlphabet B → (a b : List ℕ) (m n : ℕ)
         → decoding B a ≡ Ok m → decoding B b ≡ Ok n
         → decoding B (a ++ b) ≡ number_or_overflow (m * 62 ^ length b + n) }
 {}
 
-/// What [`concatenation`] says, of two texts and their numbers.
+/// Like [`concatenation`], but for two texts and their numbers.
 pub fn concatenation_of_two(alphabet: &Alphabet, first: &[u8], second: &[u8], m: u128, n: u128)
     ensures { decoding alphabet.now first.now ≡ Ok m → decoding alphabet.now second.now ≡ Ok n
         → decoding alphabet.now (first.now ++ second.now)
@@ -163,10 +163,10 @@ pub fn zero_in_front()
         → decoding B (zero_letter B ∷ text) ≡ one_place_on (decoding B text) }
 {}
 
-/// The alternative alphabet is the standard one with the case of each letter exchanged. The
-/// canonical texts are those of the standard one with their case exchanged. Decoding a text over
-/// the alternative alphabet answers what the standard one answers for the text with its case
-/// exchanged, faults included.
+/// The alternative alphabet is the standard one with the case of each letter exchanged. Its
+/// canonical texts are those of the standard one with their case exchanged. The result of decoding
+/// a text over the alternative alphabet is that of decoding the text with its case exchanged over
+/// the standard one, errors included.
 #[tactic(auto, unfolding(crate::specs::Alphabet::standard, crate::specs::Alphabet::alternative, crate::specs::Case::other_case))]
 pub fn exchange_of_case()
     ensures alphabets { exchange_case standard ≡ alternative }
@@ -180,7 +180,7 @@ pub fn exchange_of_case()
         → decoding alternative text ≡ decoding standard (exchange_case text) }
 {}
 
-/// What [`exchange_of_case`] says of canonical texts, of one text and its number.
+/// Like [`exchange_of_case`], but for one canonical text and its number.
 pub fn exchange_of_text(text: &[u8], n: u128)
     ensures to_alternative { IsCanonical standard text.now n
         → IsCanonical alternative (exchange_case text.now) n }
@@ -194,8 +194,8 @@ pub fn exchange_of_text(text: &[u8], n: u128)
 
 /// Over any alphabet, for w from 1 on, a number has a text of exactly w letters if and only if it
 /// is below 62^w, and it has only one. The text decodes to the number, if that is below 2^128. A
-/// shorter text becomes the number's text of w letters once leading zero letters fill it up. Keys
-/// are these texts for w = 22.
+/// shorter text, padded with leading zero letters to w letters, is the number's text of w letters.
+/// Keys are these texts for w = 22.
 #[tactic(auto, using(crate::proofs::WidthLemmas::one_fixed, crate::proofs::WidthLemmas::fixed_decodes))]
 pub fn fixed_widths()
     ensures exists { (B : List ℕ) → IsAlphabet B → (w n : ℕ) → 0 < w
@@ -209,9 +209,9 @@ pub fn fixed_widths()
         → IsFixed B w (replicate (w - length text) (zero_letter B) ++ text) n }
 {}
 
-/// Take an alphabet whose letters ascend as bytes, as the standard ones do. The lexicographic order
-/// of texts of letters of one length is the order of their values. Texts of w letters compare as
-/// their numbers. The shortlex order of canonical texts is the order of their numbers.
+/// Over an alphabet that ascends, as the standard one does, the lexicographic order of texts of
+/// letters of one length is the order of their values. Texts of w letters compare as their numbers.
+/// The shortlex order of canonical texts is the order of their numbers.
 #[tactic(auto, using(crate::proofs::OrderLemmas::texts_in_order))]
 pub fn order_of_texts()
     ensures standard { Ascends standard }
@@ -253,8 +253,8 @@ pub fn order_of_parts(high: u128, low: u128, other_high: u128, other_low: u128, 
 
 /// If a text of at most `width` letters decodes to a number, the number is below 62^width. If it
 /// has exactly `width` letters, it is the number's text of this width. The text of this width of a
-/// number below 2^128 decodes to the number. A text that denotes a number becomes its text of this
-/// width once leading zero letters fill it up.
+/// number below 2^128 decodes to the number. A text that denotes a number, padded with leading zero
+/// letters to this width, is the number's text of this width.
 pub fn of_text(alphabet: &Alphabet, width: usize, text: &[u8])
     ensures small { (n : ℕ) → decoding alphabet.now text.now ≡ Ok n → length text.now ≤ width
         → n < 62 ^ width }
@@ -271,9 +271,9 @@ pub fn of_text(alphabet: &Alphabet, width: usize, text: &[u8])
 
 /// Texts of w letters over any alphabet, and their prefixes, which have at most w letters. The text
 /// of a number below 2^128 begins with a prefix exactly if the number is in the prefix's interval.
-/// The interval has exactly the numbers from one of its ends to the other. It has no ends exactly if
-/// it is empty. If the letters ascend, the texts that begin with the prefix are those from the text
-/// of the one end to the text of the other.
+/// The interval has exactly the numbers from one of its ends to the other. It has no ends exactly
+/// if it is empty. If the letters ascend, the texts that begin with the prefix are those from the
+/// text of the one end to the text of the other.
 pub fn fronts()
     ensures letters { (B : List ℕ) (w : ℕ) (prefix text : List ℕ) (n : ℕ) → IsFixed B w text n
         → BeginsWith prefix text → AreLetters B prefix × (length prefix ≤ w) }
@@ -291,9 +291,9 @@ pub fn fronts()
         → BeginsTextsOf B w prefix least greatest → BeginsTextsBetween B w prefix least greatest }
 {}
 
-/// Take an alphabet that ascends, the ends of a prefix's range, and their texts `low` and `high` of
-/// `width` letters. A text of `width` letters whose value is below 2^128 begins with the prefix
-/// exactly if it stands, in lexicographic order, from `low` to `high`.
+/// Over an alphabet that ascends, let `low` and `high` be the texts of `width` letters of the ends
+/// of a prefix's range. A text of `width` letters whose value is below 2^128 begins with the prefix
+/// exactly if it is, in lexicographic order, from `low` to `high`.
 pub fn scan_of_front(
     alphabet: &Alphabet,
     width: usize,
@@ -321,8 +321,8 @@ pub fn scan_of_front(
     letters_are_distinct(alphabet);
 }
 
-/// If each letter of an alphabet passes a test, each letter of a text passes it. For letters that
-/// are written out, computing shows the first.
+/// If each letter of an alphabet passes a test, each letter of a text passes it. For a literal, the
+/// prover computes the test.
 pub fn letters_of_a_kind(alphabet: &Alphabet)
     ensures passed { (p : ℕ → Bool) (text : List ℕ) → AllPass p alphabet.now
         → AreLetters alphabet.now text → AllPass p text }
@@ -331,8 +331,8 @@ pub fn letters_of_a_kind(alphabet: &Alphabet)
 {}
 
 /// The built-in alphabets are ASCII. Over an alphabet of ASCII letters each text of letters is
-/// ASCII. Right-aligned to a width, an ASCII text has one ASCII fill before it for each byte that it
-/// is short of the width.
+/// ASCII. An ASCII text that is right-aligned to a width with an ASCII fill has one fill before it
+/// for each byte that it is shorter than the width.
 #[tactic(auto, using(crate::proofs::AlphabetLemmas::standard_is_ascii, crate::proofs::AlphabetLemmas::alternative_is_ascii, crate::proofs::PaddingLemmas::padded_right))]
 pub fn texts_of_ascii()
     ensures standard { IsAscii standard }
@@ -342,9 +342,9 @@ pub fn texts_of_ascii()
         → padded_to (Some width) fill Right text ≡ replicate (width - length text) fill ++ text }
 {}
 
-/// How faults of decoding compare: an overflow is least, then comes the empty input, and then bad
-/// bytes, by byte and then by index. Two faults are equal, and compare as equal, exactly if they are
-/// one value. Equal faults are hashed alike.
+/// The order of errors of decoding: an overflow is least, then comes the empty input, and then bad
+/// bytes, by byte and then by index. Two errors are equal, and compare as equal, exactly if they
+/// are the same value. Equal errors have equal hashes.
 pub fn order_of_decode_errors()
     ensures order { (d e : DecodeError)
         → ⟦<fault::DecodeError as Ord>⟧.cmp d e ≡ decode_error_order d e }
@@ -358,7 +358,7 @@ pub fn order_of_decode_errors()
         ≡ ⟦<fault::DecodeError as Hash>⟧.hash_input e }
 {}
 
-/// There is one fault of encoding. It is equal to itself, compares as equal and is hashed alike.
+/// There is one error of encoding. It is equal to itself, compares as equal and has one hash.
 pub fn order_of_encode_errors()
     ensures equal { (d e : EncodeError) → ⟦<fault::EncodeError as PartialEq>⟧.eq d e ≡ true }
     ensures compare_equal { (d e : EncodeError) → ⟦<fault::EncodeError as Ord>⟧.cmp d e ≡ Equal }
@@ -367,8 +367,8 @@ pub fn order_of_encode_errors()
         ≡ ⟦<fault::EncodeError as Hash>⟧.hash_input e }
 {}
 
-/// How faults of alphabets compare: by byte and then by index. Two are equal, and compare as equal,
-/// exactly if they are one value. Equal faults are hashed alike.
+/// The order of errors of alphabets: by byte and then by index. Two are equal, and compare as
+/// equal, exactly if they are the same value. Equal errors have equal hashes.
 pub fn order_of_alphabet_errors()
     ensures order { (d e : AlphabetError)
         → ⟦<fault::AlphabetError as Ord>⟧.cmp d e ≡ alphabet_error_order d e }
@@ -387,13 +387,13 @@ pub fn equality_of_alphabets()
     ensures { (a b : List ℕ) → (⟦<Alphabet as PartialEq>⟧.eq a b ≡ true) ↔ (a ≡ b) }
 {}
 
-/// A clone of an alphabet is the alphabet, and making one never fails.
+/// A clone of an alphabet equals it, and cloning never fails.
 pub fn clones_of_alphabets()
     ensures clone { (a b : List ℕ) → ⟦<Alphabet as Clone>⟧.is_clone a b → b ≡ a }
     ensures always { (a : List ℕ) → ⟦<Alphabet as Clone>⟧.is_infallible a }
 {}
 
-/// A clone of a fault is the fault, and making one never fails.
+/// A clone of an error equals it, and cloning never fails.
 pub fn clones_of_errors()
     ensures decode_error { (d e : DecodeError) → ⟦<fault::DecodeError as Clone>⟧.is_clone d e
         → e ≡ d }
@@ -409,7 +409,7 @@ pub fn clones_of_errors()
         → ⟦<fault::AlphabetError as Clone>⟧.is_infallible d }
 {}
 
-/// What digits denote in a base, one at a time. No digits denote 0. A digit before k digits
+/// What digits denote in a base, one digit at a time. No digits denote 0. A digit before k digits
 /// adds itself times base^k.
 #[tactic(auto, using(crate::proofs::PlacesLemmas::one_at_a_time))]
 pub fn sums_over_places()

@@ -2,11 +2,11 @@
 
 ghost use Rattle.std.specs.Prelude.{◌≡◌, ℕ, if◌then◌else◌};
 
-/// A type whose values each mean a whole number from 0 to 2^128 - 1.
+/// A type whose values can be encoded, since each represents an integer from 0 to 2^128 - 1.
 ///
-/// An `impl` states as its ghost `meaning` what number a value means, and its `number` answers that
-/// number. A caller's own type may have an `impl`, and can then be encoded. `number` takes no
-/// memory and refuses nothing.
+/// An `impl` states the number of a value as the ghost `meaning`, and returns it from `number`.
+/// Implement it for a type of your own to encode its values. `number` never fails, and does not
+/// allocate.
 ///
 /// ```rust
 /// use base62::Number;
@@ -15,15 +15,15 @@ ghost use Rattle.std.specs.Prelude.{◌≡◌, ℕ, if◌then◌else◌};
 /// assert_eq!(rt; 'é'.number(), 0xe9_u128);
 /// ```
 pub trait Number {
-    // The number that a value means.
+    // The number that a value represents.
     ghost meaning: { Self → ℕ };
 
-    /// The number that `self` means.
+    /// Returns the number that `self` represents.
     fn number(self) -> u128
         ensures { result ≡ meaning self };
 }
 
-/// `false` means 0, and `true` means 1.
+/// `false` represents 0, and `true` represents 1.
 impl Number for bool {
     ghost meaning = { λ b. if b then 1 else 0 };
 
@@ -33,7 +33,7 @@ impl Number for bool {
     }
 }
 
-/// A character means its Unicode scalar value.
+/// A character represents its Unicode scalar value.
 impl Number for char {
     ghost meaning = { λ c. c };
 
@@ -88,7 +88,7 @@ impl Number for u128 {
     }
 }
 
-/// Sixteen bytes, such as those of a UUID, mean their number in base 256, the highest byte first.
+/// Sixteen bytes, such as those of a UUID, represent a big-endian integer.
 #[tactic(auto, using(crate::proofs::UuidLemmas::number_from_bytes))]
 impl Number for [u8; 16] {
     ghost use Rattle.base62.specs.Uuid.{uuid_number};

@@ -1,4 +1,4 @@
-//! Numbers that display as their texts.
+//! Numbers that display as their encoded strings.
 
 ghost use Rattle.std.specs.Prelude.{ℕ, List, Some};
 ghost use Rattle.std.specs.Str.{IsAscii};
@@ -13,13 +13,13 @@ use crate::text::Text;
 use std::fmt;
 use std::marker::Model;
 
-/// A number that displays as its standard text: what [`encode_fmt`] answers. It holds the text.
+/// The result of [`encode_fmt`]: a value that contains the encoded string, and displays as it.
 #[derive(Drop)]
 pub struct Fmt {
     text: Text,
 }
 
-// Contracts see a value that displays as the text that it holds.
+// In contracts the value is the text that it contains.
 impl Model for Fmt {
     ghost Value = { List ℕ };
 
@@ -28,7 +28,7 @@ impl Model for Fmt {
     ghost invariant = { λ f. IsAscii f.text };
 }
 
-/// Writes the text, padded as [`encode_fmt`] says.
+/// Writes the encoded string, padded as [`encode_fmt`] says.
 impl fmt::Display for Fmt {
     ghost output = { λ text. Some text };
 
@@ -40,8 +40,7 @@ impl fmt::Display for Fmt {
     }
 }
 
-/// A number that displays as its text over the alternative alphabet: what [`encode_fmt_alt`]
-/// answers. It holds the text, as [`Fmt`] does.
+/// The result of [`encode_fmt_alt`]: like [`Fmt`], but of the alternative alphabet.
 #[derive(Drop)]
 pub struct FmtAlternative {
     text: Text,
@@ -55,7 +54,7 @@ impl Model for FmtAlternative {
     ghost invariant = { λ f. IsAscii f.text };
 }
 
-/// Writes the text as [`Fmt`] writes its own.
+/// Writes the encoded string, padded as [`encode_fmt`] says.
 impl fmt::Display for FmtAlternative {
     ghost output = { ⟦<Fmt as fmt::Display>⟧.output };
 
@@ -66,8 +65,8 @@ impl fmt::Display for FmtAlternative {
     }
 }
 
-/// A number that displays as its text over an alphabet of the caller's: what [`encode_fmt_with`]
-/// answers. It holds the text, as [`Fmt`] does, and no alphabet.
+/// The result of [`encode_fmt_with`]: like [`Fmt`], but of a custom alphabet, which it does not
+/// contain.
 #[derive(Drop)]
 pub struct FmtWith {
     text: Text,
@@ -81,7 +80,7 @@ impl Model for FmtWith {
     ghost invariant = { λ f. IsAscii f.text };
 }
 
-/// Writes the text as [`Fmt`] writes its own.
+/// Writes the encoded string, padded as [`encode_fmt`] says.
 impl fmt::Display for FmtWith {
     ghost output = { ⟦<Fmt as fmt::Display>⟧.output };
 
@@ -92,7 +91,7 @@ impl fmt::Display for FmtWith {
     }
 }
 
-// Writes a text as a display of `Fmt` does.
+// Writes a text padded, as `Display` of `Fmt` does.
 #[tactic(auto, using(crate::proofs::PaddingLemmas::pad_displays))]
 fn pad<W: fmt::Write>(text: &Text, f: &mut fmt::Formatter<W>) -> fmt::Result
     requires { IsAscii text.now }
@@ -104,13 +103,13 @@ fn pad<W: fmt::Write>(text: &Text, f: &mut fmt::Formatter<W>) -> fmt::Result
     f.pad(text.as_str())
 }
 
-/// A value that displays as the standard text of `num`, which has 1 to 22 letters.
+/// Returns a value that displays as the encoded string of `num`, in the standard alphabet.
 ///
-/// A display pads the text to the formatter's width, which counts characters. If it is not greater
-/// than the text's length, nothing is added. The fill is a space if none is stated. A text with no
-/// stated alignment is left-aligned. Half of the padding precedes a centred text, rounded down.
-/// What a stated precision leaves of the text is not specified. The error of a display is that of
-/// the underlying writer. Neither the call nor a display takes memory. The call refuses nothing.
+/// The string has 1 to 22 characters. It is padded like a `str`: to the formatter's width, counted
+/// in characters, with the fill, by default a space. It is left-aligned by default. If it is
+/// centred, half of the padding, rounded down, precedes it. With a precision, how much of it is
+/// written is not specified. Displaying returns an error only if the underlying writer does. The
+/// call never fails. Neither it nor displaying allocates.
 ///
 /// ```rust
 /// println!(rt; "{}", base62::encode_fmt(1337_u64))?;     // LZ
@@ -125,7 +124,7 @@ pub fn encode_fmt<T: Number>(num: T) -> Fmt
     }
 }
 
-/// As [`encode_fmt`], over the alternative alphabet.
+/// Like [`encode_fmt`], but uses the alternative alphabet.
 ///
 /// ```rust
 /// println!(rt; "{}", base62::encode_fmt_alt(1337_u64))?;     // lz
@@ -140,8 +139,9 @@ pub fn encode_fmt_alt<T: Number>(num: T) -> FmtAlternative
     }
 }
 
-/// As [`encode_fmt`], over an alphabet of the caller's. Its letters have to be ASCII, as for
-/// [`encode_with`](crate::encode_with).
+/// Like [`encode_fmt`], but uses a custom alphabet, which has to be ASCII.
+///
+/// [`Alphabet::is_ascii`] checks this.
 ///
 /// ```rust
 /// let alphabet = base62::Alphabet::alternative();

@@ -1,4 +1,4 @@
-//! Encoding into texts and to writers.
+//! Encoding to strings and writers.
 
 ghost use Rattle.std.specs.Prelude.{◌≡◌, OnOk};
 ghost use Rattle.std.specs.Str.{IsAscii};
@@ -15,9 +15,9 @@ use crate::text::Text;
 use std::alloc::{AllocError, Global};
 use std::io::{self, Write};
 
-/// The standard text of `num`: the 1 to 22 letters that [`encode_bytes`] writes.
+/// Encodes `num` as a `String` of 1 to 22 characters, in the standard alphabet.
 ///
-/// Memory is requested once, for just the text. The call takes no other memory.
+/// It is the string that [`encode_bytes`] writes. Allocates once, for exactly its length.
 ///
 /// ```rust
 /// let text = base62::encode(rt.alloc(), 1234567890_u64)?;
@@ -32,7 +32,7 @@ pub fn encode<T: Number>(alloc: Global, num: T) -> Result<String, AllocError>
     string_over(alloc, standard_tables(), num)
 }
 
-/// As [`encode`], over the alternative alphabet.
+/// Like [`encode`], but uses the alternative alphabet.
 ///
 /// ```rust
 /// let text = base62::encode_alternative(rt.alloc(), 1234567890_u64)?;
@@ -45,8 +45,9 @@ pub fn encode_alternative<T: Number>(alloc: Global, num: T) -> Result<String, Al
     string_over(alloc, alternative_tables(), num)
 }
 
-/// As [`encode`], over an alphabet of the caller's. Its letters have to be ASCII, since a string is
-/// UTF-8; [`is_ascii`](Alphabet::is_ascii) tells.
+/// Like [`encode`], but uses a custom alphabet, which has to be ASCII.
+///
+/// [`Alphabet::is_ascii`] checks this.
 ///
 /// ```rust
 /// let alphabet = base62::Alphabet::alternative();
@@ -67,11 +68,12 @@ pub fn encode_with<T: Number>(
     string_over(alloc, alphabet.as_tables(), num)
 }
 
-/// The standard text of a UUID: that of the number of its sixteen bytes, the highest first.
+/// Encodes the sixteen bytes of a UUID as a `String` of 1 to 22 characters, in the standard
+/// alphabet.
 ///
-/// [`decode_uuid`] reads it back. The version and variant are not looked at. Memory is requested
-/// once, for just the text. For a UUID that is a `u128`, such as `as_u128` of the crate `uuid`
-/// answers, call [`encode`].
+/// The bytes are a big-endian integer. The version and the variant are not examined.
+/// [`decode_uuid`] decodes the string. Allocates once, for exactly its length. For a UUID as a
+/// `u128`, such as `as_u128` of the crate `uuid` returns, use [`encode`].
 ///
 /// ```rust
 /// let uuid = [0, 0, 0, 0, 0, 0, 0, 0, 0, 0, 0, 0, 0, 0, 5, 57];
@@ -88,7 +90,7 @@ pub fn encode_uuid(alloc: Global, uuid: [u8; 16]) -> Result<String, AllocError>
     string_over(alloc, standard_tables(), number_of_uuid(uuid))
 }
 
-/// As [`encode_uuid`], over the alternative alphabet.
+/// Like [`encode_uuid`], but uses the alternative alphabet.
 ///
 /// ```rust
 /// let uuid = [0, 0, 0, 0, 0, 0, 0, 0, 0, 0, 0, 0, 0, 0, 5, 57];
@@ -103,8 +105,9 @@ pub fn encode_alternative_uuid(alloc: Global, uuid: [u8; 16]) -> Result<String, 
     string_over(alloc, alternative_tables(), number_of_uuid(uuid))
 }
 
-/// As [`encode_uuid`], over an alphabet of the caller's. Its letters have to be ASCII, as for
-/// [`encode_with`].
+/// Like [`encode_uuid`], but uses a custom alphabet, which has to be ASCII.
+///
+/// [`Alphabet::is_ascii`] checks this.
 ///
 /// ```rust
 /// let alphabet = base62::Alphabet::alternative();
@@ -127,11 +130,11 @@ pub fn encode_uuid_with(
     string_over(alloc, alphabet.as_tables(), number_of_uuid(uuid))
 }
 
-/// Appends the standard text of `num`, which has 1 to 22 letters, to `buf`.
+/// Appends the encoded string of `num`, 1 to 22 characters in the standard alphabet, to `buf`.
 ///
-/// If the spare capacity of `buf` is too small, room for the whole text is requested once, before
-/// any of it is appended. If that is refused, `buf` stays as it was. 22 spare bytes are always
-/// enough. The capacity never shrinks. The call takes no other memory.
+/// Allocates at most once, before it appends, if the spare capacity of `buf` is less than the
+/// length of the string. 22 spare bytes are always enough. The capacity never shrinks.
+/// If the allocation fails, `buf` is left unchanged.
 ///
 /// ```rust
 /// let mut link = String::from_str(rt.alloc(), "https://example.org/")?;
@@ -145,7 +148,7 @@ pub fn encode_buf<T: Number>(num: T, buf: &mut String) -> Result<(), AllocError>
     append_over(standard_tables(), num, buf)
 }
 
-/// As [`encode_buf`], over the alternative alphabet.
+/// Like [`encode_buf`], but uses the alternative alphabet.
 ///
 /// ```rust
 /// let mut link = String::from_str(rt.alloc(), "https://example.org/")?;
@@ -159,8 +162,9 @@ pub fn encode_alternative_buf<T: Number>(num: T, buf: &mut String) -> Result<(),
     append_over(alternative_tables(), num, buf)
 }
 
-/// As [`encode_buf`], over an alphabet of the caller's. Its letters have to be ASCII, as for
-/// [`encode_with`].
+/// Like [`encode_buf`], but uses a custom alphabet, which has to be ASCII.
+///
+/// [`Alphabet::is_ascii`] checks this.
 ///
 /// ```rust
 /// let alphabet = base62::Alphabet::alternative();
@@ -182,7 +186,7 @@ pub fn encode_buf_with<T: Number>(
     append_over(alphabet.as_tables(), num, buf)
 }
 
-// The number of sixteen bytes, the highest first.
+// Returns the number of sixteen bytes, the most significant first.
 #[tactic(auto, using(crate::proofs::UuidLemmas::number_from_bytes))]
 fn number_of_uuid(uuid: [u8; 16]) -> u128
     ensures { result ≡ uuid_number uuid }
@@ -190,10 +194,10 @@ fn number_of_uuid(uuid: [u8; 16]) -> u128
     u128::from_be_bytes(uuid)
 }
 
-// As many bytes as the longest text has.
+// As many zeros as the longest text has letters.
 static ZEROS: [u8; MAX_DIGITS] = [0; MAX_DIGITS];
 
-// The text over the alphabet of the tables, in a string: written in place, not copied.
+// Returns the text over the alphabet of the tables as a string. It is written in place, not copied.
 #[inline]
 #[tactic(auto, using(crate::proofs::CanonicalLemmas::ascii_texts))]
 fn string_over<T: Number>(alloc: Global, tables: &Tables, num: T) -> Result<String, AllocError>
@@ -204,16 +208,16 @@ fn string_over<T: Number>(alloc: Global, tables: &Tables, num: T) -> Result<Stri
     let n = num.number();
     let len = digit_count(n);
     let mut bytes = Vec::with_capacity(alloc, len)?;
-    // There is room now.
+    // The capacity is enough now.
     bytes.extend_from_slice(&ZEROS[..len]).unwrap();
     write_text(tables, n, len, bytes.as_mut_slice(), &mut Work::new());
     // SAFETY: the letters are ASCII.
     Ok(unsafe { String::from_utf8_unchecked(bytes) })
 }
 
-// Appends the text over the alphabet of the tables. A string of Rattle lends its bytes to no
-// writer. In Rust `in_place!`, which is written by hand, writes the text to its place and returns,
-// if there is room for any text.
+// Appends the text over the alphabet of the tables. A `String` of Rattle does not lend its bytes
+// mutably, so the text is copied. In Rust the hand-written macro `in_place!` writes it in place and
+// returns, if the spare capacity is enough for any text.
 #[inline]
 fn append_over<T: Number>(tables: &Tables, num: T, buf: &mut String) -> Result<(), AllocError>
     requires tables { AreTables tables.now }
@@ -234,15 +238,15 @@ fn append_copy(tables: &Tables, n: u128, buf: &mut String) -> Result<(), AllocEr
     text.set(tables, n);
     let letters = text.as_str();
     buf.reserve(letters.len())?;
-    // There is room now.
+    // The capacity is enough now.
     buf.push_str(letters).unwrap();
     Ok(())
 }
 
-/// Writes the standard text of `num`, which has 1 to 22 letters, to `w`.
+/// Writes the encoded string of `num`, 1 to 22 characters in the standard alphabet, to `w`.
 ///
-/// The text is handed to the writer whole, and the writer is not flushed. The call takes
-/// no memory of its own.
+/// Calls `write_all` once, with the whole string, and does not flush the writer. Does not allocate,
+/// unless the writer does.
 ///
 /// ```rust
 /// let mut out = Vec::new(rt.alloc());
@@ -252,8 +256,7 @@ fn append_copy(tables: &Tables, n: u128, buf: &mut String) -> Result<(), AllocEr
 ///
 /// # Errors
 ///
-/// The error of the writer's `write_all`. How many bytes the writer had taken by then is not
-/// specified.
+/// Returns the error of `write_all`. How much was written before it is not specified.
 pub fn encode_io<T: Number, W: Write>(num: T, w: &mut W) -> io::Result<()>
     ensures { OnOk result
         (WritesCanonical standard (T.meaning num) (W.contents w.old) (W.contents w.new)) }
@@ -261,7 +264,7 @@ pub fn encode_io<T: Number, W: Write>(num: T, w: &mut W) -> io::Result<()>
     write_over(standard_tables(), num, w)
 }
 
-/// As [`encode_io`], over the alternative alphabet.
+/// Like [`encode_io`], but uses the alternative alphabet.
 ///
 /// ```rust
 /// let mut out = Vec::new(rt.alloc());
@@ -271,7 +274,7 @@ pub fn encode_io<T: Number, W: Write>(num: T, w: &mut W) -> io::Result<()>
 ///
 /// # Errors
 ///
-/// Those of [`encode_io`].
+/// Returns the error of `write_all`, like [`encode_io`].
 pub fn encode_alternative_io<T: Number, W: Write>(num: T, w: &mut W) -> io::Result<()>
     ensures { OnOk result
         (WritesCanonical alternative (T.meaning num) (W.contents w.old) (W.contents w.new)) }
@@ -279,7 +282,7 @@ pub fn encode_alternative_io<T: Number, W: Write>(num: T, w: &mut W) -> io::Resu
     write_over(alternative_tables(), num, w)
 }
 
-/// As [`encode_io`], over an alphabet of the caller's, which may have any bytes.
+/// Like [`encode_io`], but uses a custom alphabet, which may be non-ASCII.
 ///
 /// ```rust
 /// let alphabet = base62::Alphabet::alternative();
@@ -290,7 +293,7 @@ pub fn encode_alternative_io<T: Number, W: Write>(num: T, w: &mut W) -> io::Resu
 ///
 /// # Errors
 ///
-/// Those of [`encode_io`].
+/// Returns the error of `write_all`, like [`encode_io`].
 pub fn encode_io_with<T: Number, W: Write>(alphabet: &Alphabet, num: T, w: &mut W) -> io::Result<()>
     ensures { OnOk result
         (WritesCanonical alphabet.now (T.meaning num) (W.contents w.old) (W.contents w.new)) }

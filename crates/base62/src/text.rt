@@ -1,4 +1,4 @@
-//! The text of a number, held whole.
+//! A buffer that contains the text of a number.
 
 ghost use Rattle.std.specs.Prelude.{◌≡◌, ◌≤◌, ℕ, List, length, take, Ok};
 ghost use Rattle.std.specs.Str.{IsAscii};
@@ -30,7 +30,7 @@ impl Model for Text {
 }
 
 impl Text {
-    // No letters yet.
+    // Creates an empty text.
     #[inline]
     pub(crate) fn new() -> Text {
         Text {
@@ -39,8 +39,8 @@ impl Text {
         }
     }
 
-    // Replaces the text by that of a number over the alphabet of the tables. Unlike `over`, it
-    // copies no text.
+    // Replaces the text by that of a number over the alphabet of the tables. Unlike `over`, it does
+    // not copy a text.
     #[inline]
     pub(crate) fn set<T: Number>(&mut self, tables: &Tables, num: T)
         requires { AreTables tables.now }

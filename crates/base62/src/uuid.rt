@@ -1,4 +1,4 @@
-//! UUIDs: sixteen bytes as one number.
+//! Decoding to UUIDs, whose sixteen bytes are one number.
 
 ghost use Rattle.std.specs.Prelude.{◌≡◌, ℕ, List};
 ghost use Rattle.base62.specs.Alphabet.{IsAlphabet, standard, alternative};
@@ -11,10 +11,10 @@ use crate::codec::{decode, decode_alternative, decode_with};
 use crate::fault::DecodeError;
 use crate::laws::letters_are_distinct;
 
-/// The UUID of a text: the sixteen bytes of the number that [`decode`] answers, the highest first.
+/// Decodes `input` in the standard alphabet, and returns the number as the sixteen bytes of a UUID.
 ///
-/// Each number below 2^128 is that of one UUID, whose version and variant are not looked at. The
-/// text of a UUID's number gives the UUID back. The call takes no memory.
+/// It is the number that [`decode`] returns, as big-endian bytes. Each number below 2^128 is that
+/// of one UUID: the version and the variant are not examined. Does not allocate.
 ///
 /// ```rust
 /// let uuid = base62::decode_uuid(b"LZ").unwrap();
@@ -25,7 +25,7 @@ use crate::laws::letters_are_distinct;
 ///
 /// # Errors
 ///
-/// Those of [`decode`].
+/// Returns the errors of [`decode`].
 #[tactic(auto, using(crate::proofs::AlphabetLemmas::standard_is_alphabet))]
 pub fn decode_uuid(input: &[u8]) -> Result<[u8; 16], DecodeError>
     ensures { DecodesUuid standard input.now result }
@@ -33,7 +33,7 @@ pub fn decode_uuid(input: &[u8]) -> Result<[u8; 16], DecodeError>
     bytes_of(decode(input))
 }
 
-/// As [`decode_uuid`], over the alternative alphabet.
+/// Like [`decode_uuid`], but uses the alternative alphabet.
 ///
 /// ```rust
 /// let uuid = base62::decode_alternative_uuid(b"lz").unwrap();
@@ -42,7 +42,7 @@ pub fn decode_uuid(input: &[u8]) -> Result<[u8; 16], DecodeError>
 ///
 /// # Errors
 ///
-/// Those of [`decode_uuid`].
+/// Returns the errors of [`decode`](crate::decode).
 #[tactic(auto, using(crate::proofs::AlphabetLemmas::alternative_is_alphabet))]
 pub fn decode_alternative_uuid(input: &[u8]) -> Result<[u8; 16], DecodeError>
     ensures { DecodesUuid alternative input.now result }
@@ -50,7 +50,7 @@ pub fn decode_alternative_uuid(input: &[u8]) -> Result<[u8; 16], DecodeError>
     bytes_of(decode_alternative(input))
 }
 
-/// As [`decode_uuid`], over an alphabet of the caller's.
+/// Like [`decode_uuid`], but uses a custom alphabet.
 ///
 /// ```rust
 /// let alphabet = base62::Alphabet::alternative();
@@ -60,7 +60,7 @@ pub fn decode_alternative_uuid(input: &[u8]) -> Result<[u8; 16], DecodeError>
 ///
 /// # Errors
 ///
-/// Those of [`decode_uuid`].
+/// Returns the errors of [`decode`](crate::decode).
 pub fn decode_uuid_with(alphabet: &Alphabet, input: &[u8]) -> Result<[u8; 16], DecodeError>
     ensures { DecodesUuid alphabet.now input.now result }
 {
@@ -68,12 +68,12 @@ pub fn decode_uuid_with(alphabet: &Alphabet, input: &[u8]) -> Result<[u8; 16], D
     bytes_of(decode_with(alphabet, input))
 }
 
-/// The UUID whose canonical standard text is `input`: the sixteen bytes of the number that
-/// [`decode_canonical`] answers, the highest first.
+/// Decodes `input` in the standard alphabet if it is canonical, and returns the UUID.
 ///
-/// `Ok(Some(uuid))` comes exactly for the text that [`encode_bytes`] writes for the UUID's number,
-/// so one text alone gives each UUID. `Ok(None)` comes exactly if [`decode_uuid`] gives a UUID, but
-/// `input` begins with a needless zero. The call takes no memory.
+/// It is the number that [`decode_canonical`] returns, as big-endian bytes. The result is
+/// `Ok(Some(uuid))` exactly for the string that [`encode_bytes`] writes for the UUID's number, so
+/// only one string decodes to it. It is `Ok(None)` exactly if [`decode_uuid`] returns a UUID, but
+/// `input` begins with a zero that other characters follow. Does not allocate.
 ///
 /// ```rust
 /// let uuid = base62::decode_uuid_canonical(b"LZ").unwrap();
@@ -87,14 +87,14 @@ pub fn decode_uuid_with(alphabet: &Alphabet, input: &[u8]) -> Result<[u8; 16], D
 ///
 /// # Errors
 ///
-/// Those of [`decode`].
+/// Returns the errors of [`decode`].
 pub fn decode_uuid_canonical(input: &[u8]) -> Result<Option<[u8; 16]>, DecodeError>
     ensures { DecodesUuidCanonical standard input.now result }
 {
     bytes_of_canonical(decode_canonical(input))
 }
 
-/// As [`decode_uuid_canonical`], over the alternative alphabet.
+/// Like [`decode_uuid_canonical`], but uses the alternative alphabet.
 ///
 /// ```rust
 /// assert_eq!(rt; base62::decode_alternative_uuid_canonical(b"0lz"), Ok(None));
@@ -102,14 +102,14 @@ pub fn decode_uuid_canonical(input: &[u8]) -> Result<Option<[u8; 16]>, DecodeErr
 ///
 /// # Errors
 ///
-/// Those of [`decode_uuid_canonical`].
+/// Returns the errors of [`decode`](crate::decode).
 pub fn decode_alternative_uuid_canonical(input: &[u8]) -> Result<Option<[u8; 16]>, DecodeError>
     ensures { DecodesUuidCanonical alternative input.now result }
 {
     bytes_of_canonical(decode_alternative_canonical(input))
 }
 
-/// As [`decode_uuid_canonical`], over an alphabet of the caller's.
+/// Like [`decode_uuid_canonical`], but uses a custom alphabet.
 ///
 /// ```rust
 /// let alphabet = base62::Alphabet::alternative();
@@ -118,7 +118,7 @@ pub fn decode_alternative_uuid_canonical(input: &[u8]) -> Result<Option<[u8; 16]
 ///
 /// # Errors
 ///
-/// Those of [`decode_uuid_canonical`].
+/// Returns the errors of [`decode`](crate::decode).
 pub fn decode_uuid_canonical_with(
     alphabet: &Alphabet,
     input: &[u8],
@@ -128,27 +128,27 @@ pub fn decode_uuid_canonical_with(
     bytes_of_canonical(decode_canonical_with(alphabet, input))
 }
 
-// The bytes of the number that was decoded.
+// Returns the decoded number as big-endian bytes.
 #[tactic(auto, using(crate::proofs::UuidLemmas::number_decoded, crate::proofs::UuidLemmas::fault_decoded))]
-fn bytes_of(answer: Result<u128, DecodeError>) -> Result<[u8; 16], DecodeError>
-    ensures { (B text : List ℕ) → IsAlphabet B → answer ≡ decoding B text
+fn bytes_of(decoded: Result<u128, DecodeError>) -> Result<[u8; 16], DecodeError>
+    ensures { (B text : List ℕ) → IsAlphabet B → decoded ≡ decoding B text
         → DecodesUuid B text result }
 {
-    match answer {
+    match decoded {
         Ok(number) => Ok(number.to_be_bytes()),
         Err(fault) => Err(fault),
     }
 }
 
-// The bytes of the number whose canonical text was decoded.
+// Returns the number of a canonical text as big-endian bytes.
 #[tactic(auto, using(crate::proofs::UuidLemmas::needless_decoded, crate::proofs::UuidLemmas::canonical_refused))]
 fn bytes_of_canonical(
-    answer: Result<Option<u128>, DecodeError>,
+    decoded: Result<Option<u128>, DecodeError>,
 ) -> Result<Option<[u8; 16]>, DecodeError>
-    ensures { (B text : List ℕ) → DecodesCanonical B text answer
+    ensures { (B text : List ℕ) → DecodesCanonical B text decoded
         → DecodesUuidCanonical B text result }
 {
-    match answer {
+    match decoded {
         Ok(Some(number)) => Ok(Some(number.to_be_bytes())),
         Ok(None) => Ok(None),
         Err(fault) => Err(fault),

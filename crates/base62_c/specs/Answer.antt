@@ -1,5 +1,5 @@
--- How C is told an answer: by a length or a status, and by what stands at its pointers before and
--- after the call.
+-- How C gets a result: a length or a status is returned, and values are stored through pointers. A
+-- primed name is the value after the call.
 use Rattle.std.specs.Prelude.{◌≡◌, ◌≢◌, ◌≤◌, ◌<◌, ◌==◌, if◌then◌else◌, ◌++◌, ℕ, List, length, drop, Option, Some, None, Result, Ok, Err}
 use Rattle.base62.specs.declared.fault.DecodeError.{DecodeError}
 use Rattle.base62.specs.declared.fault.DecodeError.TheVariants.{ArithmeticOverflow, EmptyInput, InvalidBase62Byte}
@@ -10,41 +10,41 @@ use Rattle.base62_c.specs.declared.answer.Range.{Range}
 use Rattle.base62_c.specs.declared.number.Number.{Number}
 use Rattle.base62_c.specs.Number.{number_of}
 
--- A number is encoded into a buffer. The length of its text is told, or 0 if the buffer is too
+-- A number is encoded into a buffer. The length of its text is returned, or 0 if the buffer is too
 -- small.
-pub record Encodes (B : List ℕ) (n : ℕ) (buf buf' : List ℕ) (told : ℕ) : Type 0 where
-  pub written : EncodesInto B n buf buf' (if told == 0 then Err BufferTooSmall else Ok told)
-  pub within : told ≤ length buf
-  pub most : told ≤ 22
-  pub roomy : 22 ≤ length buf → 1 ≤ told
-  pub refused : told ≡ 0 → buf' ≡ buf
+pub record Encodes (B : List ℕ) (n : ℕ) (buf buf' : List ℕ) (returned : ℕ) : Type 0 where
+  pub written : EncodesInto B n buf buf' (if returned == 0 then Err BufferTooSmall else Ok returned)
+  pub within : returned ≤ length buf
+  pub most : returned ≤ 22
+  pub roomy : 22 ≤ length buf → 1 ≤ returned
+  pub refused : returned ≡ 0 → buf' ≡ buf
 
--- A number is written into all places. Their count is told, or 0 if they are too few.
-pub record Fills (B : List ℕ) (n : ℕ) (places places' : List ℕ) (told : ℕ) : Type 0 where
-  pub written : FillsPlaces B n places places' (if told == 0 then Err BufferTooSmall else Ok tt)
-  pub whole : told ≢ 0 → told ≡ length places
-  pub roomy : 22 ≤ length places → told ≡ length places
-  pub refused : told ≡ 0 → places' ≡ places
+-- A number is written into all places. Their count is returned, or 0 if they are too few.
+pub record Fills (B : List ℕ) (n : ℕ) (places places' : List ℕ) (returned : ℕ) : Type 0 where
+  pub written : FillsPlaces B n places places' (if returned == 0 then Err BufferTooSmall else Ok tt)
+  pub whole : returned ≢ 0 → returned ≡ length places
+  pub roomy : 22 ≤ length places → returned ≡ length places
+  pub refused : returned ≡ 0 → places' ≡ places
 
--- a byte that a fault names, and its index
+-- the byte of an error, and its index
 abbrev pub bad_byte : ℕ → ℕ → BadByte
 bad_byte byte index = record { byte = byte; index = index }
 
--- a fault of decoding: its status, and the bad byte with its index if it names them
+-- an error of decoding: its status, and the bad byte with its index if it has them
 abbrev pub TellsFault : DecodeError → ℕ → BadByte → BadByte → Type 0
 TellsFault EmptyInput status bad bad' = (status ≡ 2) × (bad' ≡ bad)
 TellsFault (InvalidBase62Byte byte index) status bad bad' =
     (status ≡ 3) × (bad' ≡ bad_byte byte index)
 TellsFault ArithmeticOverflow status bad bad' = (status ≡ 4) × (bad' ≡ bad)
 
--- an answer of decoding: its status, and the number if there is one
+-- a result of decoding: its status, and the number if there is one
 abbrev pub TellsNumber : Result ℕ DecodeError → ℕ → Number → Number → BadByte → BadByte → Type 0
 TellsNumber (Ok n) status number number' bad bad' =
     (status ≡ 0) × (number_of number' ≡ n) × (bad' ≡ bad)
 TellsNumber (Err fault) status number number' bad bad' =
     TellsFault fault status bad bad' × (number' ≡ number)
 
--- the same for canonical texts alone; the number of a text with a needless zero is not told
+-- the same for canonical decoding; for a text with a needless zero no number is stored
 abbrev pub TellsCanonical :
     Result (Option ℕ) DecodeError → ℕ → Number → Number → BadByte → BadByte → Type 0
 TellsCanonical (Ok (Some n)) status number number' bad bad' =
@@ -69,9 +69,9 @@ TellsEnds (Ok None) status range range' bad bad' =
 TellsEnds (Err fault) status range range' bad bad' =
     TellsFault fault status bad bad' × (range' ≡ range)
 
--- A text is written to the start of a buffer, and all other bytes stay. Its length is told, or 0
--- if the buffer is too small.
-pub record WritesText (text buf buf' : List ℕ) (told : ℕ) : Type 0 where
+-- A text is written to the start of a buffer, and all other bytes are unchanged. Its length is
+-- returned, or 0 if the buffer is too small.
+pub record WritesText (text buf buf' : List ℕ) (returned : ℕ) : Type 0 where
   pub written : length text ≤ length buf
-      → (told ≡ length text) × (buf' ≡ text ++ drop (length text) buf)
-  pub refused : length buf < length text → (told ≡ 0) × (buf' ≡ buf)
+      → (returned ≡ length text) × (buf' ≡ text ++ drop (length text) buf)
+  pub refused : length buf < length text → (returned ≡ 0) × (buf' ≡ buf)

@@ -1,4 +1,4 @@
-//! How answers are told by a status and through pointers.
+//! Results as a status, and values that are stored through pointers.
 
 ghost use Rattle.std.specs.Prelude.{◌≡◌, OnOk, OnErr};
 ghost use Rattle.base62.specs.declared.fault.AlphabetError.TheVariants.{Repeated};
@@ -23,7 +23,7 @@ pub(crate) const REPEATED_LETTER: u32 = 6;
 
 pub(crate) const NOT_CANONICAL: u32 = 7;
 
-/// The numbers from the least to the greatest.
+/// The numbers from `least` to `greatest`.
 #[repr(C)]
 #[derive(Clone, Copy)]
 pub struct Range {
@@ -31,7 +31,7 @@ pub struct Range {
     pub greatest: Number,
 }
 
-/// A byte that a fault names, and its index.
+/// The byte of an error, and its index.
 #[repr(C)]
 #[derive(Clone, Copy)]
 pub struct BadByte {
@@ -39,7 +39,7 @@ pub struct BadByte {
     pub byte: u8,
 }
 
-// The count of the places, or 0 if they are too few.
+// Returns the count of places, or 0 if they are too few.
 pub(crate) fn count_filled(answer: Result<(), EncodeError>, places: usize) -> usize
     ensures ok { OnOk answer (result ≡ places) }
     ensures err { OnErr answer (result ≡ 0) }
@@ -128,7 +128,7 @@ pub(crate) fn tell_repeat(fault: AlphabetError, bad: &mut BadByte) -> u32
 pub(crate) fn tell_text(text: &[u8], buf: &mut [u8]) -> usize
     ensures { WritesText text.now buf.old buf.new result }
 {
-    // No byte is copied if there is none, and then `buf` may be empty too.
+    // An empty text is not copied, since `buf` may then be empty too.
     if text.is_empty() || buf.len() < text.len() {
         return 0;
     }

@@ -1,4 +1,4 @@
-//! The texts of faults.
+//! The messages of errors.
 
 ghost use Rattle.std.specs.Prelude.{◌≡◌, ◌≤◌, length};
 ghost use Rattle.std.specs.Fmt.InlineText.{inline_text};

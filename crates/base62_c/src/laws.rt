@@ -1,4 +1,4 @@
-//! What follows from how answers are told. No call here does anything in a run.
+//! Laws: what follows from how results are returned. These functions do nothing at run time.
 
 ghost use Rattle.std.specs.Prelude.{◌≡◌, ◌≢◌, ◌<◌, ◌^◌, ℕ, List, take, Option, Result};
 ghost use Rattle.base62.specs.Alphabet.{IsAlphabet, RepeatsFirst};
@@ -13,8 +13,8 @@ ghost use Rattle.base62_c.specs.declared.answer.BadByte.{BadByte};
 ghost use Rattle.base62_c.specs.declared.answer.Range.{Range};
 ghost use Rattle.base62_c.specs.declared.number.Number.{Number};
 
-/// Each number below 2^128 is that of exactly one pair of halves of 64 bits, and each pair has such
-/// a number.
+/// Each number below 2^128 has exactly one pair of halves of 64 bits, and each pair has such a
+/// number.
 pub fn one_pair_of_halves()
     ensures exists { (n : ℕ) → n < 2 ^ 128
         → (halves : Number) × AreHalves halves × (number_of halves ≡ n) }
@@ -22,9 +22,9 @@ pub fn one_pair_of_halves()
     ensures bounded { (halves : Number) → AreHalves halves → number_of halves < 2 ^ 128 }
 {}
 
-/// Two answers that are told by the same status and the same things at the pointers are the same,
-/// whatever stood there before. If the length that is told is not 0, the buffer begins with the
-/// text that is written, and no two numbers are encoded alike, or written alike into all places.
+/// Two results with the same status and the same stored values are the same, whatever was stored
+/// before. If the returned length is not 0, the buffer begins with the text, and no two numbers are
+/// encoded alike, or written alike to all places.
 pub fn one_answer()
     ensures faults { (a b : DecodeError) (status : ℕ) (bad other bad' : BadByte)
         → TellsFault a status bad bad' → TellsFault b status other bad' → a ≡ b }
@@ -40,17 +40,17 @@ pub fn one_answer()
         (range r range' : Range) (bad other bad' : BadByte)
         → TellsEnds a status range range' bad bad' → TellsEnds b status r range' other bad'
         → a ≡ b }
-    ensures texts { (text buf buf' : List ℕ) (told : ℕ)
-        → told ≢ 0 → WritesText text buf buf' told → text ≡ take told buf' }
-    ensures encoded { (B : List ℕ) (m n : ℕ) (buf other buf' : List ℕ) (told : ℕ)
-        → told ≢ 0 → Encodes B m buf buf' told → Encodes B n other buf' told → m ≡ n }
-    ensures filled { (B : List ℕ) (m n : ℕ) (places other places' : List ℕ) (told : ℕ)
-        → told ≢ 0 → Fills B m places places' told → Fills B n other places' told → m ≡ n }
+    ensures texts { (text buf buf' : List ℕ) (returned : ℕ)
+        → returned ≢ 0 → WritesText text buf buf' returned → text ≡ take returned buf' }
+    ensures encoded { (B : List ℕ) (m n : ℕ) (buf other buf' : List ℕ) (returned : ℕ)
+        → returned ≢ 0 → Encodes B m buf buf' returned → Encodes B n other buf' returned → m ≡ n }
+    ensures filled { (B : List ℕ) (m n : ℕ) (places other places' : List ℕ) (returned : ℕ)
+        → returned ≢ 0 → Fills B m places places' returned → Fills B n other places' returned → m ≡ n }
 {}
 
-/// Given what stood at the pointers before, an answer is told by only one status, and by only one
-/// thing at each pointer. A text or a number that is written is told by only one length, and leaves
-/// only one buffer. Letters that are no alphabet have only one first repeated byte, with one index.
+/// For given values that were stored before, a result has only one status and only one stored value
+/// for each pointer. A text or a number that is written has only one returned length and only one
+/// buffer. Letters that are no alphabet have only one first repeated byte, with one index.
 pub fn one_telling()
     ensures faults { (fault : DecodeError) (s t : ℕ) (bad a b : BadByte)
         → TellsFault fault s bad a → TellsFault fault t bad b → (s ≡ t) × (a ≡ b) }
@@ -81,9 +81,9 @@ pub fn one_telling()
     base62::laws::fixed_widths();
 }
 
-/// A status that tells a fault of decoding, with the byte and the index that are told, has the text
-/// of that fault. Status 1 has the text of a buffer that is too small, and status 6 that of a
-/// repeated letter.
+/// The status of an error of decoding, with the stored byte and index, has the message of that
+/// error. Status 1 has the message of a buffer that is too small, and status 6 that of a repeated
+/// letter.
 #[tactic(auto, unfolding(crate::specs::Fault::status_text))]
 pub fn text_of_told_fault()
     ensures decoding { (fault : DecodeError) (status : ℕ) (bad bad' : BadByte)

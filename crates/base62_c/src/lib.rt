@@ -1,4 +1,4 @@
-//! The calls of `base62` for C: `c/base62.h` declares them and says what they do.
+//! The C interface of `base62`, which `c/base62.h` declares and documents.
 //!
 //! In C a `&[u8]` is a pointer and then a length. Any other reference is a pointer, and a struct is
 //! a value.
@@ -31,7 +31,7 @@ use base62::Alphabet;
 use fault::text_of;
 use number::{Number, halves, joined};
 
-/// The major version times 10000, the minor one times 100, and the patch.
+/// The version: major times 10000, plus minor times 100, plus patch.
 const VERSION_NUMBER: u32 = 30300;
 
 #[unsafe(no_mangle)]
@@ -211,8 +211,7 @@ pub extern "C" fn base62_fixed_range_with(
     )
 }
 
-// Nothing that stands at `alphabet` before is read, so C can hand over memory that it has not
-// written.
+// What `alphabet` points to is not read, so callers can pass uninitialized memory.
 #[unsafe(no_mangle)]
 pub extern "C" fn base62_make_alphabet(
     letters: &[u8; 62],

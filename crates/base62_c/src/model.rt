@@ -1,5 +1,5 @@
-//! The definitions of `specs/`, computed on examples: what tells an answer, and what doesn't. No
-//! call here does anything in a run.
+//! Examples of the definitions in `specs/`: what holds, and what does not. These functions do
+//! nothing at run time.
 #![tactic(auto)]
 
 ghost use Rattle.std.specs.Prelude.{◌≡◌, ◌+◌, ◌-◌, ◌^◌, ℕ, List, [], codes, Ok, Err, Some, None};
@@ -18,7 +18,7 @@ pub fn numbers_by_example()
     ensures greatest { number_of (pair (2 ^ 64 - 1) (2 ^ 64 - 1)) ≡ 2 ^ 128 - 1 }
 {}
 
-/// What never tells that a number was encoded into a buffer of full stops.
+/// Returned lengths and buffers that are wrong for any number, with buffers of full stops.
 pub fn lengths_by_example()
     ensures refused_with_a_text { (B : List ℕ) (n : ℕ) → Encodes B n (codes "..") (codes "L.") 0
         → ⊥ }
@@ -36,7 +36,7 @@ pub fn lengths_by_example()
         → Fills B n (codes "......................") (codes "......................") 0 → ⊥ }
 {}
 
-/// How faults are told, whatever stood at the byte and its index, or if 7 and 8 stood there.
+/// How errors are returned, whatever byte and index were stored before, or if these were 7 and 8.
 pub fn faults_by_example()
     ensures empty { (bad : BadByte) → TellsFault EmptyInput 2 bad bad }
     ensures empty_by_another_status { (bad : BadByte) → TellsFault EmptyInput 4 bad bad → ⊥ }
@@ -55,8 +55,8 @@ pub fn faults_by_example()
         → ⊥ }
 {}
 
-/// How decoding is told, whatever stood at the pointers, or if 3 and 4 stood at the halves.
-pub fn answers_by_example()
+/// How results of decoding are returned, whatever was stored before, or if the halves were 3 and 4.
+pub fn results_by_example()
     ensures number { (n : Number) (bad : BadByte)
         → TellsNumber (Ok (2 ^ 64 + 5)) 0 n (pair 1 5) bad bad }
     ensures halves_left { (bad : BadByte)
@@ -76,7 +76,7 @@ pub fn answers_by_example()
         → TellsNumber (Err (InvalidBase62Byte 33 5)) 3 n n (bad_byte 7 8) (bad_byte 7 8) → ⊥ }
 {}
 
-/// How decoding of canonical texts alone is told.
+/// How results of canonical decoding are returned.
 pub fn canonical_by_example()
     ensures number { (n : Number) (bad : BadByte)
         → TellsCanonical (Ok (Some 5)) 0 n (pair 0 5) bad bad }
@@ -96,7 +96,7 @@ pub fn canonical_by_example()
         → TellsCanonical (Err EmptyInput) 2 (pair 3 4) (pair 3 0) bad bad → ⊥ }
 {}
 
-/// How ranges are told, whatever stood at the pointers, or if 3 and 4 stood at an end's halves.
+/// How ranges are returned, whatever was stored before, or if the halves of an end were 3 and 4.
 pub fn ranges_by_example()
     ensures both { (r : Range) (bad : BadByte)
         → TellsEnds (Ok (Some (1302, 1363))) 0 r (ends (pair 0 1302) (pair 0 1363)) bad bad }
@@ -130,7 +130,7 @@ pub fn ranges_by_example()
         → TellsEnds (Err (InvalidBase62Byte 45 1)) 3 r r (bad_byte 7 8) (bad_byte 7 8) → ⊥ }
 {}
 
-/// How texts are written into buffers of full stops.
+/// How texts are written to buffers of full stops.
 pub fn texts_by_example()
     ensures roomy { WritesText (codes "LZ") (codes "....") (codes "LZ..") 2 }
     ensures exact { WritesText (codes "LZ") (codes "..") (codes "LZ") 2 }
@@ -144,7 +144,7 @@ pub fn texts_by_example()
     ensures refused_with_a_length { WritesText (codes "LZ") (codes ".") (codes ".") 2 → ⊥ }
 {}
 
-/// What statuses say, with byte 33, which is `!`, and index 5.
+/// The messages of statuses, with byte 33, which is `!`, and index 5.
 #[tactic(auto, using(std::proofs::lemmas::Fmt::decimal_digit), unfolding(
 // the text of a status
 crate::specs::Fault::status_text,

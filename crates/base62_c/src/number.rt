@@ -1,4 +1,4 @@
-//! Numbers in two halves of 64 bits.
+//! Numbers as two halves of 64 bits.
 
 ghost use Rattle.std.specs.Prelude.{◌≡◌};
 ghost use Rattle.base62_c.specs.Number.{number_of};

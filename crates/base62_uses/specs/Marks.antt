@@ -1,4 +1,4 @@
--- The alphabet of marks, which stand apart from ASCII.
+-- The alphabet of marks, none of which is ASCII.
 use Rattle.std.specs.Prelude.{ℕ, List}
 use Rattle.std.specs.List.{range_with_len}
 

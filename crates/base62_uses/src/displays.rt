@@ -1,4 +1,4 @@
-//! Numbers in columns, as their displays print them.
+//! Numbers in headings and columns, formatted by `Display`.
 
 ghost use Rattle.std.specs.Prelude.{◌≡◌, ◌-◌, ◌++◌, List, ℕ, length, replicate, codes, IfOk};
 ghost use Rattle.std.specs.Str.{IsAscii};
@@ -11,7 +11,7 @@ ghost use Rattle.base62.specs.Padding.{padded_to};
 use base62::Alphabet;
 use std::alloc::{AllocError, Global};
 
-/// The heading of an order. `Err` says that there was no memory for it.
+/// Returns the heading of an order. `Err` means that an allocation failed.
 pub fn order_heading(alloc: Global, number: u128) -> Result<String, AllocError>
     ensures { IfOk result (λ heading. (text : List ℕ) × IsCanonical standard text number
         × (string_bytes heading ≡ codes "Order " ++ text)) }
@@ -19,7 +19,7 @@ pub fn order_heading(alloc: Global, number: u128) -> Result<String, AllocError>
     format!(in alloc; "Order {}", base62::encode_fmt(number))
 }
 
-/// The heading of a token. `Err` says that there was no memory for it.
+/// Returns the heading of a token. `Err` means that an allocation failed.
 pub fn token_heading(alloc: Global, number: u128) -> Result<String, AllocError>
     ensures { IfOk result (λ heading. (text : List ℕ) × IsCanonical alternative text number
         × (string_bytes heading ≡ codes "Token " ++ text)) }
@@ -27,8 +27,7 @@ pub fn token_heading(alloc: Global, number: u128) -> Result<String, AllocError>
     format!(in alloc; "Token {}", base62::encode_fmt_alt(number))
 }
 
-/// The heading of a number over an alphabet of the caller's own. `Err` says that there was no
-/// memory for it.
+/// Returns the heading of a number over a custom alphabet. `Err` means that an allocation failed.
 pub fn own_heading(alloc: Global, alphabet: &Alphabet, number: u128) -> Result<String, AllocError>
     requires { IsAscii alphabet.now }
     ensures { IfOk result (λ heading. (text : List ℕ) × IsCanonical alphabet.now text number
@@ -37,8 +36,8 @@ pub fn own_heading(alloc: Global, alphabet: &Alphabet, number: u128) -> Result<S
     format!(in alloc; "Code {}", base62::encode_fmt_with(alphabet, number))
 }
 
-/// The text of a number in a column of 22 letters, with leading zeros. `Err` says that there was
-/// no memory for it.
+/// Returns the text of a number in a column of 22 letters, with leading zeros. `Err` means that an
+/// allocation failed.
 #[tactic(auto, unfolding(base62::specs::Padding::displayed))]
 pub fn column_text(alloc: Global, number: u128) -> Result<String, AllocError>
     ensures { IfOk result (λ column. (text : List ℕ) × IsCanonical standard text number
@@ -48,8 +47,8 @@ pub fn column_text(alloc: Global, number: u128) -> Result<String, AllocError>
     format!(in alloc; "{:0>22}", base62::encode_fmt(number))
 }
 
-/// The text of a token in a column of 24 characters, with full stops behind. `Err` says that there
-/// was no memory for it.
+/// Returns the text of a token in a column of 24 characters, padded with full stops after it. `Err`
+/// means that an allocation failed.
 #[tactic(auto, unfolding(base62::specs::Padding::displayed))]
 pub fn token_column(alloc: Global, number: u128) -> Result<String, AllocError>
     ensures { IfOk result (λ column. (text : List ℕ) × IsCanonical alternative text number
@@ -58,8 +57,8 @@ pub fn token_column(alloc: Global, number: u128) -> Result<String, AllocError>
     format!(in alloc; "{:.<24}", base62::encode_fmt_alt(number))
 }
 
-/// The text of a number over an alphabet of the caller's own, in the middle of 24 characters. `Err`
-/// says that there was no memory for it.
+/// Returns the text of a number over a custom alphabet, centred in 24 characters. `Err` means that
+/// an allocation failed.
 #[tactic(auto, unfolding(base62::specs::Padding::displayed))]
 pub fn centred_text(alloc: Global, alphabet: &Alphabet, number: u128) -> Result<String, AllocError>
     requires { IsAscii alphabet.now }
@@ -69,8 +68,8 @@ pub fn centred_text(alloc: Global, alphabet: &Alphabet, number: u128) -> Result<
     format!(in alloc; "{:*^24}", base62::encode_fmt_with(alphabet, number))
 }
 
-/// A line of 1000 characters that ends with the text of a number. Before it stands `é`, which has
-/// two bytes, over and over. `Err` says that there was no memory for it.
+/// Returns a line of 1000 characters that ends with the text of a number, padded with `é`, which
+/// has two bytes. `Err` means that an allocation failed.
 #[tactic(auto, unfolding(base62::specs::Padding::displayed))]
 pub fn leader_line(alloc: Global, number: u128) -> Result<String, AllocError>
     ensures { IfOk result (λ line. (text : List ℕ) × IsCanonical standard text number

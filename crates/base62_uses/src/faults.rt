@@ -1,4 +1,4 @@
-//! Faults that a service counts and tells.
+//! Errors that a service counts, records and reports.
 
 ghost use Rattle.std.specs.Prelude.{◌≡◌, ◌≢◌, ◌↔◌, IsTrue, ◌+◌, ◌-◌, ◌^◌, [], Err, min, unwrap_or, IsOk, OnOk, OnErr, IfOk, length, replicate, true};
 ghost use Rattle.std.specs.BTreeMap.{get, IsUnchanged};
@@ -18,7 +18,7 @@ use std::alloc::AllocError;
 use std::collections::{BTreeMap, BTreeSet, HashSet};
 use std::fmt::InlineText;
 
-/// Counts a fault once more, up to 2^64 - 1. `Err` says that there was no memory for it.
+/// Adds one to the count of an error, up to 2^64 - 1. `Err` means that an allocation failed.
 pub fn count_fault(
     counts: &mut BTreeMap<DecodeError, u64>,
     fault: DecodeError,
@@ -39,28 +39,28 @@ pub fn count_fault(
     Ok(())
 }
 
-/// Notes a fault of the letters that a client sent, and answers whether it was noted before. `Err`
-/// says that there was no memory for it.
-pub fn was_noted(
-    noted: &mut BTreeSet<AlphabetError>,
+/// Records an error of the letters that a client sent, and returns whether it was recorded before.
+/// `Err` means that an allocation failed.
+pub fn record_repeat(
+    recorded: &mut BTreeSet<AlphabetError>,
     fault: AlphabetError,
 ) -> Result<bool, AllocError>
     ensures before { IfOk result
-        (λ was. was ≡ contains ⟦<AlphabetError as Ord>⟧.cmp noted.old fault) }
-    ensures now { OnOk result (contains ⟦<AlphabetError as Ord>⟧.cmp noted.new fault ≡ true) }
+        (λ was. was ≡ contains ⟦<AlphabetError as Ord>⟧.cmp recorded.old fault) }
+    ensures now { OnOk result (contains ⟦<AlphabetError as Ord>⟧.cmp recorded.new fault ≡ true) }
     ensures others { (other : AlphabetError) → other ≢ fault
-        → contains ⟦<AlphabetError as Ord>⟧.cmp noted.new other
-        ≡ contains ⟦<AlphabetError as Ord>⟧.cmp noted.old other }
-    ensures err { OnErr result (IsUnchangedSet noted.old noted.new) }
+        → contains ⟦<AlphabetError as Ord>⟧.cmp recorded.new other
+        ≡ contains ⟦<AlphabetError as Ord>⟧.cmp recorded.old other }
+    ensures err { OnErr result (IsUnchangedSet recorded.old recorded.new) }
 {
     base62::laws::order_of_alphabet_errors();
-    let is_new = noted.insert(fault)?;
+    let is_new = recorded.insert(fault)?;
     Ok(!is_new)
 }
 
-/// Whether one fault is worse than another, for a batch that is answered by its worst. An overflow
-/// is less than an empty text, which is less than a bad byte. Bad bytes go by byte and then by
-/// index.
+/// Returns whether one error is greater than another, for a batch that reports its greatest. An
+/// overflow is less than an empty text, which is less than a bad byte. Bad bytes compare by byte
+/// and then by index.
 pub fn is_worse(a: DecodeError, b: DecodeError) -> bool
     ensures { IsTrue result ↔ (decode_error_order b a ≡ Less) }
 {
@@ -68,8 +68,8 @@ pub fn is_worse(a: DecodeError, b: DecodeError) -> bool
     a > b
 }
 
-/// Whether a fault of letters comes after another in a report, which goes by byte and then by
-/// index.
+/// Returns whether an error of letters comes after another in a report, which is sorted by byte and
+/// then by index.
 pub fn is_later_repeat(a: AlphabetError, b: AlphabetError) -> bool
     ensures { IsTrue result ↔ (alphabet_error_order b a ≡ Less) }
 {
@@ -77,30 +77,30 @@ pub fn is_later_repeat(a: AlphabetError, b: AlphabetError) -> bool
     b < a
 }
 
-/// Notes that a number did not fit. `Err` says that there was no memory for it.
-pub fn note_refusal(
-    refusals: &mut HashSet<EncodeError>,
+/// Records that a number did not fit. `Err` means that an allocation failed.
+pub fn record_rejection(
+    rejections: &mut HashSet<EncodeError>,
     fault: EncodeError,
 ) -> Result<(), AllocError>
     ensures { OnOk result ((any : EncodeError)
-        → hash_contains ⟦<EncodeError as PartialEq>⟧.eq refusals.new any ≡ true) }
+        → hash_contains ⟦<EncodeError as PartialEq>⟧.eq rejections.new any ≡ true) }
 {
     base62::laws::order_of_encode_errors();
-    refusals.insert(fault)?;
+    rejections.insert(fault)?;
     Ok(())
 }
 
-/// Answers all places of a batch with one fault.
-pub fn answer_all(answers: &mut [DecodeError], fault: DecodeError)
-    ensures { answers.new ≡ replicate (length answers.old) fault }
+/// Sets each result of a batch to one error.
+pub fn fill_results(results: &mut [DecodeError], fault: DecodeError)
+    ensures { results.new ≡ replicate (length results.old) fault }
 {
     base62::laws::clones_of_errors();
-    answers.fill(fault);
+    results.fill(fault);
 }
 
-/// What a server tells a client whose text names no number below 2^128. If it names one, that is
-/// nothing. The call takes no memory, so it serves when none is left.
-pub fn complaint(text: &[u8]) -> InlineText<MAX_FAULT_TEXT>
+/// Returns the message of a text that denotes no number below 2^128, and an empty one for any other
+/// text. Does not allocate, so it also works when an allocation has failed.
+pub fn error_message(text: &[u8]) -> InlineText<MAX_FAULT_TEXT>
     ensures number { IsOk (decoding standard text.now) → inline_text result ≡ [] }
     ensures fault { (fault : DecodeError) → decoding standard text.now ≡ Err fault
         → inline_text result ≡ decode_error_text fault }

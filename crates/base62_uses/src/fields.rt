@@ -8,28 +8,28 @@ ghost use Rattle.base62.specs.Laws.{AgreesAtLetters};
 
 use base62::{Alphabet, DecodeError};
 
-/// What a form says beside a field.
+/// The result of validating a field.
 #[derive(Clone, Copy)]
-pub enum Verdict {
-    /// The text has this number.
-    Fine(u128),
+pub enum Validation {
+    /// The text denotes this number.
+    Valid(u128),
     Empty,
     /// The text has this byte at this index, and it is no letter.
-    BadLetter(u8, usize),
+    BadByte(u8, usize),
     TooLarge,
 }
 
-/// What is said of a field with a text.
-pub fn verdict_on(text: &[u8]) -> Verdict
-    ensures fine { 0 < length text.now → AreLetters standard text.now
-        → value standard text.now < 2 ^ 128 → result ≡ Verdict.Fine (value standard text.now) }
-    ensures letters { (n : ℕ) → result ≡ Verdict.Fine n → AreLetters standard text.now }
-    ensures number { (n : ℕ) → result ≡ Verdict.Fine n → n ≡ value standard text.now }
-    ensures empty { result ≡ Verdict.Empty → length text.now ≡ 0 }
-    ensures missing { length text.now ≡ 0 → result ≡ Verdict.Empty }
-    ensures bad_letter { (byte index : ℕ) → result ≡ Verdict.BadLetter byte index
+/// Validates the text of a field.
+pub fn validate_field(text: &[u8]) -> Validation
+    ensures valid { 0 < length text.now → AreLetters standard text.now
+        → value standard text.now < 2 ^ 128 → result ≡ Validation.Valid (value standard text.now) }
+    ensures letters { (n : ℕ) → result ≡ Validation.Valid n → AreLetters standard text.now }
+    ensures number { (n : ℕ) → result ≡ Validation.Valid n → n ≡ value standard text.now }
+    ensures empty { result ≡ Validation.Empty → length text.now ≡ 0 }
+    ensures missing { length text.now ≡ 0 → result ≡ Validation.Empty }
+    ensures bad_byte { (byte index : ℕ) → result ≡ Validation.BadByte byte index
         → IsFirstInvalid standard text.now byte index }
-    ensures too_large { result ≡ Verdict.TooLarge
+    ensures too_large { result ≡ Validation.TooLarge
         → is_letter standard (slice_index (after_zeros standard text.now) 0) ≡ true
         → (other : List ℕ) → AgreesAtLetters standard text.now other
         → 2 ^ 128 ≤ value standard other }
@@ -37,14 +37,14 @@ pub fn verdict_on(text: &[u8]) -> Verdict
     base62::laws::built_in_alphabets();
     base62::laws::accepted_and_refused();
     match base62::decode(text) {
-        Ok(number) => Verdict::Fine(number),
-        Err(DecodeError::EmptyInput) => Verdict::Empty,
-        Err(DecodeError::InvalidBase62Byte(byte, index)) => Verdict::BadLetter(byte, index),
-        Err(DecodeError::ArithmeticOverflow) => Verdict::TooLarge,
+        Ok(number) => Validation::Valid(number),
+        Err(DecodeError::EmptyInput) => Validation::Empty,
+        Err(DecodeError::InvalidBase62Byte(byte, index)) => Validation::BadByte(byte, index),
+        Err(DecodeError::ArithmeticOverflow) => Validation::TooLarge,
     }
 }
 
-/// Whether letters denote 2^128 or more.
+/// Returns whether letters denote 2^128 or more.
 pub fn is_too_large(text: &[u8]) -> bool
     requires { AreLetters standard text.now }
     ensures { IsTrue result ↔ (2 ^ 128 ≤ value standard text.now) }
@@ -52,7 +52,7 @@ pub fn is_too_large(text: &[u8]) -> bool
     base62::decode(text) == Err(DecodeError::ArithmeticOverflow)
 }
 
-/// What becomes of a voucher that a person typed.
+/// The result of decoding a voucher that a user typed.
 #[derive(Clone, Copy)]
 pub enum Voucher {
     /// The voucher of this number.
@@ -62,7 +62,8 @@ pub enum Voucher {
     Typo(u8, usize),
 }
 
-/// What is typed in a field of 12 places. It is never too large, and its first bad byte is named.
+/// Decodes a voucher in a field of 12 characters, which never overflows. Its first bad byte is
+/// always reported.
 pub fn voucher_in(field: &[u8]) -> Voucher
     requires { length field.now ≤ 12 }
     ensures number { (n : ℕ) → decoding standard field.now ≡ Ok n → result ≡ Voucher.Number n }
@@ -80,7 +81,7 @@ pub fn voucher_in(field: &[u8]) -> Voucher
     }
 }
 
-/// A text of at most 12 bytes has no overflow, and an empty one has its own fault.
+/// A text of at most 12 bytes does not overflow, and an empty one has its own error.
 pub fn faults_of_short(text: &[u8])
     requires { length text.now ≤ 12 }
     ensures no_overflow { decoding standard text.now ≢ Err DecodeError.ArithmeticOverflow }
@@ -91,8 +92,8 @@ pub fn faults_of_short(text: &[u8])
     base62::laws::answer_for(&Alphabet::standard(), text);
 }
 
-/// The number of a text before which a form put a zero. The index of a bad byte is its place
-/// in what was typed.
+/// Decodes a text to which a form added a leading zero. The index of a bad byte is that in what was
+/// typed.
 pub fn number_behind_zero(alphabet: &Alphabet, text: &[u8]) -> Result<u128, DecodeError>
     ensures { (typed : List ℕ) → 0 < length typed → text.now ≡ zero_letter alphabet.now ∷ typed
         → result ≡ decoding alphabet.now typed }

@@ -1,4 +1,4 @@
-//! Frames that hold a text behind a byte for its length.
+//! Frames that contain a text after a byte with its length.
 
 ghost use Rattle.std.specs.Prelude.{◌≤◌, ◌+◌, take};
 ghost use Rattle.base62.specs.Alphabet.{standard};
@@ -6,7 +6,7 @@ ghost use Rattle.base62.specs.Canonical.{IsCanonical};
 
 use base62::Work;
 
-/// Puts the text of an id at the start of a frame, and answers its length byte. That is never 0,
+/// Writes the text of an id to the start of a frame, and returns its length byte. That is never 0,
 /// which would end a stream. Any id takes at most 13 steps.
 pub fn put_frame(id: u64, frame: &mut [u8; 64], work: &mut Work) -> u8
     ensures ends_no_stream { 1 ≤ result }

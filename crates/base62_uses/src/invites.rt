@@ -1,4 +1,4 @@
-//! Codes that people type.
+//! Codes that users type.
 
 ghost use Rattle.std.specs.Prelude.{◌≡◌, ◌<◌, ◌^◌, ◌↔◌, ℕ, slice_index, Some, Ok, Err, IsTrue, IsOk};
 ghost use Rattle.base62.specs.Alphabet.{standard, zero_letter};
@@ -8,14 +8,14 @@ ghost use Rattle.base62.specs.declared.fault.DecodeError.{DecodeError};
 
 use base62::DecodeError;
 
-/// What becomes of a code with needless leading zeros.
+/// Whether a code with needless zeros is accepted.
 #[derive(Clone, Copy)]
 pub enum LeadingZeros {
     Accepted,
-    Refused,
+    Rejected,
 }
 
-/// Why a code is refused.
+/// Why a code is rejected.
 #[derive(Clone, Copy)]
 pub enum InviteFault {
     /// It has needless leading zeros.
@@ -24,13 +24,13 @@ pub enum InviteFault {
     Text(DecodeError),
 }
 
-/// The number of a code that a person typed.
+/// Decodes a code that a user typed.
 pub fn invite_number(code: &[u8], zeros: LeadingZeros) -> Result<u128, InviteFault>
     ensures accepted { (n : ℕ) → zeros ≡ LeadingZeros.Accepted
         → (result ≡ Ok n ↔ (decoding standard code.now ≡ Ok n)) }
-    ensures own { (n : ℕ) → zeros ≡ LeadingZeros.Refused → n < 2 ^ 128
+    ensures own { (n : ℕ) → zeros ≡ LeadingZeros.Rejected → n < 2 ^ 128
         → IsCanonical standard code.now n → result ≡ Ok n }
-    ensures canonical { (n : ℕ) → zeros ≡ LeadingZeros.Refused → result ≡ Ok n
+    ensures canonical { (n : ℕ) → zeros ≡ LeadingZeros.Rejected → result ≡ Ok n
         → (decoding standard code.now ≡ Ok n) × IsCanonical standard code.now n }
     ensures fault { (fault : DecodeError) → result ≡ Err (InviteFault.Text fault)
         ↔ (decoding standard code.now ≡ Err fault) }
@@ -40,7 +40,7 @@ pub fn invite_number(code: &[u8], zeros: LeadingZeros) -> Result<u128, InviteFau
 {
     let answer = match zeros {
         LeadingZeros::Accepted => base62::decode(code).map(Some),
-        LeadingZeros::Refused => base62::decode_canonical(code),
+        LeadingZeros::Rejected => base62::decode_canonical(code),
     };
     match answer {
         Ok(Some(number)) => Ok(number),
@@ -49,7 +49,7 @@ pub fn invite_number(code: &[u8], zeros: LeadingZeros) -> Result<u128, InviteFau
     }
 }
 
-/// Whether a code has needless leading zeros, and would be a number without them.
+/// Returns whether a code decodes to a number but has needless zeros.
 pub fn has_needless_zeros(code: &[u8]) -> bool
     ensures number { IsTrue result → IsOk (decoding standard code.now) }
     ensures zero { IsTrue result → slice_index code.now 0 ≡ zero_letter standard }
@@ -57,7 +57,7 @@ pub fn has_needless_zeros(code: &[u8]) -> bool
     base62::decode_canonical(code) == Ok(None)
 }
 
-/// The id of a code that is as `encode` writes it. `None` says that it is not, or names no number
+/// Decodes a code to an id, or returns `None` if it is not canonical, or does not denote a number
 /// below 2^64.
 pub fn id_of_code(code: &[u8]) -> Option<u64>
     ensures canonical { (id : ℕ) → result ≡ Some id → IsCanonical standard code.now id }

@@ -1,4 +1,4 @@
-//! Short links and tokens.
+//! Short links.
 
 ghost use Rattle.std.specs.Prelude.{◌≡◌, ◌≢◌, ◌<◌, ◌≤◌, ◌^◌, ◌↔◌, ◌++◌, ℕ, List, length, drop, codes, Ok, IsTrue, IsOk, IfOk};
 ghost use Rattle.std.specs.String.{string_bytes, string_len};
@@ -9,7 +9,7 @@ ghost use Rattle.base62.specs.Decoding.{decoding};
 use base62::{Alphabet, DecodeError};
 use std::alloc::{AllocError, Global};
 
-/// The text of the short link for a row's id. It never fails.
+/// Writes the text of the short link for a row's id, and returns it. Never fails.
 pub fn link_text(id: u64, buf: &mut [u8; 22]) -> &[u8]
     ensures text { IsCanonical standard result.now id }
     ensures short { length result.now ≤ 22 }
@@ -18,7 +18,7 @@ pub fn link_text(id: u64, buf: &mut [u8; 22]) -> &[u8]
     &buf[..len]
 }
 
-/// The id that a link's text names. `None` says that the text names no number, or none below 2^64.
+/// Decodes a link to an id, or returns `None` if it denotes no number below 2^64.
 pub fn link_id(text: &[u8]) -> Option<u64>
     ensures named { (id : ℕ) → id < 2 ^ 64 → decoding standard text.now ≡ Ok id → result ≡ Some id }
     ensures names { (id : ℕ) → result ≡ Some id → decoding standard text.now ≡ Ok id }
@@ -27,7 +27,7 @@ pub fn link_id(text: &[u8]) -> Option<u64>
     u64::try_from(number).ok()
 }
 
-/// The id that is read back from an id's own link: it is the id.
+/// Encodes an id as a link, and decodes the link: the result is the id.
 pub fn id_of_own_link(id: u64) -> Option<u64>
     ensures { result ≡ Some id }
 {
@@ -37,7 +37,7 @@ pub fn id_of_own_link(id: u64) -> Option<u64>
     link_id(link_text(id, &mut buf))
 }
 
-/// Whether two ids have different links: no link is shared by two ids.
+/// Returns whether two ids have different links: no two ids share one.
 pub fn links_differ(a: u64, b: u64) -> bool
     ensures { IsTrue result ↔ (a ≢ b) }
 {
@@ -55,7 +55,7 @@ pub fn links_differ(a: u64, b: u64) -> bool
     first != second
 }
 
-/// The status with which a server answers a request for a link.
+/// Returns the status of a server's response to a request for a link.
 pub fn status_of(text: &[u8]) -> u16
     ensures found { IsOk (decoding standard text.now) → result ≡ 200 }
     ensures bad_byte { (byte index : ℕ)
@@ -73,8 +73,8 @@ pub fn status_of(text: &[u8]) -> u16
     }
 }
 
-/// The address of a row's short link, in at most 42 letters. What follows the first 20 is read as
-/// the id. `Err` says that there was no memory for it.
+/// Returns the URL of a row's short link, at most 42 characters. What follows the first 20 decodes
+/// to the id. `Err` means that an allocation failed.
 pub fn link_address(alloc: Global, id: u64) -> Result<String, AllocError>
     ensures text { IfOk result (λ address. (text : List ℕ) × IsCanonical standard text id
         × (string_bytes address ≡ codes "https://example.org/" ++ text)) }

@@ -9,7 +9,7 @@ ghost use Rattle.base62_uses.specs.Marks.{mark_letters};
 use base62::Alphabet;
 use std::alloc::AllocError;
 
-// The alphabet of marks.
+// Returns the alphabet of marks.
 #[tactic(auto, unfolding(crate::specs::Marks::mark_letters))]
 fn mark_alphabet() -> Alphabet
     ensures { result ≡ mark_letters }
@@ -22,7 +22,7 @@ fn mark_alphabet() -> Alphabet
 }
 
 /// Appends the mark of a number to a line. In a line of ASCII the bytes of the mark stand out.
-/// `Err` says that there was no memory for it.
+/// `Err` means that an allocation failed.
 pub fn append_mark(line: &mut Vec<u8>, number: u128) -> Result<(), AllocError>
     ensures { OnOk result ((mark : List ℕ) × IsCanonical mark_letters mark number
         × (line.new.items ≡ line.old.items ++ mark)) }
@@ -32,8 +32,9 @@ pub fn append_mark(line: &mut Vec<u8>, number: u128) -> Result<(), AllocError>
     line.extend_from_slice(&buf[..len])
 }
 
-/// Two marks in a row reach 2^128 - 1 and no further, if the second has 11 letters.
-pub fn borders_of_joined_marks(front: &[u8], back: &[u8])
+/// Two concatenated marks of which the second has 11 letters: the greatest number, and the first
+/// overflow.
+pub fn limits_of_joined_marks(front: &[u8], back: &[u8])
     requires size { length back.now ≡ 11 }
     requires front { decoding mark_letters front.now ≡ Ok 6539293958884420617 }
     ensures greatest { decoding mark_letters back.now ≡ Ok 38740334223856322559
@@ -47,8 +48,8 @@ pub fn borders_of_joined_marks(front: &[u8], back: &[u8])
     base62::laws::concatenation_of_two(&marks, front, back, m, 38740334223856322560);
 }
 
-/// A letter behind the mark of the greatest number overflows.
-pub fn border_of_a_longer_mark(front: &[u8], back: &[u8])
+/// The mark of the greatest number with a letter appended overflows.
+pub fn limit_of_a_longer_mark(front: &[u8], back: &[u8])
     requires size { length back.now ≡ 1 }
     requires front { decoding mark_letters front.now ≡ Ok (2 ^ 128 - 1) }
     requires back { decoding mark_letters back.now ≡ Ok 0 }
@@ -57,10 +58,10 @@ pub fn border_of_a_longer_mark(front: &[u8], back: &[u8])
     base62::laws::concatenation_of_two(&mark_alphabet(), front, back, u128::MAX, 0);
 }
 
-/// A zero before 22 letters changes no number and no overflow. A bad byte at the last place
-/// goes to index 22.
+/// A zero before 22 letters changes no number and no overflow. The index of a bad byte at the end
+/// becomes 22.
 #[tactic(auto, unfolding(crate::specs::Marks::mark_letters))]
-pub fn borders_of_zeros_in_front()
+pub fn limits_of_leading_zeros()
     ensures greatest { (mark : List ℕ) → length mark ≡ 22
         → decoding mark_letters mark ≡ Ok (2 ^ 128 - 1)
         → decoding mark_letters (194 ∷ mark) ≡ Ok (2 ^ 128 - 1) }

@@ -10,8 +10,7 @@ ghost use Rattle.base62.specs.Key.{IsKey};
 use base62::{Alphabet, Number};
 use std::cmp::Ordering;
 
-/// How two links compare in a listing: in shortlex order, by length and then by bytes. Links then
-/// sort as their ids.
+/// Compares two links in shortlex order, by length and then by bytes. Links then sort as their ids.
 pub fn compare_links(a: &[u8], b: &[u8]) -> Ordering
     ensures { (m n : ℕ) → IsCanonical standard a.now m → IsCanonical standard b.now n
         → result ≡ nat_cmp m n }
@@ -21,15 +20,14 @@ pub fn compare_links(a: &[u8], b: &[u8]) -> Ordering
     a.len().cmp(&b.len()).then(a.cmp(b))
 }
 
-/// An id that sorts by the time at which it was made, and then by its place among those of one
-/// time.
+/// An id that sorts by the time at which it was created, and then by a sequence number.
 #[derive(Clone, Copy)]
 pub struct TimedId {
     pub milliseconds: u64,
     pub sequence: u32,
 }
 
-/// The time stands in the high bits.
+/// The time is in the high bits.
 impl Number for TimedId {
     ghost meaning = { λ id. id.milliseconds * 2 ^ 32 + id.sequence };
 
@@ -38,15 +36,15 @@ impl Number for TimedId {
     }
 }
 
-/// The key of an id.
+/// Returns the key of an id.
 pub fn timed_key(id: TimedId) -> [u8; 22]
     ensures { IsKey standard result (id.milliseconds * 2 ^ 32 + id.sequence) }
 {
     base62::encode_key(id)
 }
 
-/// How two ids compare, by the bytes of their keys alone. The later one is greater, and ids of one
-/// time go by their places.
+/// Compares two ids by the bytes of their keys. The later one is greater, and ids of one time
+/// compare by their sequence numbers.
 pub fn compare_timed(a: TimedId, b: TimedId) -> Ordering
     ensures { result ≡ ordering_then (nat_cmp a.milliseconds b.milliseconds)
         (nat_cmp a.sequence b.sequence) }
@@ -71,7 +69,7 @@ pub fn compare_timed(a: TimedId, b: TimedId) -> Ordering
     first.cmp(&second)
 }
 
-/// Whether one id is earlier than another, by `<` of their keys.
+/// Returns whether one id is earlier than another, by `<` of their keys.
 pub fn is_earlier(a: TimedId, b: TimedId) -> bool
     ensures { IsTrue result
         ↔ (a.milliseconds * 2 ^ 32 + a.sequence < b.milliseconds * 2 ^ 32 + b.sequence) }
@@ -83,8 +81,7 @@ pub fn is_earlier(a: TimedId, b: TimedId) -> bool
     first < second
 }
 
-/// The number of a ticket, whose text always has eight letters. `None` says that a byte is no
-/// letter.
+/// Decodes a ticket, whose text always has eight letters, or returns `None` if a byte is no letter.
 pub fn ticket_number(text: &[u8; 8]) -> Option<u64>
     ensures named { (n : ℕ) → n < 2 ^ 64 → IsFixed standard 8 text.now n → result ≡ Some n }
     ensures names { (n : ℕ) → result ≡ Some n → IsFixed standard 8 text.now n }

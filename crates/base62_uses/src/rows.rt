@@ -1,4 +1,4 @@
-//! Ids in rows of fixed sizes, and ids of parts.
+//! Ids in rows of fixed sizes, and ids of two parts.
 
 ghost use Rattle.std.specs.Prelude.{◌≡◌, ◌<◌, ◌≤◌, ◌+◌, ◌*◌, ◌^◌, ◌↔◌, ◌++◌, ℕ, List, take, drop, length, IsTrue, IfSome, Ok};
 ghost use Rattle.std.specs.Bool.{OnTrue, OnFalse};
@@ -17,7 +17,7 @@ pub struct Row {
     pub visits: u64,
 }
 
-/// Sets a row's id. An id whose text does not fit its field changes nothing.
+/// Sets a row's id, and returns whether its text fits the field. If not, nothing is changed.
 pub fn put_id(row: &mut Row, id: u128) -> bool
     ensures fits { IsTrue result ↔ CanonicalFits standard id 16 }
     ensures text { OnTrue result ((row.new.id_len ≤ 16)
@@ -33,14 +33,14 @@ pub fn put_id(row: &mut Row, id: u128) -> bool
     true
 }
 
-/// How many bytes a column needs for the texts of ids up to `most`, in either alphabet.
+/// Returns how many bytes a column needs for the text of the greatest id, in either alphabet.
 pub fn column_width(most: u64) -> usize
     ensures { (B text : List ℕ) → IsAlphabet B → IsCanonical B text most → length text ≡ result }
 {
     base62::digit_count(u128::from(most))
 }
 
-/// How many letters a coupon takes.
+/// Returns how many letters a coupon has.
 pub fn coupon_width(coupon: u128) -> usize
     ensures { coupon < 62 ^ 6 → result ≤ 6 }
 {
@@ -48,8 +48,8 @@ pub fn coupon_width(coupon: u128) -> usize
     base62::digit_count(coupon)
 }
 
-/// How many letters the id of a row takes: one of 32 bits, one in a script, whose numbers are below
-/// 2^53, and any.
+/// Returns how many letters the id of a row has: one of 32 bits, one in JavaScript, whose integers
+/// are below 2^53, and any.
 pub fn id_width(id: u64) -> usize
     ensures short { id < 2 ^ 32 → result ≤ 6 }
     ensures script { id < 2 ^ 53 → result ≤ 9 }
@@ -58,7 +58,7 @@ pub fn id_width(id: u64) -> usize
     base62::digit_count(u128::from(id))
 }
 
-/// The text of a short id, in at most six letters.
+/// Writes the text of a short id, at most six letters, and returns it.
 pub fn short_text(id: u32, buf: &mut [u8; 22]) -> &[u8]
     ensures text { IsCanonical standard result.now id }
     ensures short { length result.now ≤ 6 }
@@ -76,7 +76,7 @@ pub struct ShardedId {
     pub row: u64,
 }
 
-/// What number an id means. A type of one's own needs no more to be encoded.
+/// The number that an id represents. A custom type needs no more to be encoded.
 impl Number for ShardedId {
     ghost meaning = { λ id. id.shard * 2 ^ 64 + id.row };
 
@@ -85,7 +85,7 @@ impl Number for ShardedId {
     }
 }
 
-/// The text of an id of two parts.
+/// Writes the text of an id of two parts, and returns it.
 pub fn sharded_text(id: ShardedId, buf: &mut [u8; 22]) -> &[u8]
     ensures { IsCanonical standard result.now (id.shard * 2 ^ 64 + id.row) }
 {
@@ -93,8 +93,8 @@ pub fn sharded_text(id: ShardedId, buf: &mut [u8; 22]) -> &[u8]
     &buf[..len]
 }
 
-/// The shard and the row that a code names. Its last 11 letters are the row's. `None` says that it
-/// has no more than those, or that one of the two parts names no number below 2^128.
+/// Decodes a code to a shard and a row. Its last 11 letters are the row's. Returns `None` if it is
+/// shorter, or if one of the two parts denotes no number below 2^128.
 pub fn parts_of_code(alphabet: &Alphabet, code: &[u8]) -> Option<(u128, u128)>
     ensures number { IfSome result (λ parts. decoding alphabet.now code.now
         ≡ number_or_overflow (parts.0 * 62 ^ 11 + parts.1)) }

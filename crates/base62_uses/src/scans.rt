@@ -10,9 +10,9 @@ ghost use Rattle.base62.specs.Order.{IsNotAfter};
 
 use base62::{Alphabet, Work};
 
-/// Whether a scan of a table takes the row of a key. It is for the rows whose keys begin with a
-/// prefix, and goes from the key of the least number to that of the greatest. If there is no
-/// number, it takes no row.
+/// Returns whether a scan of a table includes the row of a key. The scan is for the rows whose keys
+/// begin with a prefix, and goes from the key of the least number to that of the greatest. If there
+/// is no number, it includes no row.
 pub fn is_scanned(prefix: &[u8], key: &[u8; 22]) -> bool
     ensures { (n : ℕ) → n < 2 ^ 128 → IsKey standard key.now n
         → (IsTrue result ↔ BeginsWith prefix.now key.now) }
@@ -27,8 +27,8 @@ pub fn is_scanned(prefix: &[u8], key: &[u8; 22]) -> bool
     low.cmp(key).is_le() && key.cmp(&high).is_le()
 }
 
-/// The keys from which, and up to which, a database scans for the rows whose keys begin with a
-/// prefix. `None` says that there are no such rows.
+/// Returns the first and the last key of a database scan for the rows whose keys begin with a
+/// prefix, or `None` if there are no such rows.
 pub fn scan_ends(prefix: &[u8]) -> Option<([u8; 22], [u8; 22])>
     ensures found { (ends : List ℕ × List ℕ) (n : ℕ) (key : List ℕ) → result ≡ Some ends
         → n < 2 ^ 128 → IsKey standard key n → BeginsWith prefix.now key
@@ -49,15 +49,15 @@ pub fn scan_ends(prefix: &[u8]) -> Option<([u8; 22], [u8; 22])>
     Some((low, high))
 }
 
-/// Whether a prefix that somebody typed is letters alone.
+/// Returns whether a prefix that a user typed has only letters.
 pub fn is_prefix(prefix: &[u8]) -> bool
     ensures { IsTrue result ↔ AreLetters standard prefix.now }
 {
     base62::fixed_range(22, prefix).is_ok()
 }
 
-/// How many texts of a request name an id, for a server that must bound its work. Each text takes
-/// at most 22 steps, whatever a client sent.
+/// Returns how many texts of a request denote an id, for a server that has to bound its work. Each
+/// text takes at most 22 steps, whatever a client sent.
 pub fn count_ids(texts: &[&[u8]], work: &mut Work) -> usize
     ensures ids { result ≡ count_by (λ text. is_ok (decoding standard text.now)) texts.now }
     ensures bounded { work.new ≤ work.old + 22 * length texts.now }

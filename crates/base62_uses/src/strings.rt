@@ -1,4 +1,4 @@
-//! Texts in lines, strings and to writers.
+//! Texts in lines, in strings and to writers.
 
 ghost use Rattle.std.specs.Prelude.{◌≡◌, ◌<◌, ◌≤◌, ◌+◌, ◌∷◌, ◌++◌, [], ℕ, List, codes, OnOk, OnErr};
 ghost use Rattle.std.specs.String.{string_bytes, string_capacity, string_len};
@@ -22,8 +22,8 @@ pub fn append_number<T: Number>(line: &mut Vec<u8>, number: T) -> Result<(), All
     line.extend_from_slice(&buf[..len])
 }
 
-/// Appends the texts of two numbers with a `-` between them, both or neither. `Err` says that there
-/// was no memory for them.
+/// Appends the texts of two numbers with a `-` between them, both or neither. `Err` means that an
+/// allocation failed.
 pub fn append_pair(text: &mut String, first: u128, second: u128) -> Result<(), AllocError>
     ensures ok { OnOk result
         ((a b : List ℕ) × IsCanonical standard a first × IsCanonical standard b second
@@ -31,14 +31,14 @@ pub fn append_pair(text: &mut String, first: u128, second: u128) -> Result<(), A
     ensures err { OnErr result (string_bytes text.new ≡ string_bytes text.old) }
 {
     text.reserve(45)?;
-    // There is room for both now.
+    // The capacity is enough for both now.
     append_within(text, first);
     text.push_str("-").unwrap();
     append_within(text, second);
     Ok(())
 }
 
-// Appends the text of a number if there is room for 22 letters.
+// Appends the text of a number to a string with 22 spare bytes.
 fn append_within(string: &mut String, number: u128)
     requires { string_len string.old + 22 ≤ string_capacity string.old }
     ensures text { (text : List ℕ) × IsCanonical standard text number
@@ -49,8 +49,8 @@ fn append_within(string: &mut String, number: u128)
     base62::encode_buf(number, string).unwrap();
 }
 
-/// Appends the text of a number to a string, and requests no more memory than the text takes. `Err`
-/// says that there was none, and leaves the string as it was.
+/// Appends the text of a number to a string, and allocates no more than the text needs. `Err` means
+/// that the allocation failed, and leaves the string unchanged.
 pub fn append_exactly(string: &mut String, number: u128) -> Result<(), AllocError>
     ensures ok { OnOk result ((text : List ℕ) × IsCanonical standard text number
         × (string_bytes string.new ≡ string_bytes string.old ++ text)) }
@@ -59,13 +59,13 @@ pub fn append_exactly(string: &mut String, number: u128) -> Result<(), AllocErro
 {
     base62::laws::built_in_alphabets();
     string.reserve_exact(base62::digit_count(number))?;
-    // There is room for the text now.
+    // The capacity is enough now.
     base62::encode_buf(number, string).unwrap();
     Ok(())
 }
 
-/// Appends the text of a number to a string that has room for a byte. If there is no memory for
-/// the text, it appends a `?`. It answers whether it appended the text.
+/// Appends the text of a number to a string with a spare byte, or a `?` if an allocation fails.
+/// Returns whether it appended the text.
 pub fn append_or_mark(string: &mut String, number: u128) -> bool
     requires { string_len string.old < string_capacity string.old }
     ensures text { OnTrue result ((text : List ℕ) × IsCanonical standard text number
@@ -79,7 +79,7 @@ pub fn append_or_mark(string: &mut String, number: u128) -> bool
     false
 }
 
-/// Writes a line of the text of a number to a writer.
+/// Writes the text of a number and a line feed to a writer.
 pub fn write_line<W: Write>(number: u128, writer: &mut W) -> io::Result<()>
     ensures { OnOk result ((text : List ℕ) × IsCanonical standard text number
         × Appends (W.contents writer.old) (W.contents writer.new) (text ++ 10 ∷ [])) }

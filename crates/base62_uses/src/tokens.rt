@@ -1,4 +1,4 @@
-//! Tokens, whose numbers are written in the alternative alphabet.
+//! Tokens: texts over the alternative alphabet.
 
 ghost use Rattle.std.specs.Prelude.{◌≡◌, ◌↔◌, ℕ, Ok, Some, IfOk};
 ghost use Rattle.base62.specs.Alphabet.{alternative, standard};
@@ -8,7 +8,7 @@ ghost use Rattle.base62.specs.Decoding.{decoding};
 
 use std::alloc::{AllocError, Global};
 
-/// The text of a token's number in the alternative alphabet. It never fails.
+/// Writes the text of a token's number in the alternative alphabet, and returns it. Never fails.
 pub fn token_text(number: u128, buf: &mut [u8; 22]) -> &[u8]
     ensures { IsCanonical alternative result.now number }
 {
@@ -16,14 +16,14 @@ pub fn token_text(number: u128, buf: &mut [u8; 22]) -> &[u8]
     &buf[..len]
 }
 
-/// The number that a token's text names. `None` says that the text names none below 2^128.
+/// Decodes a token, or returns `None` if it denotes no number below 2^128.
 pub fn token_number(text: &[u8]) -> Option<u128>
     ensures { (n : ℕ) → (result ≡ Some n) ↔ (decoding alternative text.now ≡ Ok n) }
 {
     base62::decode_alternative(text).ok()
 }
 
-// The byte with its case exchanged.
+// Returns the byte with its case exchanged.
 #[tactic(auto, unfolding(base62::specs::Case::other_case))]
 fn with_other_case(byte: u8) -> u8
     ensures { result ≡ other_case byte }
@@ -35,7 +35,7 @@ fn with_other_case(byte: u8) -> u8
     }
 }
 
-// The text with its case exchanged.
+// Returns the text with its case exchanged.
 fn with_case_exchanged(alloc: Global, text: &[u8]) -> Result<Vec<u8>, AllocError>
     ensures { IfOk result (λ exchanged. exchanged.items ≡ exchange_case text.now) }
 {
@@ -44,8 +44,8 @@ fn with_case_exchanged(alloc: Global, text: &[u8]) -> Result<Vec<u8>, AllocError
         .collect(alloc)
 }
 
-/// A token as a text over the standard alphabet. It names the token's number, or has the token's
-/// fault. `Err` says that there was no memory for it.
+/// Returns a token as a text over the standard alphabet, with the same number or error. `Err` means
+/// that an allocation failed.
 pub fn text_of_token(alloc: Global, token: &[u8]) -> Result<Vec<u8>, AllocError>
     ensures decoded { IfOk result
         (λ text. decoding standard text.items ≡ decoding alternative token.now) }
@@ -56,8 +56,7 @@ pub fn text_of_token(alloc: Global, token: &[u8]) -> Result<Vec<u8>, AllocError>
     with_case_exchanged(alloc, token)
 }
 
-/// A text over the standard alphabet as a token, for those who read tokens alone. `Err` says that
-/// there was no memory for it.
+/// Returns a text over the standard alphabet as a token. `Err` means that an allocation failed.
 pub fn token_of_text(alloc: Global, text: &[u8]) -> Result<Vec<u8>, AllocError>
     ensures { IfOk result (λ token. (n : ℕ)
         → IsCanonical standard text.now n → IsCanonical alternative token.items n) }
@@ -66,8 +65,8 @@ pub fn token_of_text(alloc: Global, text: &[u8]) -> Result<Vec<u8>, AllocError>
     with_case_exchanged(alloc, text)
 }
 
-/// The token of a number, by way of its text over the standard alphabet. `Err` says that there was
-/// no memory for it.
+/// Returns the token of a number, by way of its text over the standard alphabet. `Err` means that
+/// an allocation failed.
 pub fn token_of_number(alloc: Global, number: u128) -> Result<Vec<u8>, AllocError>
     ensures { IfOk result (λ token. IsCanonical alternative token.items number) }
 {

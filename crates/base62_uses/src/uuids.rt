@@ -9,7 +9,8 @@ ghost use Rattle.base62.specs.Uuid.{IsUuid, uuid_number};
 use base62::{Alphabet, DecodeError, Number};
 use std::alloc::{AllocError, Global};
 
-/// The short form of a UUID's sixteen bytes, the highest first. It never fails.
+/// Writes the short form of a UUID's sixteen bytes, the most significant first, and returns it.
+/// Never fails.
 pub fn short_uuid(uuid: [u8; 16], buf: &mut [u8; 22]) -> &[u8]
     ensures { IsCanonical standard result.now (uuid_number uuid) }
 {
@@ -17,8 +18,8 @@ pub fn short_uuid(uuid: [u8; 16], buf: &mut [u8; 22]) -> &[u8]
     &buf[..len]
 }
 
-/// Whether two UUIDs have one short form: only if they are one.
-pub fn have_one_short(alloc: Global, a: [u8; 16], b: [u8; 16]) -> Result<bool, AllocError>
+/// Returns whether two UUIDs have the same short form: only if they are equal.
+pub fn share_short_form(alloc: Global, a: [u8; 16], b: [u8; 16]) -> Result<bool, AllocError>
     ensures { IfOk result (λ same. IsTrue same ↔ (a ≡ b)) }
 {
     let first = base62::encode_uuid(alloc, a)?;
@@ -29,8 +30,8 @@ pub fn have_one_short(alloc: Global, a: [u8; 16], b: [u8; 16]) -> Result<bool, A
     Ok(first == second)
 }
 
-/// The UUID of a short form. `None` says that the text is the short form of no UUID. No two texts
-/// give the same UUID.
+/// Decodes a short form to its UUID, or returns `None` if the text is not canonical. No two texts
+/// decode to the same UUID.
 pub fn uuid_of_short(text: &[u8]) -> Option<[u8; 16]>
     ensures canonical { (uuid : List ℕ) → result ≡ Some uuid
         → IsCanonical standard text.now (uuid_number uuid) }
@@ -40,7 +41,7 @@ pub fn uuid_of_short(text: &[u8]) -> Option<[u8; 16]>
     base62::decode_uuid_canonical(text).ok()?
 }
 
-/// The same, by a call for the number first.
+/// Like [`uuid_of_short`], but decodes to the number first.
 pub fn uuid_of_link(text: &[u8]) -> Option<[u8; 16]>
     ensures canonical { (uuid : List ℕ) → result ≡ Some uuid
         → IsCanonical standard text.now (uuid_number uuid) }
@@ -52,7 +53,7 @@ pub fn uuid_of_link(text: &[u8]) -> Option<[u8; 16]>
     base62::decode_uuid(text).ok()
 }
 
-/// The byte of a mistyped short form that is no letter, and its place.
+/// Returns the byte of a mistyped short form that is no letter, and its index.
 pub fn bad_letter(text: &[u8]) -> Option<(u8, usize)>
     ensures { IfSome result (λ bad. IsFirstInvalid standard text.now bad.0 bad.1) }
 {
@@ -62,7 +63,7 @@ pub fn bad_letter(text: &[u8]) -> Option<(u8, usize)>
     }
 }
 
-/// The UUID that is read back from a UUID's own short form: it is the UUID.
+/// Encodes a UUID as its short form, and decodes the short form: the result is the UUID.
 pub fn uuid_of_own_short(uuid: &[u8; 16]) -> Option<[u8; 16]>
     ensures { result ≡ Some uuid.now }
 {
@@ -70,8 +71,8 @@ pub fn uuid_of_own_short(uuid: &[u8; 16]) -> Option<[u8; 16]>
     uuid_of_short(short_uuid(*uuid, &mut buf))
 }
 
-/// Whether two UUIDs have different short forms: no short form is shared by two UUIDs.
-pub fn shorts_differ(a: [u8; 16], b: [u8; 16]) -> bool
+/// Returns whether two UUIDs have different short forms: no two UUIDs share one.
+pub fn short_forms_differ(a: [u8; 16], b: [u8; 16]) -> bool
     ensures { IsTrue result ↔ (a ≢ b) }
 {
     let mut first = [0u8; 22];

@@ -1,4 +1,4 @@
--- What a counted call answers for a number whose canonical text is known, and its steps on a new counter.
+-- The result of a counted call for a number whose canonical text is known, and its steps with a new counter.
 use Rattle.std.proofs.Common.{◌≡◌, ℕ, ◌<◌, ◌≤◌, true, List, length, take, Result, Ok, Err, refl, sym, ap, ◌∙◌, arith}
 use Rattle.std.specs.List.{list_all}
 use Rattle.std.proofs.lemmas.Bool.{false≢true}
@@ -27,14 +27,14 @@ module _ (ok : IsAlphabet standard)
   length_is len within written =
       sym (length-take-le len new within) ∙ ap length (only standard ok (value standard text) (take len new) text written canonical)
 
-  -- a buffer that holds the text takes it
+  -- the text fits into a buffer of its length
   pub counted : (result : Result ℕ EncodeError) → length text ≤ length old → EncodesCounted standard (value standard text) old new before after result
       → (result ≡ Ok (length text)) × (after ≡ encoding_steps (length text))
   counted (Ok len) room encodes =
       let is = length_is len encodes.answer.text.0 encodes.answer.text.1 in (ap Ok is, omega (arith, start, encodes.steps, ap encoding_steps is))
   counted (Err e) room encodes = absurd (false≢true (encodes.answer.fits.1 (text, canonical, room)))
 
-  -- a shorter one is refused
+  -- a shorter buffer is rejected
   pub uncounted : (result : Result ℕ EncodeError) → length old < length text → EncodesCounted standard (value standard text) old new before after result
       → (result ≡ Err BufferTooSmall) × (after ≡ 0)
   uncounted (Ok len) short encodes =

@@ -1,8 +1,8 @@
-//! Numbers and their texts over both alphabets, both ways, and the inputs that are refused.
+//! Tests of numbers and their texts over both alphabets, encoded and decoded, and of inputs that are rejected.
 
 use crate::support::alphabets::{ALL, BOTH, Letters, texts};
 use crate::support::checks::{assert_decodes, assert_encodes};
-use crate::support::reference::plain_text;
+use crate::support::reference::reference_text;
 use base62::DecodeError;
 use base62::DecodeError::{ArithmeticOverflow, EmptyInput, InvalidBase62Byte};
 use std::process::Abort;
@@ -30,7 +30,7 @@ fn test_encode_alternative_bytes(rt: HostRuntime) -> Result<(), Fail> {
     assert_texts(&rt, Letters::Alternative)
 }
 
-// Around each number at which a text, a type or all numbers end.
+// The numbers around each limit: of a length, of a type, and of all numbers.
 #[test]
 fn test_encode_exact_and_short_buffers(rt: HostRuntime) {
     let mut centers = [18446744073709551615; 25];
@@ -43,19 +43,20 @@ fn test_encode_exact_and_short_buffers(rt: HostRuntime) {
     centers[24] = u128::MAX - 1;
     for center in centers {
         for number in [center.wrapping_sub(1), center, center.wrapping_add(1)] {
-            assert_plain(&rt, number);
+            assert_like_reference(&rt, number);
         }
     }
 }
 
-fn assert_plain(rt: &impl Abort, number: u128) {
+fn assert_like_reference(rt: &impl Abort, number: u128) {
     for alphabet in ALL {
-        let (letters, start) = plain_text(&alphabet.letters(), number);
+        let (letters, start) = reference_text(&alphabet.letters(), number);
         assert_encodes(rt, alphabet, number, &letters[start..]);
     }
 }
 
-// Each standard text with what it denotes, as the text of the same digits does over the alternative alphabet.
+// Each standard text with the number that it denotes. The text of the same digits over the alternative alphabet
+// denotes the same.
 const DECODED: [(&str, u128); 13] = [
     ("000", 0),
     ("00000000000000000000001", 1),
@@ -66,7 +67,7 @@ const DECODED: [(&str, u128); 13] = [
     ("1", 1),
     ("LZ", 1337),
     ("lz", 2975),
-    // The first letter's number goes up by one place for each letter after it.
+    // Each letter appended multiplies the value of the first by 62.
     ("100", 3844),
     ("1LZ", 5181),
     (
@@ -138,27 +139,27 @@ fn test_decode_alternative_invalid_char(rt: HostRuntime) {
     assert_decodes(&rt, Letters::Alternative, b"!", bad_byte);
 }
 
-// Which fault is reported of a standard text that has more than one, and of the text of the same digits over the
+// Which error is reported for a standard text that has more than one, and for the text of the same digits over the
 // alternative alphabet.
 const REFUSED: [(&str, DecodeError); 12] = [
     ("0!", InvalidBase62Byte(b'!', 1)),
-    // A text of more than 22 bytes after its leading zeros is refused before any of them is looked at.
+    // A text of more than 22 bytes after its leading zeros is rejected before any of them is read.
     ("!0000000000000000000000", ArithmeticOverflow),
     ("7n42DGM5Tflk9n8mt7Fhc70", ArithmeticOverflow),
     ("!000000000000000000000", InvalidBase62Byte(b'!', 0)),
     ("0!000000000000000000000", InvalidBase62Byte(b'!', 1)),
-    // A wrong byte among the first ten is reported, and a later one only if those ten do not overflow.
+    // A bad byte among the first ten is reported, and a later one only if those ten do not overflow.
     ("zzzzzzzzz!000000000000", InvalidBase62Byte(b'!', 9)),
     ("zzzzzzzzzz!00000000000", ArithmeticOverflow),
     ("7n42DGM5Tf!00000000000", InvalidBase62Byte(b'!', 10)),
     ("7n42DGM5Tg!00000000000", ArithmeticOverflow),
-    // A wrong byte is reported before an overflow that only the last letters could make.
+    // A bad byte is reported rather than an overflow that depends on the last letters.
     ("7n42DGM5Tflk9n8mt7Fhc!", InvalidBase62Byte(b'!', 21)),
     ("7n42DGM5Tflk9n8mt7Fhc8", ArithmeticOverflow),
     ("zzzzzzzzzzzzzzzzzzzzzz", ArithmeticOverflow),
 ];
 
-// At the ends of the parts in which 22 letters are read, a byte that is no letter is reported with its index.
+// A bad byte at either end of a part in which 22 letters are read is reported with its index.
 fn assert_names(rt: &impl Abort, byte: u8) {
     for place in [2, 3, 11, 12, 21, 22, 23_usize] {
         let mut text = [b'0'; 24];

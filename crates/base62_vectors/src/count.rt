@@ -1,4 +1,4 @@
-//! How many letters a number takes.
+//! Tests of the length of texts.
 
 use base62::digit_count;
 use std::process::Abort;
@@ -7,7 +7,7 @@ fn assert_counts(rt: &impl Abort, number: u128, count: usize) {
     assert!(rt; digit_count(number) == count, "the digits of {number}");
 }
 
-// A count becomes one greater at each power of 62.
+// The length increases by one at each power of 62.
 #[test]
 fn test_digit_count(rt: HostRuntime) {
     let mut power: u128 = 1;

@@ -1,4 +1,4 @@
-//! Writers that take a byte a call, that fail, and that take nothing.
+//! Tests with writers that accept one byte per call, that fail, and that accept nothing.
 
 use crate::support::alphabets::{ALL, Letters};
 use crate::support::writers::TestWriter;
@@ -15,14 +15,14 @@ const NUMBERS: [(u128, &str); 4] = [
     (u128::MAX, "7n42DGM5Tflk9n8mt7Fhc7"),
 ];
 
-// The writer has been called so often, the first time with the whole text, and was not flushed.
+// Checks that the writer was called so often, first with the whole text, and was not flushed.
 fn is_called(writer: &TestWriter, text: &[u8], calls: usize) -> bool {
     let is_whole = writer.handed.first() == Some(&text.len());
     is_whole && writer.handed.len() == calls && writer.flushes == 0
 }
 
-// The writer gets the text in so many calls.
-fn does_write(
+// Checks that the writer receives the text in so many calls.
+fn writes(
     alphabet: Letters,
     number: u128,
     writer: &mut TestWriter,
@@ -34,8 +34,8 @@ fn does_write(
         && is_called(writer, text, calls)
 }
 
-// A writer of one byte a call fails after so many bytes, and has these. The next text follows them.
-fn does_fail(alloc: Global, alphabet: Letters, number: u128, text: &[u8], before: usize) -> bool {
+// A writer that accepts one byte per call fails after so many bytes, and contains these. The next text follows them.
+fn fails(alloc: Global, alphabet: Letters, number: u128, text: &[u8], before: usize) -> bool {
     let call = before.saturating_add(1);
     let mut writer = TestWriter::failing_at(alloc, 1, call, ErrorKind::Other);
     let Err(fault) = alphabet.write(number, &mut writer) else {
@@ -48,22 +48,16 @@ fn does_fail(alloc: Global, alphabet: Letters, number: u128, text: &[u8], before
         && writer.written.get(before..) == Some(text)
 }
 
-// A call that is interrupted is made again.
-fn is_made_again(
-    alloc: Global,
-    alphabet: Letters,
-    number: u128,
-    text: &[u8],
-    before: usize,
-) -> bool {
+// An interrupted call is repeated.
+fn is_retried(alloc: Global, alphabet: Letters, number: u128, text: &[u8], before: usize) -> bool {
     let call = before.saturating_add(1);
     let calls = text.len().saturating_add(1);
     let mut writer = TestWriter::failing_at(alloc, 1, call, ErrorKind::Interrupted);
-    does_write(alphabet, number, &mut writer, text, calls)
+    writes(alphabet, number, &mut writer, text, calls)
 }
 
 fn is_full(alloc: Global, alphabet: Letters, number: u128, text: &[u8]) -> bool {
-    let mut writer = TestWriter::taking(alloc, 0);
+    let mut writer = TestWriter::accepting(alloc, 0);
     match alphabet.write(number, &mut writer) {
         Ok(()) => false,
         Err(fault) => fault.kind() == ErrorKind::WriteZero && is_called(&writer, text, 1),
@@ -72,15 +66,15 @@ fn is_full(alloc: Global, alphabet: Letters, number: u128, text: &[u8]) -> bool 
 
 fn assert_writers(rt: &(impl Abort + AllocGlobal), alphabet: Letters, number: u128, text: &[u8]) {
     for before in 0..text.len() {
-        let is_so = does_fail(rt.alloc(), alphabet, number, text, before)
-            && is_made_again(rt.alloc(), alphabet, number, text, before);
+        let is_so = fails(rt.alloc(), alphabet, number, text, before)
+            && is_retried(rt.alloc(), alphabet, number, text, before);
         assert!(rt;
             is_so,
             "{number}, of which {before} bytes were taken, {alphabet:?}"
         );
     }
-    let mut writer = TestWriter::taking(rt.alloc(), 1);
-    let is_so = does_write(alphabet, number, &mut writer, text, text.len())
+    let mut writer = TestWriter::accepting(rt.alloc(), 1);
+    let is_so = writes(alphabet, number, &mut writer, text, text.len())
         && is_full(rt.alloc(), alphabet, number, text);
     assert!(rt; is_so, "{number}, {alphabet:?}");
 }

@@ -1,4 +1,4 @@
-//! What the faults print, and their order.
+//! Tests of the messages of errors, and of their order.
 
 use base62::AlphabetError::Repeated;
 use base62::DecodeError;
@@ -9,7 +9,7 @@ use std::error::Error;
 use std::process::Abort;
 use std::test::Fail;
 
-// The text is printed, and no width, fill or alignment adds to it.
+// The message is written, and no width, fill or alignment adds to it.
 fn assert_prints<E: Error>(
     rt: &(impl Abort + AllocGlobal),
     fault: &E,
@@ -35,7 +35,7 @@ fn texts(rt: HostRuntime) -> Result<(), Fail> {
             "Decoded number cannot fit into a `u128`",
         ),
         (EmptyInput, "Encoded input is an empty string"),
-        // A line feed is shown by its two letters.
+        // A line feed is escaped as two characters.
         (
             InvalidBase62Byte(10, 3),
             "Encoded input contains the invalid byte b'\\n' at index 3",
@@ -61,8 +61,8 @@ fn texts(rt: HostRuntime) -> Result<(), Fail> {
     assert_prints(&rt, &repeated, "Alphabet repeats the byte b'0' at index 61")
 }
 
-// How a byte is shown: six by an escape of their own, a printable one as it is, any other by its two digits.
-fn shown(alloc: Global, byte: u8) -> Result<String, AllocError> {
+// Six bytes are escaped by a backslash and a character, other printable ones are not, and the others by two digits.
+fn escape_of(alloc: Global, byte: u8) -> Result<String, AllocError> {
     match byte {
         9 => String::from_str(alloc, "\\t"),
         10 => String::from_str(alloc, "\\n"),
@@ -74,9 +74,9 @@ fn shown(alloc: Global, byte: u8) -> Result<String, AllocError> {
 }
 
 #[test]
-fn shown_bytes(rt: HostRuntime) -> Result<(), Fail> {
+fn escaped_bytes(rt: HostRuntime) -> Result<(), Fail> {
     for byte in 0..=255_u8 {
-        let escape = shown(rt.alloc(), byte)?;
+        let escape = escape_of(rt.alloc(), byte)?;
         let text = format!(in rt.alloc();
             "Encoded input contains the invalid byte b'{escape}' at index 7"
         )?;

@@ -1,4 +1,4 @@
-//! Keys, which sort as their numbers, and the ranges of the keys that begin alike.
+//! Tests of keys, which sort as their numbers, and of the ranges of prefixes.
 
 use base62::DecodeError::InvalidBase62Byte;
 use base62::{encode_key, key_range};
@@ -43,7 +43,7 @@ fn ranges_of_prefixes(rt: HostRuntime) {
         // No key has 23 letters.
         ("00000000000000000000000", Ok(None)),
         ("!", Err(InvalidBase62Byte(b'!', 0))),
-        // A wrong byte is reported too if no key begins with the letters before it.
+        // A bad byte is also reported if no key begins with the letters before it.
         ("7o!", Err(InvalidBase62Byte(b'!', 2))),
         ("00000000000000000000000!", Err(InvalidBase62Byte(b'!', 23))),
     ];

@@ -1,5 +1,5 @@
-//! Tests of `base62` against values from outside and plain code, of counted calls, whose contracts state the answer
-//! and the steps, and of the callers in `base62_uses` that can be refused memory or a write.
+//! Tests of `base62` with values from outside and a reference implementation, of counted calls, whose contracts state
+//! the result and the steps, and of the callers in `base62_uses` that allocate or write.
 #![tactic(auto)]
 
 #[cfg(test)]
@@ -7,19 +7,19 @@ mod codec;
 #[cfg(test)]
 mod count;
 #[cfg(test)]
+mod custom_alphabets;
+#[cfg(test)]
 mod failing;
 #[cfg(test)]
 mod fault;
 #[cfg(test)]
-mod hostile;
-#[cfg(test)]
 mod key;
+#[cfg(test)]
+mod malformed;
 #[cfg(test)]
 mod memory;
 #[cfg(test)]
 mod number;
-#[cfg(test)]
-mod own_alphabets;
 #[cfg(test)]
 mod show;
 pub mod steps;

@@ -1,11 +1,11 @@
-//! What the calls that make texts answer if they are refused memory, and some that ask for none.
+//! Tests of the calls that allocate if an allocation fails, and of some that do not allocate.
 
 use crate::support::alphabets::{ALL, Letters};
 use base62::{decode, encode_bytes, encode_key, key_range};
 use std::process::Abort;
 use std::test::Fail;
 
-// The calls that make a string, by their alphabets.
+// The calls that return a string, by their alphabets.
 const TEXT_CALLS: [&str; 3] = ["encode", "encode_alternative", "encode_with"];
 
 // Numbers with their texts over each alphabet.
@@ -23,8 +23,8 @@ const TEXTS: [(u128, [&str; 3]); 2] = [
 
 const BASE62: &str = "Base62: Base62";
 
-// Room is requested for the text and no more, and once: a string that shrank to its text would request twice.
-fn is_text_refused(
+// Returns whether the allocation fails. It is one, for exactly the text: to shrink a string would be another.
+fn text_allocation_fails(
     rt: &(impl Abort + AllocGlobal),
     alphabet: Letters,
     number: u128,
@@ -40,9 +40,10 @@ fn is_text_refused(
     false
 }
 
-// The text has no room to spare. A refused call leaves it as it was, and it serves then as any other. Room is
-// requested for what is appended, which is shorter than 22 letters, though a text that grows may double.
-fn is_append_refused(
+// Returns whether the allocation fails for a text without spare capacity. The text is then left unchanged, and can be
+// appended to again. What is appended determines the new capacity. It is shorter than 22 letters, but the capacity
+// may double.
+fn append_allocation_fails(
     rt: &impl Abort,
     alphabet: Letters,
     number: u64,
@@ -52,7 +53,7 @@ fn is_append_refused(
     let earlier = text.len();
     assert!(rt;
         text.capacity() == earlier,
-        "there is room to spare, {alphabet:?}"
+        "there is spare capacity, {alphabet:?}"
     );
     let is_refused = alphabet.append(number, text).is_err();
     if is_refused {
@@ -70,7 +71,7 @@ fn is_append_refused(
     is_refused
 }
 
-// These calls ask for no memory, so none of them is ever refused any. The text has room to spare.
+// These calls do not allocate, so they never fail. The text has spare capacity.
 fn are_texts_appended(text: &mut String) -> bool {
     for alphabet in ALL {
         if alphabet.append(1337_u32, text).is_err() {
@@ -88,13 +89,13 @@ fn are_buffers_filled() -> bool {
         && encode_key(0_u8) == *b"0000000000000000000000"
 }
 
-fn are_texts_read() -> bool {
+fn are_texts_decoded() -> bool {
     decode(b"1LY7VK") == Ok(1234567890)
         && key_range(b"7n") == Ok(Some((340236514539200045093703517809706795008, u128::MAX)))
 }
 
-// Says in which step an allocation failed, for `.ci/failed-allocations`, which has each request fail in turn. The
-// last step is there for it to see that the calls made no further request.
+// Prints in which step an allocation failed, for `.ci/failed-allocations`, which makes each allocation fail in turn.
+// The last step shows it that the calls new_alphabet no other allocation.
 #[test]
 fn refused_memory(rt: HostRuntime) -> Result<(), Fail> {
     let (Ok(mut standard), Ok(mut alternative), Ok(mut own), Ok(mut roomy)) = (
@@ -106,11 +107,14 @@ fn refused_memory(rt: HostRuntime) -> Result<(), Fail> {
         println!(rt; "refused: set-up")?;
         return Ok(());
     };
-    assert!(rt; are_texts_appended(&mut roomy), "texts in room at hand");
-    assert!(rt; are_buffers_filled() && are_texts_read(), "without memory");
+    assert!(rt; are_texts_appended(&mut roomy), "texts in spare capacity");
+    assert!(rt;
+        are_buffers_filled() && are_texts_decoded(),
+        "calls that do not allocate"
+    );
     for (number, texts) in TEXTS {
         for place in 0..3_usize {
-            if is_text_refused(&rt, ALL[place], number, texts[place]) {
+            if text_allocation_fails(&rt, ALL[place], number, texts[place]) {
                 println!(rt; "refused: {}", TEXT_CALLS[place])?;
             }
         }
@@ -118,11 +122,11 @@ fn refused_memory(rt: HostRuntime) -> Result<(), Fail> {
     let steps = [
         (
             "encode_buf",
-            is_append_refused(&rt, Letters::Standard, 10622433094, &mut standard, BASE62),
+            append_allocation_fails(&rt, Letters::Standard, 10622433094, &mut standard, BASE62),
         ),
         (
             "encode_alternative_buf",
-            is_append_refused(
+            append_allocation_fails(
                 &rt,
                 Letters::Alternative,
                 34051405518,
@@ -132,7 +136,7 @@ fn refused_memory(rt: HostRuntime) -> Result<(), Fail> {
         ),
         (
             "encode_buf_with",
-            is_append_refused(&rt, Letters::Symbols, 1337, &mut own, "id=6D"),
+            append_allocation_fails(&rt, Letters::Symbols, 1337, &mut own, "id=6D"),
         ),
         ("after", Vec::<u8>::with_capacity(rt.alloc(), 1).is_err()),
     ];

@@ -1,4 +1,4 @@
-//! Values of each type and their texts.
+//! Tests of values of each type.
 
 ghost use Rattle.std.specs.Prelude.{◌+◌, ◌*◌, ◌^◌};
 
@@ -7,7 +7,7 @@ use crate::support::checks::assert_encodes;
 use base62::Number;
 use std::process::Abort;
 
-// A caller's own type of two halves, which means high * 2^64 + low.
+// A type of the caller's, of two halves, which represents high * 2^64 + low.
 #[derive(Clone, Copy)]
 struct Pair {
     high: u64,

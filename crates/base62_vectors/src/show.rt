@@ -1,4 +1,4 @@
-//! Numbers that display as their texts.
+//! Tests of numbers that display as their texts.
 
 use crate::support::alphabets::{Letters, symbols, texts};
 use base62::{encode_fmt, encode_fmt_alt, encode_fmt_with};
@@ -7,40 +7,43 @@ use std::fmt;
 use std::process::Abort;
 use std::test::Fail;
 
-fn assert_shown(rt: &impl Abort, shown: String, text: &[u8]) {
-    assert!(rt; shown.as_bytes() == text, "{shown}, and not {text:?}");
+fn assert_displays(rt: &impl Abort, displayed: String, text: &[u8]) {
+    assert!(rt;
+        displayed.as_bytes() == text,
+        "{displayed}, and not {text:?}"
+    );
 }
 
 #[test]
 fn test_fmt_basics(rt: HostRuntime) -> Result<(), Fail> {
-    assert_shown(
+    assert_displays(
         &rt,
         format!(in rt.alloc(); "{}", encode_fmt(1337_u32))?,
         b"LZ",
     );
-    assert_shown(&rt, format!(in rt.alloc(); "{}", encode_fmt(0_u32))?, b"0");
+    assert_displays(&rt, format!(in rt.alloc(); "{}", encode_fmt(0_u32))?, b"0");
     for (number, text) in &texts(rt.alloc(), Letters::Standard)? {
-        let shown = format!(in rt.alloc(); "{}", encode_fmt(*number))?;
-        assert_shown(&rt, shown, text.as_slice());
+        let displayed = format!(in rt.alloc(); "{}", encode_fmt(*number))?;
+        assert_displays(&rt, displayed, text.as_slice());
     }
     Ok(())
 }
 
 #[test]
 fn test_fmt_alternative_basics(rt: HostRuntime) -> Result<(), Fail> {
-    assert_shown(
+    assert_displays(
         &rt,
         format!(in rt.alloc(); "{}", encode_fmt_alt(1337_u32))?,
         b"lz",
     );
-    assert_shown(
+    assert_displays(
         &rt,
         format!(in rt.alloc(); "{}", encode_fmt_alt(0_u32))?,
         b"0",
     );
     for (number, text) in &texts(rt.alloc(), Letters::Alternative)? {
-        let shown = format!(in rt.alloc(); "{}", encode_fmt_alt(*number))?;
-        assert_shown(&rt, shown, text.as_slice());
+        let displayed = format!(in rt.alloc(); "{}", encode_fmt_alt(*number))?;
+        assert_displays(&rt, displayed, text.as_slice());
     }
     Ok(())
 }
@@ -51,8 +54,8 @@ fn test_fmt_padding(rt: HostRuntime) -> Result<(), Fail> {
         (1337_u32, b"00000000000000000000LZ"),
         (0, b"0000000000000000000000"),
     ] {
-        let shown = format!(in rt.alloc(); "{:0>22}", encode_fmt(number))?;
-        assert_shown(&rt, shown, text);
+        let displayed = format!(in rt.alloc(); "{:0>22}", encode_fmt(number))?;
+        assert_displays(&rt, displayed, text);
     }
     Ok(())
 }
@@ -63,8 +66,8 @@ fn test_fmt_alternative_padding(rt: HostRuntime) -> Result<(), Fail> {
         (1337_u32, b"00000000000000000000lz"),
         (0, b"0000000000000000000000"),
     ] {
-        let shown = format!(in rt.alloc(); "{:0>22}", encode_fmt_alt(number))?;
-        assert_shown(&rt, shown, text);
+        let displayed = format!(in rt.alloc(); "{:0>22}", encode_fmt_alt(number))?;
+        assert_displays(&rt, displayed, text);
     }
     Ok(())
 }
@@ -126,16 +129,16 @@ fn test_fmt_with_prefix(rt: HostRuntime) -> Result<(), Fail> {
     Ok(())
 }
 
-fn cut_texts<T: fmt::Display>(alloc: Global, shown: &T) -> Result<[String; 4], AllocError> {
+fn cut_texts<T: fmt::Display>(alloc: Global, displayed: &T) -> Result<[String; 4], AllocError> {
     Ok([
-        format!(in alloc; "{shown:.3}")?,
-        format!(in alloc; "{shown:>5.2}")?,
-        format!(in alloc; "{shown:.0}")?,
-        format!(in alloc; "{shown:*^3.0}")?,
+        format!(in alloc; "{displayed:.3}")?,
+        format!(in alloc; "{displayed:>5.2}")?,
+        format!(in alloc; "{displayed:.0}")?,
+        format!(in alloc; "{displayed:*^3.0}")?,
     ])
 }
 
-// Of a precision no clause speaks. It cuts the text, which is padded then.
+// No clause covers a precision. It truncates the text, which is then padded.
 #[test]
 fn precision(rt: HostRuntime) -> Result<(), Fail> {
     let number = 1234567890_u64;

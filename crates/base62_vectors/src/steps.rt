@@ -1,4 +1,4 @@
-//! Counted calls whose answers and steps their contracts state.
+//! Tests of counted calls, whose contracts state the results and the steps.
 #![tactic(auto, unfolding(base62::proofs::OnLiterals::base62_on_literals))]
 
 ghost use Rattle.std.specs.Prelude.{◌≡◌, Ok, Err};
@@ -8,7 +8,7 @@ ghost use Rattle.base62.specs.declared.fault.EncodeError.TheVariants.{BufferTooS
 use base62::laws::{built_in_alphabets, one_text};
 use base62::{DecodeError, EncodeError, Work, decode_counted, encode_bytes_counted};
 
-/// The answer to `0!`, whose one step is on a new counter: the leading zero takes none.
+/// Decodes `0!` with a new counter. It takes one step: the leading zero takes none.
 pub fn bad_byte_after_a_zero() -> (Result<u128, DecodeError>, Work)
     ensures answer { result.0 ≡ Err (InvalidBase62Byte 33 1) }
     ensures steps { result.1 ≡ 1 }
@@ -18,7 +18,7 @@ pub fn bad_byte_after_a_zero() -> (Result<u128, DecodeError>, Work)
     (answer, work)
 }
 
-/// The answer to `000` on the counter of [`bad_byte_after_a_zero`], which stays where it was.
+/// Decodes `000` with the counter of [`bad_byte_after_a_zero`], and takes no step.
 pub fn zeros_on_the_same_counter() -> (Result<u128, DecodeError>, Work)
     ensures answer { result.0 ≡ Ok 0 }
     ensures steps { result.1 ≡ 1 }
@@ -28,7 +28,7 @@ pub fn zeros_on_the_same_counter() -> (Result<u128, DecodeError>, Work)
     (answer, work)
 }
 
-/// The refusal of 1337, whose text has two letters, in a buffer of one byte: a new counter stays where it was.
+/// Rejects 1337, whose text has two letters, for a buffer of one byte, with a new counter. It takes no step.
 pub fn two_letters_in_one_byte() -> (Result<usize, EncodeError>, Work)
     ensures answer { result.0 ≡ Err BufferTooSmall }
     ensures steps { result.1 ≡ 0 }
@@ -40,7 +40,7 @@ pub fn two_letters_in_one_byte() -> (Result<usize, EncodeError>, Work)
     (answer, work)
 }
 
-/// The length of the text of 0, whose one step is on a new counter.
+/// Encodes 0 with a new counter, in one step, and returns the length.
 pub fn zero_in_22_bytes() -> (Result<usize, EncodeError>, Work)
     ensures answer { result.0 ≡ Ok 1 }
     ensures steps { result.1 ≡ 1 }
@@ -52,7 +52,7 @@ pub fn zero_in_22_bytes() -> (Result<usize, EncodeError>, Work)
     (answer, work)
 }
 
-/// The length of the text of 62^9, the first of ten letters, whose seven steps are on a new counter.
+/// Encodes 62^9, the least number of ten letters, with a new counter, in seven steps, and returns the length.
 pub fn ten_letters_in_22_bytes() -> (Result<usize, EncodeError>, Work)
     ensures answer { result.0 ≡ Ok 10 }
     ensures steps { result.1 ≡ 7 }

@@ -1,5 +1,5 @@
-//! What the tests stand on: alphabets with the calls over them, numbers with texts from outside, a plain decoder
-//! and digit loop, what the calls have to agree with them in, and a writer that watches its calls. No test is here.
+//! Helpers of the tests: alphabets with the calls for them, numbers with texts from outside, a reference encoder and
+//! decoder, the checks that compare calls with them, and a writer that records its calls.
 
 pub(crate) mod alphabets;
 pub(crate) mod checks;

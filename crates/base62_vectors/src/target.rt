@@ -1,4 +1,4 @@
-//! Numbers encoded into texts and to writers.
+//! Tests of encoding to strings and writers.
 
 use crate::support::alphabets::{Letters, texts};
 use crate::support::writers::TestWriter;
@@ -27,7 +27,7 @@ fn test_encode_alternative(rt: HostRuntime) -> Result<(), Fail> {
     assert_alone(&rt, Letters::Alternative)
 }
 
-// The text comes behind no text, and behind an earlier one.
+// The text is appended to an empty string, and to another.
 fn is_appended(
     alloc: Global,
     alphabet: Letters,
@@ -66,14 +66,14 @@ fn test_encode_alternative_buf(rt: HostRuntime) -> Result<(), Fail> {
     assert_appends(&rt, Letters::Alternative, 34051405518)
 }
 
-// The text is handed to a writer at once, and it is left to others to flush.
+// The text is passed to the writer in one call, and the writer is not flushed.
 fn assert_written<T: Number + Drop>(
     rt: &(impl Abort + AllocGlobal),
     alphabet: Letters,
     number: T,
     text: &[u8],
 ) -> Result<(), Fail> {
-    let mut writer = TestWriter::taking(rt.alloc(), usize::MAX);
+    let mut writer = TestWriter::accepting(rt.alloc(), usize::MAX);
     alphabet.write(number, &mut writer)?;
     let is_at_once = writer.handed.as_slice() == [text.len()].as_slice() && writer.flushes == 0;
     assert!(rt; is_at_once && writer.written.as_slice() == text, "{text:?}");

@@ -1,13 +1,13 @@
-//! With ample memory each caller of `base62_uses` that can be refused memory, or a write, ends well. What it answers
-//! then its clauses say, and so do those of callers that always end well.
+//! Each caller in `base62_uses` that allocates or writes succeeds if allocations and writes succeed. Its clauses state
+//! its result then. The clauses of other callers state theirs for every input.
 
 use base62::{Alphabet, AlphabetError, DecodeError, EncodeError};
 use base62_uses::{
     append_exactly, append_mark, append_number, append_or_mark, append_pair, centred_text,
     column_text, count_fault, leader_line, letters_cells, letters_report, link_address, link_cells,
-    link_report, note_refusal, order_heading, own_heading, own_text, row_cells, row_report,
-    shelf_mark, text_of_token, token_column, token_heading, token_of_number, token_of_text,
-    was_noted, widened, write_line,
+    link_report, order_heading, own_heading, own_text, record_rejection, record_repeat, row_cells,
+    row_report, shelf_mark, text_of_token, token_column, token_heading, token_of_number,
+    token_of_text, widened, write_line,
 };
 use std::alloc::{AllocError, Global};
 use std::collections::{BTreeMap, BTreeSet, HashSet};
@@ -26,11 +26,11 @@ fn texts_of_faults(rt: HostRuntime) -> Result<(), AllocError> {
 }
 
 #[test]
-fn faults_that_are_kept(rt: HostRuntime) -> Result<(), AllocError> {
+fn collected_errors(rt: HostRuntime) -> Result<(), AllocError> {
     count_fault(&mut BTreeMap::new(rt.alloc()), DecodeError::EmptyInput)?;
     let repeated = AlphabetError::Repeated(b'A', 61);
-    was_noted(&mut BTreeSet::new(rt.alloc()), repeated)?;
-    note_refusal(&mut HashSet::new(rt.alloc()), EncodeError::BufferTooSmall)
+    record_repeat(&mut BTreeSet::new(rt.alloc()), repeated)?;
+    record_rejection(&mut HashSet::new(rt.alloc()), EncodeError::BufferTooSmall)
 }
 
 fn show_column(alloc: Global, number: u128) -> Result<(), AllocError> {
@@ -62,7 +62,7 @@ fn texts_over_own_letters(rt: HostRuntime) -> Result<(), AllocError> {
     assert!(rt; show_over(rt.alloc(), &standard)?);
     own_text(rt.alloc(), *standard.letters(), 1337)?;
     widened(rt.alloc(), &standard, 5, b"LZ")?;
-    // It has no clause.
+    // `shelf_mark` has no clause.
     assert!(rt; shelf_mark(rt.alloc(), 1337)?.as_str() == "KY");
     Ok(())
 }

@@ -14,11 +14,11 @@ use crate::fault::{DecodeError, EncodeError};
 use decoder::decode_over;
 use encoder::encode_over;
 
-/// Writes the standard text of `num` to the start of `buf`, and answers its length, 1 to 22.
+/// Writes the encoded string of `num` to the start of `buf`, and returns its length, 1 to 22.
 ///
-/// The text is the shortest nonempty one that denotes the number. Its letters are `0` to `9`, `A`
-/// to `Z`, `a` to `z`, with the digits 0 to 61 in this order. On `Ok` every byte after the text is
-/// as before. The call takes no memory.
+/// It is the shortest nonempty string that represents `num` in the standard alphabet: `0` to `9`,
+/// `A` to `Z`, `a` to `z`, for the digits 0 to 61 in this order. The bytes after it are left
+/// unchanged. Does not allocate.
 ///
 /// ```rust
 /// let mut buf = [0u8; 22];
@@ -28,13 +28,13 @@ use encoder::encode_over;
 ///
 /// # Errors
 ///
-/// `BufferTooSmall` if `buf` is shorter than the text, so never at 22 bytes or more. It leaves `buf`
-/// as it was.
+/// Returns `BufferTooSmall` if `buf` is shorter than the encoded string, so never for 22 bytes or
+/// more. `buf` is then left unchanged.
 pub fn encode_bytes<T: Into<u128>>(num: T, buf: &mut [u8]) -> Result<usize, EncodeError> {
     encode_over(standard_tables(), num.into(), buf)
 }
 
-/// As [`encode_bytes`], over the alternative alphabet.
+/// Like [`encode_bytes`], but uses the alternative alphabet.
 ///
 /// ```rust
 /// let mut buf = [0u8; 22];
@@ -44,7 +44,7 @@ pub fn encode_bytes<T: Into<u128>>(num: T, buf: &mut [u8]) -> Result<usize, Enco
 ///
 /// # Errors
 ///
-/// Those of [`encode_bytes`].
+/// Returns the errors of [`encode_bytes`].
 pub fn encode_alternative_bytes<T: Into<u128>>(
     num: T,
     buf: &mut [u8],
@@ -52,7 +52,9 @@ pub fn encode_alternative_bytes<T: Into<u128>>(
     encode_over(alternative_tables(), num.into(), buf)
 }
 
-/// As [`encode_bytes`], over an alphabet of the caller's. Its first letter takes the place of `0`.
+/// Like [`encode_bytes`], but uses a custom alphabet.
+///
+/// The first character of the alphabet represents zero, as `0` does in the standard one.
 ///
 /// ```rust
 /// let alphabet = base62::Alphabet::alternative();
@@ -63,7 +65,7 @@ pub fn encode_alternative_bytes<T: Into<u128>>(
 ///
 /// # Errors
 ///
-/// Those of [`encode_bytes`].
+/// Returns the errors of [`encode_bytes`].
 pub fn encode_bytes_with<T: Into<u128>>(
     alphabet: &Alphabet,
     num: T,
@@ -72,40 +74,42 @@ pub fn encode_bytes_with<T: Into<u128>>(
     encode_over(alphabet.as_tables(), num.into(), buf)
 }
 
-/// The number that the standard text `input` denotes, from 0 to 2^128 - 1.
+/// Decodes `input` in the standard alphabet, and returns the number, 0 to 2^128 - 1.
 ///
-/// The leading zeros are the letters `0` that the text begins with. The first of these cases that
-/// fits decides:
+/// Leading zeros are the characters `0` at the start of `input`. The first of these cases that
+/// applies determines the result:
 ///
-/// 1. The text is empty: `EmptyInput`.
+/// 1. `input` is empty: `EmptyInput`.
 /// 2. More than 22 bytes follow the leading zeros, whatever they are: `ArithmeticOverflow`.
-/// 3. Among the first ten of those bytes, one is no letter: `InvalidBase62Byte` names the first.
-/// 4. There are 22 of them, and the first ten, followed by twelve zeros, denote 2^128 or more:
+/// 3. One of the first ten of those bytes is not in the alphabet: `InvalidBase62Byte`.
+/// 4. There are 22 of them, and the first ten, followed by twelve zeros, represent 2^128 or more:
 ///    `ArithmeticOverflow`.
-/// 5. A later byte is no letter: `InvalidBase62Byte` names the first.
-/// 6. The text denotes 2^128 or more: `ArithmeticOverflow`.
-/// 7. Any other text: the number that it denotes.
+/// 5. A later byte is not in the alphabet: `InvalidBase62Byte`.
+/// 6. `input` represents 2^128 or more: `ArithmeticOverflow`.
+/// 7. Otherwise: the number that `input` represents.
 ///
-/// Any count of leading zeros is allowed and changes no number. Zeros alone denote 0. The index of
-/// a byte is counted from the start of `input`, leading zeros included. The call takes no memory.
+/// Any number of leading zeros is accepted, and they do not change the result. Zeros alone decode
+/// to 0. Does not allocate.
 ///
 /// ```rust
 /// assert_eq!(base62::decode(b"rustlang"), Ok(189876682536016));
 /// assert_eq!(base62::decode(b"00LZ"), Ok(1337));
 ///
-/// let refused = Err(base62::DecodeError::InvalidBase62Byte(b'-', 4));
-/// assert_eq!(base62::decode(b"00LZ-"), refused);
+/// let error = base62::DecodeError::InvalidBase62Byte(b'-', 4);
+/// assert_eq!(base62::decode(b"00LZ-"), Err(error));
 /// ```
 ///
 /// # Errors
 ///
-/// `EmptyInput`, `ArithmeticOverflow` and `InvalidBase62Byte` in the cases 1 to 6.
+/// Returns `EmptyInput`, `ArithmeticOverflow` or `InvalidBase62Byte` in the cases 1 to 6. The last
+/// has the first byte that is not in the alphabet, and its index in `input`, leading zeros
+/// included.
 #[inline(always)]
 pub fn decode<T: AsRef<[u8]>>(input: T) -> Result<u128, DecodeError> {
     decode_over(standard_tables(), input.as_ref())
 }
 
-/// As [`decode`], over the alternative alphabet, whose zero letter is `0` too.
+/// Like [`decode`], but uses the alternative alphabet.
 ///
 /// ```rust
 /// assert_eq!(base62::decode_alternative(b"rustlang"), Ok(96813686712946));
@@ -114,13 +118,15 @@ pub fn decode<T: AsRef<[u8]>>(input: T) -> Result<u128, DecodeError> {
 ///
 /// # Errors
 ///
-/// Those of [`decode`].
+/// Returns the errors of [`decode`].
 #[inline(always)]
 pub fn decode_alternative<T: AsRef<[u8]>>(input: T) -> Result<u128, DecodeError> {
     decode_over(alternative_tables(), input.as_ref())
 }
 
-/// As [`decode`], over an alphabet of the caller's. Its first letter takes the place of `0`.
+/// Like [`decode`], but uses a custom alphabet.
+///
+/// The first character of the alphabet represents zero, as `0` does in the standard one.
 ///
 /// ```rust
 /// let alphabet = base62::Alphabet::alternative();
@@ -129,7 +135,7 @@ pub fn decode_alternative<T: AsRef<[u8]>>(input: T) -> Result<u128, DecodeError>
 ///
 /// # Errors
 ///
-/// Those of [`decode`].
+/// Returns the errors of [`decode`].
 pub fn decode_with<T: AsRef<[u8]>>(alphabet: &Alphabet, input: T) -> Result<u128, DecodeError> {
     decode_over(alphabet.as_tables(), input.as_ref())
 }

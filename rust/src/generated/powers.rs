@@ -30,7 +30,7 @@ static POWERS: [u64; 11] = [
     POWER_10,
 ];
 
-// The greatest number of k letters at place k, below 2^128.
+// At index k: the greatest number below 2^128 that k letters denote.
 pub(crate) static GREATEST: [u128; 23] = [
     0,
     61,
@@ -57,7 +57,7 @@ pub(crate) static GREATEST: [u128; 23] = [
     0xffffffff_ffffffff_ffffffff_ffffffff,
 ];
 
-// The same below 2^64.
+// At index k: the greatest number below 2^64 that k letters denote.
 pub(crate) static GREATEST_NARROW: [u64; 12] = [
     0,
     61,
@@ -73,14 +73,14 @@ pub(crate) static GREATEST_NARROW: [u64; 12] = [
     0xffffffff_ffffffff,
 ];
 
-// 62 to the k.
+// Returns 62^k.
 #[inline(always)]
 pub(crate) fn power(k: usize) -> u64 {
     requires!(k <= 10);
     POWERS[k]
 }
 
-// The greatest number of k letters below 2^128.
+// Returns the greatest number below 2^128 that k letters denote.
 pub(crate) fn greatest(k: usize) -> u128 {
     GREATEST[k.min(22)]
 }

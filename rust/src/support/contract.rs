@@ -5,13 +5,13 @@
 //!
 //! All `unsafe` of the crate is here. With the feature `checked` there is none.
 
-/// A clause of the function's contract, at the start of its body. Each caller in this crate is proved to meet it. A
-/// debug build asserts it, a release build tells it to the compiler.
+/// A precondition of the function, at the start of its body. Each caller in this crate is proved to meet it. A debug
+/// build asserts it. In a release build the compiler assumes it.
 #[cfg(not(feature = "checked"))]
 macro_rules! requires {
     ($clause:expr) => {
         debug_assert!($clause);
-        // SAFETY: the source is proved to call the function with nothing else.
+        // SAFETY: each call in the source is proved to meet the precondition.
         unsafe { core::hint::assert_unchecked($clause) };
     };
 }
@@ -28,7 +28,7 @@ macro_rules! requires {
 macro_rules! proved {
     ($of:ident::from_utf8($bytes:expr)) => {{
         debug_assert!($bytes.is_ascii());
-        // SAFETY: the source is proved to have nothing but ASCII here.
+        // SAFETY: the bytes are proved to be ASCII in the source.
         unsafe { $of::from_utf8_unchecked($bytes) }
     }};
 }
@@ -40,8 +40,8 @@ macro_rules! proved {
     };
 }
 
-/// If the string has room for the text of any number, writes that of this one to its place, and returns. In the source
-/// a string lends its bytes to no writer: what comes after this copies the text.
+/// If the spare capacity is enough for the text of any number, writes the text in place, and returns. A `String` of
+/// Rattle does not lend its bytes mutably, so the code after this copies the text.
 #[cfg(all(feature = "alloc", not(feature = "checked")))]
 macro_rules! in_place {
     ($tables:ident, $num:ident, $buf:ident) => {
@@ -63,7 +63,7 @@ macro_rules! in_place {
     ($tables:ident, $num:ident, $buf:ident) => {};
 }
 
-/// Asserts what the contract of a public call requires, since callers in Rust do not prove it.
+/// Asserts the precondition of a public call, since its callers in Rust do not prove it.
 #[inline(always)]
 #[track_caller]
 pub(crate) fn assert_ascii(alphabet: &crate::Alphabet) {
@@ -73,7 +73,7 @@ pub(crate) fn assert_ascii(alphabet: &crate::Alphabet) {
     );
 }
 
-// In a release build a clause that does not hold may do anything.
+// In a release build a false precondition is undefined behaviour.
 #[cfg(all(test, debug_assertions))]
 mod tests {
     #[test]

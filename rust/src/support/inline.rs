@@ -1,7 +1,7 @@
 // SPDX-License-Identifier: MIT
 // Copyright (c) 2026 the maintainers of base62 for Rattle
 
-//! A text of at most `N` bytes, without an allocator, in the place of `InlineText` of Rattle's `std`.
+//! A string of at most `N` bytes, without an allocator, in place of `InlineText` of Rattle's `std`.
 
 #[derive(Clone, Copy)]
 pub(crate) struct InlineText<const N: usize> {
@@ -17,7 +17,7 @@ impl<const N: usize> InlineText<N> {
         }
     }
 
-    /// Appends a part. Whatever this crate appends is proved to fit.
+    /// Appends a part. Each part that this crate appends is proved to fit.
     pub(crate) fn and_str(mut self, part: &str, _max_len: usize) -> InlineText<N> {
         let end = self.len + part.len();
         self.bytes[self.len..end].copy_from_slice(part.as_bytes());

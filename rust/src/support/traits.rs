@@ -10,10 +10,10 @@ use core::fmt;
 use core::hash::{Hash, Hasher};
 use core::str::FromStr;
 
-/// Why bytes of any number are no alphabet.
+/// An error that can be returned when creating an alphabet from a slice or a string.
 #[derive(Clone, Copy, Debug, PartialEq, Eq, PartialOrd, Ord, Hash)]
 pub enum ParseAlphabetError {
-    /// There are so many bytes, and not 62.
+    /// The length in bytes is this one, and not 62.
     InvalidLength(usize),
     /// A byte is repeated, as in [`AlphabetError::Repeated`].
     Repeated(u8, usize),
@@ -37,7 +37,7 @@ impl From<AlphabetError> for ParseAlphabetError {
     }
 }
 
-/// The standard alphabet.
+/// Returns the standard alphabet.
 impl Default for Alphabet {
     fn default() -> Self {
         Self::standard()
@@ -50,14 +50,14 @@ impl Hash for Alphabet {
     }
 }
 
-/// The letters, as [`Alphabet::letters`] returns them.
+/// Returns the characters, like [`Alphabet::letters`].
 impl AsRef<[u8]> for Alphabet {
     fn as_ref(&self) -> &[u8] {
         self.letters()
     }
 }
 
-/// As [`Alphabet::new`].
+/// Like [`Alphabet::new`].
 impl TryFrom<[u8; 62]> for Alphabet {
     type Error = AlphabetError;
 
@@ -66,7 +66,7 @@ impl TryFrom<[u8; 62]> for Alphabet {
     }
 }
 
-/// Like [`Alphabet::new`], but for a slice, such as letters of a configuration.
+/// Like [`Alphabet::new`], but for a slice, such as characters from a configuration.
 impl TryFrom<&[u8]> for Alphabet {
     type Error = ParseAlphabetError;
 
@@ -95,7 +95,7 @@ impl FromStr for Alphabet {
     }
 }
 
-/// As that of a `str`.
+/// Like that of a `str`.
 impl fmt::Debug for Text {
     fn fmt(&self, f: &mut fmt::Formatter<'_>) -> fmt::Result {
         self.as_str().fmt(f)

@@ -1,4 +1,4 @@
-//! The letters and the digits of an alphabet, and their readers.
+//! Lookup tables of an alphabet: the letters of digits, and the digits of bytes.
 
 ghost use Rattle.std.specs.Prelude.{◌≡◌, ◌+◌, ◌/◌, ◌%◌, ◌<◌, ◌==◌, slice_index};
 ghost use Rattle.base62.specs.Alphabet.{standard, alternative, zero_letter};
@@ -15,7 +15,7 @@ pub(crate) struct Tables {
 }
 
 impl Tables {
-    // The digit of a byte, or 255 if it has none.
+    // Returns the digit of a byte, or 255 if it has none.
     #[inline]
     pub(crate) fn digit(&self, byte: u8, work: &mut Work) -> u8
         requires { AreTables self.now }
@@ -26,7 +26,7 @@ impl Tables {
         self.digits[byte as usize]
     }
 
-    // Whether a byte is the zero letter.
+    // Returns whether a byte is the zero letter.
     #[inline]
     pub(crate) fn is_zero(&self, byte: u8) -> bool
         ensures { result ≡ (byte == zero_letter self.now.letters) }
@@ -34,7 +34,7 @@ impl Tables {
         byte == self.letters[0]
     }
 
-    // The letters of a number's two digits.
+    // Returns the letters of the two digits of a number.
     #[inline(always)]
     pub(crate) fn pair(&self, number: u32, work: &mut Work) -> (u8, u8)
         requires { number < 3844 }
@@ -47,7 +47,7 @@ impl Tables {
         self.pair_of_digits(quotient as u64, (number - quotient * 62) as u64, work)
     }
 
-    // The letters of two digits at once.
+    // Returns the letters of two digits, in one step.
     #[inline(always)]
     pub(crate) fn pair_of_digits(
         &self,
@@ -67,7 +67,7 @@ impl Tables {
         (first, second)
     }
 
-    // The letter of a digit.
+    // Returns the letter of a digit.
     #[inline(always)]
     pub(crate) fn letter(&self, digit: u64, work: &mut Work) -> u8
         requires { digit < 62 }
@@ -119,7 +119,7 @@ const ALTERNATIVE: Tables = Tables {
     ],
 };
 
-// The tables of the standard alphabet.
+// Returns the tables of the standard alphabet.
 #[inline(always)]
 pub(crate) const fn standard_tables() -> &'static Tables
     ensures tables { AreTables result.now }
@@ -128,7 +128,7 @@ pub(crate) const fn standard_tables() -> &'static Tables
     &STANDARD
 }
 
-// The tables of the alternative alphabet.
+// Returns the tables of the alternative alphabet.
 #[inline(always)]
 pub(crate) const fn alternative_tables() -> &'static Tables
     ensures tables { AreTables result.now }

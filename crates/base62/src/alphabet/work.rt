@@ -6,13 +6,13 @@ use std::marker::Model;
 use std::mem;
 use std::snapshot::Snapshot;
 
-/// A counter of the steps that calls take. A step reads the digit of a byte, the letter of a digit,
-/// or the letters of two digits at once.
+/// A counter of steps. A step looks up the digit of a byte, the character of a digit, or the
+/// characters of two digits at once.
 ///
-/// It is for a caller that must bound its work, such as a server that decodes what it is sent.
-/// Counted calls, such as [`decode_counted`](crate::decode_counted), say how far they move it. Only
-/// contracts read it: they see it as the number of steps, which cannot overflow. In the running
-/// program it takes no bytes, and nothing can be read from it. A program gets a proved bound on its
+/// It is for a caller that has to bound its work, such as a server that decodes its input. Counted
+/// calls, such as [`decode_counted`](crate::decode_counted), document how many steps they add. Only
+/// contracts can read it: its value in a contract is the number of steps, which cannot overflow. At
+/// run time it has size 0, and nothing can be read from it. So a program gets a proved bound on its
 /// steps, not their number.
 ///
 /// ```rust
@@ -21,7 +21,7 @@ use std::snapshot::Snapshot;
 /// ```
 #[derive(Drop)]
 pub struct Work {
-    // None at the start, and after a step the counter as it was before.
+    // `None` at the start, and after a step the counter before the step.
     before: Snapshot<Option<Work>>,
 }
 
@@ -39,7 +39,7 @@ impl Model for Work {
 const _: () = prove!(size_of::<Work>() == 0);
 
 impl Work {
-    /// A counter that stands at no step.
+    /// Creates a counter of no steps.
     #[inline(always)]
     pub fn new() -> Work
         ensures { result ≡ 0 }
@@ -49,7 +49,7 @@ impl Work {
         }
     }
 
-    // One step more.
+    // Adds one step.
     #[inline(always)]
     pub(super) fn tick(&mut self)
         ensures { self.new ≡ self.old + 1 }
@@ -61,7 +61,7 @@ impl Work {
     }
 }
 
-/// As [`Work::new`].
+/// Like [`Work::new`].
 impl Default for Work {
     ghost is_default = { λ work. work ≡ 0 };
 

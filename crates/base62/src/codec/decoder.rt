@@ -12,7 +12,7 @@ use crate::count::MAX_DIGITS;
 use crate::fault::DecodeError;
 use crate::powers::{POWER_2, POWER_3, POWER_4, POWER_5, POWER_10, power};
 
-// The decoder over any alphabet.
+// Decodes over the alphabet of the tables.
 #[inline(always)]
 pub(crate) fn decode_over(
     tables: &Tables,
@@ -29,7 +29,7 @@ pub(crate) fn decode_over(
     decode_after(tables, input, zeros, work)
 }
 
-// The number of a text whose leading zeros are counted.
+// Decodes a text, whose count of leading zeros is given.
 #[inline(always)]
 pub(crate) fn decode_after(
     tables: &Tables,
@@ -52,14 +52,14 @@ pub(crate) fn decode_after(
     read_long(tables, after_zeros, zeros, work)
 }
 
-// How many zero letters a text begins with.
+// Returns how many zero letters a text begins with.
 #[inline(always)]
 pub(crate) fn count_zeros(tables: &Tables, input: &[u8]) -> usize
     requires { 0 < length input.now }
     ensures within { result ≤ length input.now }
     ensures zeros { result ≡ leading_zeros tables.now.letters input.now }
 {
-    // Most texts have none, and need no loop to tell.
+    // Most texts have none. This test avoids the loop for them.
     if !tables.is_zero(input[0]) {
         return 0;
     }
@@ -71,8 +71,8 @@ pub(crate) fn count_zeros(tables: &Tables, input: &[u8]) -> usize
     input.len()
 }
 
-// The 11 to 22 bytes that follow the leading zeros of a text. The first ten are tested for an
-// overflow before a later one is read.
+// Decodes the 11 to 22 bytes after the leading zeros. If the first ten show an overflow, it is
+// reported before a later byte is read.
 #[inline(always)]
 fn read_long(
     tables: &Tables,
@@ -102,7 +102,7 @@ fn read_long(
     high.checked_add(low).ok_or(DecodeError::ArithmeticOverflow)
 }
 
-// A part of 11 or 12 bytes: ten, and the others.
+// Decodes a part of 11 or 12 bytes: the first ten, and the others.
 #[inline(always)]
 fn read_11_or_12(
     tables: &Tables,
@@ -117,13 +117,13 @@ fn read_11_or_12(
     ensures { ReadsPart tables.now.letters part.now start work.old work.new result }
 {
     let (first, later) = part.split_at(10);
-    // The compiler makes slower code of `read_10` here.
+    // Compilers generate slower code for `read_10` here.
     let high = read_up_to_10(tables, first, start, work)?;
     let low = read_on(tables, 0, later, start + 10, work)?;
     Ok(high as u128 * power(later.len()) as u128 + low as u128)
 }
 
-// A part of at most ten bytes.
+// Decodes a part of at most ten bytes.
 #[inline(always)]
 fn read_up_to_10(
     tables: &Tables,
@@ -147,7 +147,7 @@ fn read_up_to_10(
     read_on(tables, number, later, start + done, work)
 }
 
-// At most five bytes more, after a number that has been read.
+// Decodes at most five bytes more, after the number of the bytes before them.
 #[inline(always)]
 fn read_on(
     tables: &Tables,
@@ -170,7 +170,7 @@ fn read_on(
     Ok(total)
 }
 
-// A part of ten bytes, as two numbers of five digits.
+// Decodes a part of ten bytes, as two numbers of five digits.
 #[inline(always)]
 fn read_10(tables: &Tables, part: &[u8], start: usize, work: &mut Work) -> Result<u64, DecodeError>
     requires tables { AreTables tables.now }
@@ -184,7 +184,7 @@ fn read_10(tables: &Tables, part: &[u8], start: usize, work: &mut Work) -> Resul
     Ok(high as u64 * POWER_5 + low as u64)
 }
 
-// A part of five bytes.
+// Decodes a part of five bytes.
 #[inline(always)]
 fn read_5(tables: &Tables, part: &[u8], start: usize, work: &mut Work) -> Result<u32, DecodeError>
     requires tables { AreTables tables.now }
@@ -200,7 +200,7 @@ fn read_5(tables: &Tables, part: &[u8], start: usize, work: &mut Work) -> Result
     Ok(a * POWER_4 + b * POWER_3 + c * POWER_2 + d * 62 + e)
 }
 
-// The byte at a place of a part.
+// Returns the digit of the byte at index `i` of a part.
 #[inline(always)]
 fn read_digit(
     tables: &Tables,

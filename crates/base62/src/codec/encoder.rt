@@ -1,11 +1,11 @@
 //! The encoder, over the tables of any alphabet.
 //!
-//! Each piece writes a text of a given width to the start of a buffer. Quotients and remainders by
-//! powers of 62 cut a number into parts.
+//! Each function that writes fills the start of a buffer with a text of a given width. Division by
+//! powers of 62 splits a number into parts.
 //!
-//! Ten letters come from a fraction f, in units of 1 / 2^64. They are the letters of the number
-//! f * 62^10 / 2^64. The upper half of f * 62 is the first digit, and the lower half is the fraction
-//! of the digits after it.
+//! Ten letters are computed from a fraction f, in units of 1 / 2^64. They are the letters of the
+//! number f * 62^10 / 2^64. The upper half of f * 62 is the first digit, and the lower half is the
+//! fraction of the digits after it.
 
 ghost use Rattle.std.specs.Prelude.{◌≡◌, ◌+◌, ◌-◌, ◌*◌, ◌/◌, ◌%◌, ◌<◌, ◌≤◌, ◌^◌, length};
 ghost use Rattle.base62.specs.declared.count.TheConstants.{MAX_DIGITS};
@@ -19,7 +19,7 @@ use crate::count::digit_count;
 use crate::fault::EncodeError;
 use crate::powers::{POWER_2, POWER_4, POWER_5, POWER_10};
 
-// The encoder over any alphabet.
+// Encodes over the alphabet of the tables.
 #[inline(always)]
 pub(crate) fn encode_over(
     tables: &Tables,
@@ -38,7 +38,7 @@ pub(crate) fn encode_over(
     Ok(count)
 }
 
-// The text of a number, whose count of letters is given.
+// Writes the text of a number, whose count of letters is given.
 #[inline(always)]
 pub(crate) fn write_text(tables: &Tables, n: u128, count: usize, buf: &mut [u8], work: &mut Work)
     requires tables { AreTables tables.now }
@@ -54,7 +54,7 @@ pub(crate) fn write_text(tables: &Tables, n: u128, count: usize, buf: &mut [u8],
     }
 }
 
-// The text of a number below 2^64.
+// Writes the text of a number below 2^64.
 fn write_narrow(tables: &Tables, n: u64, count: usize, buf: &mut [u8], work: &mut Work)
     requires fits { n < 62 ^ count }
     requires least { 1 ≤ count }
@@ -67,13 +67,13 @@ fn write_narrow(tables: &Tables, n: u64, count: usize, buf: &mut [u8], work: &mu
         write_up_to_9(tables, n, count, buf, work);
     } else {
         let (first, fraction) = cut_narrow_by_10(n);
-        // A text of ten letters then overwrites this letter with its first.
+        // If the text has ten letters, its first overwrites this one, which is a zero.
         buf[0] = tables.letter(first, work);
         write_10(tables, fraction, &mut buf[count - 10..], work);
     }
 }
 
-// The text of a number from 2^64 on.
+// Writes the text of a number of 2^64 or more.
 fn write_wide(tables: &Tables, n: u128, count: usize, buf: &mut [u8], work: &mut Work)
     requires fits { n < 62 ^ count }
     requires least { 11 ≤ count }
@@ -96,10 +96,10 @@ fn write_wide(tables: &Tables, n: u128, count: usize, buf: &mut [u8], work: &mut
     }
 }
 
-// Divides by 62^20, and gives the remainder as two fractions, of which neither waits for a remainder.
-// The number in units of 62^20 / 2^64 is the quotient and a fraction of all twenty letters. The last
-// ten add up to 22 units to it. 16 times their own fraction is taken off, which leaves few enough, as
-// in `fraction_of`.
+// Divides by 62^20, and returns the remainder as two fractions. Neither is computed from a
+// remainder. The number in units of 62^20 / 2^64 is the quotient and a fraction of all twenty
+// letters. The last ten add up to 22 units to it. Subtracting 16 times their own fraction leaves
+// few enough units, as in `fraction_of`.
 #[inline(always)]
 fn cut_by_20(n: u128) -> (u32, u64, u64)
     ensures quotient { result.0 ≡ n / 62 ^ 20 }
@@ -110,9 +110,9 @@ fn cut_by_20(n: u128) -> (u32, u64, u64)
     (top as u32, high, low)
 }
 
-// The fraction of the last ten letters. It is the number in units of 62^10 / 2^64, at most eight above,
-// and its wholes wrap around. 2^64 has 2^128 / 62^10 of these units: 21 wholes, the first factor, and
-// the second times 2^-64, rounded up. The third factor is 2^123 / 62^10, rounded up.
+// Returns the fraction of the last ten letters: the number in units of 62^10 / 2^64, at most eight
+// too large, modulo 2^64. 2^64 has 2^128 / 62^10 of these units: 21 times 2^64, the first factor,
+// and the second times 2^-64, rounded up. The third factor is 2^123 / 62^10, rounded up.
 #[inline(always)]
 fn last_10(n: u128) -> u64
     ensures { result * 62 ^ 10 / 2 ^ 64 ≡ n % 62 ^ 10 }
@@ -130,8 +130,8 @@ fn last_10(n: u128) -> u64
         .wrapping_add(2)
 }
 
-// A number in units of 62^20 / 2^64, at most five above. 2^64 has 2^128 / 62^20 of these units: the
-// second factor, and the first times 2^-64, rounded up.
+// Returns a number in units of 62^20 / 2^64, at most five too large. 2^64 has 2^128 / 62^20 of
+// these units: the second factor, and the first times 2^-64, rounded up.
 #[inline(always)]
 fn scaled_by_20(n: u128) -> u128
     ensures least { n * 2 ^ 64 ≤ result * 62 ^ 20 }
@@ -143,8 +143,8 @@ fn scaled_by_20(n: u128) -> u128
     upper as u128 * 483 + (rest + (((lower >> 32) * 483) >> 32) + 4) as u128
 }
 
-// Divides by 62^10, and gives the remainder as a fraction. The upper bits times 2^120 / 62^10 give
-// the quotient, or one less: then the fraction has a whole too many.
+// Divides by 62^10, and returns the remainder as a fraction. The upper bits times 2^120 / 62^10 are
+// the quotient, or one less: then `fraction_of` returns a whole, which is added.
 #[inline(always)]
 fn cut_by_10(n: u128) -> (u64, u64)
     requires { n < 2 ^ 60 * 62 ^ 10 }
@@ -158,9 +158,9 @@ fn cut_by_10(n: u128) -> (u64, u64)
     (estimate + whole, fraction)
 }
 
-// A number as a fraction, and a whole for each 62^10. The fractions of a number are 21 or more, from
-// the number times 2^64 / 62^10 on. This one is at most two above that product. The factor is
-// 2^124 / 62^10 - 2^64, rounded up.
+// Returns the whole part and the fraction of a number in units of 62^10. Each number has at least
+// 21 fractions, from the number times 2^64 / 62^10 upwards. This one is at most two above that
+// product. The factor is 2^124 / 62^10 - 2^64, rounded up.
 #[inline(always)]
 fn fraction_of(n: u64) -> (u64, u64)
     requires { n < 2 ^ 60 }
@@ -169,12 +169,12 @@ fn fraction_of(n: u64) -> (u64, u64)
     let scaled = n * 16;
     let upper = ((scaled as u128 * 6893020016967578278) >> 64) as u64;
     let fraction = (scaled + 1).wrapping_add(upper);
-    // A sum that wraps around is less than what was added.
+    // If the sum has wrapped around, it is less than either operand.
     ((fraction < upper) as u64, fraction)
 }
 
-// Divides a number below 2^64 by 62^10, and gives the remainder as a fraction: at most five above the
-// product, as in `fraction_of`. The factor is 2^123 / 62^10, rounded up.
+// Divides a number below 2^64 by 62^10, and returns the remainder as a fraction, at most five above
+// the product in `fraction_of`. The factor is 2^123 / 62^10, rounded up.
 #[inline(always)]
 fn cut_narrow_by_10(n: u64) -> (u64, u64)
     ensures quotient { result.0 ≡ n / 62 ^ 10 }
@@ -183,7 +183,7 @@ fn cut_narrow_by_10(n: u64) -> (u64, u64)
     whole_and_fraction(((n as u128 * 12669882045338564947) >> 59) + 1)
 }
 
-// One to nine letters. If there are more than four, the last four are written first.
+// Writes one to nine letters. If there are more than four, it writes the last four first.
 #[inline(always)]
 fn write_up_to_9(tables: &Tables, n: u64, places: usize, buf: &mut [u8], work: &mut Work)
     requires fits { n < 62 ^ places }
@@ -203,7 +203,7 @@ fn write_up_to_9(tables: &Tables, n: u64, places: usize, buf: &mut [u8], work: &
     }
 }
 
-// One to five letters, from the last to the first.
+// Writes one to five letters, from the last to the first.
 #[inline(always)]
 fn write_up_to_5(tables: &Tables, n: u32, places: usize, buf: &mut [u8], work: &mut Work)
     requires fits { n < 62 ^ places }
@@ -226,8 +226,8 @@ fn write_up_to_5(tables: &Tables, n: u32, places: usize, buf: &mut [u8], work: &
     }
 }
 
-// One or two letters, as a pair whose second letter goes to the last place. A single letter is the
-// second one, written over the first.
+// Writes one or two letters, as a pair. If there is one place, the second letter overwrites the
+// first, which is a zero.
 #[inline(always)]
 fn write_1_or_2(tables: &Tables, x: u32, places: usize, buf: &mut [u8], work: &mut Work)
     requires fits { x < 62 ^ places }
@@ -242,7 +242,7 @@ fn write_1_or_2(tables: &Tables, x: u32, places: usize, buf: &mut [u8], work: &m
     buf[places - 1] = second;
 }
 
-// Two letters.
+// Writes two letters.
 #[inline(always)]
 fn write_2(tables: &Tables, x: u32, buf: &mut [u8], work: &mut Work)
     requires fits { x < 62 ^ 2 }
@@ -253,7 +253,7 @@ fn write_2(tables: &Tables, x: u32, buf: &mut [u8], work: &mut Work)
     write_1_or_2(tables, x, 2, buf, work);
 }
 
-// Four letters.
+// Writes four letters.
 #[inline(always)]
 fn write_4(tables: &Tables, x: u32, buf: &mut [u8], work: &mut Work)
     requires fits { x < 62 ^ 4 }
@@ -266,7 +266,8 @@ fn write_4(tables: &Tables, x: u32, buf: &mut [u8], work: &mut Work)
     write_2(tables, quotient, buf, work);
 }
 
-// Twenty letters of two fractions. The last ten come first, since their fraction is known first.
+// Writes twenty letters of two fractions, the last ten first, since their fraction is computed
+// first.
 #[inline(always)]
 fn write_20(tables: &Tables, high: u64, low: u64, buf: &mut [u8], work: &mut Work)
     requires room { 20 ≤ length buf.old }
@@ -278,7 +279,7 @@ fn write_20(tables: &Tables, high: u64, low: u64, buf: &mut [u8], work: &mut Wor
     write_10(tables, high, buf, work);
 }
 
-// Ten letters of a fraction. The last five do not wait for the first five.
+// Writes ten letters of a fraction. The last five are computed independently of the first five.
 #[inline(always)]
 fn write_10(tables: &Tables, fraction: u64, buf: &mut [u8], work: &mut Work)
     requires room { 10 ≤ length buf.old }
@@ -289,7 +290,7 @@ fn write_10(tables: &Tables, fraction: u64, buf: &mut [u8], work: &mut Work)
     write_5(tables, after_5(fraction), &mut buf[5..], work);
 }
 
-// Five letters of a fraction.
+// Writes the first five letters of a fraction.
 #[inline(always)]
 fn write_5(tables: &Tables, fraction: u64, buf: &mut [u8], work: &mut Work)
     requires room { 5 ≤ length buf.old }
@@ -305,7 +306,7 @@ fn write_5(tables: &Tables, fraction: u64, buf: &mut [u8], work: &mut Work)
     write_pair(tables, fourth, first_digit(after_4), &mut buf[3..], work);
 }
 
-// The letters of two digits.
+// Writes the letters of two digits.
 #[inline(always)]
 fn write_pair(tables: &Tables, first: u64, second: u64, buf: &mut [u8], work: &mut Work)
     requires first { first < 62 }
@@ -319,7 +320,7 @@ fn write_pair(tables: &Tables, first: u64, second: u64, buf: &mut [u8], work: &m
     buf[1] = second_letter;
 }
 
-// The first digit of a fraction, and the fraction of those after it.
+// Returns the first digit of a fraction, and the fraction of the digits after it.
 #[inline(always)]
 fn next_digit(fraction: u64) -> (u64, u64)
     ensures digit { result.0 ≡ fraction * 62 / 2 ^ 64 }
@@ -328,7 +329,7 @@ fn next_digit(fraction: u64) -> (u64, u64)
     whole_and_fraction(fraction as u128 * 62)
 }
 
-// The first digit of a fraction alone.
+// Returns only the first digit of a fraction.
 #[inline(always)]
 fn first_digit(fraction: u64) -> u64
     ensures { result ≡ fraction * 62 / 2 ^ 64 }
@@ -336,7 +337,7 @@ fn first_digit(fraction: u64) -> u64
     ((fraction as u128 * 62) >> 64) as u64
 }
 
-// The fraction of the digits after the first five.
+// Returns the fraction of the digits after the first five.
 #[inline(always)]
 fn after_5(fraction: u64) -> u64
     ensures { result ≡ fraction * 62 ^ 5 % 2 ^ 64 }
@@ -345,7 +346,7 @@ fn after_5(fraction: u64) -> u64
     (product & 0xffffffff_ffffffff) as u64
 }
 
-// The whole part of a number in units of 1 / 2^64, and its fraction.
+// Returns the whole part and the fraction of a number in units of 1 / 2^64.
 #[inline(always)]
 fn whole_and_fraction(n: u128) -> (u64, u64)
     ensures whole { result.0 ≡ n / 2 ^ 64 }

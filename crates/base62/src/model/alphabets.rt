@@ -35,7 +35,7 @@ pub fn no_alphabets_by_example()
     ensures no_byte { IsAlphabet (range_with_len 195 62) → ⊥ }
 {}
 
-/// What the tests of letters that are written out answer.
+/// The results of the tests of literal letters.
 pub fn letters_tested_by_example()
     ensures from_33 { is_alphabet (range_with_len 33 62) ≡ true }
     ensures one_fewer { is_alphabet (range_with_len 33 61) ≡ false }
@@ -58,7 +58,7 @@ pub fn digits_by_example()
     ensures no_letter { is_letter standard 33 ≡ false }
 {}
 
-/// Bytes that stand at an earlier place too, and the first of them: 97 to 99 are `a` to `c`, and 49
+/// Bytes that are also at an earlier index, and the first of them: 97 to 99 are `a` to `c`, and 49
 /// is `1`.
 pub fn repeats_by_example()
     ensures second_place { IsRepeated (codes "aba") 2 }

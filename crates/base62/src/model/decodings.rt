@@ -1,4 +1,4 @@
-//! What decoding answers, and its steps.
+//! The results and the steps of decoding.
 #![tactic(auto, unfolding(crate::proofs::OnLiterals::base62_on_literals))]
 
 ghost use Rattle.std.specs.Prelude.{◌≡◌, ◌^◌, ◌-◌, [], ◌∷◌, ℕ, List, replicate, codes, Ok, Err, Some, None, IsOk};
@@ -8,7 +8,7 @@ ghost use Rattle.base62.specs.Decoding.{decoding, IsFirstInvalid, NamesFirst, Re
 ghost use Rattle.base62.specs.Steps.{decoding_steps, DecodesCounted};
 ghost use Rattle.base62.specs.declared.fault.DecodeError.TheVariants.{ArithmeticOverflow, EmptyInput, InvalidBase62Byte};
 
-/// What decoding answers for some texts; 33 is `!`, which is no letter.
+/// The results of decoding some texts; 33 is `!`, which is no letter.
 pub fn decodings_by_example()
     ensures empty { decoding standard [] ≡ Err EmptyInput }
     ensures zeros_alone { decoding standard (codes "000") ≡ Ok 0 }
@@ -52,8 +52,8 @@ pub fn first_bad_bytes_by_example()
     ensures empty { IsFirstInvalid standard [] 0 0 → ⊥ }
 {}
 
-/// How many steps decoding takes for some texts, by the cases of its answer; 49 is `1`, and 33 is
-/// `!`, which is no letter.
+/// The steps of decoding some texts, by the cases of the result; 49 is `1`, and 33 is `!`, which is
+/// no letter.
 pub fn steps_by_example()
     ensures empty { decoding_steps standard [] ≡ 0 }
     ensures zeros_alone { decoding_steps standard (codes "000") ≡ 0 }
@@ -71,7 +71,7 @@ pub fn steps_by_example()
     ensures other_alphabet { decoding_steps alternative (codes "ZZZZZZZZZZ!00000000000") ≡ 10 }
 {}
 
-/// What a counted call answers for `LZ`, whose two steps move a counter from 5 to 7.
+/// The results of a counted call for `LZ`, whose two steps move a counter from 5 to 7.
 pub fn counted_by_example()
     ensures moved { DecodesCounted standard (codes "LZ") 5 7 (Ok 1337) }
     ensures refused { DecodesCounted standard (codes "0!") 5 6 (Err (InvalidBase62Byte 33 1)) }
@@ -82,8 +82,8 @@ pub fn counted_by_example()
     ensures other_answer { DecodesCounted standard (codes "LZ") 5 7 (Err EmptyInput) → ⊥ }
 {}
 
-/// What strict decoding answers for some texts, and what it doesn't; 33 is `!`, which is no letter.
-pub fn canonical_by_example()
+/// Results of canonical decoding for some texts, and others; 33 is `!`, which is no letter.
+pub fn decodes_canonical_by_example()
     ensures number { DecodesCanonical standard (codes "LZ") (Ok (Some 1337)) }
     ensures one_zero { DecodesCanonical standard (codes "0") (Ok (Some 0)) }
     ensures zero_in_front { DecodesCanonical standard (codes "0LZ") (Ok None) }
@@ -98,18 +98,18 @@ pub fn canonical_by_example()
     ensures none_of_bad { DecodesCanonical standard (codes "0!") (Ok None) → ⊥ }
 {}
 
-/// What `DecodesCanonical` tells of a result whose value is not known. It follows from the value, but
-/// a caller has only what the record says.
-pub fn canonical_of_any_result()
+/// What `DecodesCanonical` says of a result whose value is not known. It follows from the value,
+/// but a caller has only the fields of the record.
+pub fn decodes_canonical_of_any_result()
     ensures back { (B text : List ℕ) (n : ℕ) → DecodesCanonical B text (Ok (Some n))
         → decoding B text ≡ Ok n }
     ensures accepted { (B text : List ℕ) → DecodesCanonical B text (Ok None)
         → IsOk (decoding B text) }
 {}
 
-/// What a call of `decode` tells of some texts, and what it doesn't. Over the numbers below 1000,
-/// which are no alphabet, 21 of them overflow.
-pub fn told_by_example()
+/// Results for some texts that `Decodes` allows, and others. Over the numbers below 1000, which are
+/// no alphabet, 21 of them overflow.
+pub fn decodes_by_example()
     ensures number { Decodes standard (codes "LZ") (Ok 1337) }
     ensures empty { Decodes standard [] (Err EmptyInput) }
     ensures bad_byte { Decodes standard (codes "0!") (Err (InvalidBase62Byte 33 1)) }
@@ -120,7 +120,7 @@ pub fn told_by_example()
         (Err ArithmeticOverflow) → ⊥ }
 {}
 
-/// Which faults name the first byte that is no letter.
+/// Errors with the first byte that is no letter, and others.
 pub fn names_by_example()
     ensures first { NamesFirst standard (codes "0!?") (InvalidBase62Byte 33 1) }
     ensures no_byte { NamesFirst standard (codes "0!?") ArithmeticOverflow }
@@ -128,7 +128,7 @@ pub fn names_by_example()
     ensures letter { NamesFirst standard (codes "0!?") (InvalidBase62Byte 48 0) → ⊥ }
 {}
 
-/// Letters that denote 2^128 may have one answer alone. Of a lesser number nothing is said.
+/// For letters that denote 2^128 only one result is allowed. Of a lesser number nothing is said.
 pub fn large_by_example()
     ensures large { RefusesLarge standard (codes "7n42DGM5Tflk9n8mt7Fhc8")
         (Err ArithmeticOverflow) }

@@ -1,4 +1,4 @@
-//! What encoding into buffers, strings and writers does, and its steps.
+//! Encoding to buffers, strings and writers, and its steps.
 #![tactic(auto, unfolding(crate::proofs::OnLiterals::base62_on_literals))]
 
 ghost use Rattle.std.specs.Prelude.{◌≡◌, ◌+◌, ◌<◌, ◌≤◌, ◌^◌, replicate, codes, Ok, Err, Some, None};
@@ -11,8 +11,8 @@ ghost use Rattle.base62.specs.Encoding.{EncodesInto, AnswersCanonical, AppendsTo
 ghost use Rattle.base62.specs.Steps.{encoding_steps, EncodesCounted};
 ghost use Rattle.base62.specs.declared.fault.EncodeError.TheVariants.{BufferTooSmall};
 
-/// What becomes of buffers into which 1337 is encoded, and what can't; its text is `LZ`, and 46 is
-/// a full stop. A number of 2^128 or more has a text too, which does not decode to it.
+/// Buffers before and after 1337 is encoded, whose text is `LZ`; 46 is a full stop. A number of
+/// 2^128 or more has a text too, which does not decode to it.
 pub fn buffers_by_example()
     ensures longer { EncodesInto standard 1337 (codes "...") (codes "LZ.") (Ok 2) }
     ensures just_fits { EncodesInto standard 1337 (codes "..") (codes "LZ") (Ok 2) }
@@ -36,7 +36,7 @@ pub fn buffers_by_example()
         (Err BufferTooSmall) → ⊥ }
 {}
 
-/// Strings that are the answer for 1337, and ones that are not.
+/// Strings that are allowed as the result for 1337, and others.
 pub fn strings_by_example()
     ensures text { (text : String Global) → string_bytes text ≡ codes "LZ"
         → AnswersCanonical standard 1337 (Ok text) }
@@ -52,7 +52,7 @@ pub fn strings_by_example()
         → AnswersCanonical standard (2 ^ 128) (Ok text) → ⊥ }
 {}
 
-/// What becomes of the string `> ` to which 1337 is appended, and what can't become of it.
+/// The string `> ` before and after 1337 is appended.
 pub fn appended_by_example()
     ensures text { (old new : String Global) → string_bytes old ≡ codes "> "
         → string_bytes new ≡ codes "> LZ"
@@ -85,7 +85,7 @@ pub fn appended_by_example()
         → AppendsTo standard (62 ^ 22) old new (Ok tt) → ⊥ }
 {}
 
-/// What becomes of a writer's bytes, if it tells them.
+/// The contents of a writer before and after, if its contract specifies them.
 pub fn written_by_example()
     ensures text { WritesCanonical standard 1337 (Some (codes "> ")) (Some (codes "> LZ")) }
     ensures untold { WritesCanonical standard 1337 None None }
@@ -128,7 +128,8 @@ pub fn encoding_steps_by_example()
     ensures of_22 { encoding_steps 22 ≡ 13 }
 {}
 
-/// What a counted call does that encodes 1337: its text takes one step, and the counter is at 5.
+/// The results of a counted call that encodes 1337, whose text takes one step, with the counter at
+/// 5.
 pub fn counted_by_example()
     ensures moved { EncodesCounted standard 1337 (codes "...") (codes "LZ.") 5 6 (Ok 2) }
     ensures refused { EncodesCounted standard 1337 (codes ".") (codes ".") 5 5

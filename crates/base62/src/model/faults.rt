@@ -1,4 +1,4 @@
-//! The texts of the faults, and how faults compare.
+//! The messages of errors, and their order.
 #![tactic(auto, unfolding(crate::proofs::OnLiterals::base62_on_literals))]
 
 ghost use Rattle.std.specs.Prelude.{◌≡◌, ◌^◌, ◌-◌, codes};
@@ -8,7 +8,7 @@ ghost use Rattle.base62.specs.declared.fault.AlphabetError.TheVariants.{Repeated
 ghost use Rattle.base62.specs.declared.fault.DecodeError.TheVariants.{ArithmeticOverflow, EmptyInput, InvalidBase62Byte};
 ghost use Rattle.base62.specs.declared.fault.EncodeError.TheVariants.{BufferTooSmall};
 
-/// The bytes that have an escape of their own.
+/// The bytes with an escape of a backslash and a character.
 pub fn escapes_by_example()
     ensures tab { escaped 9 ≡ codes "\\t" }
     ensures line_feed { escaped 10 ≡ codes "\\n" }
@@ -18,7 +18,7 @@ pub fn escapes_by_example()
     ensures backslash { escaped 92 ≡ codes "\\\\" }
 {}
 
-/// Bytes that are shown as themselves: the first, the last, and those beside an escaped one.
+/// Bytes that are not escaped: the first, the last, and those beside an escaped one.
 pub fn plain_bytes_by_example()
     ensures space { escaped 32 ≡ codes " " }
     ensures exclamation_mark { escaped 33 ≡ codes "!" }
@@ -32,7 +32,7 @@ pub fn plain_bytes_by_example()
     ensures tilde { escaped 126 ≡ codes "~" }
 {}
 
-/// Bytes that are shown by hexadecimal digits, which are small letters.
+/// Bytes that are escaped by lowercase hexadecimal digits.
 pub fn hexadecimal_by_example()
     ensures null { escaped 0 ≡ codes "\\x00" }
     ensures backspace { escaped 8 ≡ codes "\\x08" }
@@ -46,7 +46,7 @@ pub fn hexadecimal_by_example()
     ensures greatest { escaped 255 ≡ codes "\\xff" }
 {}
 
-/// The texts of the faults; 33 is `!`.
+/// The messages of errors; 33 is `!`.
 pub fn texts_by_example()
     ensures overflow { decode_error_text ArithmeticOverflow
         ≡ codes "Decoded number cannot fit into a `u128`" }
@@ -65,7 +65,7 @@ pub fn texts_by_example()
         ≡ codes "Alphabet repeats the byte b'\\'' at index 61" }
 {}
 
-/// How faults of decoding compare.
+/// The order of errors of decoding.
 pub fn decode_orders_by_example()
     ensures same { decode_error_order (InvalidBase62Byte 33 7) (InvalidBase62Byte 33 7) ≡ Equal }
     ensures overflow_same { decode_error_order ArithmeticOverflow ArithmeticOverflow ≡ Equal }
@@ -88,7 +88,7 @@ pub fn decode_orders_by_example()
         ≡ Greater }
 {}
 
-/// How faults of alphabets compare.
+/// The order of errors of alphabets.
 pub fn alphabet_orders_by_example()
     ensures same { alphabet_error_order (Repeated 33 7) (Repeated 33 7) ≡ Equal }
     ensures lesser_byte { alphabet_error_order (Repeated 33 7) (Repeated 63 1) ≡ Less }

@@ -1,4 +1,4 @@
-//! The definitions that the laws on texts cite.
+//! The definitions in the laws on texts.
 #![tactic(auto, unfolding(crate::proofs::OnLiterals::base62_on_literals))]
 
 ghost use Rattle.std.specs.Prelude.{◌≡◌, ◌^◌, ◌-◌, [], ◌∷◌, codes, Ok, Err};
@@ -8,7 +8,8 @@ ghost use Rattle.base62.specs.Case.{exchange_case};
 ghost use Rattle.base62.specs.Laws.{HasNoNeedlessZero, without_zeros, AgreesAtLetters, AnswerTells, number_or_overflow, one_place_on};
 ghost use Rattle.base62.specs.declared.fault.DecodeError.TheVariants.{ArithmeticOverflow, EmptyInput, InvalidBase62Byte};
 
-/// Texts with their case exchanged; the numbers are the bytes beside both ends of the letters.
+/// Texts with their case exchanged; the numbers are the first and the last letters of each case,
+/// and the bytes beside them.
 pub fn other_case_by_example()
     ensures word { exchange_case (codes "Rust-62") ≡ codes "rUST-62" }
     ensures empty { exchange_case [] ≡ [] }
@@ -46,8 +47,8 @@ pub fn agreement_by_example()
     ensures bad_kept { AgreesAtLetters standard (codes "1!") (codes "1!") → ⊥ }
 {}
 
-/// Numbers on both sides of 2^128, and answers one place on.
-pub fn answers_by_example()
+/// Numbers on both sides of 2^128, and results with the index of a bad byte one greater.
+pub fn results_by_example()
     ensures zero { number_or_overflow 0 ≡ Ok 0 }
     ensures greatest { number_or_overflow (2 ^ 128 - 1) ≡ Ok (2 ^ 128 - 1) }
     ensures greatest_one_more { number_or_overflow (2 ^ 128) ≡ Err ArithmeticOverflow }
@@ -58,9 +59,9 @@ pub fn answers_by_example()
     ensures empty_kept { one_place_on (Err EmptyInput) ≡ Err EmptyInput }
 {}
 
-/// What a law tells of the answer for a text. It fails for two texts over lists that are no
+/// What a law says of the result for a text. It does not hold for two texts over lists that are no
 /// alphabet: over no letters a byte 0 is accepted; over all bytes a shorter text has the number.
-pub fn told_by_example()
+pub fn answer_tells_by_example()
     ensures zeros_and_letters { AnswerTells standard (codes "0LZ") }
     ensures no_letters { AnswerTells [] (0 ∷ []) → ⊥ }
     ensures all_bytes { AnswerTells (range_with_len 0 256) (1 ∷ 0 ∷ []) → ⊥ }

@@ -22,7 +22,7 @@ pub fn lexicographic_order_by_example()
     ensures after_beginning { IsNotAfter (codes "10") (codes "1") → ⊥ }
 {}
 
-/// How `<` and its kin compare some texts.
+/// How `<` and the other operators compare some texts.
 pub fn partial_order_by_example()
     ensures first_difference { partial_order (codes "10") (codes "z") ≡ Some Less }
     ensures later_difference { partial_order (codes "1z0") (codes "1a9") ≡ Some Greater }
@@ -53,7 +53,7 @@ pub fn ascents_by_example()
     ensures alternative { Ascends alternative → ⊥ }
 {}
 
-/// What the test of letters that are written out answers of the same.
+/// The results of the test of literal letters for the same.
 pub fn ascents_tested_by_example()
     ensures from_33 { is_ascending (range_with_len 33 62) ≡ true }
     ensures first_two_equal { is_ascending (33 ∷ range_with_len 33 61) ≡ false }

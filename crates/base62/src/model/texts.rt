@@ -29,7 +29,7 @@ pub fn values_by_example()
     ensures own_alphabet { value (range_with_len 33 62) (codes "!6D") ≡ 1337 }
 {}
 
-/// What some texts denote, and what they don't.
+/// Numbers that some texts denote, and numbers that they do not.
 pub fn denoted_by_example()
     ensures needless_zero { Denotes standard (codes "0LZ") 1337 }
     ensures zeros_alone { Denotes standard (codes "00") 0 }
@@ -63,7 +63,7 @@ pub fn no_canonical_texts_by_example()
     ensures one_more { IsCanonical standard (codes "LZ") 1338 → ⊥ }
 {}
 
-/// How many letters some numbers take, over the standard alphabet and over any.
+/// The lengths of the texts of some numbers, over the standard alphabet and over any.
 pub fn lengths_by_example()
     ensures just_fits { CanonicalFits standard 1337 2 }
     ensures room_to_spare { CanonicalFits standard 1337 22 }

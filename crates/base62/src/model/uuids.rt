@@ -18,7 +18,7 @@ pub fn uuids_by_example()
     ensures no_byte { IsUuid (replicate 15 0 ++ 256 ∷ []) → ⊥ }
 {}
 
-/// The UUID that `LZ` is decoded to, with 5 * 256 + 57 = 1337, and answers that are wrong.
+/// The UUID that `LZ` decodes to, with 5 * 256 + 57 = 1337, and wrong results.
 pub fn decoded_uuids_by_example()
     ensures decoded { DecodesUuid standard (codes "LZ") (Ok (replicate 14 0 ++ 5 ∷ 57 ∷ [])) }
     ensures exchanged { DecodesUuid standard (codes "LZ") (Ok (replicate 14 0 ++ 57 ∷ 5 ∷ [])) → ⊥ }
@@ -26,7 +26,7 @@ pub fn decoded_uuids_by_example()
     ensures accepted { DecodesUuid standard [] (Ok (replicate 16 0)) → ⊥ }
 {}
 
-/// What strict decoding to a UUID answers for `LZ`, also behind a zero, and answers that are wrong.
+/// The results of canonical decoding to a UUID for `LZ`, also after a zero, and wrong results.
 pub fn canonical_uuids_by_example()
     ensures decoded { DecodesUuidCanonical standard (codes "LZ")
         (Ok (Some (replicate 14 0 ++ 5 ∷ 57 ∷ []))) }

@@ -1,4 +1,4 @@
-//! Alphabets with the calls over them, and numbers with their texts.
+//! Alphabets with the calls for them, and numbers with their texts.
 
 ghost use Rattle.std.specs.Str.{IsAscii};
 
@@ -11,7 +11,7 @@ use base62::{
 use std::alloc::{AllocError, Global};
 use std::io::{self, Write};
 
-// Digits come first in both, and the two cases of the other letters change places.
+// Both begin with the digits. In one uppercase letters come first, in the other lowercase ones.
 pub(crate) static STANDARD_LETTERS: [u8; 62] =
     *b"0123456789ABCDEFGHIJKLMNOPQRSTUVWXYZabcdefghijklmnopqrstuvwxyz";
 
@@ -25,7 +25,7 @@ pub(crate) fn symbols() -> Alphabet
     Alphabet::of(*b"!\"#$%&'()*+,-./0123456789:;<=>?@ABCDEFGHIJKLMNOPQRSTUVWXYZ[\\]^")
 }
 
-// An alphabet, with the calls over it: the built-in ones, and one of the caller's own.
+// An alphabet with the calls for it: the built-in ones, and a custom one.
 #[derive(Clone, Copy, Debug)]
 pub(crate) enum Letters {
     Standard,
@@ -46,7 +46,7 @@ impl Letters {
         }
     }
 
-    // A standard text over these letters. A byte that is no letter stays.
+    // Converts a standard text to these letters. A byte that is no letter is left unchanged.
     pub(crate) fn of_standard(self, alloc: Global, text: &[u8]) -> Result<Vec<u8>, AllocError> {
         let letters = self.letters();
         text.iter()
@@ -107,7 +107,7 @@ impl Letters {
     }
 }
 
-// The letter that has the digit of a standard one.
+// Returns the letter with the digit of a standard letter.
 fn letter_for(letters: &[u8; 62], byte: u8) -> u8 {
     for digit in 0..62_usize {
         if STANDARD_LETTERS[digit] == byte {
@@ -136,8 +136,8 @@ const NUMBERS: [(u128, &str); 10] = [
     (u128::MAX, "7n42DGM5Tflk9n8mt7Fhc7"),
 ];
 
-// Those, and the numbers 62^k and 62^k - 1, with their texts in an alphabet. A text becomes one letter longer at 62^k,
-// which is a `1` and k zeros. The number before it is k times the highest letter.
+// Those, and the numbers 62^k and 62^k - 1, with their texts in an alphabet. The text of 62^k is a `1` and k zeros, and
+// that of 62^k - 1 is k times the last letter.
 pub(crate) fn texts(alloc: Global, alphabet: Letters) -> Result<Vec<(u128, Vec<u8>)>, AllocError> {
     let mut texts = Vec::new(alloc);
     for (number, text) in NUMBERS {

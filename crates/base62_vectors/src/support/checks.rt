@@ -1,13 +1,13 @@
-//! What an encoder and a decoder owe for one number or text.
+//! Checks of an encoder and a decoder for one number or text.
 
 use super::alphabets::Letters;
-use super::reference::plain_decode;
+use super::reference::reference_decode;
 use base62::EncodeError::BufferTooSmall;
 use base62::{DecodeError, Number};
 use std::process::Abort;
 
-// Into a part of each length, from the second of 24 bytes on: the text comes first with no other byte
-// written, or it is too short and no byte is written. The bytes are no letters before.
+// Encodes to buffers of each length, from the second of 24 bytes on. The text is at the start and no other byte is
+// written, or the buffer is too short and no byte is written. Before, no byte is a letter.
 pub(crate) fn assert_encodes<T: Number + Copy>(
     rt: &impl Abort,
     alphabet: Letters,
@@ -19,7 +19,7 @@ pub(crate) fn assert_encodes<T: Number + Copy>(
     let mut written = untouched;
     written[1..][..text.len()].copy_from_slice(text);
     for length in 0..=23_usize {
-        let (answer, wanted) = if length < text.len() {
+        let (expected, wanted) = if length < text.len() {
             (Err(BufferTooSmall), untouched)
         } else {
             (Ok(text.len()), written)
@@ -27,22 +27,22 @@ pub(crate) fn assert_encodes<T: Number + Copy>(
         let mut bytes = untouched;
         let outcome = alphabet.encode(number, &mut bytes[1..][..length]);
         assert!(rt;
-            outcome == answer && bytes == wanted,
+            outcome == expected && bytes == wanted,
             "encoding to {text:?} in {length} bytes, {alphabet:?}"
         );
     }
 }
 
-// The decoder gives the answer, and so does the table of cases.
+// Both the decoder and the reference decoder return the result.
 pub(crate) fn assert_decodes(
     rt: &impl Abort,
     alphabet: Letters,
     text: &[u8],
-    answer: Result<u128, DecodeError>,
+    expected: Result<u128, DecodeError>,
 ) {
-    let plain = plain_decode(&alphabet.letters(), text);
+    let by_reference = reference_decode(&alphabet.letters(), text);
     assert!(rt;
-        alphabet.decode(text) == answer && plain == answer,
+        alphabet.decode(text) == expected && by_reference == expected,
         "decoding {text:?}, {alphabet:?}"
     );
 }

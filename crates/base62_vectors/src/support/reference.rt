@@ -1,13 +1,13 @@
-//! A plain digit loop, and a plain decoder by the table of cases, over any list of 62 letters: a digit or a byte at
-//! a time.
+//! A reference encoder, one digit at a time, and a reference decoder, by the table of cases and one byte at a time,
+//! over any list of 62 letters.
 
 ghost use Rattle.std.specs.Prelude.{◌≤◌};
 
 use base62::DecodeError;
 use base62::DecodeError::{ArithmeticOverflow, EmptyInput, InvalidBase62Byte};
 
-// A number in 22 letters, and the place among them at which its text starts.
-pub(crate) fn plain_text(letters: &[u8; 62], number: u128) -> ([u8; 22], usize)
+// Returns a number in 22 letters, and the index at which its text starts.
+pub(crate) fn reference_text(letters: &[u8; 62], number: u128) -> ([u8; 22], usize)
     ensures { result.1 ≤ 21 }
 {
     let mut text = [letters[0]; 22];
@@ -23,8 +23,8 @@ pub(crate) fn plain_text(letters: &[u8; 62], number: u128) -> ([u8; 22], usize)
     (text, 0)
 }
 
-// How many zeros the text begins with.
-fn plain_zeros(letters: &[u8; 62], text: &[u8]) -> usize {
+// Returns how many zero letters the text begins with.
+fn count_zeros(letters: &[u8; 62], text: &[u8]) -> usize {
     for (place, byte) in text.iter().enumerate() {
         if *byte != letters[0] {
             return place;
@@ -33,7 +33,7 @@ fn plain_zeros(letters: &[u8; 62], text: &[u8]) -> usize {
     text.len()
 }
 
-fn plain_digit(letters: &[u8; 62], byte: u8) -> Option<u128> {
+fn digit_of(letters: &[u8; 62], byte: u8) -> Option<u128> {
     for digit in 0..62_u8 {
         if letters[usize::from(digit)] == byte {
             return Some(u128::from(digit));
@@ -42,12 +42,12 @@ fn plain_digit(letters: &[u8; 62], byte: u8) -> Option<u128> {
     None
 }
 
-// What a text denotes, or the first case that refuses it.
-pub(crate) fn plain_decode(letters: &[u8; 62], text: &[u8]) -> Result<u128, DecodeError> {
+// Returns the number that a text denotes, or the error of the first case that applies.
+pub(crate) fn reference_decode(letters: &[u8; 62], text: &[u8]) -> Result<u128, DecodeError> {
     if text.is_empty() {
         return Err(EmptyInput);
     }
-    let zeros = plain_zeros(letters, text);
+    let zeros = count_zeros(letters, text);
     let count = text.len().saturating_sub(zeros);
     if count > 22 {
         return Err(ArithmeticOverflow);
@@ -58,7 +58,7 @@ pub(crate) fn plain_decode(letters: &[u8; 62], text: &[u8]) -> Result<u128, Deco
             return Err(ArithmeticOverflow);
         }
         let byte = text[place];
-        let Some(digit) = plain_digit(letters, byte) else {
+        let Some(digit) = digit_of(letters, byte) else {
             return Err(InvalidBase62Byte(byte, place));
         };
         value = with_digit(value, digit);
@@ -66,7 +66,7 @@ pub(crate) fn plain_decode(letters: &[u8; 62], text: &[u8]) -> Result<u128, Deco
     value.ok_or(ArithmeticOverflow)
 }
 
-// The value with a digit behind it. One of 2^128 or more is none, and stays none.
+// Returns the value with a digit appended, or `None` if it is 2^128 or more.
 fn with_digit(value: Option<u128>, digit: u128) -> Option<u128> {
     value?.checked_mul(62)?.checked_add(digit)
 }

@@ -1,4 +1,4 @@
-//! A writer in memory that watches how it is called, and fails where it is told to.
+//! A writer to memory that records its calls, and fails at a given one.
 
 use std::alloc::Global;
 use std::io::{self, ErrorKind, Write};
@@ -6,17 +6,17 @@ use std::io::{self, ErrorKind, Write};
 #[derive(Drop)]
 pub(crate) struct TestWriter {
     pub(crate) written: Vec<u8>,
-    // How many bytes each call of `write` was handed.
+    // The number of bytes that each call of `write` received.
     pub(crate) handed: Vec<usize>,
     pub(crate) flushes: usize,
-    // The most that it takes in one call.
+    // The maximum that it accepts in one call.
     most: usize,
-    // The call of `write`, counted from 1, that fails, and how.
+    // The call of `write`, counted from 1, that fails, and its error.
     failing: Option<(usize, ErrorKind)>,
 }
 
 impl TestWriter {
-    pub(crate) fn taking(alloc: Global, most: usize) -> Self {
+    pub(crate) fn accepting(alloc: Global, most: usize) -> Self {
         TestWriter {
             written: Vec::new(alloc),
             handed: Vec::new(alloc),
@@ -29,7 +29,7 @@ impl TestWriter {
     pub(crate) fn failing_at(alloc: Global, most: usize, call: usize, kind: ErrorKind) -> Self {
         TestWriter {
             failing: Some((call, kind)),
-            ..TestWriter::taking(alloc, most)
+            ..TestWriter::accepting(alloc, most)
         }
     }
 }

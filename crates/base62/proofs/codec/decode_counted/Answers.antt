@@ -1,7 +1,7 @@
 use Rattle.base62.specs.Alphabet.{standard}
 use Rattle.base62.specs.Steps.{DecodesCounted}
 use Rattle.base62.proofs.AlphabetLemmas.{standard_is_alphabet}
-use Rattle.base62.proofs.AnswerLemmas.{decodes}
+use Rattle.base62.proofs.ResultLemmas.{decodes}
 use Rattle.base62.proofs.codec.decode_counted.Goals as goal
 
 pub returns-clause-counted : goal.returns-clause-counted

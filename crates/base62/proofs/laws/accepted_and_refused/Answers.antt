@@ -1,4 +1,4 @@
-use Rattle.base62.proofs.AnswerLemmas.{answer_tells}
+use Rattle.base62.proofs.ResultLemmas.{answer_tells}
 use Rattle.base62.proofs.laws.accepted_and_refused.Goals as goal
 
 pub returns : goal.returns

@@ -1,4 +1,4 @@
-use Rattle.base62.proofs.AnswerLemmas.{decoding-append}
+use Rattle.base62.proofs.ResultLemmas.{decoding-append}
 use Rattle.base62.proofs.laws.concatenation.Goals as goal
 
 pub returns : goal.returns

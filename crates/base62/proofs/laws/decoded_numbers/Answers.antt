@@ -1,4 +1,4 @@
-use Rattle.base62.proofs.AnswerLemmas.{decoding_accepts, decoding-denotes}
+use Rattle.base62.proofs.ResultLemmas.{decoding_accepts, decoding-denotes}
 use Rattle.base62.proofs.laws.decoded_numbers.Goals as goal
 
 pub returns-clause-decoded : goal.returns-clause-decoded

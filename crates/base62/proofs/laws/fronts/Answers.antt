@@ -1,8 +1,8 @@
-use Rattle.base62.proofs.FrontLemmas.{front_letters, in_interval, begins_with, none_inside, no_ends, ends_are, begins_between}
+use Rattle.base62.proofs.PrefixLemmas.{prefix_letters, in_interval, begins_with, none_inside, no_ends, ends_are, begins_between}
 use Rattle.base62.proofs.laws.fronts.Goals as goal
 
 pub returns-clause-letters : goal.returns-clause-letters
-returns-clause-letters c = front_letters
+returns-clause-letters c = prefix_letters
 
 pub returns-clause-begins : goal.returns-clause-begins
 returns-clause-begins c = λ B ok w prefix text n small letters is. (in_interval B ok w prefix text n small is, begins_with B ok w prefix text n letters is)

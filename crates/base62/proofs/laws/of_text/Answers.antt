@@ -1,4 +1,4 @@
-use Rattle.base62.proofs.AnswerLemmas.{decoding_accepts}
+use Rattle.base62.proofs.ResultLemmas.{decoding_accepts}
 use Rattle.base62.proofs.ValueLemmas.{value-lt_most}
 use Rattle.base62.proofs.WidthLemmas.{fixed_decodes, filled_up}
 use Rattle.base62.proofs.laws.of_text.Goals as goal

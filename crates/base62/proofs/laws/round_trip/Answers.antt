@@ -1,4 +1,4 @@
-use Rattle.base62.proofs.AnswerLemmas.{decoding-denotes}
+use Rattle.base62.proofs.ResultLemmas.{decoding-denotes}
 use Rattle.base62.proofs.laws.round_trip.Goals as goal
 
 pub returns-clause-back : goal.returns-clause-back

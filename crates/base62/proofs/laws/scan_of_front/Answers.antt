@@ -3,7 +3,7 @@ use Rattle.base62.specs.Alphabet.{IsAlphabet, AreLetters}
 use Rattle.base62.specs.Value.{value}
 use Rattle.base62.specs.Fixed.{IsFixed}
 use Rattle.base62.specs.Range.{BeginsTextsOf, range_of}
-use Rattle.base62.proofs.FrontLemmas.{begins_between}
+use Rattle.base62.proofs.PrefixLemmas.{begins_between}
 use Rattle.base62.proofs.OrderLemmas.{not_after_iff}
 use Rattle.base62.proofs.RangeLemmas.{range_ends}
 use Rattle.base62.proofs.laws.scan_of_front.Goals as goal

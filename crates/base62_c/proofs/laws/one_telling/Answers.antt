@@ -11,11 +11,11 @@ use Rattle.base62.specs.declared.fault.EncodeError.TheVariants.{BufferTooSmall}
 use Rattle.base62_c.specs.Answer.{Encodes, Fills}
 use Rattle.base62_c.proofs.laws.one_telling.Goals as goal
 
--- a length that is not 0 tells that the number is encoded
+-- if the length is not 0, the number is encoded
 encoded_by : (B : List ℕ) (n : ℕ) (buf a : List ℕ) (s : ℕ) → Encodes B n buf a (suc s) → EncodesInto B n buf a (Ok (suc s))
 encoded_by B n buf a s p = subst (λ none. EncodesInto B n buf a (if none then Err BufferTooSmall else Ok (suc s))) (eqb-suc-zero s) p.written
 
--- a number that has one canonical text is encoded and told in one way
+-- a number that has one canonical text is encoded and returned in one way
 one_encoding : (B : List ℕ) (n : ℕ) → ((a b : List ℕ) → IsCanonical B a n → IsCanonical B b n → a ≡ b) → (buf a b : List ℕ) (s t : ℕ)
     → Encodes B n buf a s → Encodes B n buf b t → (s ≡ t) × (a ≡ b)
 one_encoding B n only buf a b zero zero p q = (refl, p.refused refl ∙ sym (q.refused refl))
@@ -32,11 +32,11 @@ one_encoding B n only buf a b (suc s) (suc t) p q =
 pub returns-clause-encoded : goal.returns-clause-encoded
 returns-clause-encoded c = λ B ok n buf a b s t p q. one_encoding B n (c.one_text.ensures.only B ok n) buf a b s t p q
 
--- a count that is not 0 tells that all places are filled
+-- if the count is not 0, all places are filled
 filled_by : (B : List ℕ) (n : ℕ) (places a : List ℕ) (s : ℕ) → Fills B n places a (suc s) → FillsPlaces B n places a (Ok tt)
 filled_by B n places a s p = subst (λ none. FillsPlaces B n places a (if none then Err BufferTooSmall else Ok tt)) (eqb-suc-zero s) p.written
 
--- a number that has one text of each width is written into all places and told in one way
+-- a number that has one text of each width is written into all places and returned in one way
 one_filling : (B : List ℕ) (n : ℕ) → ((w : ℕ) (a b : List ℕ) → IsFixed B w a n → IsFixed B w b n → a ≡ b) → (places a b : List ℕ) (s t : ℕ)
     → Fills B n places a s → Fills B n places b t → (s ≡ t) × (a ≡ b)
 one_filling B n only places a b zero zero p q = (refl, p.refused refl ∙ sym (q.refused refl))
@@ -48,7 +48,7 @@ one_filling B n only places a b (suc s) (suc t) p q =
 pub returns-clause-filled : goal.returns-clause-filled
 returns-clause-filled c = λ B ok n places a b s t p q. one_filling B n (λ w. c.fixed_widths.ensures.only B ok w n) places a b s t p q
 
--- no first repeat stands before another
+-- no first repeat is before another
 not_before : (letters : List ℕ) (byte other index other_index : ℕ) → RepeatsFirst letters byte index → RepeatsFirst letters other other_index → other_index ≤ index
 not_before letters byte other index other_index p q = elim (cases_lt index other_index) [
   | inl less ↦ absurd (q.first index less p.repeated)

@@ -3,7 +3,7 @@ use Rattle.std.specs.Result.{result_ok}
 use Rattle.base62.specs.Alphabet.{standard}
 use Rattle.base62.proofs.AlphabetLemmas.{standard_is_alphabet}
 use Rattle.base62.proofs.OnLiterals.{base62_on_literals}
-use Rattle.base62.proofs.ReadingLemmas.{reads_refused, reads_none, reads_number}
+use Rattle.base62.proofs.CanonicalDecodingLemmas.{reads_refused, reads_none, reads_number}
 use Rattle.base62.proofs.UuidLemmas.{canonical_decoded, needless_decoded, canonical_refused}
 use Rattle.base62.proofs.model.uuids.canonical_uuids_by_example.Goals as goal
 

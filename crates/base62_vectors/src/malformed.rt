@@ -1,16 +1,16 @@
-//! The decoders held against the table of cases.
+//! Tests of the decoders with malformed texts, by the table of cases.
 
 use crate::support::alphabets::{ALL, BOTH};
 use crate::support::checks::assert_decodes;
-use crate::support::reference::plain_decode;
+use crate::support::reference::reference_decode;
 use base62::DecodeError::{ArithmeticOverflow, InvalidBase62Byte};
 use std::process::Abort;
 
 fn assert_by_cases(rt: &impl Abort, text: &[u8]) {
     for alphabet in ALL {
-        let plain = plain_decode(&alphabet.letters(), text);
+        let expected = reference_decode(&alphabet.letters(), text);
         assert!(rt;
-            alphabet.decode(text) == plain,
+            alphabet.decode(text) == expected,
             "decoding {text:?}, {alphabet:?}"
         );
     }

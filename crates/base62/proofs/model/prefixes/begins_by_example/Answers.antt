@@ -4,11 +4,11 @@ use Rattle.base62.specs.Alphabet.{standard, is_letter}
 use Rattle.base62.specs.Fixed.{IsFixed}
 use Rattle.base62.specs.Range.{BeginsTextsOf}
 use Rattle.base62.proofs.AlphabetLemmas.{standard_is_alphabet}
-use Rattle.base62.proofs.FrontLemmas.{begins_none, begins_texts, begins_between}
+use Rattle.base62.proofs.PrefixLemmas.{begins_none, begins_texts, begins_between}
 use Rattle.base62.proofs.LiteralLemmas.{fixed_by}
 use Rattle.base62.proofs.OrderLemmas.{standard_ascends}
 use Rattle.base62.proofs.OnLiterals.{base62_on_literals}
-use Rattle.base62.proofs.model.fronts.begun_by_example.Goals as goal
+use Rattle.base62.proofs.model.prefixes.begins_by_example.Goals as goal
 
 -- the texts at both ends, and those beside them
 below : IsFixed standard 2 (codes "Kz") 1301

@@ -2,8 +2,8 @@ use Rattle.std.proofs.Common.{codes, refl, lit≤, arith}
 use Rattle.base62.specs.Alphabet.{standard}
 use Rattle.base62.proofs.AlphabetLemmas.{standard_is_alphabet}
 use Rattle.base62.proofs.OnLiterals.{base62_on_literals}
-use Rattle.base62.proofs.ReadingLemmas.{reads_refused, reads_none, reads_number}
-use Rattle.base62.proofs.model.decodings.canonical_by_example.Goals as goal
+use Rattle.base62.proofs.CanonicalDecodingLemmas.{reads_refused, reads_none, reads_number}
+use Rattle.base62.proofs.model.decodings.decodes_canonical_by_example.Goals as goal
 
 pub returns-clause-number : goal.returns-clause-number
 unfolding base62_on_literals

@@ -4,7 +4,7 @@ use Rattle.base62.proofs.AlphabetLemmas.{standard_is_alphabet}
 use Rattle.base62.proofs.LiteralLemmas.{fixed_by}
 use Rattle.base62.proofs.OnLiterals.{base62_on_literals}
 use Rattle.base62.proofs.WidthLemmas.{fills}
-use Rattle.base62.proofs.model.fronts.filled_by_example.Goals as goal
+use Rattle.base62.proofs.model.prefixes.filled_by_example.Goals as goal
 
 pub returns-clause-zeros_in_front : goal.returns-clause-zeros_in_front
 unfolding base62_on_literals

@@ -3,7 +3,7 @@ use Rattle.base62.specs.Alphabet.{standard}
 use Rattle.base62.proofs.AlphabetLemmas.{standard_is_alphabet}
 use Rattle.base62.proofs.OnLiterals.{base62_on_literals}
 use Rattle.base62.proofs.RangeLemmas.{tells_range}
-use Rattle.base62.proofs.model.fronts.told_by_example.Goals as goal
+use Rattle.base62.proofs.model.prefixes.tells_range_by_example.Goals as goal
 
 pub returns-clause-some : goal.returns-clause-some
 unfolding base62_on_literals

@@ -1,9 +1,9 @@
 use Rattle.std.proofs.Common.{[], codes, refl}
 use Rattle.base62.specs.Alphabet.{standard}
 use Rattle.base62.proofs.AlphabetLemmas.{standard_is_alphabet}
-use Rattle.base62.proofs.AnswerLemmas.{decodes}
+use Rattle.base62.proofs.ResultLemmas.{decodes}
 use Rattle.base62.proofs.OnLiterals.{base62_on_literals}
-use Rattle.base62.proofs.model.decodings.told_by_example.Goals as goal
+use Rattle.base62.proofs.model.decodings.decodes_by_example.Goals as goal
 
 pub returns-clause-number : goal.returns-clause-number
 unfolding base62_on_literals

@@ -1,4 +1,4 @@
-//! Alphabets of the caller's own.
+//! Tests of custom alphabets.
 
 use crate::support::alphabets::{ALTERNATIVE_LETTERS, STANDARD_LETTERS, symbols};
 use base62::{
@@ -8,7 +8,7 @@ use base62::{
 use std::process::Abort;
 use std::test::Fail;
 
-// The 62 bytes from this one on.
+// Returns the 62 bytes from this one on.
 fn bytes_from(first: u8) -> [u8; 62] {
     let mut letters = [first; 62];
     for (place, letter) in letters.iter_mut().enumerate() {
@@ -17,7 +17,7 @@ fn bytes_from(first: u8) -> [u8; 62] {
     letters
 }
 
-fn made(rt: &impl Abort, letters: [u8; 62]) -> Alphabet {
+fn new_alphabet(rt: &impl Abort, letters: [u8; 62]) -> Alphabet {
     Alphabet::new(letters).expect(rt, "no byte is repeated")
 }
 
@@ -25,11 +25,11 @@ fn made(rt: &impl Abort, letters: [u8; 62]) -> Alphabet {
 fn descending(rt: &impl Abort) -> Alphabet {
     let mut letters = STANDARD_LETTERS;
     letters.reverse();
-    made(rt, letters)
+    new_alphabet(rt, letters)
 }
 
 #[test]
-fn what_is_told_of_alphabets(rt: HostRuntime) {
+fn properties_of_alphabets(rt: HostRuntime) {
     let (standard, alternative) = (Alphabet::standard(), Alphabet::alternative());
     let have_letters = *standard.letters() == STANDARD_LETTERS
         && *alternative.letters() == ALTERNATIVE_LETTERS;
@@ -38,14 +38,15 @@ fn what_is_told_of_alphabets(rt: HostRuntime) {
         (standard, true, true),
         (alternative, true, false),
         (descending(&rt), true, false),
-        (made(&rt, bytes_from(194)), false, true),
+        (new_alphabet(&rt, bytes_from(194)), false, true),
     ] {
-        let is_told = alphabet.is_ascii() == is_ascii && alphabet.is_ascending() == is_ascending;
-        assert!(rt; is_told, "{alphabet:?}");
+        let is_as_expected = alphabet.is_ascii() == is_ascii
+            && alphabet.is_ascending() == is_ascending;
+        assert!(rt; is_as_expected, "{alphabet:?}");
     }
 }
 
-// Of this text no clause speaks. A byte that ASCII does not print is shown by its number.
+// No clause covers this text. Non-printable and non-ASCII bytes are escaped.
 #[test]
 fn debug_shows_the_letters(rt: HostRuntime) -> Result<(), Fail> {
     let rows = [
@@ -53,15 +54,15 @@ fn debug_shows_the_letters(rt: HostRuntime) -> Result<(), Fail> {
             33,
             "Alphabet(b\"!\\\"#$%&\\'()*+,-./0123456789:;<=>?@ABCDEFGHIJKLMNOPQRSTUVWXYZ[\\\\]^\")",
         ),
-        // The last letter alone is above ASCII.
+        // Only the last letter is non-ASCII.
         (
             67,
             "Alphabet(b\"CDEFGHIJKLMNOPQRSTUVWXYZ[\\\\]^_`abcdefghijklmnopqrstuvwxyz{|}~\\x7f\\x80\")",
         ),
     ];
     for (first, text) in rows {
-        let shown = format!(in rt.alloc(); "{:?}", made(&rt, bytes_from(first)))?;
-        assert!(rt; shown.as_str() == text, "the bytes from {first}");
+        let output = format!(in rt.alloc(); "{:?}", new_alphabet(&rt, bytes_from(first)))?;
+        assert!(rt; output.as_str() == text, "the bytes from {first}");
     }
     Ok(())
 }
@@ -89,7 +90,7 @@ fn is_text(alphabet: &Alphabet, number: u128, text: &[u8]) -> bool {
     }
 }
 
-// Here `z` is the zero letter. In the alternative alphabet the order of the numbers is not that of the bytes.
+// The zero letter is `z`. In the alternative alphabet the order of the numbers is not that of the bytes.
 #[test]
 fn texts_over_letters_that_do_not_ascend(rt: HostRuntime) {
     let descending = descending(&rt);
@@ -105,7 +106,7 @@ fn texts_over_letters_that_do_not_ascend(rt: HostRuntime) {
 
 #[test]
 fn texts_above_ascii(rt: HostRuntime) -> Result<(), Fail> {
-    let above_ascii = made(&rt, bytes_from(194));
+    let above_ascii = new_alphabet(&rt, bytes_from(194));
     let are_texts = is_text(&above_ascii, 1337, &[215, 229])
         && decode_with(&above_ascii, &[194, 194]) == Ok(0)
         && decode_with(&above_ascii, b"0") == Err(DecodeError::InvalidBase62Byte(b'0', 0));

@@ -1,4 +1,4 @@
-//! What displays write, by width, fill and alignment, and what displays of faults write.
+//! What `Display` writes for encoded strings, by width, fill and alignment, and for errors.
 #![tactic(auto, unfolding(crate::proofs::OnLiterals::base62_on_literals))]
 
 ghost use Rattle.std.specs.Prelude.{◌≡◌, ◌++◌, [], ◌∷◌, replicate, codes, Some, None};
@@ -35,7 +35,7 @@ pub fn paddings_by_example()
     ensures no_text { padded_to (Some 2) 32 Left [] ≡ codes "  " }
 {}
 
-/// What displays of `LZ` write under no options, whichever the alphabet.
+/// What `Display` writes for `LZ` without options, over each alphabet.
 pub fn plain_displays_by_example()
     ensures standard { ⟦<show::Fmt as fmt::Display>⟧.output (codes "LZ") ≡ Some (codes "LZ") }
     ensures alternative { ⟦<show::FmtAlternative as fmt::Display>⟧.output (codes "LZ")
@@ -43,7 +43,7 @@ pub fn plain_displays_by_example()
     ensures own { ⟦<show::FmtWith as fmt::Display>⟧.output (codes "LZ") ≡ Some (codes "LZ") }
 {}
 
-/// What displays of faults write under any options, as `{:.3}` and `{:>100}`: the text.
+/// What `Display` writes for errors with any options, such as `{:.3}` and `{:>100}`: the message.
 pub fn faults_by_example()
     ensures overflow { (options : _)
         → ⟦<fault::DecodeError as fmt::Display>⟧.styled_output ArithmeticOverflow options
@@ -62,7 +62,7 @@ pub fn faults_by_example()
         ≡ Some (codes "Alphabet repeats the byte b'!' at index 7") }
 {}
 
-/// What a display of `LZ` writes, by the formatter's number for the alignment; 32 is a space.
+/// What `Display` writes for `LZ`, by the formatter's number for the alignment; 32 is a space.
 pub fn displays_by_example()
     ensures plain { displayed None None 32 0 (codes "LZ") ≡ Some (codes "LZ") }
     ensures no_alignment { displayed None (Some 5) 32 0 (codes "LZ") ≡ Some (codes "LZ   ") }

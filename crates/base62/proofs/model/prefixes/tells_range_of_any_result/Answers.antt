@@ -1,6 +1,6 @@
--- These answers name the fields, since the search would find them in the result's value too.
+-- These proofs name the fields, since the search would also find the facts in the result's value.
 use Rattle.std.proofs.Common.{refl}
-use Rattle.base62.proofs.model.fronts.told_of_any_result.Goals as goal
+use Rattle.base62.proofs.model.prefixes.tells_range_of_any_result.Goals as goal
 
 pub returns-clause-letters : goal.returns-clause-letters
 returns-clause-letters c = λ B front w result tells. tells.accepted.1

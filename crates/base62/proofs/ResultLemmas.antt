@@ -1,4 +1,4 @@
--- What the answers of decoding tell of the text.
+-- What the result of decoding says of the text.
 use Rattle.std.proofs.Common.{◌≡◌, ℕ, ◌+◌, ◌*◌, ◌^◌, ◌<◌, ◌≤◌, ◌↔◌, Bool, false, List, [], ◌∷◌, ◌++◌, length, get_or, take, drop}
 use Rattle.std.proofs.Common.{Result, Ok, Err, IsOk, IfErr, refl, sym, ap, ◌∙◌, subst, arith, inl, inr}
 use Rattle.std.specs.List.{list_all}
@@ -26,7 +26,7 @@ not_all-take : (p : ℕ → Bool) (xs : List ℕ) (n : ℕ) → list_all p (take
 not_all-take p xs n bad =
     ap (list_all p) (sym (take-append-drop n xs)) ∙ list_all-append p (take n xs) (drop n xs) ∙ and_left (list_all p (take n xs)) (list_all p (drop n xs)) bad
 
--- what holds in each case of decoding, if that case is reached, holds of the answer
+-- what is true in each case of decoding, if that case applies, is true of the result
 decoding_cases : (B text : List ℕ) (P : Result ℕ DecodeError → Type 0)
     → (length text ≡ 0 → P (Err EmptyInput))
     → (22 < length (after_zeros B text) → P (Err ArithmeticOverflow))
@@ -65,7 +65,7 @@ first_invalid_is B text k bad =
       letters_before = before;
     }
 
--- a fault that equals the one of the first bad byte names that byte and its index
+-- an error that equals the one of the first bad byte has that byte and its index
 pub first_invalid_named : (B text : List ℕ) (byte index b i : ℕ)
     → InvalidBase62Byte byte index ≡ InvalidBase62Byte b i → IsFirstInvalid B text byte index
     → IsFirstInvalid B text b i
@@ -74,7 +74,7 @@ first_invalid_named B text byte index b i is first =
     let index_same : index ≡ i = cc in
     subst (λ x. IsFirstInvalid B text x i) byte_same (subst (IsFirstInvalid B text byte) index_same first)
 
--- a byte that is no letter stands among no letters
+-- a byte that is no letter is not in a text of letters
 no_letters : (B text : List ℕ) (byte index : ℕ) → IsFirstInvalid B text byte index
     → AreLetters B text → ⊥
 no_letters B text byte index first letters =
@@ -95,7 +95,7 @@ abbrev MustOverflow : List ℕ → List ℕ → Type 0
 MustOverflow B text = IsLetter B (get_or (after_zeros B text) 0 0) → (other : List ℕ) → AgreesAtLetters B text other → 2 ^ 128 ≤ value B other
 
 module _ (B : List ℕ) (ok : IsAlphabet B) where
-  -- what holds of each answer, given what that answer tells of the text, holds of the one that is given
+  -- what is true of each result, given what that result says of the text, is true of the result
   pub answer_cases : (text : List ℕ) (P : Result ℕ DecodeError → Type 0)
       → (length text ≡ 0 → P (Err EmptyInput))
       → (0 < length (after_zeros B text) → MustOverflow B text → P (Err ArithmeticOverflow))
@@ -110,7 +110,7 @@ module _ (B : List ℕ) (ok : IsAlphabet B) where
       (λ letters big. over (after_zeros_some B text (omega arith)) (λ letter other a. over_letters B ok text other a letters big))
       (λ some letters small. fine (record { nonempty = some; letters = letters_from_after_zeros B ok text letters; value_is = refl }) (omega (arith, value-after_zeros B ok text)))
 
-  -- what is accepted is a nonempty text of letters that denotes the answer, a number below 2^128
+  -- an accepted text is nonempty, has only letters, and denotes the result, a number below 2^128
   pub decoding_accepts : (text : List ℕ) (n : ℕ) → decoding B text ≡ Ok n
       → Denotes B text n × (n < 2 ^ 128)
   decoding_accepts text = answer_cases text (λ r. (n : ℕ) → r ≡ Ok n → Denotes B text n × (n < 2 ^ 128))
@@ -119,7 +119,7 @@ module _ (B : List ℕ) (ok : IsAlphabet B) where
       (λ byte index first n is. cc)
       (λ denotes small n is. let same : value B text ≡ n = cc in (subst (Denotes B text) same denotes, rw (← same) small))
 
-  -- a nonempty text of letters is accepted if its value is below 2^128, and else overflows
+  -- a nonempty text of letters is accepted if its value is below 2^128, and otherwise overflows
   decoding-letters : (text : List ℕ) → 0 < length text → AreLetters B text
       → decoding B text ≡ number_or_overflow (value B text)
   decoding-letters text some letters =
@@ -159,7 +159,7 @@ module _ (B : List ℕ) (ok : IsAlphabet B) where
       (λ byte index first e. cc)
       (λ denotes small e. cc)
 
-  -- a text without bytes has a fault of its own
+  -- an empty text has its own error
   decoding-empty : (text : List ℕ) → length text ≡ 0 → decoding B text ≡ Err EmptyInput
   decoding-empty text none = answer_cases text (λ r. r ≡ Err EmptyInput)
       (λ e. refl)
@@ -179,7 +179,7 @@ module _ (B : List ℕ) (ok : IsAlphabet B) where
       (λ letters big e. let less = value-lt_most B ok (after_zeros B text) 21 rest in omega (arith, less))
       (λ some letters small e. cc)
 
-  -- so their first byte that is no letter is named
+  -- so their first byte that is no letter is reported
   short_invalid : (text : List ℕ) (byte index : ℕ) → length text ≤ 21
       → IsFirstInvalid B text byte index → decoding B text ≡ Err (InvalidBase62Byte byte index)
   short_invalid text byte index short first =
@@ -190,11 +190,11 @@ module _ (B : List ℕ) (ok : IsAlphabet B) where
       (λ denotes small fits. absurd (no_letters B text byte index first denotes.letters))
       (short_fits text short)
 
-  -- a fault names the first byte that is no letter
+  -- an error has the first byte that is no letter
   pub names_first : (text : List ℕ) → IfErr (decoding B text) (NamesFirst B text)
   names_first text = answer_cases text (λ r. IfErr r (NamesFirst B text)) (λ e. tt) (λ some over. tt) (λ byte index first. first) (λ denotes small. tt)
 
-  -- all that a call of `decode` tells
+  -- all that the contract of `decode` says
   pub decodes : (text : List ℕ) (result : Result ℕ DecodeError) → result ≡ decoding B text
       → Decodes B text result
   decodes text result is = record {
@@ -217,7 +217,7 @@ module _ (B : List ℕ) (ok : IsAlphabet B) where
       let sum : value B (a ++ b) ≡ m * 62 ^ length b + n = rw (value-append B a b, front.value_is, back.value_is) in
       decoding-letters (a ++ b) (omega (arith, length-append a b, front.nonempty)) letters ∙ ap number_or_overflow sum
 
-  -- the one zero letter that stands for a text of zeros alone is canonical
+  -- the one zero letter in place of a text of zeros is canonical
   zero_canonical : (text : List ℕ) (n : ℕ) → Denotes B text n → length (after_zeros B text) ≡ 0
       → IsCanonical B (zero_letter B ∷ []) n
   zero_canonical text n denotes none =
@@ -254,7 +254,7 @@ module _ (B : List ℕ) (ok : IsAlphabet B) where
     λ h. rw (decoding-letters text h.0 h.1, lt-ltb (value B text) (2 ^ 128) h.2) refl,
   )
 
-  -- all that an answer tells
+  -- all that a result says
   pub answer_tells : (text : List ℕ) → AnswerTells B text
   answer_tells text = record {
     decodes = decodes text (decoding B text) refl;

@@ -60,7 +60,6 @@ print(f"""/*@ logic integer pow62(integer k) =
            loop invariant zero: number_of(n) == 0 ==> shifted(number_of(n), i) == 0;
            loop assigns i; loop variant k - i; @/
         while (i < k) {{
-            /@ assert shift: shifted(number_of(n), i + 1) == 62 * shifted(number_of(n), i); @/
             /@ assert power: i < 22 ==> pow62(i + 1) == 62 * pow62(i); @/
             /@ assert product: i < 22 ==> number_of(n) * pow62(i + 1) == 62 * (number_of(n) * pow62(i)); @/
             i = after(i);
@@ -85,15 +84,6 @@ print(f"""/*@ logic integer pow62(integer k) =
             /@ assert power: pow62(i + 1) == 62 * pow62(i); @/
             i = after(i);
         }}
-    }}
-
-    // The highest bit of a number, case by case.
-    /@ requires {rows([f"(bits == {k} && {2**k:#x} <= n < {2**(k + 1):#x})" for k in range(64)], " || ", 11 * " ")};
-       assigns \\nothing;
-       ensures two(bits) <= n && n < two(bits + 1);
-    @/
-    void highest_bit(uint64_t n, uint32_t bits) {{
-        {returns("bits", range(63))}
     }}
 */
 
@@ -122,13 +112,7 @@ for step in STEPS:
     cases = rows([left(bits) for bits in range(0, 64, 2 * step or 1)], " || ", 4 * " ")
     print(f"loop invariant at_{step}: step == {step} ==> 0 < n < {max(4**step, 2):#x} && ({cases});")
 print("loop assigns bits, n, step;\nloop variant step;")
-found = rows([f"(bits == {k} && {2**k:#x} <= whole < {2**(k + 1):#x})" for k in range(64)], " || ", 4 * " ")
-print(f"""
-== in u64_ilog2 before return bits;
-// All bits are found.
-assert found: {found};
-ghost highest_bit(whole, bits);
-
+print("""
 == after static ALWAYS_INLINE size_t wide_count(u128 n);
 /*@ ghost""")
 # The tables of the greatest numbers of k letters.

@@ -9,9 +9,8 @@
  * a size_t of 64 bits and of 32. Two functions use an extension of the compiler if it has one, u128_mul_64 and
  * u64_ilog2. These forms are tested.
  *
- * It has the same functions in the same order, with the same names and comments. The contracts are left out, but for
- * what they require of numbers and lengths, which is in lines that begin with "//@ assert", for Frama-C. The forms of
- * Rust became:
+ * It has the same functions in the same order, with the same names and comments. Contracts are omitted, except for
+ * preconditions on numbers and lengths, which are "//@ assert" lines for Frama-C. Rust is translated as follows:
  *
  *     &[u8], &mut [u8]    a pointer, and its length in NAME_length if that is read
  *     Result, Option      the structs result_.. and option_.., which ok_.., err_.., some_.. and none_.. make
@@ -20,7 +19,7 @@
  *     InlineText          one object, to which each call that moves the text gets a pointer
  *     u128                a struct of two halves, and the functions u128_..
  *
- * No index is tested, since the proofs show that each is in bounds. Nothing is allocated, and there is no state. It is
+ * Indexes are not checked: the proofs show that each is in bounds. Nothing is allocated, and there is no state. It is
  * C99, for machines of 32 or 64 bits and of either byte order. With BASE62_NO_INT128 it uses no integer of 128 bits.
  */
 #include "base62.h"
@@ -101,7 +100,7 @@ static ALWAYS_INLINE option_u128 u128_checked_add(u128 a, u128 b) {
     return (option_u128){.is_some = !u128_less(sum, a), .some = sum};
 }
 
-/* It fits only if one of the upper halves is 0, and then one cross product is 0 too. */
+/* If both upper halves are nonzero, the product overflows. Otherwise one cross product is 0. */
 static ALWAYS_INLINE option_u128 u128_checked_mul(u128 a, u128 b) {
     const u128 low = u128_mul_64(a.low, b.low);
     const u128 cross = a.high == 0 ? u128_mul_64(a.low, b.high) : u128_mul_64(a.high, b.low);
@@ -243,7 +242,7 @@ static inline bool Tables_is_zero(const Tables *self, uint8_t byte) {
 // Returns the letters of the two digits of a number.
 static ALWAYS_INLINE pair_u8_u8 Tables_pair(const Tables *self, uint32_t number) {
     //@ assert requires: number < 3844;
-    // The quotient by 62, since the number is small.
+    // The quotient by 62, exact below 3844.
     const uint32_t quotient = (number * 4229) >> 18;
     return Tables_pair_of_digits(self, (uint64_t)quotient, (uint64_t)(number - quotient * 62));
 }
@@ -658,7 +657,7 @@ static ALWAYS_INLINE result_u128 read_11_or_12(const Tables *tables, const uint8
     size_t start);
 static ALWAYS_INLINE result_u64 read_up_to_10(const Tables *tables, const uint8_t *part, size_t part_length,
     size_t start);
-static ALWAYS_INLINE result_u64 read_on(const Tables *tables, uint64_t number, const uint8_t *part,
+static ALWAYS_INLINE result_u64 read_up_to_5_more(const Tables *tables, uint64_t number, const uint8_t *part,
     size_t part_length, size_t start);
 static ALWAYS_INLINE result_u64 read_10(const Tables *tables, const uint8_t *part, size_t start);
 static ALWAYS_INLINE result_u32 read_5(const Tables *tables, const uint8_t *part, size_t start);
@@ -743,7 +742,7 @@ static ALWAYS_INLINE result_u128 read_11_or_12(const Tables *tables, const uint8
     // Compilers generate slower code for `read_10` here.
     const result_u64 high = read_up_to_10(tables, first, first_length, start);
     if (!high.is_ok) return err_u128(high.err);
-    const result_u64 low = read_on(tables, 0, later, later_length, start + 10);
+    const result_u64 low = read_up_to_5_more(tables, 0, later, later_length, start + 10);
     if (!low.is_ok) return err_u128(low.err);
     return ok_u128(u128_add(u128_mul(u128_of(high.ok), u128_of(power(later_length))), u128_of(low.ok)));
 }
@@ -763,11 +762,11 @@ static ALWAYS_INLINE result_u64 read_up_to_10(const Tables *tables, const uint8_
     }
     const uint8_t *later = part + done;
     const size_t later_length = part_length - done;
-    return read_on(tables, number, later, later_length, start + done);
+    return read_up_to_5_more(tables, number, later, later_length, start + done);
 }
 
 // Decodes at most five bytes more, after the number of the bytes before them.
-static ALWAYS_INLINE result_u64 read_on(const Tables *tables, uint64_t number, const uint8_t *part,
+static ALWAYS_INLINE result_u64 read_up_to_5_more(const Tables *tables, uint64_t number, const uint8_t *part,
     size_t part_length, size_t start) {
     //@ assert requires: number < 916132832 && part_length <= 5;
     uint64_t total = number;
@@ -909,12 +908,12 @@ typedef struct pair_u32_u64_u64 { uint32_t _0; uint64_t _1; uint64_t _2; } pair_
 static ALWAYS_INLINE void write_text(const Tables *tables, u128 n, size_t count, uint8_t *restrict buf);
 static void write_narrow(const Tables *tables, uint64_t n, size_t count, uint8_t *restrict buf);
 static void write_wide(const Tables *tables, u128 n, size_t count, uint8_t *restrict buf);
-static ALWAYS_INLINE pair_u32_u64_u64 cut_by_20(u128 n);
+static ALWAYS_INLINE pair_u32_u64_u64 divide_by_62_20(u128 n);
 static ALWAYS_INLINE uint64_t last_10(u128 n);
 static ALWAYS_INLINE u128 scaled_by_20(u128 n);
-static ALWAYS_INLINE pair_u64_u64 cut_by_10(u128 n);
+static ALWAYS_INLINE pair_u64_u64 divide_by_62_10(u128 n);
 static ALWAYS_INLINE pair_u64_u64 fraction_of(uint64_t n);
-static ALWAYS_INLINE pair_u64_u64 cut_narrow_by_10(uint64_t n);
+static ALWAYS_INLINE pair_u64_u64 divide_narrow_by_62_10(uint64_t n);
 static ALWAYS_INLINE void write_up_to_9(const Tables *tables, uint64_t n, size_t places, uint8_t *restrict buf);
 static ALWAYS_INLINE void write_up_to_5(const Tables *tables, uint32_t n, size_t places, uint8_t *restrict buf);
 static ALWAYS_INLINE void write_1_or_2(const Tables *tables, uint32_t x, size_t places, uint8_t *restrict buf);
@@ -955,7 +954,7 @@ static void write_narrow(const Tables *tables, uint64_t n, size_t count, uint8_t
     if (count < 10) {
         write_up_to_9(tables, n, count, buf);
     } else {
-        const pair_u64_u64 first_fraction = cut_narrow_by_10(n);
+        const pair_u64_u64 first_fraction = divide_narrow_by_62_10(n);
         const uint64_t first = first_fraction._0, fraction = first_fraction._1;
         // If the text has ten letters, its first overwrites this one, which is a zero.
         buf[0] = Tables_letter(tables, first);
@@ -967,38 +966,39 @@ static void write_narrow(const Tables *tables, uint64_t n, size_t count, uint8_t
 static void write_wide(const Tables *tables, u128 n, size_t count, uint8_t *restrict buf) {
     //@ assert requires: 11 <= count && count <= 22;
     if (count > 20) {
-        const pair_u32_u64_u64 top_high_low = cut_by_20(n);
+        const pair_u32_u64_u64 top_high_low = divide_by_62_20(n);
         const uint32_t top = top_high_low._0;
         const uint64_t high = top_high_low._1;
         const uint64_t low = top_high_low._2;
         write_1_or_2(tables, top, count - 20, buf);
         write_20(tables, high, low, buf + (count - 20));
     } else if (count == 20) {
-        const pair_u32_u64_u64 high_low = cut_by_20(n);
+        const pair_u32_u64_u64 high_low = divide_by_62_20(n);
         const uint64_t high = high_low._1, low = high_low._2;
         write_20(tables, high, low, buf);
     } else {
-        const pair_u64_u64 high_low = cut_by_10(n);
+        const pair_u64_u64 high_low = divide_by_62_10(n);
         const uint64_t high = high_low._0, low = high_low._1;
         write_10(tables, low, buf + (count - 10));
         write_up_to_9(tables, high, count - 10, buf);
     }
 }
 
-// Divides by 62^20, and returns the remainder as two fractions. Neither is computed from a
-// remainder. The number in units of 62^20 / 2^64 is the quotient and a fraction of all twenty
-// letters. The last ten add up to 22 units to it. Subtracting 16 times their own fraction leaves
-// few enough units, as in `fraction_of`.
-static ALWAYS_INLINE pair_u32_u64_u64 cut_by_20(u128 n) {
+// Divides by 62^20. Returns the quotient, and the remainder as the fractions of its first and its
+// last ten letters. A fraction is in fixed point with 64 fraction bits. That of all twenty letters
+// is the one of the first ten, but for up to 22 units that the last ten letters add. Subtracting 16
+// times the fraction of the last ten leaves few enough units, as in `fraction_of`.
+static ALWAYS_INLINE pair_u32_u64_u64 divide_by_62_20(u128 n) {
     const uint64_t low = last_10(n);
     const pair_u64_u64 top_high = whole_and_fraction(u128_sub(scaled_by_20(n), u128_of(low >> 60)));
     const uint64_t top = top_high._0, high = top_high._1;
     return (pair_u32_u64_u64){(uint32_t)top, high, low};
 }
 
-// Returns the fraction of the last ten letters: the number in units of 62^10 / 2^64, at most eight
-// too large, modulo 2^64. 2^64 has 2^128 / 62^10 of these units: 21 times 2^64, the first factor,
-// and the second times 2^-64, rounded up. The third factor is 2^123 / 62^10, rounded up.
+// Returns the fraction of the last ten letters: n / 62^10 in fixed point with 64 fraction bits, at
+// most eight units too large. Its integer part is lost, as the sum wraps around. 2^64 has 2^128 /
+// 62^10 of these units: 21 times 2^64, the first factor, and the second times 2^-64, rounded up.
+// The third factor is 2^123 / 62^10, rounded up.
 static ALWAYS_INLINE uint64_t last_10(u128 n) {
     const uint64_t upper = u128_low(u128_shift_right(n, 64));
     const uint64_t lower = u128_low(u128_and(n, u128_of(UINT64_C(0xffffffffffffffff))));
@@ -1011,8 +1011,8 @@ static ALWAYS_INLINE uint64_t last_10(u128 n) {
     return u64_wrapping_add(u64_wrapping_add(u64_wrapping_add(first, second), third), 2);
 }
 
-// Returns a number in units of 62^20 / 2^64, at most five too large. 2^64 has 2^128 / 62^20 of
-// these units: the second factor, and the first times 2^-64, rounded up.
+// Returns n / 62^20 in fixed point with 64 fraction bits, at most five units too large. 2^64 has
+// 2^128 / 62^20 of these units: the second factor, and the first times 2^-64, rounded up.
 static ALWAYS_INLINE u128 scaled_by_20(u128 n) {
     const uint64_t upper = u128_low(u128_shift_right(n, 64));
     const uint64_t lower = u128_low(u128_and(n, u128_of(UINT64_C(0xffffffffffffffff))));
@@ -1021,9 +1021,10 @@ static ALWAYS_INLINE u128 scaled_by_20(u128 n) {
     return u128_add(u128_mul(u128_of(upper), u128_of(483)), u128_of(rest + (((lower >> 32) * 483) >> 32) + 4));
 }
 
-// Divides by 62^10, and returns the remainder as a fraction. The upper bits times 2^120 / 62^10 are
-// the quotient, or one less: then `fraction_of` returns a whole, which is added.
-static ALWAYS_INLINE pair_u64_u64 cut_by_10(u128 n) {
+// Divides by 62^10. Returns the quotient, and the remainder as a fraction. The upper bits times
+// 2^120 / 62^10 are the quotient, or one less: then `fraction_of` returns an integer part of 1,
+// which is added.
+static ALWAYS_INLINE pair_u64_u64 divide_by_62_10(u128 n) {
     const uint64_t upper = u128_low(u128_shift_right(n, 56));
     const uint64_t estimate = u128_low(u128_shift_right(u128_mul(u128_of(upper),
         u128_of(UINT64_C(1583735255667320618))), 64));
@@ -1033,9 +1034,9 @@ static ALWAYS_INLINE pair_u64_u64 cut_by_10(u128 n) {
     return (pair_u64_u64){estimate + whole, fraction};
 }
 
-// Returns the whole part and the fraction of a number in units of 62^10. Each number has at least
-// 21 fractions, from the number times 2^64 / 62^10 upwards. This one is at most two above that
-// product. The factor is 2^124 / 62^10 - 2^64, rounded up.
+// Returns n / 62^10 in fixed point with 64 fraction bits: the integer part and the fraction. At
+// least 21 fractions, from n * 2^64 / 62^10 upwards, stand for the same ten letters. This one is at
+// most two above that product. The factor is 2^124 / 62^10 - 2^64, rounded up.
 static ALWAYS_INLINE pair_u64_u64 fraction_of(uint64_t n) {
     //@ assert requires: n < 1152921504606846976;
     const uint64_t scaled = n * 16;
@@ -1046,9 +1047,9 @@ static ALWAYS_INLINE pair_u64_u64 fraction_of(uint64_t n) {
     return (pair_u64_u64){(uint64_t)(fraction < upper), fraction};
 }
 
-// Divides a number below 2^64 by 62^10, and returns the remainder as a fraction, at most five above
-// the product in `fraction_of`. The factor is 2^123 / 62^10, rounded up.
-static ALWAYS_INLINE pair_u64_u64 cut_narrow_by_10(uint64_t n) {
+// Divides a number below 2^64 by 62^10. Returns the quotient, and the remainder as a fraction, at
+// most five above the product in `fraction_of`. The factor is 2^123 / 62^10, rounded up.
+static ALWAYS_INLINE pair_u64_u64 divide_narrow_by_62_10(uint64_t n) {
     return whole_and_fraction(u128_add(u128_shift_right(u128_mul(u128_of(n),
         u128_of(UINT64_C(12669882045338564947))), 59), u128_of(1)));
 }
@@ -1159,7 +1160,7 @@ static ALWAYS_INLINE uint64_t after_5(uint64_t fraction) {
     return u128_low(u128_and(product, u128_of(UINT64_C(0xffffffffffffffff))));
 }
 
-// Returns the whole part and the fraction of a number in units of 1 / 2^64.
+// Returns the integer part and the fraction of a number in fixed point with 64 fraction bits.
 static ALWAYS_INLINE pair_u64_u64 whole_and_fraction(u128 n) {
     return (pair_u64_u64){u128_low(u128_shift_right(n, 64)),
         u128_low(u128_and(n, u128_of(UINT64_C(0xffffffffffffffff))))};
@@ -1454,7 +1455,7 @@ static ALWAYS_INLINE option_pair_u128_u128 ends_of(u128 number, size_t width, si
     if (!span.is_some) return none_pair_u128_u128();
     const option_u128 least = u128_checked_mul(number, span.some);
     if (!least.is_some) return none_pair_u128_u128();
-    // The sum saturates at 2^128 - 1, which makes it the lesser of the two.
+    // The saturating sum is the lesser of the two.
     return some_pair_u128_u128((pair_u128_u128){least.some, u128_saturating_add(least.some, last)});
 }
 
@@ -1531,7 +1532,7 @@ static base62_number halves(u128 n) {
 #define REPEATED_LETTER ((uint32_t)6)
 #define NOT_CANONICAL ((uint32_t)7)
 
-static uint32_t tell_fault(DecodeError fault, base62_bad_byte *bad);
+static uint32_t store_error(DecodeError fault, base62_bad_byte *bad);
 
 // Returns the count of places, or 0 if they are too few.
 static size_t count_filled(result_unit answer, size_t places) {
@@ -1539,17 +1540,17 @@ static size_t count_filled(result_unit answer, size_t places) {
     return 0;
 }
 
-static uint32_t tell_number(result_u128 answer, base62_number *number, base62_bad_byte *bad) {
+static uint32_t store_number(result_u128 answer, base62_number *number, base62_bad_byte *bad) {
     if (answer.is_ok) {
         const u128 n = answer.ok;
         *number = halves(n);
         return OK;
     }
     const DecodeError fault = answer.err;
-    return tell_fault(fault, bad);
+    return store_error(fault, bad);
 }
 
-static uint32_t tell_canonical(result_option_u128 answer, base62_number *number, base62_bad_byte *bad) {
+static uint32_t store_canonical(result_option_u128 answer, base62_number *number, base62_bad_byte *bad) {
     if (answer.is_ok && answer.ok.is_some) {
         const u128 n = answer.ok.some;
         *number = halves(n);
@@ -1557,10 +1558,10 @@ static uint32_t tell_canonical(result_option_u128 answer, base62_number *number,
     }
     if (answer.is_ok && !answer.ok.is_some) return NOT_CANONICAL;
     const DecodeError fault = answer.err;
-    return tell_fault(fault, bad);
+    return store_error(fault, bad);
 }
 
-static uint32_t tell_range(result_option_pair_u128_u128 answer, base62_range *range, base62_bad_byte *bad) {
+static uint32_t store_range(result_option_pair_u128_u128 answer, base62_range *range, base62_bad_byte *bad) {
     if (answer.is_ok && answer.ok.is_some) {
         const u128 least = answer.ok.some._0, greatest = answer.ok.some._1;
         *range = (base62_range){.least = halves(least), .greatest = halves(greatest)};
@@ -1568,10 +1569,10 @@ static uint32_t tell_range(result_option_pair_u128_u128 answer, base62_range *ra
     }
     if (answer.is_ok && !answer.ok.is_some) return NO_KEY;
     const DecodeError fault = answer.err;
-    return tell_fault(fault, bad);
+    return store_error(fault, bad);
 }
 
-static uint32_t tell_fault(DecodeError fault, base62_bad_byte *bad) {
+static uint32_t store_error(DecodeError fault, base62_bad_byte *bad) {
     if (fault.tag == DecodeError_EmptyInput_tag) return EMPTY_INPUT;
     if (fault.tag == DecodeError_InvalidBase62Byte_tag) {
         const uint8_t byte = fault.InvalidBase62Byte._0;
@@ -1582,14 +1583,14 @@ static uint32_t tell_fault(DecodeError fault, base62_bad_byte *bad) {
     return OVERFLOW;
 }
 
-static uint32_t tell_repeat(AlphabetError fault, base62_bad_byte *bad) {
+static uint32_t store_repeat(AlphabetError fault, base62_bad_byte *bad) {
     const uint8_t byte = fault.Repeated._0;
     const size_t index = fault.Repeated._1;
     *bad = (base62_bad_byte){.index = index, .byte = byte};
     return REPEATED_LETTER;
 }
 
-static size_t tell_text(const uint8_t *text, size_t text_length, uint8_t *restrict buf, size_t buf_length) {
+static size_t copy_text(const uint8_t *text, size_t text_length, uint8_t *restrict buf, size_t buf_length) {
     // An empty text is not copied, since `buf` may then be empty too.
     if (text_length == 0 || buf_length < text_length) {
         return 0;
@@ -1603,7 +1604,7 @@ static size_t tell_text(const uint8_t *text, size_t text_length, uint8_t *restri
 
 // The messages of errors.
 
-static void whole(const uint8_t *text, size_t text_length, InlineText *result);
+static void fixed_text(const uint8_t *text, size_t text_length, InlineText *result);
 
 static void text_of(uint32_t status, base62_bad_byte bad, InlineText *result) {
     if (status == BUFFER_TOO_SMALL) {
@@ -1628,7 +1629,7 @@ static void text_of(uint32_t status, base62_bad_byte bad, InlineText *result) {
     }
     if (status == NO_KEY) {
         static const uint8_t part[] = "No text of so many letters begins with the prefix";
-        whole(TEXT(part), result);
+        fixed_text(TEXT(part), result);
         return;
     }
     if (status == REPEATED_LETTER) {
@@ -1638,13 +1639,13 @@ static void text_of(uint32_t status, base62_bad_byte bad, InlineText *result) {
     }
     if (status == NOT_CANONICAL) {
         static const uint8_t part[] = "Encoded input begins with a needless zero";
-        whole(TEXT(part), result);
+        fixed_text(TEXT(part), result);
         return;
     }
     InlineText_new(result);
 }
 
-static void whole(const uint8_t *text, size_t text_length, InlineText *result) {
+static void fixed_text(const uint8_t *text, size_t text_length, InlineText *result) {
     InlineText_new(result);
     InlineText_and_str(result, text, text_length);
 }
@@ -1698,48 +1699,48 @@ size_t base62_digit_count(base62_number number) {
 }
 
 base62_status base62_decode(const char *text, size_t length, base62_number *number, base62_bad_byte *bad) {
-    return (base62_status)tell_number(decode((const uint8_t *)text, length), number, bad);
+    return (base62_status)store_number(decode((const uint8_t *)text, length), number, bad);
 }
 
 base62_status base62_decode_alternative(const char *text, size_t length, base62_number *number,
     base62_bad_byte *bad) {
-    return (base62_status)tell_number(decode_alternative((const uint8_t *)text, length), number, bad);
+    return (base62_status)store_number(decode_alternative((const uint8_t *)text, length), number, bad);
 }
 
 base62_status base62_decode_with(const base62_alphabet *alphabet, const char *text, size_t length,
     base62_number *number, base62_bad_byte *bad) {
-    return (base62_status)tell_number(decode_with((const Alphabet *)alphabet, (const uint8_t *)text, length),
+    return (base62_status)store_number(decode_with((const Alphabet *)alphabet, (const uint8_t *)text, length),
         number, bad);
 }
 
 base62_status base62_decode_canonical(const char *text, size_t length, base62_number *number,
     base62_bad_byte *bad) {
-    return (base62_status)tell_canonical(decode_canonical((const uint8_t *)text, length), number, bad);
+    return (base62_status)store_canonical(decode_canonical((const uint8_t *)text, length), number, bad);
 }
 
 base62_status base62_decode_alternative_canonical(const char *text, size_t length, base62_number *number,
     base62_bad_byte *bad) {
-    return (base62_status)tell_canonical(decode_alternative_canonical((const uint8_t *)text, length), number, bad);
+    return (base62_status)store_canonical(decode_alternative_canonical((const uint8_t *)text, length), number, bad);
 }
 
 base62_status base62_decode_canonical_with(const base62_alphabet *alphabet, const char *text, size_t length,
     base62_number *number, base62_bad_byte *bad) {
-    return (base62_status)tell_canonical(decode_canonical_with((const Alphabet *)alphabet, (const uint8_t *)text,
+    return (base62_status)store_canonical(decode_canonical_with((const Alphabet *)alphabet, (const uint8_t *)text,
         length), number, bad);
 }
 
 base62_status base62_key_range(const char *prefix, size_t length, base62_range *range, base62_bad_byte *bad) {
-    return (base62_status)tell_range(key_range((const uint8_t *)prefix, length), range, bad);
+    return (base62_status)store_range(key_range((const uint8_t *)prefix, length), range, bad);
 }
 
 base62_status base62_fixed_range(size_t width, const char *prefix, size_t length, base62_range *range,
     base62_bad_byte *bad) {
-    return (base62_status)tell_range(fixed_range(width, (const uint8_t *)prefix, length), range, bad);
+    return (base62_status)store_range(fixed_range(width, (const uint8_t *)prefix, length), range, bad);
 }
 
 base62_status base62_fixed_range_with(const base62_alphabet *alphabet, size_t width, const char *prefix,
     size_t length, base62_range *range, base62_bad_byte *bad) {
-    return (base62_status)tell_range(fixed_range_with((const Alphabet *)alphabet, width, (const uint8_t *)prefix,
+    return (base62_status)store_range(fixed_range_with((const Alphabet *)alphabet, width, (const uint8_t *)prefix,
         length), range, bad);
 }
 
@@ -1753,7 +1754,7 @@ base62_status base62_make_alphabet(const char letters[BASE62_ALPHABET_LENGTH], b
         return (base62_status)OK;
     }
     const AlphabetError fault = answer.err;
-    return (base62_status)tell_repeat(fault, bad);
+    return (base62_status)store_repeat(fault, bad);
 }
 
 base62_number base62_number_of_uuid(const unsigned char uuid[BASE62_UUID_LENGTH]) {
@@ -1767,7 +1768,7 @@ void base62_uuid_of_number(base62_number number, unsigned char uuid[BASE62_UUID_
 size_t base62_fault_text(base62_status status, base62_bad_byte bad, char *buffer, size_t size) {
     InlineText text;
     text_of((uint32_t)status, bad, &text);
-    return tell_text(text.bytes, text.length, (uint8_t *)buffer, size);
+    return copy_text(text.bytes, text.length, (uint8_t *)buffer, size);
 }
 
 uint32_t base62_version_number(void) {

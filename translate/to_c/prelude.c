@@ -9,9 +9,8 @@
  * a size_t of 64 bits and of 32. Two functions use an extension of the compiler if it has one, u128_mul_64 and
  * u64_ilog2. These forms are tested.
  *
- * It has the same functions in the same order, with the same names and comments. The contracts are left out, but for
- * what they require of numbers and lengths, which is in lines that begin with "//@ assert", for Frama-C. The forms of
- * Rust became:
+ * It has the same functions in the same order, with the same names and comments. Contracts are omitted, except for
+ * preconditions on numbers and lengths, which are "//@ assert" lines for Frama-C. Rust is translated as follows:
  *
  *     &[u8], &mut [u8]    a pointer, and its length in NAME_length if that is read
  *     Result, Option      the structs result_.. and option_.., which ok_.., err_.., some_.. and none_.. make
@@ -20,7 +19,7 @@
  *     InlineText          one object, to which each call that moves the text gets a pointer
  *     u128                a struct of two halves, and the functions u128_..
  *
- * No index is tested, since the proofs show that each is in bounds. Nothing is allocated, and there is no state. It is
+ * Indexes are not checked: the proofs show that each is in bounds. Nothing is allocated, and there is no state. It is
  * C99, for machines of 32 or 64 bits and of either byte order. With BASE62_NO_INT128 it uses no integer of 128 bits.
  */
 #include "base62.h"
@@ -101,7 +100,7 @@ static ALWAYS_INLINE option_u128 u128_checked_add(u128 a, u128 b) {
     return (option_u128){.is_some = !u128_less(sum, a), .some = sum};
 }
 
-/* It fits only if one of the upper halves is 0, and then one cross product is 0 too. */
+/* If both upper halves are nonzero, the product overflows. Otherwise one cross product is 0. */
 static ALWAYS_INLINE option_u128 u128_checked_mul(u128 a, u128 b) {
     const u128 low = u128_mul_64(a.low, b.low);
     const u128 cross = a.high == 0 ? u128_mul_64(a.low, b.high) : u128_mul_64(a.high, b.low);

@@ -50,7 +50,7 @@ pub(crate) fn count_filled(answer: Result<(), EncodeError>, places: usize) -> us
     }
 }
 
-pub(crate) fn tell_number(
+pub(crate) fn store_number(
     answer: Result<u128, DecodeError>,
     number: &mut Number,
     bad: &mut BadByte,
@@ -62,11 +62,11 @@ pub(crate) fn tell_number(
             *number = halves(n);
             OK
         }
-        Err(fault) => tell_fault(fault, bad),
+        Err(fault) => store_error(fault, bad),
     }
 }
 
-pub(crate) fn tell_canonical(
+pub(crate) fn store_canonical(
     answer: Result<Option<u128>, DecodeError>,
     number: &mut Number,
     bad: &mut BadByte,
@@ -79,11 +79,11 @@ pub(crate) fn tell_canonical(
             OK
         }
         Ok(None) => NOT_CANONICAL,
-        Err(fault) => tell_fault(fault, bad),
+        Err(fault) => store_error(fault, bad),
     }
 }
 
-pub(crate) fn tell_range(
+pub(crate) fn store_range(
     answer: Result<Option<(u128, u128)>, DecodeError>,
     range: &mut Range,
     bad: &mut BadByte,
@@ -99,11 +99,11 @@ pub(crate) fn tell_range(
             OK
         }
         Ok(None) => NO_KEY,
-        Err(fault) => tell_fault(fault, bad),
+        Err(fault) => store_error(fault, bad),
     }
 }
 
-fn tell_fault(fault: DecodeError, bad: &mut BadByte) -> u32
+fn store_error(fault: DecodeError, bad: &mut BadByte) -> u32
     ensures { TellsFault fault result bad.old bad.new }
 {
     match fault {
@@ -116,7 +116,7 @@ fn tell_fault(fault: DecodeError, bad: &mut BadByte) -> u32
     }
 }
 
-pub(crate) fn tell_repeat(fault: AlphabetError, bad: &mut BadByte) -> u32
+pub(crate) fn store_repeat(fault: AlphabetError, bad: &mut BadByte) -> u32
     ensures status { result ≡ 6 }
     ensures byte { fault ≡ Repeated bad.new.byte bad.new.index }
 {
@@ -125,7 +125,7 @@ pub(crate) fn tell_repeat(fault: AlphabetError, bad: &mut BadByte) -> u32
     REPEATED_LETTER
 }
 
-pub(crate) fn tell_text(text: &[u8], buf: &mut [u8]) -> usize
+pub(crate) fn copy_text(text: &[u8], buf: &mut [u8]) -> usize
     ensures { WritesText text.now buf.old buf.new result }
 {
     // An empty text is not copied, since `buf` may then be empty too.

@@ -24,8 +24,8 @@ pub mod model;
 mod number;
 
 use answer::{
-    BadByte, OK, Range, count_filled, tell_canonical, tell_number, tell_range, tell_repeat,
-    tell_text,
+    BadByte, OK, Range, copy_text, count_filled, store_canonical, store_number, store_range,
+    store_repeat,
 };
 use base62::Alphabet;
 use fault::text_of;
@@ -107,7 +107,7 @@ pub extern "C" fn base62_decode(text: &[u8], number: &mut Number, bad: &mut BadB
     ensures { TellsNumber (decoding standard text.now) result number.old number.new
         bad.old bad.new }
 {
-    tell_number(base62::decode(text), number, bad)
+    store_number(base62::decode(text), number, bad)
 }
 
 #[unsafe(no_mangle)]
@@ -119,7 +119,7 @@ pub extern "C" fn base62_decode_alternative(
     ensures { TellsNumber (decoding alternative text.now) result number.old number.new
         bad.old bad.new }
 {
-    tell_number(base62::decode_alternative(text), number, bad)
+    store_number(base62::decode_alternative(text), number, bad)
 }
 
 #[unsafe(no_mangle)]
@@ -132,7 +132,7 @@ pub extern "C" fn base62_decode_with(
     ensures { TellsNumber (decoding alphabet.now text.now) result number.old number.new
         bad.old bad.new }
 {
-    tell_number(base62::decode_with(alphabet, text), number, bad)
+    store_number(base62::decode_with(alphabet, text), number, bad)
 }
 
 #[unsafe(no_mangle)]
@@ -144,7 +144,7 @@ pub extern "C" fn base62_decode_canonical(
     ensures { TellsCanonical (canonical_decoding standard text.now) result number.old number.new
         bad.old bad.new }
 {
-    tell_canonical(base62::decode_canonical(text), number, bad)
+    store_canonical(base62::decode_canonical(text), number, bad)
 }
 
 #[unsafe(no_mangle)]
@@ -156,7 +156,7 @@ pub extern "C" fn base62_decode_alternative_canonical(
     ensures { TellsCanonical (canonical_decoding alternative text.now) result number.old number.new
         bad.old bad.new }
 {
-    tell_canonical(base62::decode_alternative_canonical(text), number, bad)
+    store_canonical(base62::decode_alternative_canonical(text), number, bad)
 }
 
 #[unsafe(no_mangle)]
@@ -169,7 +169,7 @@ pub extern "C" fn base62_decode_canonical_with(
     ensures { TellsCanonical (canonical_decoding alphabet.now text.now) result number.old number.new
         bad.old bad.new }
 {
-    tell_canonical(base62::decode_canonical_with(alphabet, text), number, bad)
+    store_canonical(base62::decode_canonical_with(alphabet, text), number, bad)
 }
 
 #[unsafe(no_mangle)]
@@ -177,7 +177,7 @@ pub extern "C" fn base62_key_range(prefix: &[u8], range: &mut Range, bad: &mut B
     ensures { TellsEnds (range_of standard 22 prefix.now) result range.old range.new
         bad.old bad.new }
 {
-    tell_range(base62::key_range(prefix), range, bad)
+    store_range(base62::key_range(prefix), range, bad)
 }
 
 #[unsafe(no_mangle)]
@@ -190,7 +190,7 @@ pub extern "C" fn base62_fixed_range(
     ensures { TellsEnds (range_of standard width prefix.now) result range.old range.new
         bad.old bad.new }
 {
-    tell_range(base62::fixed_range(width, prefix), range, bad)
+    store_range(base62::fixed_range(width, prefix), range, bad)
 }
 
 #[unsafe(no_mangle)]
@@ -204,7 +204,7 @@ pub extern "C" fn base62_fixed_range_with(
     ensures { TellsEnds (range_of alphabet.now width prefix.now) result range.old range.new
         bad.old bad.new }
 {
-    tell_range(
+    store_range(
         base62::fixed_range_with(alphabet, width, prefix),
         range,
         bad,
@@ -230,7 +230,7 @@ pub extern "C" fn base62_make_alphabet(
             *alphabet = made;
             OK
         }
-        Err(fault) => tell_repeat(fault, bad),
+        Err(fault) => store_repeat(fault, bad),
     }
 }
 
@@ -253,7 +253,7 @@ pub extern "C" fn base62_fault_text(status: u32, bad: BadByte, buf: &mut [u8]) -
     ensures written { WritesText (status_text status bad.byte bad.index) buf.old buf.new result }
     ensures most { length (status_text status bad.byte bad.index) ≤ MAX_FAULT_TEXT }
 {
-    tell_text(text_of(status, bad).as_str().as_bytes(), buf)
+    copy_text(text_of(status, bad).as_str().as_bytes(), buf)
 }
 
 #[unsafe(no_mangle)]

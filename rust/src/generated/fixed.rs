@@ -236,7 +236,7 @@ fn ends_of(number: u128, width: usize, len: usize) -> Option<core::ops::RangeInc
     // If the span is 2^128 or more, so is the product.
     let span = last.checked_add(1)?;
     let least = number.checked_mul(span)?;
-    // The sum saturates at 2^128 - 1, which makes it the lesser of the two.
+    // The saturating sum is the lesser of the two.
     Some(least..=least.saturating_add(last))
 }
 

@@ -42,7 +42,7 @@ impl Tables {
         ensures second { result.1 ≡ slice_index self.now.letters (number % 62) }
         ensures step { work.new ≡ work.old + 1 }
     {
-        // The quotient by 62, since the number is small.
+        // The quotient by 62, exact below 3844.
         let quotient = (number * 4229) >> 18;
         self.pair_of_digits(quotient as u64, (number - quotient * 62) as u64, work)
     }

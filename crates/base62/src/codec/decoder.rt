@@ -119,7 +119,7 @@ fn read_11_or_12(
     let (first, later) = part.split_at(10);
     // Compilers generate slower code for `read_10` here.
     let high = read_up_to_10(tables, first, start, work)?;
-    let low = read_on(tables, 0, later, start + 10, work)?;
+    let low = read_up_to_5_more(tables, 0, later, start + 10, work)?;
     Ok(high as u128 * power(later.len()) as u128 + low as u128)
 }
 
@@ -144,12 +144,12 @@ fn read_up_to_10(
         done = 5;
     }
     let (_, later) = part.split_at(done);
-    read_on(tables, number, later, start + done, work)
+    read_up_to_5_more(tables, number, later, start + done, work)
 }
 
 // Decodes at most five bytes more, after the number of the bytes before them.
 #[inline(always)]
-fn read_on(
+fn read_up_to_5_more(
     tables: &Tables,
     number: u64,
     part: &[u8],

@@ -66,7 +66,7 @@ fn write_narrow(tables: &Tables, n: u64, count: usize, buf: &mut [u8], work: &mu
     if count < 10 {
         write_up_to_9(tables, n, count, buf, work);
     } else {
-        let (first, fraction) = cut_narrow_by_10(n);
+        let (first, fraction) = divide_narrow_by_62_10(n);
         // If the text has ten letters, its first overwrites this one, which is a zero.
         buf[0] = tables.letter(first, work);
         write_10(tables, fraction, &mut buf[count - 10..], work);
@@ -83,25 +83,25 @@ fn write_wide(tables: &Tables, n: u128, count: usize, buf: &mut [u8], work: &mut
     ensures steps { work.new ≡ work.old + encoding_steps count }
 {
     if count > 20 {
-        let (top, high, low) = cut_by_20(n);
+        let (top, high, low) = divide_by_62_20(n);
         write_1_or_2(tables, top, count - 20, buf, work);
         write_20(tables, high, low, &mut buf[count - 20..], work);
     } else if count == 20 {
-        let (_, high, low) = cut_by_20(n);
+        let (_, high, low) = divide_by_62_20(n);
         write_20(tables, high, low, buf, work);
     } else {
-        let (high, low) = cut_by_10(n);
+        let (high, low) = divide_by_62_10(n);
         write_10(tables, low, &mut buf[count - 10..], work);
         write_up_to_9(tables, high, count - 10, buf, work);
     }
 }
 
-// Divides by 62^20, and returns the remainder as two fractions. Neither is computed from a
-// remainder. The number in units of 62^20 / 2^64 is the quotient and a fraction of all twenty
-// letters. The last ten add up to 22 units to it. Subtracting 16 times their own fraction leaves
-// few enough units, as in `fraction_of`.
+// Divides by 62^20. Returns the quotient, and the remainder as the fractions of its first and its
+// last ten letters. A fraction is in fixed point with 64 fraction bits. That of all twenty letters
+// is the one of the first ten, but for up to 22 units that the last ten letters add. Subtracting 16
+// times the fraction of the last ten leaves few enough units, as in `fraction_of`.
 #[inline(always)]
-fn cut_by_20(n: u128) -> (u32, u64, u64)
+fn divide_by_62_20(n: u128) -> (u32, u64, u64)
     ensures quotient { result.0 ≡ n / 62 ^ 20 }
     ensures remainder { result.1 * 62 ^ 10 / 2 ^ 64 * 62 ^ 10 + result.2 * 62 ^ 10 / 2 ^ 64 ≡ n % 62 ^ 20 }
 {
@@ -110,9 +110,10 @@ fn cut_by_20(n: u128) -> (u32, u64, u64)
     (top as u32, high, low)
 }
 
-// Returns the fraction of the last ten letters: the number in units of 62^10 / 2^64, at most eight
-// too large, modulo 2^64. 2^64 has 2^128 / 62^10 of these units: 21 times 2^64, the first factor,
-// and the second times 2^-64, rounded up. The third factor is 2^123 / 62^10, rounded up.
+// Returns the fraction of the last ten letters: n / 62^10 in fixed point with 64 fraction bits, at
+// most eight units too large. Its integer part is lost, as the sum wraps around. 2^64 has 2^128 /
+// 62^10 of these units: 21 times 2^64, the first factor, and the second times 2^-64, rounded up.
+// The third factor is 2^123 / 62^10, rounded up.
 #[inline(always)]
 fn last_10(n: u128) -> u64
     ensures { result * 62 ^ 10 / 2 ^ 64 ≡ n % 62 ^ 10 }
@@ -130,8 +131,8 @@ fn last_10(n: u128) -> u64
         .wrapping_add(2)
 }
 
-// Returns a number in units of 62^20 / 2^64, at most five too large. 2^64 has 2^128 / 62^20 of
-// these units: the second factor, and the first times 2^-64, rounded up.
+// Returns n / 62^20 in fixed point with 64 fraction bits, at most five units too large. 2^64 has
+// 2^128 / 62^20 of these units: the second factor, and the first times 2^-64, rounded up.
 #[inline(always)]
 fn scaled_by_20(n: u128) -> u128
     ensures least { n * 2 ^ 64 ≤ result * 62 ^ 20 }
@@ -143,10 +144,11 @@ fn scaled_by_20(n: u128) -> u128
     upper as u128 * 483 + (rest + (((lower >> 32) * 483) >> 32) + 4) as u128
 }
 
-// Divides by 62^10, and returns the remainder as a fraction. The upper bits times 2^120 / 62^10 are
-// the quotient, or one less: then `fraction_of` returns a whole, which is added.
+// Divides by 62^10. Returns the quotient, and the remainder as a fraction. The upper bits times
+// 2^120 / 62^10 are the quotient, or one less: then `fraction_of` returns an integer part of 1,
+// which is added.
 #[inline(always)]
-fn cut_by_10(n: u128) -> (u64, u64)
+fn divide_by_62_10(n: u128) -> (u64, u64)
     requires { n < 2 ^ 60 * 62 ^ 10 }
     ensures quotient { result.0 ≡ n / 62 ^ 10 }
     ensures remainder { result.1 * 62 ^ 10 / 2 ^ 64 ≡ n % 62 ^ 10 }
@@ -158,9 +160,9 @@ fn cut_by_10(n: u128) -> (u64, u64)
     (estimate + whole, fraction)
 }
 
-// Returns the whole part and the fraction of a number in units of 62^10. Each number has at least
-// 21 fractions, from the number times 2^64 / 62^10 upwards. This one is at most two above that
-// product. The factor is 2^124 / 62^10 - 2^64, rounded up.
+// Returns n / 62^10 in fixed point with 64 fraction bits: the integer part and the fraction. At
+// least 21 fractions, from n * 2^64 / 62^10 upwards, stand for the same ten letters. This one is at
+// most two above that product. The factor is 2^124 / 62^10 - 2^64, rounded up.
 #[inline(always)]
 fn fraction_of(n: u64) -> (u64, u64)
     requires { n < 2 ^ 60 }
@@ -173,10 +175,10 @@ fn fraction_of(n: u64) -> (u64, u64)
     ((fraction < upper) as u64, fraction)
 }
 
-// Divides a number below 2^64 by 62^10, and returns the remainder as a fraction, at most five above
-// the product in `fraction_of`. The factor is 2^123 / 62^10, rounded up.
+// Divides a number below 2^64 by 62^10. Returns the quotient, and the remainder as a fraction, at
+// most five above the product in `fraction_of`. The factor is 2^123 / 62^10, rounded up.
 #[inline(always)]
-fn cut_narrow_by_10(n: u64) -> (u64, u64)
+fn divide_narrow_by_62_10(n: u64) -> (u64, u64)
     ensures quotient { result.0 ≡ n / 62 ^ 10 }
     ensures remainder { result.1 * 62 ^ 10 / 2 ^ 64 ≡ n % 62 ^ 10 }
 {
@@ -346,7 +348,7 @@ fn after_5(fraction: u64) -> u64
     (product & 0xffffffff_ffffffff) as u64
 }
 
-// Returns the whole part and the fraction of a number in units of 1 / 2^64.
+// Returns the integer part and the fraction of a number in fixed point with 64 fraction bits.
 #[inline(always)]
 fn whole_and_fraction(n: u128) -> (u64, u64)
     ensures whole { result.0 ≡ n / 2 ^ 64 }

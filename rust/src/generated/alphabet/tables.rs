@@ -31,7 +31,7 @@ impl Tables {
     #[inline(always)]
     pub(crate) fn pair(&self, number: u32) -> (u8, u8) {
         requires!(number < 3844);
-        // The quotient by 62, since the number is small.
+        // The quotient by 62, exact below 3844.
         let quotient = (number * 4229) >> 18;
         self.pair_of_digits(quotient as u64, (number - quotient * 62) as u64)
     }

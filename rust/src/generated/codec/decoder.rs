@@ -83,7 +83,7 @@ fn read_11_or_12(tables: &Tables, part: &[u8], start: usize) -> Result<u128, Dec
     let (first, later) = part.split_at(10);
     // Compilers generate slower code for `read_10` here.
     let high = read_up_to_10(tables, first, start)?;
-    let low = read_on(tables, 0, later, start + 10)?;
+    let low = read_up_to_5_more(tables, 0, later, start + 10)?;
     Ok(high as u128 * power(later.len()) as u128 + low as u128)
 }
 
@@ -99,12 +99,17 @@ fn read_up_to_10(tables: &Tables, part: &[u8], start: usize) -> Result<u64, Deco
         done = 5;
     }
     let (_, later) = part.split_at(done);
-    read_on(tables, number, later, start + done)
+    read_up_to_5_more(tables, number, later, start + done)
 }
 
 // Decodes at most five bytes more, after the number of the bytes before them.
 #[inline(always)]
-fn read_on(tables: &Tables, number: u64, part: &[u8], start: usize) -> Result<u64, DecodeError> {
+fn read_up_to_5_more(
+    tables: &Tables,
+    number: u64,
+    part: &[u8],
+    start: usize,
+) -> Result<u64, DecodeError> {
     requires!(number < 62_u64.pow(5));
     requires!(part.len() <= 5);
     let mut total = number;

@@ -4,8 +4,8 @@ use Rattle.base62.proofs.PartLemmas.{read_none, read_below, reads_on_cut}
 use Rattle.base62.proofs.codec.decoder.read_up_to_10.Goals as goal
 use Rattle.base62.proofs.codec.decoder.read_up_to_10.Goals.{then-part-ge5+in_ok-number, else-part-ge5}
 
-pub read_on-requires-clause-number : goal.read_on-requires-clause-number
-read_on-requires-clause-number c = elim c.if-part-ge5.branch [
+pub read_up_to_5_more-requires-clause-number : goal.read_up_to_5_more-requires-clause-number
+read_up_to_5_more-requires-clause-number c = elim c.if-part-ge5.branch [
   | then-part-ge5+in_ok-number w ↦
       rw w.number-is
       (read_below c.args.tables.now.letters w.split_at.result.0.now _ _ _ 5 c.requires.tables.alphabet w.in_ok-number.ensures (omega (arith, w.split_at.ensures.front_len)))
@@ -22,4 +22,4 @@ returns c =
       | then-part-ge5+in_ok-number w ↦ rw (w.done-is, w.work-is, w.number-is, ← w.split_at.ensures.front) w.in_ok-number.ensures
       | else-part-ge5 w ↦ rw (w.done-is, w.work-is, w.number-is) (read_none B part c.args.work.now)
     ] in
-    reads_on_cut B part (take done part) done c.args.start c.args.work.now refl c.split_at-2.result.1.now _ _ _ c.read_on.result cut.back (omega (arith, cut.back_len)) read c.read_on.ensures
+    reads_on_cut B part (take done part) done c.args.start c.args.work.now refl c.split_at-2.result.1.now _ _ _ c.read_up_to_5_more.result cut.back (omega (arith, cut.back_len)) read c.read_up_to_5_more.ensures

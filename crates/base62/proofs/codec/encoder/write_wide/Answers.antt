@@ -7,22 +7,22 @@ use Rattle.base62.proofs.codec.encoder.write_wide.Goals as goal
 pub write_1_or_2-requires-clause-fits : goal.write_1_or_2-requires-clause-fits
 write_1_or_2-requires-clause-fits c =
     let fits = quotient_fits c.args.n (c.args.count - 20) 20 c.args.count (omega arith) c.requires.fits in
-    rw c.cut_by_20-top.ensures.quotient fits
+    rw c.divide_by_62_20-top.ensures.quotient fits
 
-pub cut_by_10-high-requires : goal.cut_by_10-high-requires
-cut_by_10-high-requires c =
+pub divide_by_62_10-high-requires : goal.divide_by_62_10-high-requires
+divide_by_62_10-high-requires c =
     omega (arith, fits_more c.args.n c.args.count 20 c.requires.fits (omega arith))
 
 pub write_up_to_9-requires-clause-fits : goal.write_up_to_9-requires-clause-fits
 write_up_to_9-requires-clause-fits c =
     let both : c.args.count - 10 + 10 ≡ c.args.count = omega (arith, c.requires.least) in
     let fits = quotient_fits c.args.n (c.args.count - 10) 10 c.args.count both c.requires.fits in
-    rw c.cut_by_10-high.ensures.quotient fits
+    rw c.divide_by_62_10-high.ensures.quotient fits
 
 pub returns-then-count-gt20-clause-written : goal.returns-then-count-gt20-clause-written
 returns-then-count-gt20-clause-written c =
     let count = c.args.count in
-    let cut = c.cut_by_20-top.ensures in
+    let cut = c.divide_by_62_20-top.ensures in
     let B = c.args.tables.now.letters in
     let join = written_on B (count - 20) 20 count c.args.n _ _ (omega arith) cut.quotient cut.remainder in
     let top = c.write_1_or_2 in
@@ -38,7 +38,7 @@ returns-then-count-eq20-clause-written c =
     let n = c.args.n in
     let twenty = c.if-count-eq20.true in
     let few : n < 62 ^ 20 = fits_more n c.args.count 20 c.requires.fits (omega (arith, twenty)) in
-    let cut = c.cut_by_20-high in
+    let cut = c.divide_by_62_20-high in
     let whole : cut.result.1 * 62 ^ 10 / 2 ^ 64 * 62 ^ 10 + cut.result.2 * 62 ^ 10 / 2 ^ 64 ≡ n = omega (arith, few, cut.ensures.remainder) in
     rw twenty (rw whole at c.write_20-then-count-eq20.ensures.written)
 
@@ -49,7 +49,7 @@ returns-then-count-eq20-clause-steps c =
 pub returns-else-count-eq20-clause-written : goal.returns-else-count-eq20-clause-written
 returns-else-count-eq20-clause-written c =
     let count = c.args.count in
-    let cut = c.cut_by_10-high.ensures in
+    let cut = c.divide_by_62_10-high.ensures in
     let B = c.args.tables.now.letters in
     let both : count - 10 + 10 ≡ count = omega (arith, c.requires.least) in
     let back = c.write_10 in

@@ -3,7 +3,7 @@ use Rattle.std.proofs.lemmas.List.{length-take-le, take_all}
 use Rattle.std.proofs.lemmas.Result.{err_from_is_err_and}
 use Rattle.base62.specs.Parts.{HasRead}
 use Rattle.base62.proofs.PartLemmas.{read_none, read_below, reads_more, refuses_cut, on_below, on_more}
-use Rattle.base62.proofs.codec.decoder.read_on.Goals as goal
+use Rattle.base62.proofs.codec.decoder.read_up_to_5_more.Goals as goal
 
 pub loop-i-init : goal.loop-i-init
 loop-i-init c = (omega arith, (0, read_none c.args.tables.now.letters c.args.part.now c.args.work.now, omega arith))

@@ -1,6 +1,6 @@
 use Rattle.std.proofs.Common.{◌≡◌, ℕ, ◌+◌, ◌*◌, ◌^◌, ◌≤◌, length, take}
 use Rattle.base62.specs.Parts.{HasRead}
-use Rattle.base62.proofs.codec.decoder.read_on.Given as goal
+use Rattle.base62.proofs.codec.decoder.read_up_to_5_more.Given as goal
 
 abbrev pub invariant-loop-i : goal.invariant-loop-i
 invariant-loop-i l =

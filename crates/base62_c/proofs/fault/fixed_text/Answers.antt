@@ -1,6 +1,6 @@
 use Rattle.std.proofs.Common.{length, le-leb, refl, arith}
 use Rattle.std.specs.Fmt.Cut.{cut_to}
-use Rattle.base62_c.proofs.fault.whole.Goals as goal
+use Rattle.base62_c.proofs.fault.fixed_text.Goals as goal
 
 pub returns : goal.returns
 unfolding cut_to

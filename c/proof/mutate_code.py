@@ -36,7 +36,7 @@ TABLES = [
 SAME = {
     # The first byte is looked at before the loop.
     "count_zeros: for (size_t i = (0 + 1); i < input_length; i++) {",
-    # Its letters are checked before, so a fault is an overflow.
+    # check_letters gives the error of a bad byte too.
     "range_found: if (!answer.is_ok || answer.err.tag == DecodeError_ArithmeticOverflow_tag) {",
     # All bytes are written again.
     "encode_key: ;", "encode_key: fill_bytes(key,22, 0);", "encode_key: fill_bytes(key, (0 + 1), 22);",

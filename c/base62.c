@@ -280,8 +280,9 @@ static ALWAYS_INLINE const Tables *alternative_tables(void) {
 // An error that can be returned when decoding a string.
 typedef struct DecodeError {
     enum {
-        // The string represents 2^128 or more, or more than 22 bytes follow its leading zeros. Or 22
-        // bytes do, and the first ten of them, followed by twelve zeros, represent 2^128 or more.
+        // The string represents 2^128 or more, or more than 22 bytes follow its leading zeros. It is also
+        // returned if 22 bytes follow, and the first ten of them, followed by twelve zeros, represent
+        // 2^128 or more, even if a later byte is invalid.
         DecodeError_ArithmeticOverflow_tag,
         // The string is empty.
         DecodeError_EmptyInput_tag,
@@ -1402,8 +1403,9 @@ static result_option_pair_u128_u128 fixed_range(size_t width, const uint8_t *pre
 
 // Like `fixed_range`, but uses a custom alphabet.
 //
-// There is no such call for the alternative alphabet. It does not ascend, so a scan from the
-// string of the least number to that of the greatest can miss strings that begin with `prefix`.
+// The range is exact for every alphabet. But a scan of sorted strings, from that of the least number
+// to that of the greatest, finds exactly those that begin with `prefix` only if
+// `Alphabet::is_ascending` returns `true`, which it does not for the alternative alphabet.
 //
 // # Errors
 //
@@ -1413,7 +1415,8 @@ static result_option_pair_u128_u128 fixed_range_with(const Alphabet *alphabet, s
     return range_over(Alphabet_as_tables(alphabet), width, prefix, prefix_length);
 }
 
-// Returns the range over the alphabet of the tables.
+// Returns the range over the alphabet of the tables. This contract says what the range means, and
+// that of `range_found` how it is computed.
 static result_option_pair_u128_u128 range_over(const Tables *tables, size_t width, const uint8_t *prefix,
     size_t prefix_length) {
     return range_found(tables, width, prefix, prefix_length);

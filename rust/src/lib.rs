@@ -3,10 +3,10 @@
 
 //! Encodes unsigned integers below 2^128 as short strings of `0` to `9`, `A` to `Z` and `a` to `z`, and decodes them.
 //!
-//! The calls of the crate `base62` 2.2.6 have their names, types, features and results here. The codec is written in
-//! Rattle, which is Rust with contracts, and each of its functions is proved to meet its contract. The modules of this
-//! crate are that source without its contracts and proofs. A program of the project takes them out; it is tested, not
-//! proved.
+//! It has each function of the crate `base62` 2.2.6, with the same name, types, features and results. The codec is
+//! written in Rattle, which is Rust with contracts, and each of its functions is proved to meet its contract. The modules
+//! of this crate are that source without its contracts and proofs. A program of the project takes them out; it is
+//! tested, not proved.
 //!
 //! ```
 //! let mut buffer = [0; base62::MAX_DIGITS];
@@ -19,12 +19,13 @@
 //! # Numbers and strings
 //!
 //! A number is any `T: Into<u128>`: `u8` to `u128`, `bool`, `char`, `NonZero<u128>`, `Ipv6Addr`. A bare literal is an
-//! `i32`, which can be negative and does not convert, so write `1337_u32`. The encoded string of a number is the
-//! shortest nonempty one that represents it, and has 1 to 22 characters.
+//! `i32`, which can be negative and does not convert, so write `1337_u32`. Neither do a `usize` and signed integers:
+//! write `n as u64` for a `usize`, and `u64::try_from(id)?` for an `i64`. The encoded string of a number is the shortest
+//! nonempty one that represents it, and has 1 to 22 characters.
 //!
 //! The standard alphabet is `0` to `9`, `A` to `Z`, `a` to `z`, and the alternative one `0` to `9`, `a` to `z`, `A` to
 //! `Z`. An [`Alphabet`] has 62 characters of your choice, and the calls that use it end in `_with`. Create one once and
-//! reuse it: this takes much longer than a call. A constant is created at compile time.
+//! reuse it: creating one takes much longer than a call. A constant is created at compile time.
 //!
 //! ```
 //! use base62::Alphabet;
@@ -47,9 +48,12 @@
 //! | a writer | [`encode_io`], with the feature `std` |
 //! | a number | [`decode`], or [`decode_canonical`] to accept one string for each number |
 //! | a UUID | [`decode_uuid`], or [`decode_uuid_canonical`] in the same way |
-//! | keys and columns, which sort as their numbers | [`encode_key`], [`encode_fixed`] |
-//! | the same as a `&str` of your buffer | [`encode_key_str`], [`encode_fixed_str`] |
-//! | a scan of those with one prefix | [`key_range`], [`fixed_range`] |
+//! | a string of a fixed width | [`encode_fixed`], [`encode_fixed_str`] |
+//! | the same with 22 characters, enough for each number | [`encode_key`], [`encode_key_str`] |
+//! | the numbers whose strings of a fixed width share a prefix | [`fixed_range`], [`key_range`] |
+//!
+//! Names with `alternative` or `alt` use the alternative alphabet. For a key in another alphabet, call
+//! [`encode_fixed_with`] with 22 bytes, which never fails.
 //!
 //! # Features
 //!

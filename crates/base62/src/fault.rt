@@ -14,8 +14,9 @@ use std::{error, fmt, str};
 /// An error that can be returned when decoding a string.
 #[derive(Clone, Copy, Debug, PartialEq, Eq, PartialOrd, Ord, Hash)]
 pub enum DecodeError {
-    /// The string represents 2^128 or more, or more than 22 bytes follow its leading zeros. Or 22
-    /// bytes do, and the first ten of them, followed by twelve zeros, represent 2^128 or more.
+    /// The string represents 2^128 or more, or more than 22 bytes follow its leading zeros. It is also
+    /// returned if 22 bytes follow, and the first ten of them, followed by twelve zeros, represent
+    /// 2^128 or more, even if a later byte is invalid.
     ArithmeticOverflow,
     /// The string is empty.
     EmptyInput,

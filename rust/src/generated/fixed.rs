@@ -175,8 +175,9 @@ pub fn fixed_range<T: AsRef<[u8]>>(
 
 /// Like [`fixed_range`], but uses a custom alphabet.
 ///
-/// There is no such call for the alternative alphabet. It does not ascend, so a scan from the
-/// string of the least number to that of the greatest can miss strings that begin with `prefix`.
+/// The range is exact for every alphabet. But a scan of sorted strings, from that of the least number
+/// to that of the greatest, finds exactly those that begin with `prefix` only if
+/// `Alphabet::is_ascending` returns `true`, which it does not for the alternative alphabet.
 ///
 /// ```rust
 /// let alphabet = base62::Alphabet::alternative();
@@ -195,7 +196,8 @@ pub fn fixed_range_with<T: AsRef<[u8]>>(
     range_over(alphabet.as_tables(), width, prefix.as_ref())
 }
 
-// Returns the range over the alphabet of the tables.
+// Returns the range over the alphabet of the tables. This contract says what the range means, and
+// that of `range_found` how it is computed.
 fn range_over(
     tables: &Tables,
     width: usize,

@@ -59,9 +59,9 @@ fn pad(text: &Text, f: &mut fmt::Formatter<'_>) -> fmt::Result {
 ///
 /// The string has 1 to 22 characters. It is padded like a `str`: to the formatter's width, counted
 /// in characters, with the fill, by default a space. It is left-aligned by default. If it is
-/// centred, half of the padding, rounded down, precedes it. With a precision, how much of it is
-/// written is not specified. Displaying returns an error only if the underlying writer does. The
-/// call never fails. Neither it nor displaying allocates.
+/// centred, half of the padding, rounded down, precedes it. A precision truncates it as it does a
+/// `str`, which is tested, not proved. Displaying returns an error only if the underlying writer
+/// does. The call never fails. Neither it nor displaying allocates.
 ///
 /// ```rust
 /// println!("{}", base62::encode_fmt(1337_u64));     // LZ

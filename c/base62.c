@@ -1415,8 +1415,9 @@ static result_option_pair_u128_u128 fixed_range_with(const Alphabet *alphabet, s
     return range_over(Alphabet_as_tables(alphabet), width, prefix, prefix_length);
 }
 
-// Returns the range over the alphabet of the tables. This contract says what the range means, and
-// that of `range_found` how it is computed.
+// Returns the range over the alphabet of the tables, by `range_found`. It is apart for the proof:
+// in the source its contract says what the range means, and that of `range_found` how it is
+// computed.
 static result_option_pair_u128_u128 range_over(const Tables *tables, size_t width, const uint8_t *prefix,
     size_t prefix_length) {
     return range_found(tables, width, prefix, prefix_length);

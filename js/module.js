@@ -205,8 +205,8 @@ export function load(module) {
     if (from !== to) copy(to.bytes, new Uint8Array(from.buffer, NUMBER, ALPHABET - NUMBER), NUMBER);
   }
 
-  // A call is written leave(instance, enter(instance).NAME(..)). The engine may abort one, as when its own stack is
-  // exhausted. An aborted call has not restored the stack pointer of the WebAssembly, so the next one resets it.
+  // Each call is between enter(instance) and leave(instance, result). The engine may abort one, as when its own stack
+  // is exhausted. An aborted call has not restored the stack pointer of the WebAssembly, so the next one resets it.
   function enter(instance) {
     if (instance.isRunning) setGlobal(stackPointer, STACK_TOP);
     instance.isRunning = true;

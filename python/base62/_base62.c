@@ -429,7 +429,7 @@ static int add_alphabet(PyObject *module) {
            PyModule_AddObjectRef(module, "Alphabet", state->objects[ALPHABET]) == 0;
 }
 
-/* The type is immutable as built-in types are, so its dict takes the attribute, as theirs do. */
+/* Setting an attribute of an immutable type raises TypeError, so it is stored in the type's __dict__. */
 static int add_built_in(PyObject *module, int which, const char *name, const char *letters) {
     PyObject **objects = state_of(module)->objects, *type = objects[ALPHABET];
     objects[which] = PyObject_CallFunction(type, "y", letters);

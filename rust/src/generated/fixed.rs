@@ -196,8 +196,9 @@ pub fn fixed_range_with<T: AsRef<[u8]>>(
     range_over(alphabet.as_tables(), width, prefix.as_ref())
 }
 
-// Returns the range over the alphabet of the tables. This contract says what the range means, and
-// that of `range_found` how it is computed.
+// Returns the range over the alphabet of the tables, by `range_found`. It is apart for the proof:
+// in the source its contract says what the range means, and that of `range_found` how it is
+// computed.
 fn range_over(
     tables: &Tables,
     width: usize,

@@ -1239,9 +1239,9 @@ static result_usize encode_bytes_with(const Alphabet *alphabet, u128 num, uint8_
 //
 // # Errors
 //
-// Returns `EmptyInput`, `ArithmeticOverflow` or `InvalidBase62Byte` in the cases 1 to 6. The last
-// has the first byte that is not in the alphabet, and its index in `input`, leading zeros
-// included.
+// Returns `EmptyInput`, `ArithmeticOverflow` or `InvalidBase62Byte` in the cases 1 to 6.
+// `InvalidBase62Byte` has the first byte that is not in the alphabet, and its index in `input`,
+// leading zeros included.
 static ALWAYS_INLINE result_u128 decode(const uint8_t *input, size_t input_length) {
     return decode_over(standard_tables(), input, input_length);
 }
@@ -1387,9 +1387,9 @@ static void write_padded(const Tables *tables, u128 n, size_t count, uint8_t *re
 // with `prefix`, in the standard alphabet.
 //
 // The numbers from the least to the greatest are exactly those whose strings begin with `prefix`.
-// If `prefix` has k characters and represents v, these are `v * 62^(width-k)` and the lesser of
-// `(v+1) * 62^(width-k) - 1` and 2^128 - 1. An empty prefix has v = 0. The result is `Ok(None)` if
-// all bytes of `prefix` are in the alphabet, but no string of `width` characters of a number below
+// If `prefix` has k characters and represents v, the least is `v * 62^(width-k)`, and the greatest
+// is the lesser of `(v+1) * 62^(width-k) - 1` and 2^128 - 1. An empty prefix has v = 0. The result
+// is `Ok(None)` if all bytes of `prefix` are in the alphabet, but no string of `width` characters of a number below
 // 2^128 begins with it, for example if it is longer than `width`, or `width` is 0. Does not
 // allocate.
 //
@@ -1495,10 +1495,10 @@ static void encode_key(u128 num, uint8_t key[22]) {
 // Returns the least and the greatest number below 2^128 whose key begins with `prefix`.
 //
 // The numbers from the least to the greatest are exactly those whose keys begin with `prefix`. If
-// `prefix` has k characters and represents v, these are `v * 62^(22-k)` and the lesser of `(v+1) *
-// 62^(22-k) - 1` and 2^128 - 1. An empty prefix has v = 0. The result is `Ok(None)` if all bytes
-// of `prefix` are in the alphabet, but no key of a number below 2^128 begins with it, for example
-// if it has more than 22. Does not allocate.
+// `prefix` has k characters and represents v, the least is `v * 62^(22-k)`, and the greatest is the
+// lesser of `(v+1) * 62^(22-k) - 1` and 2^128 - 1. An empty prefix has v = 0. The result is
+// `Ok(None)` if all bytes of `prefix` are in the alphabet, but no key of a number below 2^128 begins
+// with it, for example if it has more than 22 characters. Does not allocate.
 //
 // # Errors
 //

@@ -47,8 +47,8 @@ export function encode(number: Integer, alphabet?: Alphabet): string;
  * @example encodeFixed(1337, 4) === '00LZ'
  * @param value a number as in {@link encode}, or a UUID as in {@link encodeUuid}. A string is always a UUID.
  * @param width an integer from 1 to 2**53 - 1, limited by memory. 22 characters are enough for any number.
- * @throws {Base62Error} `BUFFER_TOO_SMALL` if the number needs more characters or the width is 0, `OUT_OF_RANGE` if the
- *   number or the width is not such an integer, `INVALID_UUID`
+ * @throws {Base62Error} `BUFFER_TOO_SMALL` if the number needs more characters or the width is 0, `OUT_OF_RANGE` for
+ *   any other number or width that is not such an integer, `INVALID_UUID`
  * @throws {Error} an error of the runtime, without a `code`, if an allocation fails
  */
 export function encodeFixed(value: Integer | Uuid, width: number, alphabet?: Alphabet): string;
@@ -85,8 +85,8 @@ export function digitCount(number: Integer): number;
  * @example decode('LZ') === 1337n
  * @returns the number that the string represents, from 0n to 2n ** 128n - 1n
  * @throws {Base62Error} `EMPTY_INPUT` if it is empty, `INVALID_BYTE` if a byte is not in the alphabet, `OVERFLOW` if
- *   the number is 2**128 or more. If the string has several errors, docs/DEFINITIONS.md of the repository says which
- *   one is thrown.
+ *   it represents 2**128 or more, or has more than 22 bytes after its leading zeros. If the string has several errors,
+ *   docs/DEFINITIONS.md of the repository says which one is thrown.
  */
 export function decode(text: Text, alphabet?: Alphabet): bigint;
 

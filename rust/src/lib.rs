@@ -4,9 +4,9 @@
 //! Encodes unsigned integers below 2^128 as short strings of `0` to `9`, `A` to `Z` and `a` to `z`, and decodes them.
 //!
 //! It has each function of the crate `base62` 2.2.6, with the same name, types, features and results. The codec is
-//! written in Rattle, which is Rust with contracts, and each of its functions is proved to meet its contract. The modules
-//! of this crate are that source without its contracts and proofs. A program of the project takes them out; it is
-//! tested, not proved.
+//! written in Rattle, which is Rust with contracts, and each of its functions is proved to meet its contract. The
+//! modules of this crate are that source without its contracts and proofs. A program of the project takes them out; it
+//! is tested, not proved.
 //!
 //! ```
 //! let mut buffer = [0; base62::MAX_DIGITS];
@@ -20,12 +20,12 @@
 //!
 //! A number is any `T: Into<u128>`: `u8` to `u128`, `bool`, `char`, `NonZero<u128>`, `Ipv6Addr`. A bare literal is an
 //! `i32`, which can be negative and does not convert, so write `1337_u32`. Neither do a `usize` and signed integers:
-//! write `n as u64` for a `usize`, and `u64::try_from(id)?` for an `i64`. The encoded string of a number is the shortest
-//! nonempty one that represents it, and has 1 to 22 characters.
+//! write `n as u64` for a `usize`, and `u64::try_from(id)?` for an `i64`. The encoded string of a number is the
+//! shortest nonempty one that represents it, and has 1 to 22 characters.
 //!
 //! The standard alphabet is `0` to `9`, `A` to `Z`, `a` to `z`, and the alternative one `0` to `9`, `a` to `z`, `A` to
-//! `Z`. An [`Alphabet`] has 62 characters of your choice, and the calls that use it end in `_with`. Create one once and
-//! reuse it: creating one takes much longer than a call. A constant is created at compile time.
+//! `Z`. An [`Alphabet`] has 62 characters of your choice, and the functions that use it end in `_with`. Create one once
+//! and reuse it: creating one takes much longer than a call. A constant is created at compile time.
 //!
 //! ```
 //! use base62::Alphabet;
@@ -40,12 +40,12 @@
 //! const REPEATED: base62::Alphabet = base62::Alphabet::of([b'A'; 62]);
 //! ```
 //!
-//! | for | call |
+//! | to get | function |
 //! |---|---|
-//! | a buffer | [`encode_bytes`] |
-//! | a `String` | [`encode`], [`encode_uuid`], [`encode_buf`], with the feature `alloc` |
-//! | a format string | [`encode_fmt`] |
-//! | a writer | [`encode_io`], with the feature `std` |
+//! | a string in a buffer | [`encode_bytes`] |
+//! | a `String`, or more at its end | [`encode`], [`encode_uuid`], [`encode_buf`], with the feature `alloc` |
+//! | a value for a format string | [`encode_fmt`] |
+//! | a string in a writer | [`encode_io`], with the feature `std` |
 //! | a number | [`decode`], or [`decode_canonical`] to accept one string for each number |
 //! | a UUID | [`decode_uuid`], or [`decode_uuid_canonical`] in the same way |
 //! | a string of a fixed width | [`encode_fixed`], [`encode_fixed_str`] |
@@ -57,11 +57,11 @@
 //!
 //! # Features
 //!
-//! `alloc`, the default, adds the calls that return a `String` or append to one. `std` adds the calls that write to an
+//! `alloc`, the default, adds the functions that return a `String` or append to one. `std` adds those that write to an
 //! `io::Write`, and includes `alloc`. With neither, the crate needs `core` alone. `checked` removes all `unsafe`: the
 //! code checks each index, and that strings are UTF-8.
 //!
-//! Only the calls of `alloc` allocate. If an allocation fails, they abort the program, as a `String` does.
+//! Only the functions of `alloc` allocate. If an allocation fails, they abort the program, as a `String` does.
 //! [`Alphabet::of`] panics if a character is repeated. `encode_with`, `encode_uuid_with`, `encode_buf_with`,
 //! [`encode_fixed_str_with`] and [`encode_fmt_with`] panic if the alphabet contains a non-ASCII byte. Functions are not
 //! constant-time.

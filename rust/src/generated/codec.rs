@@ -101,9 +101,9 @@ pub fn encode_bytes_with<T: Into<u128>>(
 ///
 /// # Errors
 ///
-/// Returns `EmptyInput`, `ArithmeticOverflow` or `InvalidBase62Byte` in the cases 1 to 6. The last
-/// has the first byte that is not in the alphabet, and its index in `input`, leading zeros
-/// included.
+/// Returns `EmptyInput`, `ArithmeticOverflow` or `InvalidBase62Byte` in the cases 1 to 6.
+/// `InvalidBase62Byte` has the first byte that is not in the alphabet, and its index in `input`,
+/// leading zeros included.
 #[inline(always)]
 pub fn decode<T: AsRef<[u8]>>(input: T) -> Result<u128, DecodeError> {
     decode_over(standard_tables(), input.as_ref())

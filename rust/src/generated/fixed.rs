@@ -151,9 +151,9 @@ fn fill_string<'a>(tables: &Tables, n: u128, places: &'a mut [u8]) -> Result<&'a
 /// with `prefix`, in the standard alphabet.
 ///
 /// The numbers from the least to the greatest are exactly those whose strings begin with `prefix`.
-/// If `prefix` has k characters and represents v, these are `v * 62^(width-k)` and the lesser of
-/// `(v+1) * 62^(width-k) - 1` and 2^128 - 1. An empty prefix has v = 0. The result is `Ok(None)` if
-/// all bytes of `prefix` are in the alphabet, but no string of `width` characters of a number below
+/// If `prefix` has k characters and represents v, the least is `v * 62^(width-k)`, and the greatest
+/// is the lesser of `(v+1) * 62^(width-k) - 1` and 2^128 - 1. An empty prefix has v = 0. The result
+/// is `Ok(None)` if all bytes of `prefix` are in the alphabet, but no string of `width` characters of a number below
 /// 2^128 begins with it, for example if it is longer than `width`, or `width` is 0. Does not
 /// allocate.
 ///

@@ -49,10 +49,10 @@ pub fn encode_key_str<T: Into<u128>>(num: T, key: &mut [u8; 22]) -> &str {
 /// Returns the least and the greatest number below 2^128 whose key begins with `prefix`.
 ///
 /// The numbers from the least to the greatest are exactly those whose keys begin with `prefix`. If
-/// `prefix` has k characters and represents v, these are `v * 62^(22-k)` and the lesser of `(v+1) *
-/// 62^(22-k) - 1` and 2^128 - 1. An empty prefix has v = 0. The result is `Ok(None)` if all bytes
-/// of `prefix` are in the alphabet, but no key of a number below 2^128 begins with it, for example
-/// if it has more than 22. Does not allocate.
+/// `prefix` has k characters and represents v, the least is `v * 62^(22-k)`, and the greatest is the
+/// lesser of `(v+1) * 62^(22-k) - 1` and 2^128 - 1. An empty prefix has v = 0. The result is
+/// `Ok(None)` if all bytes of `prefix` are in the alphabet, but no key of a number below 2^128 begins
+/// with it, for example if it has more than 22 characters. Does not allocate.
 ///
 /// ```rust
 /// let range = base62::key_range(b"00000000000000000000LZ");

@@ -48,7 +48,7 @@ macro_rules! in_place {
         if $buf.capacity() - $buf.len() >= crate::MAX_DIGITS {
             let n: u128 = $num.into();
             let (at, len) = ($buf.len(), crate::digit_count(n));
-            // SAFETY: by the clause `ascii` of the function the letters are ASCII, and so are the zeros.
+            // SAFETY: in the source, the function's clause `ascii` requires ASCII letters. So are the bytes 0.
             let bytes = unsafe { $buf.as_mut_vec() };
             bytes.extend_from_slice(&[0; crate::MAX_DIGITS]);
             crate::codec::encoder::write_text($tables, n, len, &mut bytes[at..]);

@@ -165,7 +165,7 @@ fn split(argument: &[u8]) -> Vec<(Vec<u8>, Option<Vec<u8>>)> {
 
 fn parse_width(value: &[u8]) -> Result<usize, String> {
     if value.iter().all(u8::is_ascii_digit) && value.iter().any(|digit| *digit != b'0') {
-        // No memory holds so wide a string, and a prefix has the same range.
+        // A width above `usize::MAX` becomes it: no memory holds such a string, and a prefix has the same range.
         let width = number_of(value).and_then(|it| it.try_into().ok());
         return Ok(width.unwrap_or(usize::MAX));
     }

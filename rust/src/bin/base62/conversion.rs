@@ -82,7 +82,7 @@ fn trim_blanks(mut input: &[u8]) -> &[u8] {
     input
 }
 
-/// The number of 32 hexadecimal digits, with or without hyphens, also in braces or after `urn:uuid:`.
+/// The number that 32 hexadecimal digits represent, with or without hyphens, also in braces or after `urn:uuid:`.
 fn parse_uuid(input: &[u8]) -> Option<u128> {
     let uuid = match (input, input.split_at_checked(9)) {
         ([b'{', uuid @ .., b'}'], _) => uuid,
@@ -96,7 +96,7 @@ fn parse_uuid(input: &[u8]) -> Option<u128> {
     parse_hex_digits(uuid.iter().filter(|byte| **byte != b'-'))
 }
 
-/// The number of 1 to 32 hexadecimal digits, with or without `0x`.
+/// The number that 1 to 32 hexadecimal digits represent, with or without `0x`.
 fn parse_hex(input: &[u8]) -> Option<u128> {
     let digits = match input {
         [b'0', b'x' | b'X', digits @ ..] => digits,
@@ -107,7 +107,7 @@ fn parse_hex(input: &[u8]) -> Option<u128> {
         .flatten()
 }
 
-/// The number of at most 32 hexadecimal digits, in either case.
+/// The number that at most 32 hexadecimal digits represent, in either case.
 fn parse_hex_digits<'a>(mut digits: impl Iterator<Item = &'a u8>) -> Option<u128> {
     digits.try_fold(0, |number, byte| {
         Some((number << 4) | u128::from(char::from(*byte).to_digit(16)?))

@@ -25,7 +25,7 @@ impl Bytes {
         self.0.truncate(length);
     }
 
-    /// Appends zero bytes, and returns them.
+    /// Appends `count` bytes 0, and returns them.
     pub(crate) fn extend(&mut self, count: usize) -> io::Result<&mut [u8]> {
         self.reserve(count)?;
         let start = self.0.len();

@@ -50,11 +50,12 @@ const ROWS: [(&[u8], &str); 24] = [
     (b"enc", "fault: unknown command"),
 ];
 
-/// All lines and their replies.
+/// All lines.
 fn input() -> Vec<u8> {
     ROWS.map(|(line, _)| [line, b"\n"].concat()).concat()
 }
 
+/// The replies to them.
 fn output() -> Vec<u8> {
     ROWS.map(|(_, reply)| [reply.as_bytes(), b"\n"].concat())
         .concat()

@@ -38,7 +38,12 @@ SAME = {
     "count_zeros: for (size_t i = (0 + 1); i < input_length; i++) {",
     # check_letters gives the error of a bad byte too.
     "range_found: if (!answer.is_ok || answer.err.tag == DecodeError_ArithmeticOverflow_tag) {",
+    # The last byte of a longer array is not read.
+    r"append_escaped: const uint8_t escape[(4 + 1)] = {'\\', 'x', hex_digit((uint8_t)(byte / 16)),"
+    " hex_digit((uint8_t)(byte % 16))};",
+    "append_decimal: uint8_t digits[(20 + 1)] = {0};", "Alphabet_new: uint8_t digits[(256 + 1)];",
     # All bytes are written again.
+    "append_decimal: uint8_t digits[20] = {(0 + 1)};",
     "encode_key: ;", "encode_key: fill_bytes(key,22, 0);", "encode_key: fill_bytes(key, (0 + 1), 22);",
 }
 

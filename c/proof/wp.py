@@ -22,7 +22,7 @@ SPECIFICATION = FOLDER / "base62.acsl"
 # What stands before the bare code: no specification, and nothing that says who reads it.
 BARE = "#include <stddef.h>\n#include <stdint.h>\n#undef __FRAMAC__\n"
 FLAGS = f"-I{C} -D__FC_MACHDEP_X86_{BITS} -DBASE62_NO_INT128 -U__SIZEOF_INT128__ -U__GNUC__"
-LIMIT = int(os.environ.get("LIMIT", "30"))
+LIMIT = int(os.environ.get("LIMIT", "120"))
 CORES = int(os.environ.get("CORES", os.cpu_count()))
 
 # How a line "== prove" of the annotations or the laws says that WP proves a function. All others are proved without what

@@ -44,7 +44,8 @@ SAME = {
     "append_decimal: uint8_t digits[(20 + 1)] = {0};", "Alphabet_new: uint8_t digits[(256 + 1)];",
     # All bytes are written again.
     "append_decimal: uint8_t digits[20] = {(0 + 1)};",
-    "encode_key: ;", "encode_key: fill_bytes(key,22, 0);", "encode_key: fill_bytes(key, (0 + 1), 22);",
+    "encode_key: without fill_bytes(key, 0, 22);", "encode_key: fill_bytes(key,22, 0);",
+    "encode_key: fill_bytes(key, (0 + 1), 22);",
 }
 
 # Of two arguments of these the order does not matter.
@@ -74,9 +75,11 @@ def places(code):
 
 def changes(text):
     """Each changed file: the function, its name and the line, and the text."""
-    for name, first, last, new in places(mutate_specification.blanked(text, r"/\*.*?\*/|//[^\n]*|#if[^\n]*\n(?:[^#]*#else)?")):
+    code = mutate_specification.blanked(text, r"/\*.*?\*/|//[^\n]*|#if[^\n]*\n(?:[^#]*#else)?")
+    for name, first, last, new in places(code):
         changed = text[:first] + new + text[last:]
-        yield [name], f"{name}: {changed[changed.rfind(chr(10), 0, first) + 1:changed.index(chr(10), first)].strip()}", changed
+        line = changed[changed.rfind("\n", 0, first) + 1:changed.index("\n", first)].strip()
+        yield [name], f"{name}: {line if line != ';' else 'without ' + text[first:last].strip()}", changed
 
 
 if __name__ == "__main__":

@@ -201,8 +201,7 @@ LAWS = [
 ]
 
 # A program that shows what is false by WP's axiom for an array that is read whole.
-PROGRAM = """
-struct all { unsigned char bytes[318]; };
+PROGRAM = """struct all { unsigned char bytes[318]; };
 /*@ requires \\valid(s) && s->bytes[5] == 0; assigns *s; */
 void planted(struct all *s) {
     struct all before = *s;
@@ -215,8 +214,7 @@ void planted(struct all *s) {
 """
 
 # A variable to which a pointer of the caller may point.
-VARIABLE = """
-unsigned char my_part;
+VARIABLE = """unsigned char my_part;
 /*@ requires \\valid(p); assigns *p, my_part; ensures my_part == 1 && *p == 2; */
 void planted(unsigned char *p) { my_part = 1; *p = 2; }
 """

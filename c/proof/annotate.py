@@ -21,8 +21,8 @@ import sys
 FOLDER = pathlib.Path(__file__).parent
 
 # In the order in which they need each other. A list in Python prints what a list would say.
-ANNOTATIONS = ("numbers", "faults", "powers", "results", "digits", "alphabets", "tables", "readers", "decoder", "texts",
-               "canonical", "ranges", "fractions", "parts", "writers", "counts", "encoders", "fixed", "uuids", "answers")
+ANNOTATIONS = ("numbers faults powers results digits alphabets tables readers decoder texts canonical ranges fractions"
+               " parts writers counts encoders fixed uuids exports").split()
 
 
 def text_of(path):

@@ -401,7 +401,7 @@ void unmade(const base62_alphabet *alphabet, const char *text, size_t length, ch
 //@ assigns \nothing; ensures \result == (number_of(a) == number_of(b) ? 1 : 0);
 static int same(base62_number a, base62_number b) { return a.high == b.high && a.low == b.low; }
 
-/* Each text decodes to its number. Canonical decoding rejects those with needless zeros. */
+/* Each text decodes to its number. Canonical decoding rejects those with leading zeros. */
 /*@ requires ALPHABET && FORM(size);
     requires \valid(buffer + (0 .. size - 1)) && APART(buffer + (0 .. size - 1));
     assigns buffer[0 .. size - 1];

@@ -1,8 +1,8 @@
 // SPDX-License-Identifier: MIT
 // Copyright (c) 2026 the maintainers of base62 for Rattle
 
-//! The help, which is also the list of the options: the program parses its arguments by it, and `tests/page` writes
-//! the manual page from it, and the completions read it from the installed command. A test runs the examples.
+//! The help, which is also the list of the options: the program parses its arguments by it, `tests/page` writes the
+//! manual page from it, and the completions read it from the installed command. A test runs the examples.
 
 pub(crate) const VERSION: &str = concat!("base62 ", env!("CARGO_PKG_VERSION"), "\n");
 

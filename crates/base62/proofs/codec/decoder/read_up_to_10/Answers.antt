@@ -22,4 +22,5 @@ returns c =
       | then-part-ge5+in_ok-number w ↦ rw (w.done-is, w.work-is, w.number-is, ← w.split_at.ensures.front) w.in_ok-number.ensures
       | else-part-ge5 w ↦ rw (w.done-is, w.work-is, w.number-is) (read_none B part c.args.work.now)
     ] in
-    reads_on_cut B part (take done part) done c.args.start c.args.work.now refl c.split_at-2.result.1.now _ _ _ c.read_up_to_5_more.result cut.back (omega (arith, cut.back_len)) read c.read_up_to_5_more.ensures
+    let more = c.read_up_to_5_more in
+    reads_on_cut B part (take done part) done c.args.start c.args.work.now refl c.split_at-2.result.1.now _ _ _ more.result cut.back (omega (arith, cut.back_len)) read more.ensures

@@ -20,15 +20,15 @@ prove: ## prove all crates, reject all mutants and run all tests, with the kit
 prove-c: ## prove c/base62.c by Frama-C; BITS=32 for 32-bit targets, MUTANTS=1 for its mutation tests
 	@$(if $(MUTANTS),c/proof/rejections.py && c/proof/mutate_code.py && c/proof/mutate_specification.py,c/proof/prove.py)
 
-generate: generate-texts ## regenerate the generated files, after a change of crates/
+generate: generate-texts ## write the generated files anew, after a change of their sources
 	translate/wasm
 
-generate-texts: # all but the WebAssembly
+generate-texts: # all but those of js/
 	tests/model.py
 	translate/rust.py
 	translate/c.py
 
-check-generated: ## fail if a generated file is out of date
+check-generated: ## fail if a generated file is out of date; check-js compares those of js/
 	scripts/check-generated
 
 version: ## set the version everywhere: make version V=3.3.0

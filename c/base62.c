@@ -9,14 +9,15 @@
  * a size_t of 64 bits and of 32. Two functions use an extension of the compiler if it has one, u128_mul_64 and
  * u64_ilog2. These forms are tested.
  *
- * It has the same functions in the same order, with the same names and comments. Contracts are omitted, except for
- * preconditions on numbers and lengths, which are "//@ assert" lines for Frama-C. Rust is translated as follows:
+ * It has the functions of the source that base62.h needs, with their names and comments, in the order of each module.
+ * Comments may name functions of the source that are not here. Contracts are omitted, except for preconditions on
+ * numbers and lengths, which are "//@ assert" lines for Frama-C. Rust is translated as follows:
  *
  *     &[u8], &mut [u8]    a pointer, and its length in NAME_length if that is read
  *     Result, Option      the structs result_.. and option_.., which ok_.., err_.., some_.. and none_.. make
  *     (a, b)              the structs pair_..
  *     let x = f()?;       x = f(); if (!x.is_ok) return err_..(x.err); and then x.ok
- *     InlineText          one object, to which each call that moves the text gets a pointer
+ *     InlineText          a struct of the caller: a function that takes or returns one gets a pointer to it
  *     u128                a struct of two halves, and the functions u128_..
  *
  * Indexes are not checked: the proofs show that each is in bounds. Nothing is allocated, and there is no state. It is
@@ -66,14 +67,13 @@ static ALWAYS_INLINE u128 u128_add(u128 a, u128 b) {
     return (u128){a.high + b.high + (low < a.low), low};
 }
 
-static ALWAYS_INLINE u128 u128_shift_left(u128 a, unsigned bits) {
-    if (bits >= 64) return (u128){a.low << (bits - 64), 0};
-    return bits == 0 ? a : (u128){a.high << bits | a.low >> (64 - bits), a.low << bits};
-}
+/* By 64 bits or more. */
+static ALWAYS_INLINE u128 u128_shift_left(u128 a, unsigned bits) { return (u128){a.low << (bits - 64), 0}; }
 
+/* By one bit or more. */
 static ALWAYS_INLINE u128 u128_shift_right(u128 a, unsigned bits) {
     if (bits >= 64) return (u128){0, a.high >> (bits - 64)};
-    return bits == 0 ? a : (u128){a.high >> bits, a.low >> bits | a.high << (64 - bits)};
+    return (u128){a.high >> bits, a.low >> bits | a.high << (64 - bits)};
 }
 
 /* The whole product of two 64-bit integers: by a 128-bit one if the compiler has those, or else by 32-bit halves. */
@@ -119,9 +119,10 @@ static ALWAYS_INLINE u128 u128_from_be_bytes(const uint8_t bytes[16]) {
 }
 
 static ALWAYS_INLINE void u128_to_be_bytes(u128 a, uint8_t bytes[16]) {
-    for (unsigned i = 16; i > 0; i--) {
-        bytes[i - 1] = (uint8_t)u128_low(a);
-        a = u128_shift_right(a, 8);
+    for (int i = 8; i > 0; i--) {
+        bytes[i - 1] = (uint8_t)a.high;
+        bytes[i + 7] = (uint8_t)a.low;
+        a = (u128){a.high / 256, a.low / 256};
     }
 }
 
@@ -229,7 +230,8 @@ typedef struct pair_u8_u8 { uint8_t _0; uint8_t _1; } pair_u8_u8;
 static ALWAYS_INLINE pair_u8_u8 Tables_pair_of_digits(const Tables *self, uint64_t first_digit,
     uint64_t second_digit);
 
-// Returns the digit of a byte, or 255 if it has none.
+// Returns the digit of a byte, or 255 if it has none. Like `is_zero`, it is only hinted to be
+// inlined: if compilers have to inline it, they stop inlining the decoder.
 static inline uint8_t Tables_digit(const Tables *self, uint8_t byte) {
     return self->digits[byte];
 }
@@ -472,7 +474,8 @@ static void append(InlineText *text, const uint8_t *part, size_t part_length) {
 // `decode_with` is like `decode`, but uses a custom alphabet. An alphabet takes 318 bytes, for
 // its characters and the digits of all bytes, and does not allocate.
 //
-// The layout is part of the C interface: callers own alphabets and pass pointers to them.
+// Its size is part of the interface of the library for C, whose callers own alphabets and pass
+// pointers to them.
 typedef struct Alphabet {
     Tables tables;
 } Alphabet;
@@ -766,7 +769,7 @@ static ALWAYS_INLINE result_u64 read_up_to_10(const Tables *tables, const uint8_
     return read_up_to_5_more(tables, number, later, later_length, start + done);
 }
 
-// Decodes at most five bytes more, after the number of the bytes before them.
+// Continues after bytes that represent `number`, with at most five bytes more.
 static ALWAYS_INLINE result_u64 read_up_to_5_more(const Tables *tables, uint64_t number, const uint8_t *part,
     size_t part_length, size_t start) {
     //@ assert requires: number < 916132832 && part_length <= 5;
@@ -986,9 +989,10 @@ static void write_wide(const Tables *tables, u128 n, size_t count, uint8_t *rest
 }
 
 // Divides by 62^20. Returns the quotient, and the remainder as the fractions of its first and its
-// last ten letters. A fraction is in fixed point with 64 fraction bits. That of all twenty letters
-// is the one of the first ten, but for up to 22 units that the last ten letters add. Subtracting 16
-// times the fraction of the last ten leaves few enough units, as in `fraction_of`.
+// last ten letters. A fraction is in fixed point with 64 fraction bits. Let g be the fraction of the
+// last ten letters. The fraction of all twenty exceeds that of the first ten by at most 22 * g
+// units. Subtracting `low >> 60`, which is 16 * g rounded down, leaves at most seven of these. With
+// the five of `scaled_by_20` that is twelve, fewer than the 21 that `fraction_of` allows.
 static ALWAYS_INLINE pair_u32_u64_u64 divide_by_62_20(u128 n) {
     const uint64_t low = last_10(n);
     const pair_u64_u64 top_high = whole_and_fraction(u128_sub(scaled_by_20(n), u128_of(low >> 60)));
@@ -997,9 +1001,9 @@ static ALWAYS_INLINE pair_u32_u64_u64 divide_by_62_20(u128 n) {
 }
 
 // Returns the fraction of the last ten letters: n / 62^10 in fixed point with 64 fraction bits, at
-// most eight units too large. Its integer part is lost, as the sum wraps around. 2^64 has 2^128 /
-// 62^10 of these units: 21 times 2^64, the first factor, and the second times 2^-64, rounded up.
-// The third factor is 2^123 / 62^10, rounded up.
+// most eight units too large. Its integer part is lost, as the sum wraps around. For n = 2^64 the
+// result is 2^128 / 62^10 units: 21 * 2^64, plus the first factor, plus the second factor / 2^64,
+// rounded up. The 21 * 2^64 drop out, as an integer. The third factor is 2^123 / 62^10, rounded up.
 static ALWAYS_INLINE uint64_t last_10(u128 n) {
     const uint64_t upper = u128_low(u128_shift_right(n, 64));
     const uint64_t lower = u128_low(u128_and(n, u128_of(UINT64_C(0xffffffffffffffff))));
@@ -1012,8 +1016,8 @@ static ALWAYS_INLINE uint64_t last_10(u128 n) {
     return u64_wrapping_add(u64_wrapping_add(u64_wrapping_add(first, second), third), 2);
 }
 
-// Returns n / 62^20 in fixed point with 64 fraction bits, at most five units too large. 2^64 has
-// 2^128 / 62^20 of these units: the second factor, and the first times 2^-64, rounded up.
+// Returns n / 62^20 in fixed point with 64 fraction bits, at most five units too large. For
+// n = 2^64 the result is 2^128 / 62^20 units: the second factor, plus the first / 2^64, rounded up.
 static ALWAYS_INLINE u128 scaled_by_20(u128 n) {
     const uint64_t upper = u128_low(u128_shift_right(n, 64));
     const uint64_t lower = u128_low(u128_and(n, u128_of(UINT64_C(0xffffffffffffffff))));
@@ -1023,8 +1027,8 @@ static ALWAYS_INLINE u128 scaled_by_20(u128 n) {
 }
 
 // Divides by 62^10. Returns the quotient, and the remainder as a fraction. The upper bits times
-// 2^120 / 62^10 are the quotient, or one less: then `fraction_of` returns an integer part of 1,
-// which is added.
+// 2^120 / 62^10, shifted right by 64 bits, are the quotient, or one less: then `fraction_of` returns
+// an integer part of 1, which is added.
 static ALWAYS_INLINE pair_u64_u64 divide_by_62_10(u128 n) {
     const uint64_t upper = u128_low(u128_shift_right(n, 56));
     const uint64_t estimate = u128_low(u128_shift_right(u128_mul(u128_of(upper),
@@ -1234,8 +1238,8 @@ static result_usize encode_bytes_with(const Alphabet *alphabet, u128 num, uint8_
 // 6. `input` represents 2^128 or more: `ArithmeticOverflow`.
 // 7. Otherwise: the number that `input` represents.
 //
-// Any number of leading zeros is accepted, and they do not change the result. Zeros alone decode
-// to 0. Does not allocate.
+// Any number of leading zeros is accepted. They change nothing but the index in an error. Zeros
+// alone decode to 0. Does not allocate.
 //
 // # Errors
 //
@@ -1663,7 +1667,7 @@ static void fixed_text(const uint8_t *text, size_t text_length, InlineText *resu
 // a value.
 
 // The version: major times 10000, plus minor times 100, plus patch.
-#define VERSION_NUMBER ((uint32_t)30300)
+#define VERSION_NUMBER ((uint32_t)30400)
 
 size_t base62_encode(base62_number number, char *buffer, size_t size) {
     const result_usize answer = encode_bytes(joined(number), (uint8_t *)buffer, size);

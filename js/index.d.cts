@@ -198,6 +198,6 @@ export class Base62Error extends RangeError {
     | 'INVALID_ALPHABET';
   /** The byte that `INVALID_BYTE` or `REPEATED_LETTER` is about, from 0 to 255. Other errors have none. */
   readonly byte?: number;
-  /** Its index in the bytes, from 0. It is the index of the character if all characters before it are ASCII. */
+  /** Its index in the bytes, from 0. It is also the index of the character, since those before it are ASCII. */
   readonly index?: number;
 }

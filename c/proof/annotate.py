@@ -2,14 +2,14 @@
 
 Each of these files is a list. A line that begins with "==" says where the lines after it go, up to the next such line:
 
-    == after TEXT                   after the first line that contains the text, as they stand
-    == contract NAME, ..            before the definition of each function
-    == in NAME before TEXT          before the only line of that function that contains the text
+    == after TEXT                   after the first line that contains the text, unchanged
+    == contract NAME, ..            before the definition of each function, as clauses in /*@ .. */
+    == in NAME before TEXT          before the only line of that function that contains the text, in the same way
     == in NAME after TEXT           after it
-    == prove NAME, ..: HOW          nowhere: WP proves these functions as HOW in wp.py has it, and the lines say why
+    == prove NAME, ..: HOW          nowhere: WP proves these functions so, by one of HOW in wp.py. The lines say why
 
-The text @end is the last line of the function. A line that begins with "//" says why, and goes in as well. Heads one
-under the other have the same lines.
+The text @end is the last line of the function. A line that begins with "//" says why, and goes in as well. Of
+several lines "==" one directly under the other, each gets the lines after the last.
 """
 
 import functools

@@ -1,5 +1,5 @@
-"""Proves axioms on bits by the bit vectors of z3 and cvc5. tree.ml writes a query for each axiom, of the constants that
-Frama-C sees, over numbers of 192 bits with a sign, which hold all that the bounds of the axiom allow."""
+"""Proves axioms on bits by the bit vectors of z3 and cvc5. tree.ml writes a query for each axiom of Frama-C's AST,
+in which macros are replaced. Its numbers are signed, of 192 bits: enough for each value within the axiom's bounds."""
 
 import functools
 import subprocess

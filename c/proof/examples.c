@@ -15,12 +15,12 @@ void escape(unsigned char byte) {}
 
 /* The least count of decimal digits that is enough, at most 20. */
 /*@ assigns \nothing;
-    ensures told: \result == decimal_length(number) && 1 <= \result <= 20;
+    ensures result: \result == decimal_length(number) && 1 <= \result <= 20;
     ensures enough: without_decimals(number, \result) == 0;
     ensures least: \result > 1 ==> without_decimals(number, \result - 1) > 0;
     ensures within: \forall integer k; 0 <= k <= \result ==> 0 <= without_decimals(number, k) <= number;
 */
-static size_t decimals_told(size_t number) {
+static size_t compute_decimals(size_t number) {
     size_t length = 1, left = number / 10;
     //@ assert five: without_decimals(UINT64_MAX, 5) == 184467440737095;
     //@ assert ten: without_decimals(UINT64_MAX, 10) == 1844674407;
@@ -43,7 +43,7 @@ static size_t decimals_told(size_t number) {
 size_t index_again(base62_bad_byte bad) {
     char text[BASE62_MAX_FAULT_TEXT];
     size_t again = 0;
-    const size_t count = decimals_told(bad.index);
+    const size_t count = compute_decimals(bad.index);
     escape(bad.byte);
     const size_t length = base62_fault_text(BASE62_INVALID_BYTE, bad, text, sizeof text);
     /*@ loop invariant 0 <= i <= count && again == without_decimals(bad.index, count - i);
@@ -88,6 +88,6 @@ size_t index_again(base62_bad_byte bad) {
 */
 size_t texts_by_example(base62_status status, base62_bad_byte bad, char *buffer, size_t size) {
     escape(bad.byte);
-    decimals_told(bad.index);
+    compute_decimals(bad.index);
     return base62_fault_text(status, bad, buffer, size);
 }

@@ -1,7 +1,7 @@
 /*
  * The promises of README, proved of base62.acsl alone. Each law is a client in C: WP proves that it returns what its
- * `ensures` says, for every number, text and alphabet. mutate_specification.py shows that no mutant of the specification has
- * all the proofs.
+ * `ensures` says, for every number, text and alphabet. mutate_specification.py shows that each mutant of base62.acsl
+ * fails a proof, except those that it lists.
  */
 #include "base62.acsl"
 /* -------------------- Lemmas: what the laws need to know of letters, texts and counts -------------------- */
@@ -26,14 +26,14 @@
         && (x * 62 + a < y * 62 + b <==> x < y || (x == y && a < b)));
 */
 
-/* The digit of a byte is its place among the letters. annotations/ proves this too, but the laws stand without these. */
+/* The digit of a byte is its index in the letters. annotations/ proves this too, but the laws hold without these. */
 /*@ requires LETTERS_VALID;
     assigns \nothing;
-    ensures told: \result == digit(letters, byte) && 0 <= \result <= 62;
+    ensures result: \result == digit(letters, byte) && 0 <= \result <= 62;
     ensures place: \result < 62 ==> letters[\result] == byte;
     ensures zero: \result == 0 <==> byte == letters[0];
 */
-static size_t digit_told(const unsigned char *letters, unsigned char byte) {
+static size_t compute_digit(const unsigned char *letters, unsigned char byte) {
     size_t i = 0;
     /*@ loop invariant 0 <= i <= 62 && digit(letters, byte) == place_from(letters, byte, i);
         loop invariant i > 0 ==> letters[0] != byte;
@@ -44,33 +44,33 @@ static size_t digit_told(const unsigned char *letters, unsigned char byte) {
 
 /*@ requires LETTERS_VALID && TEXT_VALID(p, n);
     assigns \nothing;
-    ensures told: \result == bad_index(letters, p, n) && 0 <= \result <= n;
+    ensures result: \result == bad_index(letters, p, n) && 0 <= \result <= n;
     ensures before: are_letters(letters, p, \result);
     ensures bad: \result < n ==> digit(letters, p[\result]) >= 62;
 */
-static size_t bad_told(const unsigned char *letters, const unsigned char *p, size_t n) {
+static size_t compute_bad_index(const unsigned char *letters, const unsigned char *p, size_t n) {
     size_t bad = 0;
     /*@ loop invariant 0 <= bad <= i <= n && bad == bad_index(letters, p, i) && are_letters(letters, p, bad);
         loop invariant bad < i ==> digit(letters, p[bad]) >= 62;
         loop assigns i, bad; loop variant n - i; */
     for (size_t i = 0; i < n; i++)
-        if (digit_told(letters, p[i]) < 62 && bad == i) bad = i + 1;
+        if (compute_digit(letters, p[i]) < 62 && bad == i) bad = i + 1;
     return bad;
 }
 
 /*@ requires LETTERS_VALID && TEXT_VALID(p, n);
     assigns \nothing;
-    ensures told: \result == leading_zeros(letters, p, n) && 0 <= \result <= n;
+    ensures result: \result == leading_zeros(letters, p, n) && 0 <= \result <= n;
     ensures value: value(letters, p, \result) == 0;
     ensures other: \result < n ==> p[\result] != letters[0];
 */
-static size_t zeros_told(const unsigned char *letters, const unsigned char *p, size_t n) {
+static size_t compute_leading_zeros(const unsigned char *letters, const unsigned char *p, size_t n) {
     size_t i = 0;
     /*@ loop invariant 0 <= i <= n && leading_zeros(letters, p, n) == zeros_from(letters[0], p, i, n);
         loop invariant value(letters, p, i) == 0;
         loop assigns i; loop variant n - i; */
     while (i < n && p[i] == letters[0]) {
-        digit_told(letters, p[i]);
+        compute_digit(letters, p[i]);
         i++;
     }
     return i;
@@ -124,7 +124,7 @@ static void begins_with(const unsigned char *letters, const unsigned char *p, si
         loop invariant value(letters, p, i) < shifted(value(letters, p, k) + 1, i - k);
         loop assigns i; loop variant n - i; */
     for (size_t i = k; i < n; i++) {
-        digit_told(letters, p[i]);
+        compute_digit(letters, p[i]);
         //@ assert value: value(letters, p, i + 1) == value(letters, p, i) * 62 + digit(letters, p[i]);
         //@ assert least: shifted(value(letters, p, k), i + 1 - k) == 62 * shifted(value(letters, p, k), i - k);
         //@ assert next: shifted(value(letters, p, k) + 1, i + 1 - k) == 62 * shifted(value(letters, p, k) + 1, i - k);
@@ -139,7 +139,7 @@ static void begins_with(const unsigned char *letters, const unsigned char *p, si
     ensures other: p[0] != letters[0] ==> value(letters, p, n) >= power_of_62(n - 1);
 */
 static void value_within(const unsigned char *letters, const unsigned char *p, size_t n) {
-    const size_t first = digit_told(letters, p[0]);
+    const size_t first = compute_digit(letters, p[0]);
     //@ assert first: value(letters, p, 1) == first;
     begins_with(letters, p, 0, n);
     begins_with(letters, p, 1, n);
@@ -156,11 +156,11 @@ static void value_within(const unsigned char *letters, const unsigned char *p, s
 
 /* The text of a number has 1 to 22 letters, and no text of fewer letters denotes it. */
 /*@ assigns \nothing;
-    ensures told: \result == digit_count(number_of(n)) && 1 <= \result <= 22;
+    ensures result: \result == digit_count(number_of(n)) && 1 <= \result <= 22;
     ensures enough: number_of(n) < power_of_62(\result);
     ensures least: \result > 1 ==> number_of(n) >= power_of_62(\result - 1);
 */
-size_t count_told(base62_number n) {
+size_t compute_count(base62_number n) {
     const size_t count = base62_digit_count(n);
     power_22();
     /*@ loop invariant 1 <= i <= 22;
@@ -181,9 +181,9 @@ size_t count_told(base62_number n) {
         (p[0] == letters[0] <==> digit_count(number_of(number)) < n);
 */
 void shortest(const unsigned char *letters, const unsigned char *p, size_t n, base62_number number) {
-    if (n == 0 || bad_told(letters, p, n) < n) return;
+    if (n == 0 || compute_bad_index(letters, p, n) < n) return;
     value_within(letters, p, n);
-    const size_t count = count_told(number);
+    const size_t count = compute_count(number);
     const size_t fewer = count - 1, rest = n - 1;
     //@ assert fewer: fewer == count - 1 && rest == n - 1;
     if (count > n) powers_grow(n, fewer);
@@ -203,7 +203,7 @@ void two_texts(const unsigned char *letters, const unsigned char *p, const unsig
         loop invariant ascend(letters) ==> (sorts_before(p, q, i) <==> value(letters, p, i) < value(letters, q, i));
         loop assigns i; loop variant n - i; */
     for (size_t i = 0; i < n; i++) {
-        const size_t a = digit_told(letters, p[i]), b = digit_told(letters, q[i]);
+        const size_t a = compute_digit(letters, p[i]), b = compute_digit(letters, q[i]);
         //@ assert letter: (a == b <==> p[i] == q[i]) && (ascend(letters) ==> (a < b <==> p[i] < q[i]));
         //@ assert first: value(letters, p, i + 1) == value(letters, p, i) * 62 + a;
         //@ assert second: value(letters, q, i + 1) == value(letters, q, i) * 62 + b;
@@ -218,10 +218,10 @@ void two_texts(const unsigned char *letters, const unsigned char *p, const unsig
         decoding(letters, p, n) == BASE62_OK;
 */
 static void is_decoded(const unsigned char *letters, const unsigned char *p, size_t n) {
-    if (bad_told(letters, p, n) < n) return;
-    const size_t zeros = zeros_told(letters, p, n);
+    if (compute_bad_index(letters, p, n) < n) return;
+    const size_t zeros = compute_leading_zeros(letters, p, n);
     if (zeros == n) return;
-    const size_t first = digit_told(letters, p[zeros]), from = zeros + 1, rest = n - from;
+    const size_t first = compute_digit(letters, p[zeros]), from = zeros + 1, rest = n - from;
     //@ assert rest: from == zeros + 1 && rest == n - from;
     //@ assert first: first > 0 && value(letters, p, from) == first;
     begins_with(letters, p, from, n);
@@ -263,7 +263,7 @@ typedef enum { SHORTEST, FIXED, KEY } form;
     ensures alphabet: are_of(letters, alphabet);
 */
 size_t encode(OVER, form how, base62_number number, char *buffer, size_t size) {
-    count_told(number);
+    compute_count(number);
     if (how == KEY) {
         base62_encode_key(number, buffer);
         return size;
@@ -309,8 +309,8 @@ size_t encode(OVER, form how, base62_number number, char *buffer, size_t size) {
 */
 base62_status decode(OVER, int is_strict, const char *text, size_t length, base62_number *number,
                      base62_bad_byte *bad) {
-    bad_told(letters, BYTES(text), length);
-    zeros_told(letters, BYTES(text), length);
+    compute_bad_index(letters, BYTES(text), length);
+    compute_leading_zeros(letters, BYTES(text), length);
     is_decoded(letters, BYTES(text), length);
     if (letters == standard_letters)
         return is_strict ? base62_decode_canonical(text, length, number, bad)
@@ -331,7 +331,7 @@ base62_status decode(OVER, int is_strict, const char *text, size_t length, base6
     assigns *range, *bad;
     ensures rejected: \result == BASE62_INVALID_BYTE <==> bad_index{Pre}(letters, BYTES(prefix), length) < length;
     ensures status: \result == BASE62_INVALID_BYTE || \result == BASE62_NO_KEY || \result == BASE62_OK;
-    ensures told: \result == range_status{Pre}(letters, BYTES(prefix), length, width);
+    ensures result: \result == range_status{Pre}(letters, BYTES(prefix), length, width);
     ensures least: \result == BASE62_OK ==>
         number_of(range->least) == least_of{Pre}(letters, BYTES(prefix), length, width);
     ensures greatest: \result == BASE62_OK ==> number_of(range->greatest)
@@ -342,7 +342,7 @@ base62_status decode(OVER, int is_strict, const char *text, size_t length, base6
 */
 base62_status find_range(OVER, form how, size_t width, const char *prefix, size_t length, base62_range *range,
                          base62_bad_byte *bad) {
-    bad_told(letters, BYTES(prefix), length);
+    compute_bad_index(letters, BYTES(prefix), length);
     const size_t rest = width - length;
     shift_keeps_order(rest);
     //@ assert rest: length <= width ==> rest == width - length;
@@ -385,7 +385,7 @@ base62_status makes(const char *letters, base62_alphabet *alphabet, base62_bad_b
     requires \separated(text + (0 .. length - 1), places + (0 .. width - 1));
     assigns places[0 .. width - 1];
 */
-void unmade(const base62_alphabet *alphabet, const char *text, size_t length, char *places, size_t width) {
+void uninitialized(const base62_alphabet *alphabet, const char *text, size_t length, char *places, size_t width) {
     base62_number number = {0, 0};
     base62_range range;
     base62_bad_byte bad;
@@ -413,7 +413,7 @@ int back_again(OVER, form how, int is_strict, base62_number number, char *buffer
     base62_bad_byte bad;
     const size_t length = encode(letters, alphabet, how, number, buffer, size);
     if (length == 0) return 0;
-    bad_told(letters, BYTES(buffer), length);
+    compute_bad_index(letters, BYTES(buffer), length);
     shortest(letters, BYTES(buffer), length, number);
     return decode(letters, alphabet, is_strict, buffer, length, &again, &bad) == BASE62_OK && same(again, number);
 }
@@ -432,7 +432,7 @@ static int compare(const char *p, const char *q, size_t n) {
     return 0;
 }
 
-/* Strict decoding accepts the text that an encoder writes, and no other. */
+/* Canonical decoding accepts the text that an encoder writes, and no other. */
 /*@ requires ALPHABET && TEXT_VALID(p, n);
     assigns \nothing;
     ensures \result == 1;
@@ -443,8 +443,8 @@ int one_strict_text(OVER, base62_number number, const char *p, size_t n) {
     base62_bad_byte bad;
     const size_t length = encode(letters, alphabet, SHORTEST, number, text, sizeof text);
     shortest(letters, BYTES(p), n, number);
-    if (bad_told(letters, BYTES(p), n) == n && n == length) {
-        bad_told(letters, BYTES(text), n);
+    if (compute_bad_index(letters, BYTES(p), n) == n && n == length) {
+        compute_bad_index(letters, BYTES(text), n);
         two_texts(letters, BYTES(p), BYTES(text), n);
     }
     const int is_same = n == length && compare(p, text, n) == 0;
@@ -456,7 +456,7 @@ int one_strict_text(OVER, base62_number number, const char *p, size_t n) {
 //@ assigns \nothing; ensures \result == (number_of(a) < number_of(b) ? 1 : 0);
 static int is_less(base62_number a, base62_number b) { return a.high < b.high || (a.high == b.high && a.low < b.low); }
 
-/* So do a text that an encoder writes and each other one that is read. */
+/* If the letters ascend, a text that an encoder writes and any other text of its width sort as their numbers. */
 /*@ requires ALPHABET && FORM(width) && how != SHORTEST && ascend(letters) && TEXT_VALID(q, width);
     requires \valid(p + (0 .. width - 1)) && APART(p + (0 .. width - 1));
     requires \separated(p + (0 .. width - 1), q + (0 .. width - 1));
@@ -467,8 +467,8 @@ int sorts_as_numbers(OVER, form how, base62_number a, char *p, const char *q, si
     base62_number b;
     base62_bad_byte bad;
     if (encode(letters, alphabet, how, a, p, width) == 0) return 1;
-    bad_told(letters, BYTES(p), width);
-    if (bad_told(letters, BYTES(q), width) < width) return 1;
+    compute_bad_index(letters, BYTES(p), width);
+    if (compute_bad_index(letters, BYTES(q), width) < width) return 1;
     two_texts(letters, BYTES(p), BYTES(q), width);
     const int is_first = compare(p, q, width) < 0;
     return decode(letters, alphabet, 0, q, width, &b, &bad) != BASE62_OK || is_first == is_less(a, b);
@@ -485,8 +485,8 @@ int sorts_as_numbers(OVER, form how, base62_number a, char *p, const char *q, si
 */
 void is_in_range(const unsigned char *letters, const unsigned char *p, size_t n, const unsigned char *prefix, size_t k,
                  base62_number number) {
-    bad_told(letters, p, n);
-    const size_t bad = bad_told(letters, prefix, k), rest = n - k;
+    compute_bad_index(letters, p, n);
+    const size_t bad = compute_bad_index(letters, prefix, k), rest = n - k;
     //@ assert bad: bad < k && begins(p, n, prefix, k) ==> digit(letters, p[bad]) == digit(letters, prefix[bad]);
     if (bad < k || k > n) return;
     //@ assert rest: rest == n - k;
@@ -505,9 +505,9 @@ void is_in_range(const unsigned char *letters, const unsigned char *p, size_t n,
     ensures range_status(letters, prefix, k, n) == BASE62_OK ==> number_of(number) >= next_of(letters, prefix, k, n);
 */
 void is_beyond(const unsigned char *letters, const unsigned char *prefix, size_t k, size_t n, base62_number number) {
-    const size_t fewer = count_told(number) - 1, rest = n - k;
+    const size_t fewer = compute_count(number) - 1, rest = n - k;
     //@ assert fewer: fewer == digit_count(number_of(number)) - 1;
-    if (bad_told(letters, prefix, k) < k || k > n || n == 0) return;
+    if (compute_bad_index(letters, prefix, k) < k || k > n || n == 0) return;
     //@ assert rest: rest == n - k;
     powers_grow(n, fewer);
     if (k > 0) value_within(letters, prefix, k);
@@ -548,7 +548,7 @@ int range_is_exact(OVER, form how, base62_number number, char *places, size_t wi
 int is_letter(OVER, unsigned d) {
     char text[1];
     if (encode(letters, alphabet, SHORTEST, base62_from_u64(d), text, 1) != 1) return 0;
-    digit_told(letters, (unsigned char)text[0]);
+    compute_digit(letters, (unsigned char)text[0]);
     return (unsigned char)text[0] == letters[d];
 }
 
@@ -646,8 +646,8 @@ base62_status rows_by_example(size_t n, size_t at) {
         loop assigns i, text[0 .. n - 1]; loop variant n - i; */
     for (size_t i = 0; i < n; i++) text[i] = i == at ? '-' : 'z';
     letters_by_example();
-    digit_told(standard_letters, 'z');
-    digit_told(standard_letters, '-');
+    compute_digit(standard_letters, 'z');
+    compute_digit(standard_letters, '-');
     //@ assert zeros: n > 0 ==> leading_zeros(STANDARD_LETTERS, BYTES(text), n) == 0;
     /*@ loop invariant 0 <= i <= n && bad_index(STANDARD_LETTERS, BYTES(text), i) == (at < i ? at : i);
         loop invariant i <= at ==> value(STANDARD_LETTERS, BYTES(text), i) == power_of_62(i) - 1;

@@ -34,6 +34,15 @@ TABLES = [
 
 # Changes that are no mistakes.
 SAME = {
+    # Of two equal numbers either is the lesser.
+    "usize_min: static ALWAYS_INLINE size_t usize_min(size_t a, size_t b) { return a <= b ? a : b; }",
+    # The mask has no upper half, the halves differ there, and the shift is one by 64.
+    "u128_and: static ALWAYS_INLINE u128 u128_and(u128 a, u128 b) { return (u128){a.low & b.high, a.low & b.low}; }",
+    "u128_less: static ALWAYS_INLINE bool u128_less(u128 a, u128 b)"
+    " { return a.high == b.high ? a.low < b.low : a.high <= b.high; }",
+    "u128_shift_left: static ALWAYS_INLINE u128 u128_shift_left(u128 a, unsigned bits)"
+    " { return (u128){a.low >> (bits - 64), 0}; }",
+    "u128_shift_right: if (bits >= 64) return (u128){0, a.high << (bits - 64)};",
     # The first byte is looked at before the loop.
     "count_zeros: for (size_t i = (0 + 1); i < input_length; i++) {",
     # check_letters gives the error of a bad byte too.

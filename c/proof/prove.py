@@ -8,7 +8,7 @@ a requirement that nothing meets. It names each goal that takes over a third of 
 
 Variables: BITS (32 for a machine of 32 bits), CORES (how many functions are proved at once), LIMIT (seconds for a
 goal), WORK (a folder for the annotated code, the logs, and goals.tsv with the time of each goal), CACHE (a folder of
-answers of provers, for a proof that is being made).
+results of provers, for a proof that is being made).
 """
 
 import os
@@ -35,8 +35,8 @@ def counted(logs, constants):
     for function, log in logs.items():
         found = [*wp.goals(log)]
         passed = sum(prover != "Failed" for _, prover, _ in found)
-        told = [map(int, each) for each in re.findall(r"^\[wp\] Proved goals: +(\d+) / (\d+)$", log, re.M)]
-        if [passed, len(found)] != [*map(sum, zip(*told))]:
+        counts = [map(int, each) for each in re.findall(r"^\[wp\] Proved goals: +(\d+) / (\d+)$", log, re.M)]
+        if [passed, len(found)] != [*map(sum, zip(*counts))]:
             wrong.append(f"not counted so by Frama-C: {passed} of {len(found)} goals of {function}")
         wrong += [f"{function}: {warning}" for warning in wp.warnings(log, constants)]
         goals += [(function, *goal) for goal in found]

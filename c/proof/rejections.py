@@ -1,8 +1,8 @@
 #!/usr/bin/env python3
-"""Plants one way after the other to get something false accepted: c/proof/rejections.py [TEXTS..]
+"""Tries changes that would get a false statement accepted, one by one: c/proof/rejections.py [TEXTS..]
 
-Each has to be rejected by what its table says. It prints those that are not, and how many are rejected. It plants those
-that have one of the texts, if there are any.
+prove.py has to reject each, with what stands beside it in its table. It prints those that are not rejected so, and how
+many are. It tries those that have one of the texts, if there are any.
 """
 
 import pathlib

@@ -1,7 +1,7 @@
 """Compares what GCC reads of base62.c and base62.h with what Frama-C reads: each token, after the preprocessor.
 
-Both are the same but for attributes and for what EXTENSIONS names. So a condition of the preprocessor gives no compiler
-other code than the proved one.
+Both are the same but for attributes, and for what EXTENSIONS, OF_128_BITS and PRAGMA name. So no other condition of the
+preprocessor gives a compiler other code than the proved one.
 """
 
 import re

@@ -186,15 +186,15 @@ def at_once(task, names):
 
 def goals(log):
     """Each goal: its name, the prover or Failed, and the time of the prover in milliseconds."""
-    for prover, name, told in re.findall(r"^\[wp\] \[([\w. ]+)\] Goal (\w+)(.*)", log, re.M):
-        times = re.findall(r"\(([\d.]+)(ms|s|')\)", told)
+    for prover, name, rest in re.findall(r"^\[wp\] \[([\w. ]+)\] Goal (\w+)(.*)", log, re.M):
+        times = re.findall(r"\(([\d.]+)(ms|s|')\)", rest)
         yield name, prover.split()[0], max((int(float(n) * {"ms": 1, "s": 1000, "'": 60000}[unit])
                                             for n, unit in times), default=0)
 
 
 def warnings(log, constants=frozenset()):
     """What Frama-C says besides the goals; and the false axioms on which goals rest. WP takes it that a pointer of a caller
-    points to none of these constants. None can: they are private, and no call returns a pointer to one."""
+    points to none of these constants. None can: they are private, and no exported function returns a pointer to one."""
     for block in re.split(r"\n(?=\[|---)", log):
         names = "Memory model hypotheses" in block and re.findall(r"(?:&|\*\))(\w+)\b(?!->)", block)
         hypotheses = names and constants.issuperset(names)

@@ -43,8 +43,8 @@ class Freestanding(unittest.TestCase):
     def test_as_readme_says(self):
         readme = (FOLDER / "README.md").read_text()
         most, others = (float(it) * 1000 for it in re.findall(r"at most (\d\.\d) kB of stack", readme))
-        for option in "-DBASE62_ALL", "-DBASE62_NO_INT128":
-            names, graph = compiled(option)
+        for options in [], ["-DBASE62_NO_INT128"]:
+            names, graph = compiled(*options)
             self.assertEqual(names["base62_encode"], "T")
             undefined = {name for name, kind in names.items() if kind == "U"}
             self.assertLessEqual(undefined, {"memcpy"})

@@ -67,8 +67,8 @@ __all__ = [
 def encode_uuid(value: AnyUUID, alphabet: AnyAlphabet = Alphabet.STANDARD) -> str:
     """Return the encoded string of a UUID's 128-bit integer, UUID.int.
 
-    value is a uuid.UUID, its 16 bytes, or a str of its 32 hexadecimal digits: with hyphens or without, in
-    braces or after urn:uuid:, in either case. The bits of its version and variant are not checked.
+    value is a uuid.UUID, its 16 bytes, or a str of its 32 hexadecimal digits, uppercase or lowercase, with or
+    without hyphens, optionally in braces or after urn:uuid:. The bits of its version and variant are not checked.
 
     Raises ValueError for any other str or bytes, and what encode raises for the alphabet.
 

@@ -13,8 +13,8 @@ class Alphabet(bytes):
     """A custom alphabet: 62 distinct bytes, in the order of their digit values.
 
     It is immutable and cannot be subclassed. letters, an ASCII str or bytes, is checked here once; a str
-    or bytes passed to a function is checked on every call. An alphabet with non-ASCII bytes can only
-    decode.
+    or bytes passed to a function is checked on every call. With an alphabet that has
+    non-ASCII bytes, functions that encode raise ValueError.
 
     Raises AlphabetError if a byte is repeated, ValueError if there are not 62, and UnicodeEncodeError if a
     str is not ASCII.

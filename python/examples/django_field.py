@@ -1,6 +1,6 @@
 # SPDX-License-Identifier: MIT
 # Copyright (c) 2026 the maintainers of base62 for Rattle
-"""A field of keys, which are numbers in the program, for Django 3.2 and later.
+"""A field of keys: numbers in the program, strings in forms and in the database, for Django 3.2 and later.
 
 >>> Link.objects.create(id=1337, target="https://example.org/a").id
 1337
@@ -8,8 +8,15 @@
 >>> [link.id for link in Link.objects.filter(id__lt=2000)]
 [1337]
 >>> with connection.cursor() as cursor:
-...     cursor.execute("SELECT id FROM example_link ORDER BY id").fetchall()
+...     _ = cursor.execute("SELECT id FROM example_link ORDER BY id")
+...     cursor.fetchall()
 [('00000000000000000000LZ',), ('7n42DGM5Tflk9n8mt7Fhc7',)]
+>>> forms.modelform_factory(Link, fields=["id"])(instance=Link(id=1337)).initial
+{'id': 'LZ'}
+>>> Link(id=2, target="https://example.org/c").full_clean()
+>>> Link(id="LZ-", target="https://example.org/d").full_clean()
+Traceback (most recent call last):
+django.core.exceptions.ValidationError: {'id': ["Encoded input contains the invalid byte b'-' at index 2"]}
 """
 
 from __future__ import annotations
@@ -17,26 +24,39 @@ from __future__ import annotations
 from typing import Any
 
 import django
+from django import forms
 from django.conf import settings
+from django.core.exceptions import ValidationError
 from django.db import connection, models
 
 import base62
 
 
-class KeyField(models.CharField):
+class KeyField(models.Field):
     """Keys sort as their numbers in a column that is compared byte by byte: in PostgreSQL with the collation C."""
 
-    def __init__(self, *given: Any, **named: Any) -> None:
-        super().__init__(*given, **{**named, "max_length": 22})
+    def db_type(self, connection: Any) -> str:
+        return 'varchar(22) COLLATE "C"' if connection.vendor == "postgresql" else "varchar(22)"
 
     def to_python(self, value: Any) -> Any:
-        return base62.decode(value) if isinstance(value, str) else value
+        try:
+            if isinstance(value, str):
+                return base62.decode(value)
+            if value is not None:
+                base62.digit_count(value)
+        except ValueError as error:
+            raise ValidationError(str(error)) from error
+        return value
 
     def from_db_value(self, value: str | None, *rest: object) -> int | None:
         return None if value is None else base62.decode(value)
 
     def get_prep_value(self, value: Any) -> str | None:
         return None if value is None else base62.encode_key(self.to_python(value))
+
+    def value_from_object(self, obj: models.Model) -> str | None:
+        number = super().value_from_object(obj)
+        return None if number is None else base62.encode(number)
 
 
 # A project has these lines in its settings.

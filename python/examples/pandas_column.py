@@ -9,12 +9,12 @@
 >>> frame["text"].map(base62.decode).tolist()
 [0, 61, 1337]
 
-What is missing stays so:
+A missing value is no text: `map` raises TypeError, or with `na_action="ignore"` returns floats, which round integers
+above 2**53. So decode the others, and reindex:
 
->>> pandas.Series(["LZ", None]).map(base62.decode, na_action="ignore").tolist()
-[1337.0, nan]
->>> pandas.Series(["LZ", None]).map(base62.decode, na_action="ignore").astype("Int64").tolist()
-[1337, <NA>]
+>>> texts = pandas.Series(["LZ", None, "AzL8n0Y58m7"])
+>>> texts.dropna().map(base62.decode).astype("Int64").reindex(texts.index).tolist()
+[1337, <NA>, 9223372036854775807]
 """
 
 from __future__ import annotations

@@ -3,8 +3,8 @@
 """An id that is a number in the program and its text in JSON, for pydantic 2.
 
 >>> link = Link.model_validate_json('{"id": "LZ"}')
->>> link.id, link.model_dump_json()
-(1337, '{"id":"LZ"}')
+>>> link.model_dump(), link.model_dump_json()
+({'id': 1337}, '{"id":"LZ"}')
 >>> for given in ("LZ-", "00LZ", -1, 2**128):
 ...     try:
 ...         Link(id=given)
@@ -38,7 +38,7 @@ Id = Annotated[
     int,
     pydantic.BeforeValidator(read),
     pydantic.AfterValidator(checked),
-    pydantic.PlainSerializer(base62.encode, return_type=str),
+    pydantic.PlainSerializer(base62.encode, return_type=str, when_used="json"),
 ]
 
 

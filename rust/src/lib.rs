@@ -43,7 +43,7 @@
 //! | to get | function |
 //! |---|---|
 //! | a string in a buffer | [`encode_bytes`] |
-//! | a `String`, or more at its end | [`encode`], [`encode_uuid`], [`encode_buf`], with the feature `alloc` |
+//! | a new `String`; a string appended to one | [`encode`], [`encode_uuid`]; [`encode_buf`], with the feature `alloc` |
 //! | a value for a format string | [`encode_fmt`] |
 //! | a string in a writer | [`encode_io`], with the feature `std` |
 //! | a number | [`decode`], or [`decode_canonical`] to accept one string for each number |

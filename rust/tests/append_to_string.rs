@@ -1,7 +1,7 @@
 // SPDX-License-Identifier: MIT
 // Copyright (c) 2026 the maintainers of base62 for Rattle
 
-//! What appends to a string: its text, the memory that it requests, and what stays.
+//! Functions that append to a string: what they append, what they allocate, and that the rest stays unchanged.
 #![cfg(feature = "alloc")]
 
 mod support;
@@ -12,7 +12,7 @@ use std::cell::Cell;
 use std::process::Command;
 use support::{ALTERNATIVE, STANDARD, borders, digits};
 
-/// What stands behind each allocation. No one may write there.
+/// The bytes behind each allocation, which no call may change.
 const FENCE: [u8; 32] = [0xA5; 32];
 
 thread_local! {

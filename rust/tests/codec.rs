@@ -111,7 +111,7 @@ fn alphabets_are_shown_by_their_letters() {
 }
 
 #[test]
-fn faults_ignore_formats_as_those_of_the_crate() {
+fn errors_ignore_formats_as_in_base62_2_2_6() {
     fn ignores(fault: impl std::error::Error) {
         let text = fault.to_string();
         assert_eq!(format!("{fault:>100}"), text);

@@ -1,7 +1,7 @@
 // SPDX-License-Identifier: MIT
 // Copyright (c) 2026 the maintainers of base62 for Rattle
 
-//! No call reads or writes beyond what it is handed: each stands at the edge of a page that can't be touched.
+//! No call reads or writes beyond its arguments: each buffer or text begins or ends at a page that cannot be accessed.
 #![cfg(target_os = "linux")]
 
 mod support;
@@ -23,10 +23,10 @@ extern "C" {
     fn mprotect(at: *mut c_void, size: usize, prot: c_int) -> c_int;
 }
 
-/// As long as the longest on ARM, and so a whole number of each other.
+/// The longest page of ARM, and so a multiple of every other page size.
 const PAGE: usize = 65536;
 
-/// A page between two that end the process if they are touched.
+/// A page between two that end the process if they are accessed.
 struct Page(*mut u8);
 
 impl Page {

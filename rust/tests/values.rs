@@ -358,7 +358,7 @@ fn letters_at_the_ends_that_are_blanks() {
 }
 
 #[test]
-fn letters_of_another_number() {
+fn wrong_number_of_letters() {
     for length in [0, 1, 61, 63, 256] {
         let fault = ParseAlphabetError::InvalidLength(length);
         assert_eq!(Alphabet::try_from(&vec![b'a'; length][..]), Err(fault));

@@ -9,14 +9,15 @@
  * a size_t of 64 bits and of 32. Two functions use an extension of the compiler if it has one, u128_mul_64 and
  * u64_ilog2. These forms are tested.
  *
- * It has the same functions in the same order, with the same names and comments. Contracts are omitted, except for
- * preconditions on numbers and lengths, which are "//@ assert" lines for Frama-C. Rust is translated as follows:
+ * It has the functions of the source that base62.h needs, with their names and comments, in the order of each module.
+ * Comments may name functions of the source that are not here. Contracts are omitted, except for preconditions on
+ * numbers and lengths, which are "//@ assert" lines for Frama-C. Rust is translated as follows:
  *
  *     &[u8], &mut [u8]    a pointer, and its length in NAME_length if that is read
  *     Result, Option      the structs result_.. and option_.., which ok_.., err_.., some_.. and none_.. make
  *     (a, b)              the structs pair_..
  *     let x = f()?;       x = f(); if (!x.is_ok) return err_..(x.err); and then x.ok
- *     InlineText          one object, to which each call that moves the text gets a pointer
+ *     InlineText          a struct of the caller: a function that takes or returns one gets a pointer to it
  *     u128                a struct of two halves, and the functions u128_..
  *
  * Indexes are not checked: the proofs show that each is in bounds. Nothing is allocated, and there is no state. It is
@@ -66,14 +67,13 @@ static ALWAYS_INLINE u128 u128_add(u128 a, u128 b) {
     return (u128){a.high + b.high + (low < a.low), low};
 }
 
-static ALWAYS_INLINE u128 u128_shift_left(u128 a, unsigned bits) {
-    if (bits >= 64) return (u128){a.low << (bits - 64), 0};
-    return bits == 0 ? a : (u128){a.high << bits | a.low >> (64 - bits), a.low << bits};
-}
+/* By 64 bits or more. */
+static ALWAYS_INLINE u128 u128_shift_left(u128 a, unsigned bits) { return (u128){a.low << (bits - 64), 0}; }
 
+/* By one bit or more. */
 static ALWAYS_INLINE u128 u128_shift_right(u128 a, unsigned bits) {
     if (bits >= 64) return (u128){0, a.high >> (bits - 64)};
-    return bits == 0 ? a : (u128){a.high >> bits, a.low >> bits | a.high << (64 - bits)};
+    return (u128){a.high >> bits, a.low >> bits | a.high << (64 - bits)};
 }
 
 /* The whole product of two 64-bit integers: by a 128-bit one if the compiler has those, or else by 32-bit halves. */
@@ -119,9 +119,10 @@ static ALWAYS_INLINE u128 u128_from_be_bytes(const uint8_t bytes[16]) {
 }
 
 static ALWAYS_INLINE void u128_to_be_bytes(u128 a, uint8_t bytes[16]) {
-    for (unsigned i = 16; i > 0; i--) {
-        bytes[i - 1] = (uint8_t)u128_low(a);
-        a = u128_shift_right(a, 8);
+    for (int i = 8; i > 0; i--) {
+        bytes[i - 1] = (uint8_t)a.high;
+        bytes[i + 7] = (uint8_t)a.low;
+        a = (u128){a.high / 256, a.low / 256};
     }
 }
 

@@ -33,7 +33,8 @@ pub use work::Work;
 ///
 /// [`decode`]: crate::decode
 /// [`decode_with`]: crate::decode_with
-// The layout is part of the C interface: callers own alphabets and pass pointers to them.
+// Its size is part of the interface of the library for C, whose callers own alphabets and pass
+// pointers to them.
 #[repr(C)]
 #[derive(Clone, Copy)]
 pub struct Alphabet {

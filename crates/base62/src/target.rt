@@ -215,9 +215,9 @@ fn string_over<T: Number>(alloc: Global, tables: &Tables, num: T) -> Result<Stri
     Ok(unsafe { String::from_utf8_unchecked(bytes) })
 }
 
-// Appends the text over the alphabet of the tables. A `String` of Rattle does not lend its bytes
-// mutably, so the text is copied. In Rust the hand-written macro `in_place!` writes it in place and
-// returns, if the spare capacity is enough for any text.
+// Appends the text over the alphabet of the tables. In Rattle the bytes of a `String` cannot be
+// borrowed mutably, so the text is copied. In Rust the hand-written macro `in_place!` writes it in
+// place and returns, if the spare capacity is enough for any text.
 #[inline]
 fn append_over<T: Number>(tables: &Tables, num: T, buf: &mut String) -> Result<(), AllocError>
     requires tables { AreTables tables.now }

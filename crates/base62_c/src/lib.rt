@@ -32,7 +32,7 @@ use fault::text_of;
 use number::{Number, halves, joined};
 
 /// The version: major times 10000, plus minor times 100, plus patch.
-const VERSION_NUMBER: u32 = 30300;
+const VERSION_NUMBER: u32 = 30400;
 
 #[unsafe(no_mangle)]
 pub extern "C" fn base62_encode(number: Number, buf: &mut [u8]) -> usize

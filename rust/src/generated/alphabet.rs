@@ -27,7 +27,8 @@ pub(crate) use tables::{Tables, alternative_tables, standard_tables};
 ///
 /// [`decode`]: crate::decode
 /// [`decode_with`]: crate::decode_with
-// The layout is part of the C interface: callers own alphabets and pass pointers to them.
+// Its size is part of the interface of the library for C, whose callers own alphabets and pass
+// pointers to them.
 #[repr(C)]
 #[derive(Clone, Copy)]
 pub struct Alphabet {

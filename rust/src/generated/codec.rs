@@ -88,8 +88,8 @@ pub fn encode_bytes_with<T: Into<u128>>(
 /// 6. `input` represents 2^128 or more: `ArithmeticOverflow`.
 /// 7. Otherwise: the number that `input` represents.
 ///
-/// Any number of leading zeros is accepted, and they do not change the result. Zeros alone decode
-/// to 0. Does not allocate.
+/// Any number of leading zeros is accepted. They change nothing but the index in an error. Zeros
+/// alone decode to 0. Does not allocate.
 ///
 /// ```rust
 /// assert_eq!(base62::decode(b"rustlang"), Ok(189876682536016));

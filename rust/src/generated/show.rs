@@ -36,8 +36,8 @@ impl fmt::Display for FmtAlternative {
     }
 }
 
-/// The result of [`encode_fmt_with`]: like `Fmt`, but of a custom alphabet, which it does not
-/// contain.
+/// The result of [`encode_fmt_with`]: like `Fmt`, but in a custom alphabet. It neither borrows nor
+/// copies the alphabet.
 #[derive(Clone, Copy, Debug)]
 pub struct FmtWith {
     text: Text,

@@ -5,8 +5,8 @@
 //!
 //! All `unsafe` of the crate is here. With the feature `checked` there is none.
 
-/// A precondition of the function, at the start of its body. Each caller in this crate is proved to meet it. A debug
-/// build asserts it. In a release build the compiler assumes it.
+/// A precondition of the function, at the start of its body. In the source, each caller is proved to meet it; this crate
+/// is a tested translation of the source. A debug build asserts it. In a release build the compiler assumes it.
 #[cfg(not(feature = "checked"))]
 macro_rules! requires {
     ($clause:expr) => {
@@ -40,15 +40,16 @@ macro_rules! proved {
     };
 }
 
-/// If the spare capacity is enough for the text of any number, writes the text in place, and returns. A `String` of
-/// Rattle does not lend its bytes mutably, so the code after this copies the text.
+/// If the spare capacity is enough for the text of any number, writes the text in place, and returns. In Rattle the bytes
+/// of a `String` cannot be borrowed mutably, so the code after this copies the text.
 #[cfg(all(feature = "alloc", not(feature = "checked")))]
 macro_rules! in_place {
     ($tables:ident, $num:ident, $buf:ident) => {
         if $buf.capacity() - $buf.len() >= crate::MAX_DIGITS {
             let n: u128 = $num.into();
             let (at, len) = ($buf.len(), crate::digit_count(n));
-            // SAFETY: in the source, the function's clause `ascii` requires ASCII letters. So are the bytes 0.
+            // SAFETY: the string stays UTF-8. What is appended is the bytes 0, and then letters, which the function's
+            // clause `ascii` in the source requires to be ASCII.
             let bytes = unsafe { $buf.as_mut_vec() };
             bytes.extend_from_slice(&[0; crate::MAX_DIGITS]);
             crate::codec::encoder::write_text($tables, n, len, &mut bytes[at..]);

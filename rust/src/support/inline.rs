@@ -17,7 +17,7 @@ impl<const N: usize> InlineText<N> {
         }
     }
 
-    /// Appends a part. Each part that this crate appends is proved to fit.
+    /// Appends a part. In the source, each part is proved to fit.
     pub(crate) fn and_str(mut self, part: &str, _max_len: usize) -> InlineText<N> {
         let end = self.len + part.len();
         self.bytes[self.len..end].copy_from_slice(part.as_bytes());

@@ -147,7 +147,7 @@ fn read_up_to_10(
     read_up_to_5_more(tables, number, later, start + done, work)
 }
 
-// Decodes at most five bytes more, after the number of the bytes before them.
+// Continues after bytes that represent `number`, with at most five bytes more.
 #[inline(always)]
 fn read_up_to_5_more(
     tables: &Tables,

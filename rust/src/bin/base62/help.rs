@@ -44,7 +44,9 @@ a to z, or of a custom alphabet, and decodes them.
 Without an operand, a subcommand reads the lines of standard input. For each
 operand or line it prints one line, which is empty if the input is invalid.
 
-Without arguments, base62 reads lines that begin with enc, dec, alt or adc.
+Without arguments, base62 replies to lines: to enc NUMBER and dec TEXT, and to
+alt NUMBER and adc TEXT for the alphabet 0 to 9, a to z, A to Z. The reply to an
+invalid line begins with fault:, and the exit status is still 0.
 
   $ echo enc 1337 | base62
   LZ
@@ -88,12 +90,13 @@ empty line.
 pub(crate) const RANGE: &str = "\
 Usage: base62 range [OPTION].. [PREFIX]..
 For each prefix, or each line of standard input, prints the least and the
-greatest number below 2^128 whose encoded string begins with it. An invalid
-prefix, with which no string begins, gives an empty line.
+greatest number below 2^128 whose string of N characters, padded with leading
+zeros, begins with it. A prefix that is invalid, or with which no string begins,
+gives an empty line.
 
   -a, --alternative      use the alphabet 0 to 9, a to z, A to Z
   -l, --letters LETTERS  use a custom alphabet of 62 characters, the zero first
-  -w, --width N          for strings of N characters, which are 22 by default
+  -w, --width N          the width of the strings, by default 22
 
   $ base62 range -w 5 000L
   1302 1363

@@ -15,7 +15,8 @@ pub(crate) struct Tables {
 }
 
 impl Tables {
-    // Returns the digit of a byte, or 255 if it has none.
+    // Returns the digit of a byte, or 255 if it has none. Like `is_zero`, it is only hinted to be
+    // inlined: if compilers have to inline it, they stop inlining the decoder.
     #[inline]
     pub(crate) fn digit(&self, byte: u8) -> u8 {
         self.digits[byte as usize]

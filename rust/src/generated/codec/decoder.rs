@@ -102,7 +102,7 @@ fn read_up_to_10(tables: &Tables, part: &[u8], start: usize) -> Result<u64, Deco
     read_up_to_5_more(tables, number, later, start + done)
 }
 
-// Decodes at most five bytes more, after the number of the bytes before them.
+// Continues after bytes that represent `number`, with at most five bytes more.
 #[inline(always)]
 fn read_up_to_5_more(
     tables: &Tables,

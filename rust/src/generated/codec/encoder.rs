@@ -75,9 +75,10 @@ fn write_wide(tables: &Tables, n: u128, count: usize, buf: &mut [u8]) {
 }
 
 // Divides by 62^20. Returns the quotient, and the remainder as the fractions of its first and its
-// last ten letters. A fraction is in fixed point with 64 fraction bits. That of all twenty letters
-// is the one of the first ten, but for up to 22 units that the last ten letters add. Subtracting 16
-// times the fraction of the last ten leaves few enough units, as in `fraction_of`.
+// last ten letters. A fraction is in fixed point with 64 fraction bits. Let g be the fraction of the
+// last ten letters. The fraction of all twenty exceeds that of the first ten by at most 22 * g
+// units. Subtracting `low >> 60`, which is 16 * g rounded down, leaves at most seven of these. With
+// the five of `scaled_by_20` that is twelve, fewer than the 21 that `fraction_of` allows.
 #[inline(always)]
 fn divide_by_62_20(n: u128) -> (u32, u64, u64) {
     let low = last_10(n);
@@ -86,9 +87,9 @@ fn divide_by_62_20(n: u128) -> (u32, u64, u64) {
 }
 
 // Returns the fraction of the last ten letters: n / 62^10 in fixed point with 64 fraction bits, at
-// most eight units too large. Its integer part is lost, as the sum wraps around. 2^64 has 2^128 /
-// 62^10 of these units: 21 times 2^64, the first factor, and the second times 2^-64, rounded up.
-// The third factor is 2^123 / 62^10, rounded up.
+// most eight units too large. Its integer part is lost, as the sum wraps around. For n = 2^64 the
+// result is 2^128 / 62^10 units: 21 * 2^64, plus the first factor, plus the second factor / 2^64,
+// rounded up. The 21 * 2^64 drop out, as an integer. The third factor is 2^123 / 62^10, rounded up.
 #[inline(always)]
 fn last_10(n: u128) -> u64 {
     let upper = (n >> 64) as u64;
@@ -104,8 +105,8 @@ fn last_10(n: u128) -> u64 {
         .wrapping_add(2)
 }
 
-// Returns n / 62^20 in fixed point with 64 fraction bits, at most five units too large. 2^64 has
-// 2^128 / 62^20 of these units: the second factor, and the first times 2^-64, rounded up.
+// Returns n / 62^20 in fixed point with 64 fraction bits, at most five units too large. For
+// n = 2^64 the result is 2^128 / 62^20 units: the second factor, plus the first / 2^64, rounded up.
 #[inline(always)]
 fn scaled_by_20(n: u128) -> u128 {
     let upper = (n >> 64) as u64;
@@ -115,8 +116,8 @@ fn scaled_by_20(n: u128) -> u128 {
 }
 
 // Divides by 62^10. Returns the quotient, and the remainder as a fraction. The upper bits times
-// 2^120 / 62^10 are the quotient, or one less: then `fraction_of` returns an integer part of 1,
-// which is added.
+// 2^120 / 62^10, shifted right by 64 bits, are the quotient, or one less: then `fraction_of` returns
+// an integer part of 1, which is added.
 #[inline(always)]
 fn divide_by_62_10(n: u128) -> (u64, u64) {
     let upper = (n >> 56) as u64;

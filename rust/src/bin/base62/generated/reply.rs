@@ -86,11 +86,12 @@ fn push_number(number: u128, out: &mut Bytes) -> io::Result<()> {
 }
 
 // The quotient and the remainder by 10^19. The quotient is estimated from the upper half, and a
-// quotient of 64 bits adds what is missing: the language's `/` of 128 bits calls the C runtime.
+// quotient of 64 bits adds what is missing, since `/` of 128 bits calls the compiler's runtime.
 fn cut_by_19(number: u128) -> (u128, u128) {
     let estimate = ((number >> 64) * INVERSE) >> 63;
     let remainder = number - estimate * TEN_TO_19;
-    // The remainder is below 5 * 10^19, and 4 divides both.
+    // The remainder is below 5 * 10^19, so a quarter of it fits into 64 bits. 10^19 is a multiple of
+    // 4, so the quotient of the quarters, rounded down, is the same.
     let more = u128::from((remainder >> 2) as u64 / (TEN_TO_19 >> 2) as u64);
     (estimate + more, remainder - more * TEN_TO_19)
 }

@@ -52,7 +52,7 @@ pub fn run<R: Read, W: Write + ?Sized>(reader: &mut R, writer: &mut W) -> Result
     let mut chunk = [0u8; CHUNK_LEN];
     let mut line = Bytes::new();
     let mut out = Bytes::new();
-    // A loop needs a bound, and no run makes 2^64 - 1 reads.
+    // In Rattle a loop needs a bound. No run makes 2^64 - 1 reads.
     for _ in 0..u64::MAX {
         let Ok(count) = reader.read(&mut chunk) else {
             return Err(ToolFault::Read);

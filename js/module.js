@@ -26,7 +26,7 @@ const {
 
 // Built-in functions are taken as the script loads, so a prototype that changes later changes no result. A call runs no
 // code of the caller's.
-const { BigUint64Array, RangeError, TextDecoder, TypeError, Uint8Array, Uint32Array } = globalThis;
+const { BigUint64Array, RangeError, TextDecoder, TypeError, Uint8Array, Uint32Array, WeakRef } = globalThis;
 const { Global, Instance, Memory, Module } = globalThis.WebAssembly ?? noWebAssembly();
 const { defineProperty, getOwnPropertyDescriptor, getPrototypeOf } = Object;
 const { MAX_SAFE_INTEGER } = Number;
@@ -50,9 +50,10 @@ const bufferOf = getter(Memory.prototype, 'buffer');
 const setGlobal = setter(Global.prototype, 'value');
 const getTable = uncurryThis(WeakMap.prototype.get);
 const setTable = uncurryThis(WeakMap.prototype.set);
-// Some runtimes, such as jsdom, have none.
+// Some runtimes have no TextDecoder, such as jsdom, or no WeakRef.
 const decoder = TextDecoder && new TextDecoder();
 const decodeUtf8 = decoder && uncurryThis(decoder.decode);
+const dereference = WeakRef && uncurryThis(WeakRef.prototype.deref);
 
 const TWO_TO_32 = 2 ** 32;
 const PAGE = 65536;
@@ -74,12 +75,19 @@ function isLibrary(module) {
   }
 }
 
-function instantiate(module, additionalPages) {
+function instantiate(module) {
   const calls = exportsOf(new Instance(module));
-  const { memory } = calls;
-  grow(memory, additionalPages);
-  const buffer = bufferOf(memory);
+  const buffer = bufferOf(calls.memory);
   return { calls, buffer, bytes: new Uint8Array(buffer), alphabet: undefined, textLength: 0, isRunning: false };
+}
+
+// A memory has at most 2^16 pages, each of 2^16 bytes. Growing it detaches its views.
+function growTo(instance, size) {
+  const additional = size - lengthOf(instance.bytes);
+  if (additional <= 0) return;
+  grow(instance.calls.memory, min(ceil(additional / PAGE), PAGE));
+  instance.buffer = bufferOf(instance.calls.memory);
+  instance.bytes = new Uint8Array(instance.buffer);
 }
 
 function leave(instance, result) {
@@ -180,7 +188,7 @@ export function load(module) {
   if (!isLibrary(module)) throw new TypeError('load takes the WebAssembly.Module of base62.wasm');
 
   // All calls leave their numbers and bad bytes in this instance. Engines read faster through constant views.
-  const main = instantiate(module, 0);
+  const main = instantiate(module);
   const { bytes } = main;
   const words = new Uint32Array(main.buffer);
   const halves = new BigUint64Array(main.buffer);
@@ -194,10 +202,19 @@ export function load(module) {
   const TEXT = ALPHABET + ALPHABET_SIZE;
   const TEXT_CAPACITY = lengthOf(bytes) - TEXT;
 
-  // A longer text gets an instance of its own, whose memory is released with it. A memory has at most 2^16 pages, each
-  // of 2^16 bytes.
+  // Longer texts share a second instance, which may be garbage-collected after the job. Engines reserve gigabytes of
+  // addresses for each memory, so they refuse to create many.
+  let second;
+
   function instanceFor(size) {
-    return size > TEXT_CAPACITY ? instantiate(module, min(ceil((size - TEXT_CAPACITY) / PAGE), PAGE)) : main;
+    if (size <= TEXT_CAPACITY) return main;
+    let instance = second && dereference(second);
+    if (!instance) {
+      instance = instantiate(module);
+      second = WeakRef && new WeakRef(instance);
+    }
+    growTo(instance, TEXT + size);
+    return instance;
   }
 
   // Copies the arguments and results of a call: the numbers and the bad byte.
@@ -208,7 +225,7 @@ export function load(module) {
   // Each call is between enter(instance) and leave(instance, result). The engine may abort one, as when its own stack
   // is exhausted. An aborted call has not restored the stack pointer of the WebAssembly, so the next one resets it.
   function enter(instance) {
-    if (instance.isRunning) setGlobal(stackPointer, STACK_TOP);
+    if (instance.isRunning) setGlobal(instance.calls.__stack_pointer, STACK_TOP);
     instance.isRunning = true;
     return instance.calls;
   }

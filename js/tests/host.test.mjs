@@ -5,6 +5,7 @@ import { spawnSync } from 'node:child_process';
 import { existsSync, readFileSync } from 'node:fs';
 import { createRequire } from 'node:module';
 import { test } from 'node:test';
+import { setImmediate } from 'node:timers/promises';
 import { fileURLToPath, pathToFileURL } from 'node:url';
 import { createContext, runInContext, runInNewContext } from 'node:vm';
 import { Worker } from 'node:worker_threads';
@@ -24,7 +25,7 @@ function resident() {
   return process.memoryUsage().rss;
 }
 
-test('a text of 100 MB is read, and no memory is kept', () => {
+test('a text of 100 MB is read, and no memory is kept after the job', async () => {
   const before = resident();
   (() => {
     const zeros = new Uint8Array(100 * MEGABYTE).fill(48);
@@ -35,6 +36,7 @@ test('a text of 100 MB is read, and no memory is kept', () => {
     assert.throws(() => decode(`${'0'.repeat(100 * MEGABYTE)}\u20ac`), fault);
     assert.equal(base62.encodeFixed(1337, 100 * MEGABYTE).length, 100 * MEGABYTE);
   })();
+  await setImmediate();
   assert.ok(resident() - before < 50 * MEGABYTE);
 });
 
@@ -106,6 +108,14 @@ test('no byte of a long string is written outside of the memory', async () => {
   }
 });
 
+test('long texts of one job share a memory', async () => {
+  const [copy, instances] = await watchedCopy();
+  for (let length = 70_000; length < 400_000; length += 1000) {
+    assert.equal(copy.decode('LZ'.padStart(length, '0')), 1337n);
+  }
+  assert.equal(instances.length, 2);
+});
+
 test('a width that no memory holds is an error of the host', () => {
   for (const width of [2 ** 40, Number.MAX_SAFE_INTEGER]) {
     assert.throws(() => base62.encodeFixed(5, width), (error) => error instanceof RangeError && !('code' in error));
@@ -122,9 +132,14 @@ test('properties of errors and alphabets are enumerable and read-only', () => {
 });
 
 test('calls go on after the stack has run out in one', async () => {
-  const [{ Alphabet, decode, encode, keyRange }, [{ __stack_pointer: stack }]] = await watchedCopy();
-  const top = stack.value;
+  const [{ Alphabet, decode, encode, keyRange }, instances] = await watchedCopy();
+  const long = new Uint8Array(70_000).fill(48);
+  long.set([76, 90], 69_998);
+  assert.equal(decode(long), 1337n);
+  const stacks = instances.map((it) => it.__stack_pointer);
+  const tops = stacks.map((it) => it.value);
   const calls = [
+    () => decode(long),
     () => encode(1337),
     () => encode(2n ** 127n),
     () => encode(1337, new Alphabet(custom)),
@@ -134,7 +149,7 @@ test('calls go on after the stack has run out in one', async () => {
   ];
   const results = new Set();
   const others = new Set();
-  let aborted = 0;
+  const aborted = [0, 0];
   const attempt = (call) => {
     try {
       results.add(call());
@@ -142,7 +157,9 @@ test('calls go on after the stack has run out in one', async () => {
       if (error.code) results.add(error.message);
       else others.add(error.name);
     }
-    if (stack.value !== top) aborted++;
+    stacks.forEach((it, i) => {
+      if (it.value !== tops[i]) aborted[i]++;
+    });
   };
   let end = 0;
   const dive = (depth) => {
@@ -158,13 +175,14 @@ test('calls go on after the stack has run out in one', async () => {
     // The stack begins at many places.
     Reflect.apply(() => dive(0), undefined, new Array(i % 100));
     assert.equal(encode(1337), 'LZ');
-    assert.equal(stack.value, top);
+    assert.equal(decode(long), 1337n);
+    assert.deepEqual(stacks.map((it) => it.value), tops);
   }
-  assert.ok(aborted > 0, 'none within the WebAssembly');
+  assert.ok(aborted[0] > 0 && aborted[1] > 0, `within the WebAssembly: ${aborted}`);
   assert.deepEqual([...others], ['RangeError']);
   const message = "Encoded input contains the invalid byte b'-' at index 2";
   const least = 5n * 62n ** 21n;
-  assert.deepEqual(results, new Set(['LZ', '3tX16dB2jpss4tZORYcqo4', 'Pd', 2n ** 128n - 1n, message, least]));
+  assert.deepEqual(results, new Set([1337n, 'LZ', '3tX16dB2jpss4tZORYcqo4', 'Pd', 2n ** 128n - 1n, message, least]));
 });
 
 test('copies are independent', async () => {
@@ -216,12 +234,16 @@ test('changed prototypes change no result', () => {
 const exportsIn = (context, name) =>
   runInContext(`((module) => {${readFileSync(require.resolve(name), 'utf8')}; return module.exports})({})`, context);
 
-test('a context needs to have atob alone', () => {
-  const { decode, encodeFixed } = exportsIn(createContext({ atob }), 'base62-proved');
-  for (const width of [22, 99, 100, 101, 1e6]) {
-    const text = 'LZ'.padStart(width, '0');
-    assert.equal(encodeFixed(1337, width), text);
-    assert.equal(decode(text), 1337n);
+test('a context needs to have atob alone, and may lack WeakRef', () => {
+  for (const script of ['', 'delete globalThis.WeakRef']) {
+    const context = createContext({ atob });
+    runInContext(script, context);
+    const { decode, encodeFixed } = exportsIn(context, 'base62-proved');
+    for (const width of [22, 99, 100, 101, 1e6]) {
+      const text = 'LZ'.padStart(width, '0');
+      assert.equal(encodeFixed(1337, width), text);
+      assert.equal(decode(text), 1337n);
+    }
   }
 });
 

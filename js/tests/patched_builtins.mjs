@@ -54,12 +54,13 @@ function answers() {
     [faultOf(() => encode(5, custom)) instanceof kept.TypeError, true],
     [faultOf(() => base62.encodeUuid(custom)).code, 'INVALID_UUID'],
     [long(), 1337n],
+    [long(), 1337n],
   ];
 }
 
 const kept = { TypeError, zeros: '0'.repeat(100_000) };
 
-// A memory that has to grow.
+// The first call creates a second memory, and the next one uses it.
 function long() {
   return decode(`${kept.zeros}LZ`);
 }
@@ -77,7 +78,7 @@ function reachable() {
   };
   const arrays = [Array, ArrayBuffer, BigUint64Array, DataView, Uint8Array, Uint32Array];
   const values = [BigInt, Error, Function, Number, Object, RangeError, RegExp, String, Symbol, TypeError];
-  [...arrays, ...values, Map, Math, Reflect, TextDecoder, WeakMap, WebAssembly, atob].forEach(visit);
+  [...arrays, ...values, Map, Math, Reflect, TextDecoder, WeakMap, WeakRef, WebAssembly, atob].forEach(visit);
   return [...found];
 }
 

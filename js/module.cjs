@@ -68,6 +68,7 @@ const dereference = WeakRef && uncurryThis(WeakRef.prototype.deref);
 
 const TWO_TO_32 = 2 ** 32;
 const PAGE = 65536;
+const MAX_SHARED = 2 ** 24;
 const HEXADECIMAL = '0123456789abcdef';
 // Digits with hyphens or without, in braces or after urn:uuid:. It does not check that there are both braces.
 const UUID = /^(?:\{|urn:uuid:)?(?:[\da-f]{8}(?:-[\da-f]{4}){3}-[\da-f]{12}|[\da-f]{32})\}?$/i;
@@ -92,13 +93,20 @@ function instantiate(module) {
   return { calls, buffer, bytes: new Uint8Array(buffer), alphabet: undefined, textLength: 0, isRunning: false };
 }
 
-// A memory has at most 2^16 pages, each of 2^16 bytes. Growing it detaches its views.
+function refresh(instance) {
+  instance.buffer = bufferOf(instance.calls.memory);
+  instance.bytes = new Uint8Array(instance.buffer);
+}
+
+// A memory has at most 2^16 pages, each of 2^16 bytes. Growing it detaches its buffer. A call that was aborted may have
+// grown it, and left the detached buffer.
 function growTo(instance, size) {
+  if (size <= lengthOf(instance.bytes)) return;
+  refresh(instance);
   const additional = size - lengthOf(instance.bytes);
   if (additional <= 0) return;
   grow(instance.calls.memory, min(ceil(additional / PAGE), PAGE));
-  instance.buffer = bufferOf(instance.calls.memory);
-  instance.bytes = new Uint8Array(instance.buffer);
+  refresh(instance);
 }
 
 function leave(instance, result) {
@@ -213,17 +221,23 @@ function load(module) {
   const TEXT = ALPHABET + ALPHABET_SIZE;
   const TEXT_CAPACITY = lengthOf(bytes) - TEXT;
 
-  // Longer texts share a second instance, which may be garbage-collected after the job. Engines reserve gigabytes of
-  // addresses for each memory, so they refuse to create many.
+  // Longer texts share a second instance, which may be garbage-collected after the task. Engines reserve gigabytes of
+  // address space for each memory, so they refuse to create many. A text of more than 16 MB has its own instance, since
+  // a memory does not shrink.
   let second;
+
+  function sharedInstance() {
+    let instance = second && dereference(second);
+    if (!instance && WeakRef) {
+      instance = instantiate(module);
+      second = new WeakRef(instance);
+    }
+    return instance;
+  }
 
   function instanceFor(size) {
     if (size <= TEXT_CAPACITY) return main;
-    let instance = second && dereference(second);
-    if (!instance) {
-      instance = instantiate(module);
-      second = WeakRef && new WeakRef(instance);
-    }
+    const instance = (size <= MAX_SHARED && sharedInstance()) || instantiate(module);
     growTo(instance, TEXT + size);
     return instance;
   }

@@ -25,7 +25,7 @@ function resident() {
   return process.memoryUsage().rss;
 }
 
-test('a text of 100 MB is read, and no memory is kept after the job', async () => {
+test('a text of 100 MB is read, and no memory is kept', () => {
   const before = resident();
   (() => {
     const zeros = new Uint8Array(100 * MEGABYTE).fill(48);
@@ -36,7 +36,6 @@ test('a text of 100 MB is read, and no memory is kept after the job', async () =
     assert.throws(() => decode(`${'0'.repeat(100 * MEGABYTE)}\u20ac`), fault);
     assert.equal(base62.encodeFixed(1337, 100 * MEGABYTE).length, 100 * MEGABYTE);
   })();
-  await setImmediate();
   assert.ok(resident() - before < 50 * MEGABYTE);
 });
 
@@ -108,12 +107,46 @@ test('no byte of a long string is written outside of the memory', async () => {
   }
 });
 
-test('long texts of one job share a memory', async () => {
+test('long texts of one task share a memory, which is garbage-collected after it', async () => {
   const [copy, instances] = await watchedCopy();
-  for (let length = 70_000; length < 400_000; length += 1000) {
-    assert.equal(copy.decode('LZ'.padStart(length, '0')), 1337n);
-  }
+  const sizes = [70_000, 400_000, 3_000_000];
+  for (const size of [...sizes, ...sizes]) assert.equal(copy.decode('LZ'.padStart(size, '0')), 1337n);
   assert.equal(instances.length, 2);
+  const weak = new WeakRef(instances.pop());
+  await setImmediate();
+  globalThis.gc();
+  assert.equal(weak.deref(), undefined);
+  assert.equal(copy.decode('LZ'.padStart(70_000, '0')), 1337n);
+});
+
+test('the memory does not grow twice if the engine aborts a call after it has grown', async () => {
+  const { prototype } = WebAssembly.Memory;
+  const buffer = Object.getOwnPropertyDescriptor(prototype, 'buffer');
+  let remaining = Infinity;
+  const get = function () {
+    if (remaining-- === 0) throw new RangeError('aborted');
+    return Reflect.apply(buffer.get, this, []);
+  };
+  Object.defineProperty(prototype, 'buffer', { ...buffer, get });
+  const [copy, instances] = await watchedCopy();
+  Object.defineProperty(prototype, 'buffer', buffer);
+  const text = 'LZ'.padStart(400_000, '0');
+  assert.equal(copy.decode(text.slice(-70_000)), 1337n);
+  remaining = 1;
+  assert.throws(() => copy.decode(text), { message: 'aborted' });
+  const { byteLength } = instances[1].memory.buffer;
+  assert.ok(byteLength > 400_000);
+  assert.equal(copy.decode(text), 1337n);
+  assert.equal(instances[1].memory.buffer.byteLength, byteLength);
+});
+
+test('without WeakRef a long text has its own memory', async () => {
+  const { WeakRef } = globalThis;
+  delete globalThis.WeakRef;
+  const [copy, instances] = await watchedCopy();
+  globalThis.WeakRef = WeakRef;
+  for (let i = 0; i < 3; i++) assert.equal(copy.decode('LZ'.padStart(70_000, '0')), 1337n);
+  assert.equal(instances.length, 4);
 });
 
 test('a width that no memory holds is an error of the host', () => {
@@ -234,16 +267,12 @@ test('changed prototypes change no result', () => {
 const exportsIn = (context, name) =>
   runInContext(`((module) => {${readFileSync(require.resolve(name), 'utf8')}; return module.exports})({})`, context);
 
-test('a context needs to have atob alone, and may lack WeakRef', () => {
-  for (const script of ['', 'delete globalThis.WeakRef']) {
-    const context = createContext({ atob });
-    runInContext(script, context);
-    const { decode, encodeFixed } = exportsIn(context, 'base62-proved');
-    for (const width of [22, 99, 100, 101, 1e6]) {
-      const text = 'LZ'.padStart(width, '0');
-      assert.equal(encodeFixed(1337, width), text);
-      assert.equal(decode(text), 1337n);
-    }
+test('a context needs to have atob alone', () => {
+  const { decode, encodeFixed } = exportsIn(createContext({ atob }), 'base62-proved');
+  for (const width of [22, 99, 100, 101, 1e6]) {
+    const text = 'LZ'.padStart(width, '0');
+    assert.equal(encodeFixed(1337, width), text);
+    assert.equal(decode(text), 1337n);
   }
 });
 

@@ -102,8 +102,8 @@ function poison() {
   for (const name of ['code', 'byte', 'index', 'letters', 'get', 'set', 'value', 'enumerable']) {
     inherited.push([Object.prototype, name, { get: thrower, set: thrower, configurable: true }]);
   }
-  const names = ['Uint8Array', 'TypeError', 'RangeError', 'WebAssembly', 'BigInt', 'String', 'Math', 'Object', 'atob'];
-  for (const name of names) {
+  const names = 'Uint8Array TypeError RangeError WebAssembly WeakRef BigInt String Math Object atob';
+  for (const name of names.split(' ')) {
     inherited.push([globalThis, name, { value: thrower }]);
   }
   // Last, since it needs them itself. No method of an array is called any more.

@@ -14,6 +14,7 @@
 void escape(unsigned char byte) {}
 
 /* The least count of decimal digits that is enough, at most 20. */
+// == prove compute_decimals: z3 first
 /*@ assigns \nothing;
     ensures result: \result == decimal_length(number) && 1 <= \result <= 20;
     ensures enough: without_decimals(number, \result) == 0;
@@ -69,7 +70,7 @@ size_t index_again(base62_bad_byte bad) {
         buffer[NAMED(start) - decimal_length(bad.index) + i] == decimal_byte(bad.index, i))
 
 /* A text is written whole, and nothing behind it, if there is room. 0 and numbers from 8 on have none. */
-// == prove texts_by_example: with tables
+// == prove texts_by_example: asserts named same with tables
 /*@ requires \valid(buffer + (0 .. size - 1));
     assigns buffer[0 .. size - 1];
     ensures longest: \result <= BASE62_MAX_FAULT_TEXT;
@@ -87,6 +88,11 @@ size_t index_again(base62_bad_byte bad) {
     ensures needless: TEXT_OF(7, 41, 'E', 'o');
 */
 size_t texts_by_example(base62_status status, base62_bad_byte bad, char *buffer, size_t size) {
+    /*@ assert same: too_small_text[0] == 'B' && too_small_text[36] == 'r' && empty_text[0] == 'E'
+            && empty_text[31] == 'g' && overflow_text[0] == 'D' && overflow_text[38] == '`' && no_key_text[0] == 'N'
+            && no_key_text[48] == 'x' && needless_text[0] == 'E' && needless_text[40] == 'o' && invalid_text[0] == 'E'
+            && invalid_text[34] == ' ' && repeated_text[0] == 'A' && repeated_text[20] == ' ' && byte_text[0] == 'b'
+            && byte_text[6] == '\'' && index_text[0] == '\'' && index_text[10] == ' '; */
     escape(bad.byte);
     compute_decimals(bad.index);
     return base62_fault_text(status, bad, buffer, size);

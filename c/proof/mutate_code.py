@@ -27,7 +27,8 @@ OPERATORS = [
 ]
 TEXT = (r'"(?=\w)', '"x')
 TABLES = [
-    ("POWERS", NUMBER, "power"), ("GREATEST", NUMBER, "greatest"), ("GREATEST_NARROW", NUMBER, "greatest_narrow"),
+    ("POWERS", NUMBER, "power"), ("GREATEST", NUMBER, "greatest"),
+    ("GREATEST_NARROW", "(?<!{)" + NUMBER, "greatest_narrow"),  # No number has no letters.
     ("STANDARD", "'A'", "standard_letter"), ("STANDARD", r"\b10\b", "standard_byte"),
     ("ALTERNATIVE", "'A'", "alternative_letter"), ("ALTERNATIVE", r"\b10\b", "alternative_byte"),
 ]
@@ -45,15 +46,12 @@ SAME = {
     "u128_shift_right: if (bits >= 64) return (u128){0, a.high << (bits - 64)};",
     # The first byte is looked at before the loop.
     "count_zeros: for (size_t i = (0 + 1); i < input_length; i++) {",
-    # Twice what is added for rounding changes no letter either, and the fraction never equals `upper`.
+    # Twice what is added for rounding changes no letter either, the fraction never equals `upper`, and five letters are
+    # written by either function.
     "fraction_of: const uint64_t fraction = u64_wrapping_add(scaled + (1 + 1), upper);",
     "fraction_of: return (pair_u64_u64){(uint64_t)(fraction <= upper), fraction};",
     "divide_narrow_by_62_10: u128_of(UINT64_C(12669882045338564947))), 59), u128_of((1 + 1))));",
-    # write_up_to_5 writes five letters too.
     "write_up_to_9: if (places > (4 + 1)) {",
-    # No number has no letters.
-    "greatest_narrow: static const uint64_t GREATEST_NARROW[12] = {(0 + 1), 61, 3843, 238327, 14776335, 916132831,"
-    " UINT64_C(56800235583),",
     # check_letters gives the error of a bad byte too.
     "range_found: if (!answer.is_ok || answer.err.tag == DecodeError_ArithmeticOverflow_tag) {",
     # The last byte of a longer array is not read.

@@ -24,24 +24,18 @@ FAILED = "[wp] [Failed] Goal"
 
 # From this text of base62.acsl on, up to the next one: the laws that are tried, in this order.
 LAWS = {
-    "#define ACSL_2_64": "of_halves",
-    "logic integer shifted": "power_22 begins_with shift_keeps_order",
-    "static const unsigned char standard_letters": "letter",
-    "logic integer place_from": "compute_digit",
+    "#define ACSL_2_64": "of_halves", "logic integer shifted": "power_22 begins_with shift_keeps_order",
+    "static const unsigned char standard_letters": "letter", "logic integer place_from": "compute_digit",
     "predicate are_distinct": "makes",
     "predicate are_entries": "",  # What a made alphabet is made of is for base62.c alone.
-    "logic integer value": "begins_with two_texts",
-    "logic integer bad_index": "compute_bad_index",
-    "logic integer zeros_from": "compute_leading_zeros",
-    "predicate denotes": "shortest decode",
-    "logic integer count_from": "compute_count",
+    "logic integer value": "begins_with two_texts compute_leading_zeros",
+    "logic integer bad_index": "compute_bad_index", "logic integer zeros_from": "compute_leading_zeros",
+    "predicate denotes": "shortest decode", "logic integer count_from": "compute_count",
     "predicate encodes": "encode compute_count uninitialized",
     "logic integer decoding": "is_decoded decode uninitialized",
     "logic integer least_of": "is_in_range find_range is_beyond range_is_exact uninitialized",
-    "/*@ requires \\valid_read(letters": "makes",
-    "logic integer uuid_value": "number_back_again",
-    "number_of(\\result) == value": "of_half half version",
-    "logic integer escape_length": "escape",
+    "/*@ requires \\valid_read(letters": "makes", "logic integer uuid_value": "number_back_again",
+    "number_of(\\result) == value": "of_half half version", "logic integer escape_length": "escape",
     "logic integer without_decimals": "compute_decimals index_again",
     "logic integer byte_at_index_length": "texts_by_example index_again",
 }
@@ -71,10 +65,15 @@ POINTER = re.compile("letters|text|prefix|buffer|places|bad|range|BYTES|[A-Z]+_L
 
 # Changes after which base62.acsl says no less, by their lines.
 SAME = {
-    # It contradicts itself where it says something else: entries tell equal letters apart, 64 bits hold no 2^64, and
-    # two texts at one place are one.
+    # It contradicts itself where it says something else: entries tell equal letters apart, 62 letters are not distinct
+    # if one is repeated, 64 bits hold no 2^64, no number is 2^128, and two texts at one place are one.
     r"\forall integer i, j; 0 <= i < j < n ==> \true;",
     r"&& \exists integer i; 0 < i < index && letters[i] == letters[index];",
+    "predicate is_alphabet{L}(unsigned char *letters) = are_distinct(letters, (62 - 1));",
+    r"\true && are_distinct(letters, index)", "index <= 62 && are_distinct(letters, index)",
+    r": width == 0 || n > width || \false ? BASE62_NO_KEY",
+    ": width == 0 || n > width || least_of(letters, prefix, n, width) > ACSL_2_128 ? BASE62_NO_KEY",
+    *(f"n {it} : uuid_value(uuid, n - 1) * 256 + uuid[n - 1];" for it in ("< 0 ? 0", "<= 0 ? 1")),
     r"ensures \result == (number_of(number) <= ACSL_2_64 ? 1 : 0);",
     r"ensures \result == (number_of(number) < ACSL_2_64 ? 1 : 1);",
     "ACSL_HAS(text, 1, invalid_text, 35) && ACSL_BYTE_AT_INDEX(text, 35, bad.byte, bad.index)) \\",
@@ -85,7 +84,9 @@ SAME = {
     "n < 0 ? 0 : bad_index(letters, text, n - 1) == n - 1 && digit(letters, text[n - 1]) < 62 ? n",
     "n <= 0 ? 0 : bad_index(letters, text, n - 1) >= n - 1 && digit(letters, text[n - 1]) < 62 ? n",
     r"ensures *value == (\result >= 1 ? number_of(number) : \old(*value));",
-    # No number has 23 digits, more than 22 bytes are an overflow already, and no number with zeros behind it is 2^128.
+    # No number has 23 digits, nor one of 64 bits 21 decimals, more than 22 bytes are an overflow already, and no number
+    # with zeros behind it is 2^128.
+    "c <= 20 && without_decimals(number, c) > 0 ? decimal_from(number, c + 1) : c;",
     "c <= 22 && number >= power_of_62(c) ? count_from(number, c + 1) : c;",
     ": n - zeros >= 22 && shifted(value(letters, text, zeros + 10), 12) >= ACSL_2_128 ? BASE62_OVERFLOW",
     ": n - zeros == 22 && shifted(value(letters, text, zeros + 10), 12) > ACSL_2_128 ? BASE62_OVERFLOW",

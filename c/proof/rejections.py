@@ -85,9 +85,7 @@ LISTS = [
     (ghost("/@ loop variant no_wp: 0; @/ while (1) {}"), NOT_TRIED),
     (ghost("int i = 0; /@ loop assigns no_wp: i; loop variant 9 - i; @/ while (i < 9) i++;"), NOT_TRIED),
     # A function that does not end.
-    (ghost("while(1) {}"), LOOP),
-    (ghost("do\n{} while (1);"), LOOP),
-    (ghost("for (;;) {}"), LOOP),
+    (ghost("while(1) {}"), LOOP), (ghost("do\n{} while (1);"), LOOP), (ghost("for (;;) {}"), LOOP),
     (ghost("// loop variant 0;\nwhile (1) {}"), LOOP),
     (ghost("/@ loop pragma UNROLL 1; @/ while (1) {}"), LOOP),
     (ghost("/@ loop pragma UNROLL 1; loop variant 0; @/ while (1) {}"), "a pragma"),

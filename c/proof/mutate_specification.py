@@ -76,6 +76,7 @@ SAME = {
     *(f"n {it} : uuid_value(uuid, n - 1) * 256 + uuid[n - 1];" for it in ("< 0 ? 0", "<= 0 ? 1")),
     r"ensures \result == (number_of(number) <= ACSL_2_64 ? 1 : 0);",
     r"ensures \result == (number_of(number) < ACSL_2_64 ? 1 : 1);",
+    "(ACSL_HAS(text, start, byte_text, 7) && ACSL_ESCAPED(text, start + (7 - 1), byte) \\",
     "ACSL_HAS(text, 1, invalid_text, 35) && ACSL_BYTE_AT_INDEX(text, 35, bad.byte, bad.index)) \\",
     "ACSL_HAS(text, 1, repeated_text, 21) && ACSL_BYTE_AT_INDEX(text, 21, bad.byte, bad.index)) \\",
     "ACSL_HAS(text, 0, repeated_text, 21) && ACSL_BYTE_AT_INDEX(text, (21 - 1), bad.byte, bad.index)) \\",

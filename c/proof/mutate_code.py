@@ -28,7 +28,7 @@ OPERATORS = [
 TEXT = (r'"(?=\w)', '"x')
 TABLES = [
     ("POWERS", NUMBER, "power"), ("GREATEST", NUMBER, "greatest"),
-    ("GREATEST_NARROW", "(?<!{)" + NUMBER, "greatest_narrow"),  # No number has no letters.
+    ("GREATEST_NARROW", "(?!^)" + NUMBER, "greatest_narrow"),  # No number has no letters.
     ("STANDARD", "'A'", "standard_letter"), ("STANDARD", r"\b10\b", "standard_byte"),
     ("ALTERNATIVE", "'A'", "alternative_letter"), ("ALTERNATIVE", r"\b10\b", "alternative_byte"),
 ]

@@ -80,6 +80,8 @@ SAME = {
     "ACSL_HAS(text, 1, invalid_text, 35) && ACSL_BYTE_AT_INDEX(text, 35, bad.byte, bad.index)) \\",
     "ACSL_HAS(text, 1, repeated_text, 21) && ACSL_BYTE_AT_INDEX(text, 21, bad.byte, bad.index)) \\",
     "ACSL_HAS(text, 0, repeated_text, 21) && ACSL_BYTE_AT_INDEX(text, (21 - 1), bad.byte, bad.index)) \\",
+    # It says more of a text that is not written, and no text has one byte.
+    *(rf"ensures ACSL_MESSAGE(BYTES(buffer), \result {it}, status, bad);" for it in (">= 0", "> 1")),
     # The first bad byte of n bytes is at n at most, and 1 is the greatest answer.
     "n > 0 && bad_index(letters, text, n) >= n && value(letters, text, n) == number;",
     "n < 0 ? 0 : bad_index(letters, text, n - 1) == n - 1 && digit(letters, text[n - 1]) < 62 ? n",

@@ -136,7 +136,7 @@ test('the memory does not grow twice if the engine aborts a call after it has gr
   assert.throws(() => copy.decode(text), { message: 'aborted' });
   const { byteLength } = instances[1].memory.buffer;
   assert.ok(byteLength > 400_000);
-  assert.equal(copy.decode(text), 1337n);
+  for (const long of [text.slice(-200_000), text]) assert.equal(copy.decode(long), 1337n);
   assert.equal(instances[1].memory.buffer.byteLength, byteLength);
 });
 

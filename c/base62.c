@@ -1636,7 +1636,7 @@ static void text_of(uint32_t status, base62_bad_byte bad, InlineText *result) {
         return;
     }
     if (status == NO_KEY) {
-        static const uint8_t part[] = "No text of so many letters begins with the prefix";
+        static const uint8_t part[] = "No string of this width begins with the prefix";
         fixed_text(TEXT(part), result);
         return;
     }
@@ -1646,7 +1646,7 @@ static void text_of(uint32_t status, base62_bad_byte bad, InlineText *result) {
         return;
     }
     if (status == NOT_CANONICAL) {
-        static const uint8_t part[] = "Encoded input begins with a needless zero";
+        static const uint8_t part[] = "Encoded input has a leading zero";
         fixed_text(TEXT(part), result);
         return;
     }

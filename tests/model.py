@@ -162,9 +162,9 @@ def message(fault: Result) -> str:
         "empty": "Encoded input is an empty string",
         "overflow": "Decoded number cannot fit into a `u128`",
         "byte": "Encoded input contains the invalid byte b'{}' at index {}",
-        "zero": "Encoded input begins with a needless zero",
+        "zero": "Encoded input has a leading zero",
         "narrow": "Buffer too small to encode the number",
-        "none": "No text of so many letters begins with the prefix",
+        "none": "No string of this width begins with the prefix",
         "repeated": "Alphabet repeats the byte b'{}' at index {}",
     }
     word, *named = fault
@@ -337,8 +337,8 @@ KNOWN_MESSAGES: list[tuple[str, Result]] = [
     ("Decoded number cannot fit into a `u128`", ("overflow",)),
     ("Encoded input is an empty string", ("empty",)),
     ("Buffer too small to encode the number", ("narrow",)),
-    ("Encoded input begins with a needless zero", ("zero",)),
-    ("No text of so many letters begins with the prefix", ("none",)),
+    ("Encoded input has a leading zero", ("zero",)),
+    ("No string of this width begins with the prefix", ("none",)),
 ]
 
 

@@ -173,11 +173,11 @@ size_t compute_count(base62_number n) {
     return count;
 }
 
-/* No shorter text denotes the number, and a longer one begins with a needless zero. */
+/* No shorter text denotes the number, and a longer one has a leading zero. */
 /*@ requires LETTERS_VALID && TEXT_VALID(p, n);
     assigns \nothing;
     ensures shortest: denotes(letters, p, n, number_of(number)) ==> digit_count(number_of(number)) <= n;
-    ensures needless: denotes(letters, p, n, number_of(number)) && n > 1 ==>
+    ensures leading_zero: denotes(letters, p, n, number_of(number)) && n > 1 ==>
         (p[0] == letters[0] <==> digit_count(number_of(number)) < n);
 */
 void shortest(const unsigned char *letters, const unsigned char *p, size_t n, base62_number number) {

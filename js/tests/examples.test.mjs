@@ -44,7 +44,7 @@ test('a route of Express', { skip: !existsSync(EXPRESS) && 'install node-express
   try {
     assert.deepEqual(await answer('LZ'), [200, '{"order":"LZ","of":"tea"}']);
     assert.equal((await answer('LY'))[0], 404);
-    const message = 'Encoded input begins with a needless zero';
+    const message = 'Encoded input has a leading zero';
     assert.deepEqual(await answer('0LZ'), [400, JSON.stringify({ code: 'NOT_CANONICAL', message })]);
     for (const wrong of ['LZ-', '%C3%A9', 'z'.repeat(22)]) assert.equal((await answer(wrong))[0], 400);
   } finally {

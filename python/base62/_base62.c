@@ -600,7 +600,7 @@ PyDoc_STRVAR(decode_canonical_doc,
              "(1337, 0)\n"
              ">>> decode_canonical(\"00LZ\")\n"
              "Traceback (most recent call last):\n"
-             "base62.NotCanonicalError: Encoded input begins with a needless zero");
+             "base62.NotCanonicalError: Encoded input has a leading zero");
 
 static PyObject *decode_canonical(PyObject *module, PyObject *const *args, Py_ssize_t nargs, PyObject *kwnames) {
     static const struct parameters signature = {"O|O:decode_canonical", {"text", "alphabet", NULL}, 1, 2};

@@ -99,7 +99,7 @@ def decode_canonical(text: Text, alphabet: AnyAlphabet = Alphabet.STANDARD) -> i
     (1337, 0)
     >>> decode_canonical("00LZ")
     Traceback (most recent call last):
-    base62.NotCanonicalError: Encoded input begins with a needless zero
+    base62.NotCanonicalError: Encoded input has a leading zero
     """
 
 def key_range(prefix: Text) -> tuple[int, int] | None:

@@ -73,7 +73,7 @@ class NotCanonicalError(DecodeError):
     1337
     >>> decode_canonical("00LZ")
     Traceback (most recent call last):
-    base62.NotCanonicalError: Encoded input begins with a needless zero
+    base62.NotCanonicalError: Encoded input has a leading zero
     """
 
     __module__ = "base62"

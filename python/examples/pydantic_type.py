@@ -11,7 +11,7 @@
 ...     except pydantic.ValidationError as error:
 ...         print(error.errors()[0]["msg"])
 Value error, Encoded input contains the invalid byte b'-' at index 2
-Value error, Encoded input begins with a needless zero
+Value error, Encoded input has a leading zero
 Value error, the number is not from 0 to 2**128 - 1
 Value error, the number is not from 0 to 2**128 - 1
 """

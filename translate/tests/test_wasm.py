@@ -15,7 +15,7 @@ OTHER_TOOL = "#!/bin/sh\necho Debian clang version 14.0.7\n"
 
 # A file, bytes of it, and their replacement.
 PLANTED = [
-    ("js/base62.wasm", b"needless zero", b"needless Zero"),
+    ("js/base62.wasm", b"leading zero", b"leading Zero"),
     ("js/wasm.js", b"do not edit.\n", b"do not edit.\r"),
     ("js/constants.js", b"STANDARD_LETTERS = '01", b"STANDARD_LETTERS = '10"),
     ("js/module.cjs", b"? calls.base62_decode_canonical_with(", b"? calls.base62_decode_with("),

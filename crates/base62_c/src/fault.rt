@@ -21,9 +21,9 @@ pub(crate) fn text_of(status: u32, bad: BadByte) -> InlineText<MAX_FAULT_TEXT>
         EMPTY_INPUT => DecodeError::EmptyInput.text(),
         INVALID_BYTE => DecodeError::InvalidBase62Byte(bad.byte, bad.index).text(),
         OVERFLOW => DecodeError::ArithmeticOverflow.text(),
-        NO_KEY => fixed_text("No text of so many letters begins with the prefix"),
+        NO_KEY => fixed_text("No string of this width begins with the prefix"),
         REPEATED_LETTER => AlphabetError::Repeated(bad.byte, bad.index).text(),
-        NOT_CANONICAL => fixed_text("Encoded input begins with a needless zero"),
+        NOT_CANONICAL => fixed_text("Encoded input has a leading zero"),
         _ => InlineText::new(),
     }
 }

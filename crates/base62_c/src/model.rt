@@ -159,9 +159,9 @@ pub fn status_texts_by_example()
     ensures invalid_byte { status_text 3 33 5
         ≡ codes "Encoded input contains the invalid byte b'!' at index 5" }
     ensures overflow { status_text 4 33 5 ≡ codes "Decoded number cannot fit into a `u128`" }
-    ensures no_key { status_text 5 33 5 ≡ codes "No text of so many letters begins with the prefix" }
+    ensures no_key { status_text 5 33 5 ≡ codes "No string of this width begins with the prefix" }
     ensures repeated_letter { status_text 6 33 5
         ≡ codes "Alphabet repeats the byte b'!' at index 5" }
-    ensures not_canonical { status_text 7 33 5 ≡ codes "Encoded input begins with a needless zero" }
+    ensures not_canonical { status_text 7 33 5 ≡ codes "Encoded input has a leading zero" }
     ensures no_status { status_text 8 33 5 ≡ [] }
 {}

@@ -48,7 +48,7 @@ impl Options {
     pub(crate) fn decode(&self, text: &[u8], out: &mut Bytes) -> Result<(), Box<dyn Error>> {
         let number = if self.is_strict {
             let number = base62::decode_canonical_with(&self.alphabet, text)?;
-            number.ok_or("Encoded input begins with a needless zero")?
+            number.ok_or("Encoded input has a leading zero")?
         } else {
             base62::decode_with(&self.alphabet, text)?
         };
@@ -69,7 +69,7 @@ impl Options {
     pub(crate) fn range(&self, prefix: &[u8], out: &mut Bytes) -> Result<(), Box<dyn Error>> {
         let width = self.width.unwrap_or(MAX_DIGITS);
         let range = base62::fixed_range_with(&self.alphabet, width, prefix)?;
-        let range = range.ok_or("No text of so many letters begins with the prefix")?;
+        let range = range.ok_or("No string of this width begins with the prefix")?;
         Ok(write!(out, "{} {}", range.start(), range.end())?)
     }
 }

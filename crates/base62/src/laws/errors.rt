@@ -1,0 +1,69 @@
+//! The laws on errors.
+
+ghost use Rattle.std.specs.Prelude.{◌≡◌, ◌<◌, ◌↔◌, true};
+ghost use Rattle.std.specs.declared.cmp.Ordering.TheVariants.{Equal};
+ghost use Rattle.base62.specs.Value.{value};
+ghost use Rattle.base62.specs.Decoding.{decoding};
+ghost use Rattle.base62.specs.Fault.{alphabet_error_order, decode_error_order};
+ghost use Rattle.base62.specs.declared.fault.AlphabetError.{AlphabetError};
+ghost use Rattle.base62.specs.declared.fault.DecodeError.{DecodeError};
+ghost use Rattle.base62.specs.declared.fault.EncodeError.{EncodeError};
+
+use crate::fault;
+use std::hash::Hash;
+
+/// The order of errors of decoding: an overflow is least, then comes the empty input, and then bad
+/// bytes, by byte and then by index. Two errors are equal, and compare as equal, exactly if they
+/// are the same value. Equal errors have equal hashes.
+pub fn order_of_decode_errors()
+    ensures order { (d e : DecodeError)
+        → ⟦<fault::DecodeError as Ord>⟧.cmp d e ≡ decode_error_order d e }
+    ensures equal { (d e : DecodeError)
+        → (⟦<fault::DecodeError as PartialEq>⟧.eq d e ≡ true) ↔ (d ≡ e) }
+    ensures compare_equal { (d e : DecodeError)
+        → (⟦<fault::DecodeError as Ord>⟧.cmp d e ≡ Equal) ↔ (d ≡ e) }
+    ensures hashed_alike { (d e : DecodeError)
+        → ⟦<fault::DecodeError as PartialEq>⟧.eq d e ≡ true
+        → ⟦<fault::DecodeError as Hash>⟧.hash_input d
+        ≡ ⟦<fault::DecodeError as Hash>⟧.hash_input e }
+{}
+
+/// There is one error of encoding. It is equal to itself, compares as equal and has one hash.
+pub fn order_of_encode_errors()
+    ensures equal { (d e : EncodeError) → ⟦<fault::EncodeError as PartialEq>⟧.eq d e ≡ true }
+    ensures compare_equal { (d e : EncodeError) → ⟦<fault::EncodeError as Ord>⟧.cmp d e ≡ Equal }
+    ensures hashed_alike { (d e : EncodeError)
+        → ⟦<fault::EncodeError as Hash>⟧.hash_input d
+        ≡ ⟦<fault::EncodeError as Hash>⟧.hash_input e }
+{}
+
+/// The order of errors of alphabets: by byte and then by index. Two are equal, and compare as
+/// equal, exactly if they are the same value. Equal errors have equal hashes.
+pub fn order_of_alphabet_errors()
+    ensures order { (d e : AlphabetError)
+        → ⟦<fault::AlphabetError as Ord>⟧.cmp d e ≡ alphabet_error_order d e }
+    ensures equal { (d e : AlphabetError)
+        → (⟦<fault::AlphabetError as PartialEq>⟧.eq d e ≡ true) ↔ (d ≡ e) }
+    ensures compare_equal { (d e : AlphabetError)
+        → (⟦<fault::AlphabetError as Ord>⟧.cmp d e ≡ Equal) ↔ (d ≡ e) }
+    ensures hashed_alike { (d e : AlphabetError)
+        → ⟦<fault::AlphabetError as PartialEq>⟧.eq d e ≡ true
+        → ⟦<fault::AlphabetError as Hash>⟧.hash_input d
+        ≡ ⟦<fault::AlphabetError as Hash>⟧.hash_input e }
+{}
+
+/// A clone of an error equals it, and cloning never fails.
+pub fn clones_of_errors()
+    ensures decode_error { (d e : DecodeError) → ⟦<fault::DecodeError as Clone>⟧.is_clone d e
+        → e ≡ d }
+    ensures decode_error_always { (d : DecodeError)
+        → ⟦<fault::DecodeError as Clone>⟧.is_infallible d }
+    ensures encode_error { (d e : EncodeError) → ⟦<fault::EncodeError as Clone>⟧.is_clone d e
+        → e ≡ d }
+    ensures encode_error_always { (d : EncodeError)
+        → ⟦<fault::EncodeError as Clone>⟧.is_infallible d }
+    ensures alphabet_error { (d e : AlphabetError) → ⟦<fault::AlphabetError as Clone>⟧.is_clone d e
+        → e ≡ d }
+    ensures alphabet_error_always { (d : AlphabetError)
+        → ⟦<fault::AlphabetError as Clone>⟧.is_infallible d }
+{}

@@ -1,0 +1,370 @@
+/* SPDX-License-Identifier: MIT */
+/* Copyright (c) 2026 the maintainers of base62 for Rattle */
+
+/* Hand-written. The functions of DuckDB's extension: each loops over the rows of a chunk, calls base62.h for each, and
+ * writes a result or sets the error of the query. */
+#include "common.h"
+
+#define DUCKDB_EXTENSION_NAME base62
+#include <duckdb_extension.h>
+
+DUCKDB_EXTENSION_EXTERN
+
+/* A vector of arguments or of results. DuckDB has flattened it: each row has a value or is null. */
+struct column {
+    duckdb_type type;
+    void *data;
+    uint64_t *validity;
+};
+
+/* What tells functions apart that share code. Its address is the extra information of a function. */
+static char canonical_tag, last_tag;
+
+/* One call of a function, for up to some thousand rows. */
+struct chunk {
+    duckdb_function_info info;
+    const void *tag;
+    idx_t row, rows;
+    idx_t argument_count;
+    struct column arguments[3], results;
+    duckdb_vector output;
+    /* The alphabet of an earlier row, since most queries have the same one in all rows. */
+    bool has_alphabet;
+    char letters[BASE62_ALPHABET_LENGTH];
+    base62_alphabet alphabet;
+};
+
+/* Rows */
+
+static struct column column_of(duckdb_vector vector) {
+    duckdb_logical_type type = duckdb_vector_get_column_type(vector);
+    struct column column = {duckdb_get_type_id(type), duckdb_vector_get_data(vector), duckdb_vector_get_validity(vector)};
+    duckdb_destroy_logical_type(&type);
+    return column;
+}
+
+static void begin(struct chunk *chunk, duckdb_function_info info, duckdb_data_chunk input, duckdb_vector output) {
+    chunk->info = info;
+    chunk->tag = duckdb_scalar_function_get_extra_info(info);
+    chunk->row = 0;
+    chunk->rows = duckdb_data_chunk_get_size(input);
+    chunk->argument_count = duckdb_data_chunk_get_column_count(input);
+    for (idx_t i = 0; i < chunk->argument_count; i++)
+        chunk->arguments[i] = column_of(duckdb_data_chunk_get_vector(input, i));
+    chunk->output = output;
+    chunk->results = column_of(output);
+    chunk->has_alphabet = false;
+}
+
+static void set_null(struct chunk *chunk) {
+    duckdb_vector_ensure_validity_writable(chunk->output);
+    duckdb_validity_set_row_invalid(duckdb_vector_get_validity(chunk->output), chunk->row);
+}
+
+static bool is_null(const struct chunk *chunk) {
+    for (idx_t i = 0; i < chunk->argument_count; i++) {
+        uint64_t *validity = chunk->arguments[i].validity;
+        if (validity != NULL && !duckdb_validity_row_is_valid(validity, chunk->row))
+            return true;
+    }
+    return false;
+}
+
+/* Whether chunk->row is a row to compute. Rows with a null argument before it become null. */
+static bool skip_nulls(struct chunk *chunk) {
+    while (chunk->row < chunk->rows && is_null(chunk)) {
+        set_null(chunk);
+        chunk->row++;
+    }
+    return chunk->row < chunk->rows;
+}
+
+/* Ends the query. Returns false. */
+static bool set_error(const struct chunk *chunk, const call_error *error) {
+    char message[sizeof "base62: " + sizeof error->message] = "base62: ";
+    memcpy(message + strlen(message), error->message, error->length);
+    duckdb_scalar_function_set_error(chunk->info, message);
+    return false;
+}
+
+/* Arguments of a row */
+
+/* DuckDB stores a UUID as a signed integer that sorts as the UUID does. */
+#define UUID_SIGN (UINT64_C(1) << 63)
+
+static bool number_at(const struct chunk *chunk, base62_number *number) {
+    const struct column *column = &chunk->arguments[0];
+    const uint64_t *words = (const uint64_t *)column->data + chunk->row;
+    call_error error;
+    if (column->type == DUCKDB_TYPE_UBIGINT) {
+        *number = base62_from_u64(*words);
+        return true;
+    }
+    if (column->type == DUCKDB_TYPE_BIGINT)
+        return number_of_int64((int64_t)*words, number, &error) || set_error(chunk, &error);
+    words += chunk->row;
+    /* The upper half has the sign. */
+    if (column->type == DUCKDB_TYPE_HUGEINT && !number_of_int64((int64_t)words[1], number, &error))
+        return set_error(chunk, &error);
+    *number = (base62_number){words[1], words[0]};
+    if (column->type == DUCKDB_TYPE_UUID)
+        number->high ^= UUID_SIGN;
+    return true;
+}
+
+static const char *text_at(const struct chunk *chunk, idx_t argument, size_t *length) {
+    duckdb_string_t *text = (duckdb_string_t *)chunk->arguments[argument].data + chunk->row;
+    *length = duckdb_string_t_length(*text);
+    return duckdb_string_t_data(text);
+}
+
+static bool width_at(const struct chunk *chunk, size_t *width) {
+    int64_t given = ((const int64_t *)chunk->arguments[1].data)[chunk->row];
+    call_error error;
+    if (!check_width(given, &error))
+        return set_error(chunk, &error);
+    *width = (size_t)given;
+    return true;
+}
+
+/* Points *alphabet to the alphabet of an argument, or to NULL if there is no such argument. */
+static bool alphabet_at(struct chunk *chunk, idx_t argument, const base62_alphabet **alphabet) {
+    size_t length;
+    const char *letters;
+    call_error error;
+    *alphabet = NULL;
+    if (argument >= chunk->argument_count)
+        return true;
+    *alphabet = &chunk->alphabet;
+    letters = text_at(chunk, argument, &length);
+    if (chunk->has_alphabet && length == sizeof chunk->letters && memcmp(letters, chunk->letters, length) == 0)
+        return true;
+    chunk->has_alphabet = create_alphabet(letters, length, &chunk->alphabet, &error);
+    if (!chunk->has_alphabet)
+        return set_error(chunk, &error);
+    memcpy(chunk->letters, letters, length);
+    return true;
+}
+
+/* Results of a row */
+
+/* DuckDB stores a short string in its row, with zeros behind it, and copies a longer one. */
+static void set_text(struct chunk *chunk, const char *text, size_t length) {
+    duckdb_string_t short_text = {{.inlined = {(uint32_t)length, ""}}};
+    if (length <= sizeof short_text.value.inlined.inlined) {
+        memcpy(short_text.value.inlined.inlined, text, length);
+        ((duckdb_string_t *)chunk->results.data)[chunk->row] = short_text;
+        return;
+    }
+    duckdb_vector_assign_string_element_len(chunk->output, chunk->row, text, length);
+}
+
+static void set_number(struct chunk *chunk, base62_number number) {
+    duckdb_uhugeint value = {number.low, number.high};
+    if (chunk->results.type == DUCKDB_TYPE_UUID)
+        value.upper ^= UUID_SIGN;
+    ((duckdb_uhugeint *)chunk->results.data)[chunk->row] = value;
+}
+
+static bool set_fixed(struct chunk *chunk, const base62_alphabet *alphabet, base62_number number, size_t width) {
+    char text[MAX_WIDTH];
+    call_error error;
+    if (!encode_width(alphabet, number, text, width, &error))
+        return set_error(chunk, &error);
+    set_text(chunk, text, width);
+    return true;
+}
+
+/* Functions. Each computes one row, and returns false after an error. */
+
+static inline bool encode(struct chunk *chunk) {
+    base62_number number;
+    const base62_alphabet *alphabet;
+    char text[BASE62_MAX_DIGITS];
+    if (!number_at(chunk, &number) || !alphabet_at(chunk, 1, &alphabet))
+        return false;
+    set_text(chunk, text, encode_shortest(alphabet, number, text));
+    return true;
+}
+
+static inline bool encode_key(struct chunk *chunk) {
+    base62_number number;
+    return number_at(chunk, &number) && set_fixed(chunk, NULL, number, BASE62_KEY_LENGTH);
+}
+
+static inline bool encode_fixed(struct chunk *chunk) {
+    base62_number number;
+    size_t width;
+    const base62_alphabet *alphabet;
+    return number_at(chunk, &number) && width_at(chunk, &width) && alphabet_at(chunk, 2, &alphabet) &&
+           set_fixed(chunk, alphabet, number, width);
+}
+
+static inline bool decode(struct chunk *chunk) {
+    size_t length;
+    const base62_alphabet *alphabet;
+    const char *text = text_at(chunk, 0, &length);
+    base62_number number;
+    call_error error;
+    if (!alphabet_at(chunk, 1, &alphabet))
+        return false;
+    if (!decode_text(alphabet, text, length, chunk->tag == &canonical_tag, &number, &error))
+        return set_error(chunk, &error);
+    set_number(chunk, number);
+    return true;
+}
+
+static inline bool is_text(struct chunk *chunk) {
+    size_t length;
+    const base62_alphabet *alphabet;
+    const char *text = text_at(chunk, 0, &length);
+    base62_number number;
+    call_error error;
+    if (!alphabet_at(chunk, 1, &alphabet))
+        return false;
+    ((bool *)chunk->results.data)[chunk->row] =
+        decode_text(alphabet, text, length, chunk->tag == &canonical_tag, &number, &error);
+    return true;
+}
+
+/* Finds the first or the last number whose string of the width begins with the prefix. If there is none, the row becomes
+ * null. */
+static bool bound_at(struct chunk *chunk, size_t width, const base62_alphabet *alphabet, bool *empty, base62_number *bound) {
+    size_t length;
+    const char *prefix = text_at(chunk, 0, &length);
+    base62_range range;
+    call_error error;
+    if (!range_of_prefix(alphabet, prefix, length, width, &range, empty, &error))
+        return set_error(chunk, &error);
+    if (*empty)
+        set_null(chunk);
+    else
+        *bound = chunk->tag == &last_tag ? range.greatest : range.least;
+    return true;
+}
+
+static inline bool key_bound(struct chunk *chunk) {
+    size_t width = BASE62_KEY_LENGTH;
+    bool empty;
+    base62_number bound;
+    if ((chunk->argument_count > 1 && !width_at(chunk, &width)) || !bound_at(chunk, width, NULL, &empty, &bound))
+        return false;
+    return empty || set_fixed(chunk, NULL, bound, width);
+}
+
+static inline bool range_bound(struct chunk *chunk) {
+    size_t width;
+    const base62_alphabet *alphabet;
+    bool empty;
+    base62_number bound;
+    if (!width_at(chunk, &width) || !alphabet_at(chunk, 2, &alphabet) ||
+        !bound_at(chunk, width, alphabet, &empty, &bound))
+        return false;
+    if (!empty)
+        set_number(chunk, bound);
+    return true;
+}
+
+static inline bool version(struct chunk *chunk) {
+    set_text(chunk, BASE62_VERSION, strlen(BASE62_VERSION));
+    return true;
+}
+
+#define OVER_ROWS(function)                                                                                            \
+    static void function##_rows(duckdb_function_info info, duckdb_data_chunk input, duckdb_vector output) {            \
+        struct chunk chunk;                                                                                                 \
+        begin(&chunk, info, input, output);                                                                            \
+        for (; skip_nulls(&chunk); chunk.row++)                                                                        \
+            if (!function(&chunk))                                                                                     \
+                return;                                                                                                \
+    }
+
+OVER_ROWS(encode)
+OVER_ROWS(encode_key)
+OVER_ROWS(encode_fixed)
+OVER_ROWS(decode)
+OVER_ROWS(is_text)
+OVER_ROWS(key_bound)
+OVER_ROWS(range_bound)
+OVER_ROWS(version)
+
+/* The extension */
+
+#define NUMBER DUCKDB_TYPE_UHUGEINT
+#define UUID DUCKDB_TYPE_UUID
+#define TEXT DUCKDB_TYPE_VARCHAR
+#define WIDTH DUCKDB_TYPE_BIGINT
+
+/* The types of a first parameter. DuckDB converts smaller integers to these. */
+static const duckdb_type number_types[] = {DUCKDB_TYPE_BIGINT, DUCKDB_TYPE_UBIGINT, DUCKDB_TYPE_HUGEINT, NUMBER, UUID, 0};
+static const duckdb_type no_types[] = {TEXT, 0};
+static const duckdb_type text_types[] = {TEXT, DUCKDB_TYPE_BLOB, 0};
+
+static const struct function {
+    const char *name;
+    /* The parameters beyond min_arguments may be omitted. */
+    idx_t min_arguments, max_arguments;
+    const duckdb_type *first;
+    duckdb_type rest[2], result;
+    void *tag;
+    duckdb_scalar_function_t call;
+} functions[] = {
+    {"base62_encode", 1, 2, number_types, {TEXT}, TEXT, NULL, encode_rows},
+    {"base62_decode", 1, 2, text_types, {TEXT}, NUMBER, NULL, decode_rows},
+    {"base62_decode_uuid", 1, 2, text_types, {TEXT}, UUID, NULL, decode_rows},
+    {"base62_decode_canonical", 1, 2, text_types, {TEXT}, NUMBER, &canonical_tag, decode_rows},
+    {"base62_decode_uuid_canonical", 1, 2, text_types, {TEXT}, UUID, &canonical_tag, decode_rows},
+    {"base62_is_text", 1, 2, text_types, {TEXT}, DUCKDB_TYPE_BOOLEAN, NULL, is_text_rows},
+    {"base62_is_canonical", 1, 2, text_types, {TEXT}, DUCKDB_TYPE_BOOLEAN, &canonical_tag, is_text_rows},
+    {"base62_encode_key", 1, 1, number_types, {0}, TEXT, NULL, encode_key_rows},
+    {"base62_encode_fixed", 2, 3, number_types, {WIDTH, TEXT}, TEXT, NULL, encode_fixed_rows},
+    {"base62_key_first", 1, 2, text_types, {WIDTH}, TEXT, NULL, key_bound_rows},
+    {"base62_key_last", 1, 2, text_types, {WIDTH}, TEXT, &last_tag, key_bound_rows},
+    {"base62_range_first", 2, 3, text_types, {WIDTH, TEXT}, NUMBER, NULL, range_bound_rows},
+    {"base62_range_last", 2, 3, text_types, {WIDTH, TEXT}, NUMBER, &last_tag, range_bound_rows},
+    {"base62_version", 0, 0, no_types, {0}, TEXT, NULL, version_rows},
+};
+
+static void set_type(duckdb_scalar_function function, duckdb_type type,
+                     void (*set)(duckdb_scalar_function, duckdb_logical_type)) {
+    duckdb_logical_type logical = duckdb_create_logical_type(type);
+    set(function, logical);
+    duckdb_destroy_logical_type(&logical);
+}
+
+/* With the first arguments, of which the very first has this type. */
+static bool add_overload(duckdb_scalar_function_set set, const struct function *function, idx_t argument_count,
+                         duckdb_type first) {
+    duckdb_scalar_function overload = duckdb_create_scalar_function();
+    bool added;
+    duckdb_scalar_function_set_name(overload, function->name);
+    for (idx_t i = 0; i < argument_count; i++)
+        set_type(overload, i == 0 ? first : function->rest[i - 1], duckdb_scalar_function_add_parameter);
+    set_type(overload, function->result, duckdb_scalar_function_set_return_type);
+    duckdb_scalar_function_set_extra_info(overload, function->tag, NULL);
+    duckdb_scalar_function_set_function(overload, function->call);
+    added = duckdb_add_scalar_function_to_set(set, overload) == DuckDBSuccess;
+    duckdb_destroy_scalar_function(&overload);
+    return added;
+}
+
+static bool create_function(duckdb_connection connection, const struct function *function) {
+    duckdb_scalar_function_set set = duckdb_create_scalar_function_set(function->name);
+    bool created = true;
+    for (idx_t n = function->min_arguments; n <= function->max_arguments; n++)
+        for (const duckdb_type *first = function->first; created && *first != 0; first++)
+            created = add_overload(set, function, n, *first);
+    created = created && duckdb_register_scalar_function_set(connection, set) == DuckDBSuccess;
+    duckdb_destroy_scalar_function_set(&set);
+    return created;
+}
+
+DUCKDB_EXTENSION_ENTRYPOINT(duckdb_connection connection, duckdb_extension_info info,
+                            struct duckdb_extension_access *access) {
+    for (size_t i = 0; i < sizeof functions / sizeof *functions; i++)
+        if (!create_function(connection, &functions[i])) {
+            access->set_error(info, "base62: the functions could not be created");
+            return false;
+        }
+    return true;
+}

@@ -30,6 +30,7 @@ def exported() -> dict[str, set[str]]:
         "Python": set(python()),
         "JavaScript": set(re.findall(r"\w+", of_javascript)),
         "SQLite": set(re.findall(r'\{"(\w+)",', text("sql/sqlite/functions.c"))),
+        "DuckDB": set(re.findall(r'\{"(base62_\w+)",', text("sql/duckdb/functions.c"))),
         "PostgreSQL": set(re.findall(r"CREATE FUNCTION (\w+)", text("sql/postgresql/*.sql"))),
     }
 

@@ -19,6 +19,7 @@
  *     let x = f()?;       x = f(); if (!x.is_ok) return err_..(x.err); and then x.ok
  *     InlineText          a struct of the caller: a function that takes or returns one gets a pointer to it
  *     u128                a struct of two halves, and the functions u128_..
+ *     const, static       a macro or a constant with B62_ before its name, as headers define OK, TEXT and OVERFLOW
  *
  * Indexes are not checked: the proofs show that each is in bounds. Nothing is allocated, and there is no state. It is
  * C99, for machines of 32 or 64 bits and of either byte order. With BASE62_NO_INT128 it uses no integer of 128 bits.
@@ -38,12 +39,14 @@
 #endif
 
 #ifdef __GNUC__
-#define ALWAYS_INLINE inline __attribute__((__always_inline__))
+#define B62_ALWAYS_INLINE inline __attribute__((__always_inline__))
 #else
-#define ALWAYS_INLINE inline
+#define B62_ALWAYS_INLINE inline
 #endif
 #ifdef _MSC_VER
-#define restrict __restrict
+#define B62_RESTRICT __restrict
+#else
+#define B62_RESTRICT restrict
 #endif
 #if defined __GNUC__ && !defined __clang__ && __STDC_HOSTED__
 /* GCC packs the halves of a u128 into a vector register, only to unpack them again. With -ffreestanding this pragma
@@ -54,30 +57,31 @@
 /* Unsigned integers below 2^128, as two halves. Sums, differences and products are modulo 2^128. */
 typedef struct u128 { uint64_t high, low; } u128;
 
-static ALWAYS_INLINE u128 u128_of(uint64_t n) { return (u128){0, n}; }
-static ALWAYS_INLINE uint64_t u128_low(u128 a) { return a.low; }
-static ALWAYS_INLINE u128 u128_and(u128 a, u128 b) { return (u128){a.high & b.high, a.low & b.low}; }
-static ALWAYS_INLINE u128 u128_or(u128 a, u128 b) { return (u128){a.high | b.high, a.low | b.low}; }
-static ALWAYS_INLINE u128 u128_sub(u128 a, u128 b) { return (u128){a.high - b.high - (a.low < b.low), a.low - b.low}; }
-static ALWAYS_INLINE bool u128_less(u128 a, u128 b) { return a.high == b.high ? a.low < b.low : a.high < b.high; }
-static ALWAYS_INLINE bool u128_equal(u128 a, u128 b) { return a.high == b.high && a.low == b.low; }
+static B62_ALWAYS_INLINE u128 u128_of(uint64_t n) { return (u128){0, n}; }
+static B62_ALWAYS_INLINE uint64_t u128_low(u128 a) { return a.low; }
+static B62_ALWAYS_INLINE u128 u128_and(u128 a, u128 b) { return (u128){a.high & b.high, a.low & b.low}; }
+static B62_ALWAYS_INLINE u128 u128_or(u128 a, u128 b) { return (u128){a.high | b.high, a.low | b.low}; }
+static B62_ALWAYS_INLINE bool u128_less(u128 a, u128 b) { return a.high == b.high ? a.low < b.low : a.high < b.high; }
+static B62_ALWAYS_INLINE bool u128_equal(u128 a, u128 b) { return a.high == b.high && a.low == b.low; }
 
-static ALWAYS_INLINE u128 u128_add(u128 a, u128 b) {
+static B62_ALWAYS_INLINE u128 u128_add(u128 a, u128 b) {
     const uint64_t low = a.low + b.low;
     return (u128){a.high + b.high + (low < a.low), low};
 }
 
-/* By 64 bits or more. */
-static ALWAYS_INLINE u128 u128_shift_left(u128 a, unsigned bits) { return (u128){a.low << (bits - 64), 0}; }
+static B62_ALWAYS_INLINE u128 u128_sub(u128 a, u128 b) {
+    return (u128){a.high - b.high - (a.low < b.low), a.low - b.low};
+}
 
-/* By one bit or more. */
-static ALWAYS_INLINE u128 u128_shift_right(u128 a, unsigned bits) {
-    if (bits >= 64) return (u128){0, a.high >> (bits - 64)};
+static B62_ALWAYS_INLINE u128 u128_shift_left_64(u128 a) { return (u128){a.low, 0}; }
+static B62_ALWAYS_INLINE u128 u128_shift_right_64(u128 a) { return (u128){0, a.high}; }
+
+static B62_ALWAYS_INLINE u128 u128_shift_right_1_to_63(u128 a, unsigned bits) {
     return (u128){a.high >> bits, a.low >> bits | a.high << (64 - bits)};
 }
 
 /* The whole product of two 64-bit integers: by a 128-bit one if the compiler has those, or else by 32-bit halves. */
-static ALWAYS_INLINE u128 u128_mul_64(uint64_t a, uint64_t b) {
+static B62_ALWAYS_INLINE u128 u128_mul_64(uint64_t a, uint64_t b) {
 #if defined __SIZEOF_INT128__ && !defined BASE62_NO_INT128
     const base62_u128 product = (base62_u128)a * b;
     return (u128){(uint64_t)(product >> 64), (uint64_t)product};
@@ -88,20 +92,20 @@ static ALWAYS_INLINE u128 u128_mul_64(uint64_t a, uint64_t b) {
 #endif
 }
 
-static ALWAYS_INLINE u128 u128_mul(u128 a, u128 b) {
+static B62_ALWAYS_INLINE u128 u128_mul(u128 a, u128 b) {
     const u128 low = u128_mul_64(a.low, b.low);
     return (u128){low.high + a.high * b.low + a.low * b.high, low.low};
 }
 
 typedef struct option_u128 { bool is_some; u128 some; } option_u128;
 
-static ALWAYS_INLINE option_u128 u128_checked_add(u128 a, u128 b) {
+static B62_ALWAYS_INLINE option_u128 u128_checked_add(u128 a, u128 b) {
     const u128 sum = u128_add(a, b);
     return (option_u128){.is_some = !u128_less(sum, a), .some = sum};
 }
 
 /* If both upper halves are nonzero, the product overflows. Otherwise one cross product is 0. */
-static ALWAYS_INLINE option_u128 u128_checked_mul(u128 a, u128 b) {
+static B62_ALWAYS_INLINE option_u128 u128_checked_mul(u128 a, u128 b) {
     const u128 low = u128_mul_64(a.low, b.low);
     const u128 cross = a.high == 0 ? u128_mul_64(a.low, b.high) : u128_mul_64(a.high, b.low);
     const uint64_t high = low.high + cross.low;
@@ -109,7 +113,7 @@ static ALWAYS_INLINE option_u128 u128_checked_mul(u128 a, u128 b) {
     return (option_u128){.is_some = fits, .some = {high, low.low}};
 }
 
-static ALWAYS_INLINE u128 u128_from_be_bytes(const uint8_t bytes[16]) {
+static B62_ALWAYS_INLINE u128 u128_from_be_bytes(const uint8_t bytes[16]) {
     uint64_t high = 0, low = 0;
     for (int i = 0; i < 8; i++) {
         high = high * 256 + bytes[i];
@@ -118,7 +122,7 @@ static ALWAYS_INLINE u128 u128_from_be_bytes(const uint8_t bytes[16]) {
     return (u128){high, low};
 }
 
-static ALWAYS_INLINE void u128_to_be_bytes(u128 a, uint8_t bytes[16]) {
+static B62_ALWAYS_INLINE void u128_to_be_bytes(u128 a, uint8_t bytes[16]) {
     for (int i = 8; i > 0; i--) {
         bytes[i - 1] = (uint8_t)a.high;
         bytes[i + 7] = (uint8_t)a.low;
@@ -126,15 +130,15 @@ static ALWAYS_INLINE void u128_to_be_bytes(u128 a, uint8_t bytes[16]) {
     }
 }
 
-static ALWAYS_INLINE u128 u128_saturating_add(u128 a, u128 b) {
+static B62_ALWAYS_INLINE u128 u128_saturating_add(u128 a, u128 b) {
     const u128 sum = u128_add(a, b);
     return u128_less(sum, a) ? u128_sub(u128_of(0), u128_of(1)) : sum;
 }
 
-static ALWAYS_INLINE uint64_t u64_wrapping_add(uint64_t a, uint64_t b) { return a + b; }
+static B62_ALWAYS_INLINE uint64_t u64_wrapping_add(uint64_t a, uint64_t b) { return a + b; }
 
 /* The index of the highest bit of an integer that is not 0. */
-static ALWAYS_INLINE uint32_t u64_ilog2(uint64_t n) {
+static B62_ALWAYS_INLINE uint32_t u64_ilog2(uint64_t n) {
 #ifdef __GNUC__
     return 63 ^ (uint32_t)__builtin_clzll(n);
 #else
@@ -148,10 +152,10 @@ static ALWAYS_INLINE uint32_t u64_ilog2(uint64_t n) {
 #endif
 }
 
-static ALWAYS_INLINE size_t usize_min(size_t a, size_t b) { return a < b ? a : b; }
+static B62_ALWAYS_INLINE size_t usize_min(size_t a, size_t b) { return a < b ? a : b; }
 
 /* Compilers turn these loops into memcpy and memset. Provers understand them, and a length of 0 is fine. */
-static inline void copy_bytes(uint8_t *restrict to, const uint8_t *restrict from, size_t length) {
+static inline void copy_bytes(uint8_t *B62_RESTRICT to, const uint8_t *B62_RESTRICT from, size_t length) {
     for (size_t i = 0; i < length; i++) to[i] = from[i];
 }
 
@@ -160,7 +164,7 @@ static inline void fill_bytes(uint8_t *to, uint8_t byte, size_t length) {
 }
 
 /* The bytes of a constant text, and how many they are. */
-#define TEXT(text) text, sizeof(text) - 1
+#define B62_TEXT(text) text, sizeof(text) - 1
 
 /* A text of at most 77 bytes. */
 typedef struct InlineText {
@@ -187,7 +191,7 @@ typedef struct Tables {
     uint8_t digits[256];
 } Tables;
 
-static const Tables STANDARD = {
+static const Tables B62_STANDARD = {
     .letters = {'0', '1', '2', '3', '4', '5', '6', '7', '8', '9', 'A', 'B', 'C', 'D', 'E', 'F', 'G', 'H', 'I',
         'J', 'K', 'L', 'M', 'N', 'O', 'P', 'Q', 'R', 'S', 'T', 'U', 'V', 'W', 'X', 'Y', 'Z', 'a', 'b', 'c', 'd',
         'e', 'f', 'g', 'h', 'i', 'j', 'k', 'l', 'm', 'n', 'o', 'p', 'q', 'r', 's', 't', 'u', 'v', 'w', 'x', 'y',
@@ -206,7 +210,7 @@ static const Tables STANDARD = {
         255, 255, 255, 255, 255, 255, 255, 255, 255, 255, 255, 255},
 };
 
-static const Tables ALTERNATIVE = {
+static const Tables B62_ALTERNATIVE = {
     .letters = {'0', '1', '2', '3', '4', '5', '6', '7', '8', '9', 'a', 'b', 'c', 'd', 'e', 'f', 'g', 'h', 'i',
         'j', 'k', 'l', 'm', 'n', 'o', 'p', 'q', 'r', 's', 't', 'u', 'v', 'w', 'x', 'y', 'z', 'A', 'B', 'C', 'D',
         'E', 'F', 'G', 'H', 'I', 'J', 'K', 'L', 'M', 'N', 'O', 'P', 'Q', 'R', 'S', 'T', 'U', 'V', 'W', 'X', 'Y',
@@ -227,7 +231,7 @@ static const Tables ALTERNATIVE = {
 
 typedef struct pair_u8_u8 { uint8_t _0; uint8_t _1; } pair_u8_u8;
 
-static ALWAYS_INLINE pair_u8_u8 Tables_pair_of_digits(const Tables *self, uint64_t first_digit,
+static B62_ALWAYS_INLINE pair_u8_u8 Tables_pair_of_digits(const Tables *self, uint64_t first_digit,
     uint64_t second_digit);
 
 // Returns the digit of a byte, or 255 if it has none. Like `is_zero`, it is only hinted to be
@@ -242,7 +246,7 @@ static inline bool Tables_is_zero(const Tables *self, uint8_t byte) {
 }
 
 // Returns the letters of the two digits of a number.
-static ALWAYS_INLINE pair_u8_u8 Tables_pair(const Tables *self, uint32_t number) {
+static B62_ALWAYS_INLINE pair_u8_u8 Tables_pair(const Tables *self, uint32_t number) {
     //@ assert requires: number < 3844;
     // The quotient by 62, exact below 3844.
     const uint32_t quotient = (number * 4229) >> 18;
@@ -250,7 +254,7 @@ static ALWAYS_INLINE pair_u8_u8 Tables_pair(const Tables *self, uint32_t number)
 }
 
 // Returns the letters of two digits, in one step.
-static ALWAYS_INLINE pair_u8_u8 Tables_pair_of_digits(const Tables *self, uint64_t first_digit,
+static B62_ALWAYS_INLINE pair_u8_u8 Tables_pair_of_digits(const Tables *self, uint64_t first_digit,
     uint64_t second_digit) {
     //@ assert requires: first_digit < 62 && second_digit < 62;
     const uint8_t first = self->letters[first_digit];
@@ -259,19 +263,19 @@ static ALWAYS_INLINE pair_u8_u8 Tables_pair_of_digits(const Tables *self, uint64
 }
 
 // Returns the letter of a digit.
-static ALWAYS_INLINE uint8_t Tables_letter(const Tables *self, uint64_t digit) {
+static B62_ALWAYS_INLINE uint8_t Tables_letter(const Tables *self, uint64_t digit) {
     //@ assert requires: digit < 62;
     return self->letters[digit];
 }
 
 // Returns the tables of the standard alphabet.
-static ALWAYS_INLINE const Tables *standard_tables(void) {
-    return &STANDARD;
+static B62_ALWAYS_INLINE const Tables *standard_tables(void) {
+    return &B62_STANDARD;
 }
 
 // Returns the tables of the alternative alphabet.
-static ALWAYS_INLINE const Tables *alternative_tables(void) {
-    return &ALTERNATIVE;
+static B62_ALWAYS_INLINE const Tables *alternative_tables(void) {
+    return &B62_ALTERNATIVE;
 }
 
 
@@ -295,15 +299,15 @@ typedef struct DecodeError {
     struct { uint8_t _0; size_t _1; } InvalidBase62Byte;
 } DecodeError;
 
-static ALWAYS_INLINE DecodeError DecodeError_ArithmeticOverflow(void) {
+static B62_ALWAYS_INLINE DecodeError DecodeError_ArithmeticOverflow(void) {
     return (DecodeError){.tag = DecodeError_ArithmeticOverflow_tag};
 }
 
-static ALWAYS_INLINE DecodeError DecodeError_EmptyInput(void) {
+static B62_ALWAYS_INLINE DecodeError DecodeError_EmptyInput(void) {
     return (DecodeError){.tag = DecodeError_EmptyInput_tag};
 }
 
-static ALWAYS_INLINE DecodeError DecodeError_InvalidBase62Byte(uint8_t _0, size_t _1) {
+static B62_ALWAYS_INLINE DecodeError DecodeError_InvalidBase62Byte(uint8_t _0, size_t _1) {
     return (DecodeError){.tag = DecodeError_InvalidBase62Byte_tag, .InvalidBase62Byte = {_0, _1}};
 }
 
@@ -315,7 +319,7 @@ typedef struct EncodeError {
     } tag;
 } EncodeError;
 
-static ALWAYS_INLINE EncodeError EncodeError_BufferTooSmall(void) {
+static B62_ALWAYS_INLINE EncodeError EncodeError_BufferTooSmall(void) {
     return (EncodeError){.tag = EncodeError_BufferTooSmall_tag};
 }
 
@@ -325,7 +329,7 @@ typedef struct AlphabetError {
     struct { uint8_t _0; size_t _1; } Repeated;
 } AlphabetError;
 
-static ALWAYS_INLINE AlphabetError AlphabetError_Repeated(uint8_t _0, size_t _1) {
+static B62_ALWAYS_INLINE AlphabetError AlphabetError_Repeated(uint8_t _0, size_t _1) {
     return (AlphabetError){.Repeated = {_0, _1}};
 }
 
@@ -345,20 +349,20 @@ static void DecodeError_text(const DecodeError *self, InlineText *result) {
     if (self->tag == DecodeError_ArithmeticOverflow_tag) {
         static const uint8_t part[] = "Decoded number cannot fit into a `u128`";
         InlineText_new(result);
-        append(result, TEXT(part));
+        append(result, B62_TEXT(part));
         return;
     }
     if (self->tag == DecodeError_EmptyInput_tag) {
         static const uint8_t part[] = "Encoded input is an empty string";
         InlineText_new(result);
-        append(result, TEXT(part));
+        append(result, B62_TEXT(part));
         return;
     }
     const uint8_t byte = self->InvalidBase62Byte._0;
     const size_t index = self->InvalidBase62Byte._1;
     static const uint8_t part[] = "Encoded input contains the invalid ";
     InlineText_new(result);
-    append(result, TEXT(part));
+    append(result, B62_TEXT(part));
     append_byte_at_index(result, byte, index);
 }
 
@@ -367,7 +371,7 @@ static void EncodeError_text(const EncodeError *self, InlineText *result) {
     (void)self;
     static const uint8_t part[] = "Buffer too small to encode the number";
     InlineText_new(result);
-    append(result, TEXT(part));
+    append(result, B62_TEXT(part));
 }
 
 // Returns the error's message, at most 63 ASCII characters for any index.
@@ -378,7 +382,7 @@ static void AlphabetError_text(const AlphabetError *self, InlineText *result) {
     const uint8_t byte = self->Repeated._0;
     const size_t index = self->Repeated._1;
     InlineText_new(result);
-    append(result, TEXT(part));
+    append(result, B62_TEXT(part));
     append_byte_at_index(result, byte, index);
 }
 
@@ -386,41 +390,41 @@ static void AlphabetError_text(const AlphabetError *self, InlineText *result) {
 static void append_byte_at_index(InlineText *text, uint8_t byte, size_t index) {
     static const uint8_t part[] = "byte b'";
     static const uint8_t part_2[] = "' at index ";
-    append(text, TEXT(part));
+    append(text, B62_TEXT(part));
     append_escaped(text, byte);
-    append(text, TEXT(part_2));
+    append(text, B62_TEXT(part_2));
     append_decimal(text, index);
 }
 
 static void append_escaped(InlineText *text, uint8_t byte) {
     if (byte == '\t') {
         static const uint8_t part[] = "\\t";
-        append(text, TEXT(part));
+        append(text, B62_TEXT(part));
         return;
     }
     if (byte == '\n') {
         static const uint8_t part[] = "\\n";
-        append(text, TEXT(part));
+        append(text, B62_TEXT(part));
         return;
     }
     if (byte == '\r') {
         static const uint8_t part[] = "\\r";
-        append(text, TEXT(part));
+        append(text, B62_TEXT(part));
         return;
     }
     if (byte == '"') {
         static const uint8_t part[] = "\\\"";
-        append(text, TEXT(part));
+        append(text, B62_TEXT(part));
         return;
     }
     if (byte == '\'') {
         static const uint8_t part[] = "\\'";
-        append(text, TEXT(part));
+        append(text, B62_TEXT(part));
         return;
     }
     if (byte == '\\') {
         static const uint8_t part[] = "\\\\";
-        append(text, TEXT(part));
+        append(text, B62_TEXT(part));
         return;
     }
     if (byte >= 32 && byte <= 126) {
@@ -483,11 +487,11 @@ typedef char Alphabet_is_base62_alphabet[sizeof(Alphabet) == sizeof(base62_alpha
 
 typedef struct result_unit_AlphabetError { bool is_ok; AlphabetError err; } result_unit_AlphabetError;
 
-static ALWAYS_INLINE result_unit_AlphabetError ok_unit_AlphabetError(void) {
+static B62_ALWAYS_INLINE result_unit_AlphabetError ok_unit_AlphabetError(void) {
     return (result_unit_AlphabetError){.is_ok = true};
 }
 
-static ALWAYS_INLINE result_unit_AlphabetError err_unit_AlphabetError(AlphabetError err) {
+static B62_ALWAYS_INLINE result_unit_AlphabetError err_unit_AlphabetError(AlphabetError err) {
     return (result_unit_AlphabetError){.is_ok = false, .err = err};
 }
 
@@ -517,7 +521,7 @@ static result_unit_AlphabetError Alphabet_new(const uint8_t letters[62], Alphabe
 }
 
 // Returns the tables for encoding and decoding.
-static ALWAYS_INLINE const Tables *Alphabet_as_tables(const Alphabet *self) {
+static B62_ALWAYS_INLINE const Tables *Alphabet_as_tables(const Alphabet *self) {
     return &self->tables;
 }
 
@@ -526,18 +530,18 @@ static ALWAYS_INLINE const Tables *Alphabet_as_tables(const Alphabet *self) {
 
 // Powers of 62.
 
-#define POWER_2 ((uint32_t)3844)
-#define POWER_3 ((uint32_t)238328)
-#define POWER_4 ((uint32_t)14776336)
-#define POWER_5 UINT64_C(916132832)
-#define POWER_10 UINT64_C(839299365868340224)
+#define B62_POWER_2 ((uint32_t)3844)
+#define B62_POWER_3 ((uint32_t)238328)
+#define B62_POWER_4 ((uint32_t)14776336)
+#define B62_POWER_5 UINT64_C(916132832)
+#define B62_POWER_10 UINT64_C(839299365868340224)
 
-static const uint64_t POWERS[11] = {1, 62, (uint64_t)POWER_2, (uint64_t)POWER_3, (uint64_t)POWER_4, POWER_5,
-    UINT64_C(56800235584), UINT64_C(3521614606208), UINT64_C(218340105584896), UINT64_C(13537086546263552),
-    POWER_10};
+static const uint64_t B62_POWERS[11] = {1, 62, (uint64_t)B62_POWER_2, (uint64_t)B62_POWER_3,
+    (uint64_t)B62_POWER_4, B62_POWER_5, UINT64_C(56800235584), UINT64_C(3521614606208), UINT64_C(218340105584896),
+    UINT64_C(13537086546263552), B62_POWER_10};
 
 // At index k: the greatest number below 2^128 that k letters denote.
-static const u128 GREATEST[23] = {{0, 0}, {0, 61}, {0, 3843}, {0, 238327}, {0, 14776335}, {0, 916132831},
+static const u128 B62_GREATEST[23] = {{0, 0}, {0, 61}, {0, 3843}, {0, 238327}, {0, 14776335}, {0, 916132831},
     {0, UINT64_C(56800235583)}, {0, UINT64_C(3521614606207)}, {0, UINT64_C(218340105584895)},
     {0, UINT64_C(13537086546263551)}, {0, UINT64_C(839299365868340223)}, {0x2, 0xd227003d8d2af7ff},
     {0xae, 0xe5720ee830680fff}, {0x2a5b, 0x919f9c3bb933dfff}, {0xa422d, 0x44a7d676da903fff},
@@ -547,19 +551,19 @@ static const u128 GREATEST[23] = {{0, 0}, {0, 61}, {0, 3843}, {0, 238327}, {0, 1
     {0xffffffffffffffff, 0xffffffffffffffff}};
 
 // At index k: the greatest number below 2^64 that k letters denote.
-static const uint64_t GREATEST_NARROW[12] = {0, 61, 3843, 238327, 14776335, 916132831, UINT64_C(56800235583),
+static const uint64_t B62_GREATEST_NARROW[12] = {0, 61, 3843, 238327, 14776335, 916132831, UINT64_C(56800235583),
     UINT64_C(3521614606207), UINT64_C(218340105584895), UINT64_C(13537086546263551), UINT64_C(839299365868340223),
     UINT64_C(0xffffffffffffffff)};
 
 // Returns 62^k.
-static ALWAYS_INLINE uint64_t power(size_t k) {
+static B62_ALWAYS_INLINE uint64_t power(size_t k) {
     //@ assert requires: k <= 10;
-    return POWERS[k];
+    return B62_POWERS[k];
 }
 
 // Returns the greatest number below 2^128 that k letters denote.
 static u128 greatest(size_t k) {
-    return GREATEST[usize_min(k, 22)];
+    return B62_GREATEST[usize_min(k, 22)];
 }
 
 
@@ -568,22 +572,22 @@ static u128 greatest(size_t k) {
 // The length of encoded strings.
 
 // The length of the longest encoded string, that of 2^128 - 1.
-#define MAX_DIGITS ((size_t)22)
+#define B62_MAX_DIGITS ((size_t)22)
 
-static ALWAYS_INLINE size_t letter_count(u128 n);
-static ALWAYS_INLINE size_t narrow_count(uint64_t n);
-static ALWAYS_INLINE size_t wide_count(u128 n);
+static B62_ALWAYS_INLINE size_t letter_count(u128 n);
+static B62_ALWAYS_INLINE size_t narrow_count(uint64_t n);
+static B62_ALWAYS_INLINE size_t wide_count(u128 n);
 
 // Returns the length of the encoded string of `n`, 1 to 22, which all alphabets share.
 //
 // It is at most 6 for `n` below 2^32, 9 below 2^53, and 11 below 2^64. Never fails, and does not
 // allocate.
-static ALWAYS_INLINE size_t digit_count(u128 n) {
+static B62_ALWAYS_INLINE size_t digit_count(u128 n) {
     return letter_count(n);
 }
 
 // Returns the count of letters of a number of any size.
-static ALWAYS_INLINE size_t letter_count(u128 n) {
+static B62_ALWAYS_INLINE size_t letter_count(u128 n) {
     if (!u128_less(u128_of(UINT64_C(0xffffffffffffffff)), n)) {
         return narrow_count(u128_low(n));
     } else {
@@ -593,20 +597,20 @@ static ALWAYS_INLINE size_t letter_count(u128 n) {
 
 // Returns the count of letters of a number below 2^64. A letter has almost six bits, so the index
 // of the highest bit gives the count, or one less.
-static ALWAYS_INLINE size_t narrow_count(uint64_t n) {
+static B62_ALWAYS_INLINE size_t narrow_count(uint64_t n) {
     if (n == 0) {
         return 1;
     }
     const uint32_t highest = u64_ilog2(n);
     const size_t estimate = (size_t)((highest * 43) >> 8) + 1;
-    return estimate + (size_t)(n > GREATEST_NARROW[estimate]);
+    return estimate + (size_t)(n > B62_GREATEST_NARROW[estimate]);
 }
 
 // Returns the count of letters of a number of more than 64 bits.
-static ALWAYS_INLINE size_t wide_count(u128 n) {
-    const uint32_t highest = u64_ilog2(u128_low(u128_shift_right(n, 64))) + 64;
+static B62_ALWAYS_INLINE size_t wide_count(u128 n) {
+    const uint32_t highest = u64_ilog2(u128_low(u128_shift_right_64(n))) + 64;
     const size_t estimate = (size_t)((highest * 43) >> 8) + 1;
-    return estimate + (size_t)u128_less(GREATEST[estimate], n);
+    return estimate + (size_t)u128_less(B62_GREATEST[estimate], n);
 }
 
 
@@ -616,59 +620,59 @@ static ALWAYS_INLINE size_t wide_count(u128 n) {
 
 typedef struct result_u128 { bool is_ok; u128 ok; DecodeError err; } result_u128;
 
-static ALWAYS_INLINE result_u128 ok_u128(u128 ok) {
+static B62_ALWAYS_INLINE result_u128 ok_u128(u128 ok) {
     return (result_u128){.is_ok = true, .ok = ok};
 }
 
-static ALWAYS_INLINE result_u128 err_u128(DecodeError err) {
+static B62_ALWAYS_INLINE result_u128 err_u128(DecodeError err) {
     return (result_u128){.is_ok = false, .err = err};
 }
 
 typedef struct result_u64 { bool is_ok; uint64_t ok; DecodeError err; } result_u64;
 
-static ALWAYS_INLINE result_u64 ok_u64(uint64_t ok) {
+static B62_ALWAYS_INLINE result_u64 ok_u64(uint64_t ok) {
     return (result_u64){.is_ok = true, .ok = ok};
 }
 
-static ALWAYS_INLINE result_u64 err_u64(DecodeError err) {
+static B62_ALWAYS_INLINE result_u64 err_u64(DecodeError err) {
     return (result_u64){.is_ok = false, .err = err};
 }
 
-static ALWAYS_INLINE option_u128 some_u128(u128 some) {
+static B62_ALWAYS_INLINE option_u128 some_u128(u128 some) {
     return (option_u128){.is_some = true, .some = some};
 }
 
-static ALWAYS_INLINE option_u128 none_u128(void) {
+static B62_ALWAYS_INLINE option_u128 none_u128(void) {
     return (option_u128){.is_some = false};
 }
 
 typedef struct result_u32 { bool is_ok; uint32_t ok; DecodeError err; } result_u32;
 
-static ALWAYS_INLINE result_u32 ok_u32(uint32_t ok) {
+static B62_ALWAYS_INLINE result_u32 ok_u32(uint32_t ok) {
     return (result_u32){.is_ok = true, .ok = ok};
 }
 
-static ALWAYS_INLINE result_u32 err_u32(DecodeError err) {
+static B62_ALWAYS_INLINE result_u32 err_u32(DecodeError err) {
     return (result_u32){.is_ok = false, .err = err};
 }
 
-static ALWAYS_INLINE result_u128 decode_after(const Tables *tables, const uint8_t *input, size_t input_length,
+static B62_ALWAYS_INLINE result_u128 decode_after(const Tables *tables, const uint8_t *input, size_t input_length,
     size_t zeros);
-static ALWAYS_INLINE size_t count_zeros(const Tables *tables, const uint8_t *input, size_t input_length);
-static ALWAYS_INLINE result_u128 read_long(const Tables *tables, const uint8_t *after_zeros,
+static B62_ALWAYS_INLINE size_t count_zeros(const Tables *tables, const uint8_t *input, size_t input_length);
+static B62_ALWAYS_INLINE result_u128 read_long(const Tables *tables, const uint8_t *after_zeros,
     size_t after_zeros_length, size_t zeros);
-static ALWAYS_INLINE result_u128 read_11_or_12(const Tables *tables, const uint8_t *part, size_t part_length,
+static B62_ALWAYS_INLINE result_u128 read_11_or_12(const Tables *tables, const uint8_t *part, size_t part_length,
     size_t start);
-static ALWAYS_INLINE result_u64 read_up_to_10(const Tables *tables, const uint8_t *part, size_t part_length,
+static B62_ALWAYS_INLINE result_u64 read_up_to_10(const Tables *tables, const uint8_t *part, size_t part_length,
     size_t start);
-static ALWAYS_INLINE result_u64 read_up_to_5_more(const Tables *tables, uint64_t number, const uint8_t *part,
+static B62_ALWAYS_INLINE result_u64 read_up_to_5_more(const Tables *tables, uint64_t number, const uint8_t *part,
     size_t part_length, size_t start);
-static ALWAYS_INLINE result_u64 read_10(const Tables *tables, const uint8_t *part, size_t start);
-static ALWAYS_INLINE result_u32 read_5(const Tables *tables, const uint8_t *part, size_t start);
-static ALWAYS_INLINE result_u32 read_digit(const Tables *tables, const uint8_t *part, size_t i, size_t start);
+static B62_ALWAYS_INLINE result_u64 read_10(const Tables *tables, const uint8_t *part, size_t start);
+static B62_ALWAYS_INLINE result_u32 read_5(const Tables *tables, const uint8_t *part, size_t start);
+static B62_ALWAYS_INLINE result_u32 read_digit(const Tables *tables, const uint8_t *part, size_t i, size_t start);
 
 // Decodes over the alphabet of the tables.
-static ALWAYS_INLINE result_u128 decode_over(const Tables *tables, const uint8_t *input, size_t input_length) {
+static B62_ALWAYS_INLINE result_u128 decode_over(const Tables *tables, const uint8_t *input, size_t input_length) {
     if (input_length == 0) {
         return err_u128(DecodeError_EmptyInput());
     }
@@ -677,12 +681,12 @@ static ALWAYS_INLINE result_u128 decode_over(const Tables *tables, const uint8_t
 }
 
 // Decodes a text, whose count of leading zeros is given.
-static ALWAYS_INLINE result_u128 decode_after(const Tables *tables, const uint8_t *input, size_t input_length,
+static B62_ALWAYS_INLINE result_u128 decode_after(const Tables *tables, const uint8_t *input, size_t input_length,
     size_t zeros) {
     //@ assert requires: 0 < input_length;
     const uint8_t *after_zeros = input + zeros;
     const size_t after_zeros_length = input_length - zeros;
-    if (after_zeros_length > MAX_DIGITS) {
+    if (after_zeros_length > B62_MAX_DIGITS) {
         return err_u128(DecodeError_ArithmeticOverflow());
     }
     if (after_zeros_length <= 10) {
@@ -694,7 +698,7 @@ static ALWAYS_INLINE result_u128 decode_after(const Tables *tables, const uint8_
 }
 
 // Returns how many zero letters a text begins with.
-static ALWAYS_INLINE size_t count_zeros(const Tables *tables, const uint8_t *input, size_t input_length) {
+static B62_ALWAYS_INLINE size_t count_zeros(const Tables *tables, const uint8_t *input, size_t input_length) {
     //@ assert requires: 0 < input_length;
     // Most texts have none. This test avoids the loop for them.
     if (!Tables_is_zero(tables, input[0])) {
@@ -711,7 +715,7 @@ static ALWAYS_INLINE size_t count_zeros(const Tables *tables, const uint8_t *inp
 
 // Decodes the 11 to 22 bytes after the leading zeros. If the first ten show an overflow, it is
 // reported before a later byte is read.
-static ALWAYS_INLINE result_u128 read_long(const Tables *tables, const uint8_t *after_zeros,
+static B62_ALWAYS_INLINE result_u128 read_long(const Tables *tables, const uint8_t *after_zeros,
     size_t after_zeros_length, size_t zeros) {
     //@ assert requires: 10 < after_zeros_length && after_zeros_length <= 22;
     const uint8_t *first = after_zeros;
@@ -724,7 +728,7 @@ static ALWAYS_INLINE result_u128 read_long(const Tables *tables, const uint8_t *
         if (!last.is_ok) return err_u128(last.err);
         return ok_u128(u128_add(u128_mul(u128_of(leading.ok), u128_of(power(later_length))), u128_of(last.ok)));
     }
-    const u128 weight = u128_mul(u128_of(power(later_length - 10)), u128_of(POWER_10));
+    const u128 weight = u128_mul(u128_of(power(later_length - 10)), u128_of(B62_POWER_10));
     const option_u128 high = u128_checked_mul(u128_of(leading.ok), weight);
     if (!high.is_some) {
         return err_u128(DecodeError_ArithmeticOverflow());
@@ -736,7 +740,7 @@ static ALWAYS_INLINE result_u128 read_long(const Tables *tables, const uint8_t *
 }
 
 // Decodes a part of 11 or 12 bytes: the first ten, and the others.
-static ALWAYS_INLINE result_u128 read_11_or_12(const Tables *tables, const uint8_t *part, size_t part_length,
+static B62_ALWAYS_INLINE result_u128 read_11_or_12(const Tables *tables, const uint8_t *part, size_t part_length,
     size_t start) {
     //@ assert requires: 10 < part_length && part_length <= 12;
     const uint8_t *first = part;
@@ -752,7 +756,7 @@ static ALWAYS_INLINE result_u128 read_11_or_12(const Tables *tables, const uint8
 }
 
 // Decodes a part of at most ten bytes.
-static ALWAYS_INLINE result_u64 read_up_to_10(const Tables *tables, const uint8_t *part, size_t part_length,
+static B62_ALWAYS_INLINE result_u64 read_up_to_10(const Tables *tables, const uint8_t *part, size_t part_length,
     size_t start) {
     //@ assert requires: part_length <= 10;
     uint64_t number = 0;
@@ -770,7 +774,7 @@ static ALWAYS_INLINE result_u64 read_up_to_10(const Tables *tables, const uint8_
 }
 
 // Continues after bytes that represent `number`, with at most five bytes more.
-static ALWAYS_INLINE result_u64 read_up_to_5_more(const Tables *tables, uint64_t number, const uint8_t *part,
+static B62_ALWAYS_INLINE result_u64 read_up_to_5_more(const Tables *tables, uint64_t number, const uint8_t *part,
     size_t part_length, size_t start) {
     //@ assert requires: number < 916132832 && part_length <= 5;
     uint64_t total = number;
@@ -783,18 +787,18 @@ static ALWAYS_INLINE result_u64 read_up_to_5_more(const Tables *tables, uint64_t
 }
 
 // Decodes a part of ten bytes, as two numbers of five digits.
-static ALWAYS_INLINE result_u64 read_10(const Tables *tables, const uint8_t *part, size_t start) {
+static B62_ALWAYS_INLINE result_u64 read_10(const Tables *tables, const uint8_t *part, size_t start) {
     const uint8_t *first = part;
     const uint8_t *later = part + 5;
     const result_u32 high = read_5(tables, first, start);
     if (!high.is_ok) return err_u64(high.err);
     const result_u32 low = read_5(tables, later, start + 5);
     if (!low.is_ok) return err_u64(low.err);
-    return ok_u64((uint64_t)high.ok * POWER_5 + (uint64_t)low.ok);
+    return ok_u64((uint64_t)high.ok * B62_POWER_5 + (uint64_t)low.ok);
 }
 
 // Decodes a part of five bytes.
-static ALWAYS_INLINE result_u32 read_5(const Tables *tables, const uint8_t *part, size_t start) {
+static B62_ALWAYS_INLINE result_u32 read_5(const Tables *tables, const uint8_t *part, size_t start) {
     const result_u32 a = read_digit(tables, part, 0, start);
     if (!a.is_ok) return err_u32(a.err);
     const result_u32 b = read_digit(tables, part, 1, start);
@@ -805,11 +809,11 @@ static ALWAYS_INLINE result_u32 read_5(const Tables *tables, const uint8_t *part
     if (!d.is_ok) return err_u32(d.err);
     const result_u32 e = read_digit(tables, part, 4, start);
     if (!e.is_ok) return err_u32(e.err);
-    return ok_u32(a.ok * POWER_4 + b.ok * POWER_3 + c.ok * POWER_2 + d.ok * 62 + e.ok);
+    return ok_u32(a.ok * B62_POWER_4 + b.ok * B62_POWER_3 + c.ok * B62_POWER_2 + d.ok * 62 + e.ok);
 }
 
 // Returns the digit of the byte at index `i` of a part.
-static ALWAYS_INLINE result_u32 read_digit(const Tables *tables, const uint8_t *part, size_t i, size_t start) {
+static B62_ALWAYS_INLINE result_u32 read_digit(const Tables *tables, const uint8_t *part, size_t i, size_t start) {
     const uint8_t digit = Tables_digit(tables, part[i]);
     if (digit > 61) {
         return err_u32(DecodeError_InvalidBase62Byte(part[i], start + i));
@@ -824,15 +828,15 @@ static ALWAYS_INLINE result_u32 read_digit(const Tables *tables, const uint8_t *
 
 typedef struct result_option_u128 { bool is_ok; option_u128 ok; DecodeError err; } result_option_u128;
 
-static ALWAYS_INLINE result_option_u128 ok_option_u128(option_u128 ok) {
+static B62_ALWAYS_INLINE result_option_u128 ok_option_u128(option_u128 ok) {
     return (result_option_u128){.is_ok = true, .ok = ok};
 }
 
-static ALWAYS_INLINE result_option_u128 err_option_u128(DecodeError err) {
+static B62_ALWAYS_INLINE result_option_u128 err_option_u128(DecodeError err) {
     return (result_option_u128){.is_ok = false, .err = err};
 }
 
-static ALWAYS_INLINE result_option_u128 read_canonical(const Tables *tables, const uint8_t *input,
+static B62_ALWAYS_INLINE result_option_u128 read_canonical(const Tables *tables, const uint8_t *input,
     size_t input_length);
 
 // Decodes `input` in the standard alphabet if it is canonical, and returns the number.
@@ -869,7 +873,7 @@ static result_option_u128 decode_canonical_with(const Alphabet *alphabet, const 
 }
 
 // Decodes a text over the alphabet of the tables if it is canonical.
-static ALWAYS_INLINE result_option_u128 read_canonical(const Tables *tables, const uint8_t *input,
+static B62_ALWAYS_INLINE result_option_u128 read_canonical(const Tables *tables, const uint8_t *input,
     size_t input_length) {
     if (input_length == 0) {
         return err_option_u128(DecodeError_EmptyInput());
@@ -897,11 +901,11 @@ static ALWAYS_INLINE result_option_u128 read_canonical(const Tables *tables, con
 
 typedef struct result_usize { bool is_ok; size_t ok; EncodeError err; } result_usize;
 
-static ALWAYS_INLINE result_usize ok_usize(size_t ok) {
+static B62_ALWAYS_INLINE result_usize ok_usize(size_t ok) {
     return (result_usize){.is_ok = true, .ok = ok};
 }
 
-static ALWAYS_INLINE result_usize err_usize(EncodeError err) {
+static B62_ALWAYS_INLINE result_usize err_usize(EncodeError err) {
     return (result_usize){.is_ok = false, .err = err};
 }
 
@@ -909,31 +913,36 @@ typedef struct pair_u64_u64 { uint64_t _0; uint64_t _1; } pair_u64_u64;
 
 typedef struct pair_u32_u64_u64 { uint32_t _0; uint64_t _1; uint64_t _2; } pair_u32_u64_u64;
 
-static ALWAYS_INLINE void write_text(const Tables *tables, u128 n, size_t count, uint8_t *restrict buf);
-static void write_narrow(const Tables *tables, uint64_t n, size_t count, uint8_t *restrict buf);
-static void write_wide(const Tables *tables, u128 n, size_t count, uint8_t *restrict buf);
-static ALWAYS_INLINE pair_u32_u64_u64 divide_by_62_20(u128 n);
-static ALWAYS_INLINE uint64_t last_10(u128 n);
-static ALWAYS_INLINE u128 scaled_by_20(u128 n);
-static ALWAYS_INLINE pair_u64_u64 divide_by_62_10(u128 n);
-static ALWAYS_INLINE pair_u64_u64 fraction_of(uint64_t n);
-static ALWAYS_INLINE pair_u64_u64 divide_narrow_by_62_10(uint64_t n);
-static ALWAYS_INLINE void write_up_to_9(const Tables *tables, uint64_t n, size_t places, uint8_t *restrict buf);
-static ALWAYS_INLINE void write_up_to_5(const Tables *tables, uint32_t n, size_t places, uint8_t *restrict buf);
-static ALWAYS_INLINE void write_1_or_2(const Tables *tables, uint32_t x, size_t places, uint8_t *restrict buf);
-static ALWAYS_INLINE void write_2(const Tables *tables, uint32_t x, uint8_t *restrict buf);
-static ALWAYS_INLINE void write_4(const Tables *tables, uint32_t x, uint8_t *restrict buf);
-static ALWAYS_INLINE void write_20(const Tables *tables, uint64_t high, uint64_t low, uint8_t *restrict buf);
-static ALWAYS_INLINE void write_10(const Tables *tables, uint64_t fraction, uint8_t *restrict buf);
-static ALWAYS_INLINE void write_5(const Tables *tables, uint64_t fraction, uint8_t *restrict buf);
-static ALWAYS_INLINE void write_pair(const Tables *tables, uint64_t first, uint64_t second, uint8_t *restrict buf);
-static ALWAYS_INLINE pair_u64_u64 next_digit(uint64_t fraction);
-static ALWAYS_INLINE uint64_t first_digit(uint64_t fraction);
-static ALWAYS_INLINE uint64_t after_5(uint64_t fraction);
-static ALWAYS_INLINE pair_u64_u64 whole_and_fraction(u128 n);
+static B62_ALWAYS_INLINE void write_text(const Tables *tables, u128 n, size_t count, uint8_t *B62_RESTRICT buf);
+static void write_narrow(const Tables *tables, uint64_t n, size_t count, uint8_t *B62_RESTRICT buf);
+static void write_wide(const Tables *tables, u128 n, size_t count, uint8_t *B62_RESTRICT buf);
+static B62_ALWAYS_INLINE pair_u32_u64_u64 divide_by_62_20(u128 n);
+static B62_ALWAYS_INLINE uint64_t last_10(u128 n);
+static B62_ALWAYS_INLINE u128 scaled_by_20(u128 n);
+static B62_ALWAYS_INLINE pair_u64_u64 divide_by_62_10(u128 n);
+static B62_ALWAYS_INLINE pair_u64_u64 fraction_of(uint64_t n);
+static B62_ALWAYS_INLINE pair_u64_u64 divide_narrow_by_62_10(uint64_t n);
+static B62_ALWAYS_INLINE void write_up_to_9(const Tables *tables, uint64_t n, size_t places,
+    uint8_t *B62_RESTRICT buf);
+static B62_ALWAYS_INLINE void write_up_to_5(const Tables *tables, uint32_t n, size_t places,
+    uint8_t *B62_RESTRICT buf);
+static B62_ALWAYS_INLINE void write_1_or_2(const Tables *tables, uint32_t x, size_t places,
+    uint8_t *B62_RESTRICT buf);
+static B62_ALWAYS_INLINE void write_2(const Tables *tables, uint32_t x, uint8_t *B62_RESTRICT buf);
+static B62_ALWAYS_INLINE void write_4(const Tables *tables, uint32_t x, uint8_t *B62_RESTRICT buf);
+static B62_ALWAYS_INLINE void write_20(const Tables *tables, uint64_t high, uint64_t low,
+    uint8_t *B62_RESTRICT buf);
+static B62_ALWAYS_INLINE void write_10(const Tables *tables, uint64_t fraction, uint8_t *B62_RESTRICT buf);
+static B62_ALWAYS_INLINE void write_5(const Tables *tables, uint64_t fraction, uint8_t *B62_RESTRICT buf);
+static B62_ALWAYS_INLINE void write_pair(const Tables *tables, uint64_t first, uint64_t second,
+    uint8_t *B62_RESTRICT buf);
+static B62_ALWAYS_INLINE pair_u64_u64 next_digit(uint64_t fraction);
+static B62_ALWAYS_INLINE uint64_t first_digit(uint64_t fraction);
+static B62_ALWAYS_INLINE uint64_t after_5(uint64_t fraction);
+static B62_ALWAYS_INLINE pair_u64_u64 whole_and_fraction(u128 n);
 
 // Encodes over the alphabet of the tables.
-static ALWAYS_INLINE result_usize encode_over(const Tables *tables, u128 n, uint8_t *restrict buf,
+static B62_ALWAYS_INLINE result_usize encode_over(const Tables *tables, u128 n, uint8_t *B62_RESTRICT buf,
     size_t buf_length) {
     const size_t count = digit_count(n);
     if (buf_length < count) {
@@ -944,7 +953,7 @@ static ALWAYS_INLINE result_usize encode_over(const Tables *tables, u128 n, uint
 }
 
 // Writes the text of a number, whose count of letters is given.
-static ALWAYS_INLINE void write_text(const Tables *tables, u128 n, size_t count, uint8_t *restrict buf) {
+static B62_ALWAYS_INLINE void write_text(const Tables *tables, u128 n, size_t count, uint8_t *B62_RESTRICT buf) {
     if (!u128_less(u128_of(UINT64_C(0xffffffffffffffff)), n)) {
         write_narrow(tables, u128_low(n), count, buf);
     } else {
@@ -953,7 +962,7 @@ static ALWAYS_INLINE void write_text(const Tables *tables, u128 n, size_t count,
 }
 
 // Writes the text of a number below 2^64.
-static void write_narrow(const Tables *tables, uint64_t n, size_t count, uint8_t *restrict buf) {
+static void write_narrow(const Tables *tables, uint64_t n, size_t count, uint8_t *B62_RESTRICT buf) {
     //@ assert requires: 1 <= count && count <= 11;
     if (count < 10) {
         write_up_to_9(tables, n, count, buf);
@@ -967,7 +976,7 @@ static void write_narrow(const Tables *tables, uint64_t n, size_t count, uint8_t
 }
 
 // Writes the text of a number of 2^64 or more.
-static void write_wide(const Tables *tables, u128 n, size_t count, uint8_t *restrict buf) {
+static void write_wide(const Tables *tables, u128 n, size_t count, uint8_t *B62_RESTRICT buf) {
     //@ assert requires: 11 <= count && count <= 22;
     if (count > 20) {
         const pair_u32_u64_u64 top_high_low = divide_by_62_20(n);
@@ -993,7 +1002,7 @@ static void write_wide(const Tables *tables, u128 n, size_t count, uint8_t *rest
 // last ten letters. The fraction of all twenty exceeds that of the first ten by at most 22 * g
 // units. Subtracting `low >> 60`, which is 16 * g rounded down, leaves at most seven of these. With
 // the five of `scaled_by_20` that is twelve, fewer than the 21 that `fraction_of` allows.
-static ALWAYS_INLINE pair_u32_u64_u64 divide_by_62_20(u128 n) {
+static B62_ALWAYS_INLINE pair_u32_u64_u64 divide_by_62_20(u128 n) {
     const uint64_t low = last_10(n);
     const pair_u64_u64 top_high = whole_and_fraction(u128_sub(scaled_by_20(n), u128_of(low >> 60)));
     const uint64_t top = top_high._0, high = top_high._1;
@@ -1004,36 +1013,37 @@ static ALWAYS_INLINE pair_u32_u64_u64 divide_by_62_20(u128 n) {
 // most eight units too large. Its integer part is lost, as the sum wraps around. For n = 2^64 the
 // result is 2^128 / 62^10 units: 21 * 2^64, plus the first factor, plus the second factor / 2^64,
 // rounded up. The 21 * 2^64 drop out, as an integer. The third factor is 2^123 / 62^10, rounded up.
-static ALWAYS_INLINE uint64_t last_10(u128 n) {
-    const uint64_t upper = u128_low(u128_shift_right(n, 64));
+static B62_ALWAYS_INLINE uint64_t last_10(u128 n) {
+    const uint64_t upper = u128_low(u128_shift_right_64(n));
     const uint64_t lower = u128_low(u128_and(n, u128_of(UINT64_C(0xffffffffffffffff))));
     const u128 product = u128_mul(u128_of(upper), u128_of(UINT64_C(18054599902933494364)));
     const uint64_t first = u128_low(u128_and(product, u128_of(UINT64_C(0xffffffffffffffff))));
-    const uint64_t second = u128_low(u128_shift_right(u128_mul(u128_of(upper),
-        u128_of(UINT64_C(2913576609842229563))), 64));
-    const u128 of_lower = u128_shift_right(u128_mul(u128_of(lower), u128_of(UINT64_C(12669882045338564947))), 59);
+    const uint64_t second = u128_low(u128_shift_right_64(u128_mul(u128_of(upper),
+        u128_of(UINT64_C(2913576609842229563)))));
+    const u128 of_lower = u128_shift_right_1_to_63(u128_mul(u128_of(lower),
+        u128_of(UINT64_C(12669882045338564947))), 59);
     const uint64_t third = u128_low(u128_and(of_lower, u128_of(UINT64_C(0xffffffffffffffff))));
     return u64_wrapping_add(u64_wrapping_add(u64_wrapping_add(first, second), third), 2);
 }
 
 // Returns n / 62^20 in fixed point with 64 fraction bits, at most five units too large. For
 // n = 2^64 the result is 2^128 / 62^20 units: the second factor, plus the first / 2^64, rounded up.
-static ALWAYS_INLINE u128 scaled_by_20(u128 n) {
-    const uint64_t upper = u128_low(u128_shift_right(n, 64));
+static B62_ALWAYS_INLINE u128 scaled_by_20(u128 n) {
+    const uint64_t upper = u128_low(u128_shift_right_64(n));
     const uint64_t lower = u128_low(u128_and(n, u128_of(UINT64_C(0xffffffffffffffff))));
-    const uint64_t rest = u128_low(u128_shift_right(u128_mul(u128_of(upper),
-        u128_of(UINT64_C(1200736830183971319))), 64));
+    const uint64_t rest = u128_low(u128_shift_right_64(u128_mul(u128_of(upper),
+        u128_of(UINT64_C(1200736830183971319)))));
     return u128_add(u128_mul(u128_of(upper), u128_of(483)), u128_of(rest + (((lower >> 32) * 483) >> 32) + 4));
 }
 
 // Divides by 62^10. Returns the quotient, and the remainder as a fraction. The upper bits times
 // 2^120 / 62^10, shifted right by 64 bits, are the quotient, or one less: then `fraction_of` returns
 // an integer part of 1, which is added.
-static ALWAYS_INLINE pair_u64_u64 divide_by_62_10(u128 n) {
-    const uint64_t upper = u128_low(u128_shift_right(n, 56));
-    const uint64_t estimate = u128_low(u128_shift_right(u128_mul(u128_of(upper),
-        u128_of(UINT64_C(1583735255667320618))), 64));
-    const uint64_t remainder = u128_low(u128_sub(n, u128_mul(u128_of(estimate), u128_of(POWER_10))));
+static B62_ALWAYS_INLINE pair_u64_u64 divide_by_62_10(u128 n) {
+    const uint64_t upper = u128_low(u128_shift_right_1_to_63(n, 56));
+    const uint64_t estimate = u128_low(u128_shift_right_64(u128_mul(u128_of(upper),
+        u128_of(UINT64_C(1583735255667320618)))));
+    const uint64_t remainder = u128_low(u128_sub(n, u128_mul(u128_of(estimate), u128_of(B62_POWER_10))));
     const pair_u64_u64 whole_fraction = fraction_of(remainder);
     const uint64_t whole = whole_fraction._0, fraction = whole_fraction._1;
     return (pair_u64_u64){estimate + whole, fraction};
@@ -1042,11 +1052,11 @@ static ALWAYS_INLINE pair_u64_u64 divide_by_62_10(u128 n) {
 // Returns n / 62^10 in fixed point with 64 fraction bits: the integer part and the fraction. At
 // least 21 fractions, from n * 2^64 / 62^10 upwards, stand for the same ten letters. This one is at
 // most two above that product. The factor is 2^124 / 62^10 - 2^64, rounded up.
-static ALWAYS_INLINE pair_u64_u64 fraction_of(uint64_t n) {
+static B62_ALWAYS_INLINE pair_u64_u64 fraction_of(uint64_t n) {
     //@ assert requires: n < 1152921504606846976;
     const uint64_t scaled = n * 16;
-    const uint64_t upper = u128_low(u128_shift_right(u128_mul(u128_of(scaled),
-        u128_of(UINT64_C(6893020016967578278))), 64));
+    const uint64_t upper = u128_low(u128_shift_right_64(u128_mul(u128_of(scaled),
+        u128_of(UINT64_C(6893020016967578278)))));
     const uint64_t fraction = u64_wrapping_add(scaled + 1, upper);
     // If the sum has wrapped around, it is less than either operand.
     return (pair_u64_u64){(uint64_t)(fraction < upper), fraction};
@@ -1054,17 +1064,18 @@ static ALWAYS_INLINE pair_u64_u64 fraction_of(uint64_t n) {
 
 // Divides a number below 2^64 by 62^10. Returns the quotient, and the remainder as a fraction, at
 // most five above the product in `fraction_of`. The factor is 2^123 / 62^10, rounded up.
-static ALWAYS_INLINE pair_u64_u64 divide_narrow_by_62_10(uint64_t n) {
-    return whole_and_fraction(u128_add(u128_shift_right(u128_mul(u128_of(n),
+static B62_ALWAYS_INLINE pair_u64_u64 divide_narrow_by_62_10(uint64_t n) {
+    return whole_and_fraction(u128_add(u128_shift_right_1_to_63(u128_mul(u128_of(n),
         u128_of(UINT64_C(12669882045338564947))), 59), u128_of(1)));
 }
 
 // Writes one to nine letters. If there are more than four, it writes the last four first.
-static ALWAYS_INLINE void write_up_to_9(const Tables *tables, uint64_t n, size_t places, uint8_t *restrict buf) {
+static B62_ALWAYS_INLINE void write_up_to_9(const Tables *tables, uint64_t n, size_t places,
+    uint8_t *B62_RESTRICT buf) {
     //@ assert requires: 1 <= places && places <= 9;
     if (places > 4) {
-        const uint64_t quotient = n / (uint64_t)POWER_4;
-        const uint32_t last = (uint32_t)(n - quotient * (uint64_t)POWER_4);
+        const uint64_t quotient = n / (uint64_t)B62_POWER_4;
+        const uint32_t last = (uint32_t)(n - quotient * (uint64_t)B62_POWER_4);
         write_4(tables, last, buf + (places - 4));
         write_up_to_5(tables, (uint32_t)quotient, places - 4, buf);
     } else {
@@ -1073,15 +1084,16 @@ static ALWAYS_INLINE void write_up_to_9(const Tables *tables, uint64_t n, size_t
 }
 
 // Writes one to five letters, from the last to the first.
-static ALWAYS_INLINE void write_up_to_5(const Tables *tables, uint32_t n, size_t places, uint8_t *restrict buf) {
+static B62_ALWAYS_INLINE void write_up_to_5(const Tables *tables, uint32_t n, size_t places,
+    uint8_t *B62_RESTRICT buf) {
     //@ assert requires: 1 <= places && places <= 5;
     if (places > 4) {
-        const uint32_t quotient = n / POWER_4;
-        write_4(tables, n - quotient * POWER_4, buf + (places - 4));
+        const uint32_t quotient = n / B62_POWER_4;
+        write_4(tables, n - quotient * B62_POWER_4, buf + (places - 4));
         write_1_or_2(tables, quotient, places - 4, buf);
     } else if (places > 2) {
-        const uint32_t quotient = n / POWER_2;
-        write_2(tables, n - quotient * POWER_2, buf + (places - 2));
+        const uint32_t quotient = n / B62_POWER_2;
+        write_2(tables, n - quotient * B62_POWER_2, buf + (places - 2));
         write_1_or_2(tables, quotient, places - 2, buf);
     } else {
         write_1_or_2(tables, n, places, buf);
@@ -1090,7 +1102,8 @@ static ALWAYS_INLINE void write_up_to_5(const Tables *tables, uint32_t n, size_t
 
 // Writes one or two letters, as a pair. If there is one place, the second letter overwrites the
 // first, which is a zero.
-static ALWAYS_INLINE void write_1_or_2(const Tables *tables, uint32_t x, size_t places, uint8_t *restrict buf) {
+static B62_ALWAYS_INLINE void write_1_or_2(const Tables *tables, uint32_t x, size_t places,
+    uint8_t *B62_RESTRICT buf) {
     //@ assert requires: 1 <= places && places <= 2;
     const pair_u8_u8 first_second = Tables_pair(tables, x);
     const uint8_t first = first_second._0, second = first_second._1;
@@ -1099,34 +1112,35 @@ static ALWAYS_INLINE void write_1_or_2(const Tables *tables, uint32_t x, size_t 
 }
 
 // Writes two letters.
-static ALWAYS_INLINE void write_2(const Tables *tables, uint32_t x, uint8_t *restrict buf) {
+static B62_ALWAYS_INLINE void write_2(const Tables *tables, uint32_t x, uint8_t *B62_RESTRICT buf) {
     //@ assert requires: x < 3844;
     write_1_or_2(tables, x, 2, buf);
 }
 
 // Writes four letters.
-static ALWAYS_INLINE void write_4(const Tables *tables, uint32_t x, uint8_t *restrict buf) {
+static B62_ALWAYS_INLINE void write_4(const Tables *tables, uint32_t x, uint8_t *B62_RESTRICT buf) {
     //@ assert requires: x < 14776336;
-    const uint32_t quotient = x / POWER_2;
-    write_2(tables, x - quotient * POWER_2, buf + 2);
+    const uint32_t quotient = x / B62_POWER_2;
+    write_2(tables, x - quotient * B62_POWER_2, buf + 2);
     write_2(tables, quotient, buf);
 }
 
 // Writes twenty letters of two fractions, the last ten first, since their fraction is computed
 // first.
-static ALWAYS_INLINE void write_20(const Tables *tables, uint64_t high, uint64_t low, uint8_t *restrict buf) {
+static B62_ALWAYS_INLINE void write_20(const Tables *tables, uint64_t high, uint64_t low,
+    uint8_t *B62_RESTRICT buf) {
     write_10(tables, low, buf + 10);
     write_10(tables, high, buf);
 }
 
 // Writes ten letters of a fraction. The last five are computed independently of the first five.
-static ALWAYS_INLINE void write_10(const Tables *tables, uint64_t fraction, uint8_t *restrict buf) {
+static B62_ALWAYS_INLINE void write_10(const Tables *tables, uint64_t fraction, uint8_t *B62_RESTRICT buf) {
     write_5(tables, fraction, buf);
     write_5(tables, after_5(fraction), buf + 5);
 }
 
 // Writes the first five letters of a fraction.
-static ALWAYS_INLINE void write_5(const Tables *tables, uint64_t fraction, uint8_t *restrict buf) {
+static B62_ALWAYS_INLINE void write_5(const Tables *tables, uint64_t fraction, uint8_t *B62_RESTRICT buf) {
     const pair_u64_u64 first_after_1 = next_digit(fraction);
     const uint64_t first = first_after_1._0, after_1 = first_after_1._1;
     buf[0] = Tables_letter(tables, first);
@@ -1141,7 +1155,8 @@ static ALWAYS_INLINE void write_5(const Tables *tables, uint64_t fraction, uint8
 }
 
 // Writes the letters of two digits.
-static ALWAYS_INLINE void write_pair(const Tables *tables, uint64_t first, uint64_t second, uint8_t *restrict buf) {
+static B62_ALWAYS_INLINE void write_pair(const Tables *tables, uint64_t first, uint64_t second,
+    uint8_t *B62_RESTRICT buf) {
     //@ assert requires: first < 62 && second < 62;
     const pair_u8_u8 first_letter_second_letter = Tables_pair_of_digits(tables, first, second);
     const uint8_t first_letter = first_letter_second_letter._0, second_letter = first_letter_second_letter._1;
@@ -1150,24 +1165,24 @@ static ALWAYS_INLINE void write_pair(const Tables *tables, uint64_t first, uint6
 }
 
 // Returns the first digit of a fraction, and the fraction of the digits after it.
-static ALWAYS_INLINE pair_u64_u64 next_digit(uint64_t fraction) {
+static B62_ALWAYS_INLINE pair_u64_u64 next_digit(uint64_t fraction) {
     return whole_and_fraction(u128_mul(u128_of(fraction), u128_of(62)));
 }
 
 // Returns only the first digit of a fraction.
-static ALWAYS_INLINE uint64_t first_digit(uint64_t fraction) {
-    return u128_low(u128_shift_right(u128_mul(u128_of(fraction), u128_of(62)), 64));
+static B62_ALWAYS_INLINE uint64_t first_digit(uint64_t fraction) {
+    return u128_low(u128_shift_right_64(u128_mul(u128_of(fraction), u128_of(62))));
 }
 
 // Returns the fraction of the digits after the first five.
-static ALWAYS_INLINE uint64_t after_5(uint64_t fraction) {
-    const u128 product = u128_mul(u128_of(fraction), u128_of(POWER_5));
+static B62_ALWAYS_INLINE uint64_t after_5(uint64_t fraction) {
+    const u128 product = u128_mul(u128_of(fraction), u128_of(B62_POWER_5));
     return u128_low(u128_and(product, u128_of(UINT64_C(0xffffffffffffffff))));
 }
 
 // Returns the integer part and the fraction of a number in fixed point with 64 fraction bits.
-static ALWAYS_INLINE pair_u64_u64 whole_and_fraction(u128 n) {
-    return (pair_u64_u64){u128_low(u128_shift_right(n, 64)),
+static B62_ALWAYS_INLINE pair_u64_u64 whole_and_fraction(u128 n) {
+    return (pair_u64_u64){u128_low(u128_shift_right_64(n)),
         u128_low(u128_and(n, u128_of(UINT64_C(0xffffffffffffffff))))};
 }
 
@@ -1199,7 +1214,7 @@ static inline u128 bytes_16_number(const uint8_t self[16]) {
 //
 // Returns `BufferTooSmall` if `buf` is shorter than the encoded string, so never for 22 bytes or
 // more. `buf` is then left unchanged.
-static result_usize encode_bytes(u128 num, uint8_t *restrict buf, size_t buf_length) {
+static result_usize encode_bytes(u128 num, uint8_t *B62_RESTRICT buf, size_t buf_length) {
     return encode_over(standard_tables(), u128_number(num), buf, buf_length);
 }
 
@@ -1208,7 +1223,7 @@ static result_usize encode_bytes(u128 num, uint8_t *restrict buf, size_t buf_len
 // # Errors
 //
 // Returns the errors of `encode_bytes`.
-static result_usize encode_alternative_bytes(u128 num, uint8_t *restrict buf, size_t buf_length) {
+static result_usize encode_alternative_bytes(u128 num, uint8_t *B62_RESTRICT buf, size_t buf_length) {
     return encode_over(alternative_tables(), u128_number(num), buf, buf_length);
 }
 
@@ -1219,7 +1234,7 @@ static result_usize encode_alternative_bytes(u128 num, uint8_t *restrict buf, si
 // # Errors
 //
 // Returns the errors of `encode_bytes`.
-static result_usize encode_bytes_with(const Alphabet *alphabet, u128 num, uint8_t *restrict buf,
+static result_usize encode_bytes_with(const Alphabet *alphabet, u128 num, uint8_t *B62_RESTRICT buf,
     size_t buf_length) {
     return encode_over(Alphabet_as_tables(alphabet), u128_number(num), buf, buf_length);
 }
@@ -1246,7 +1261,7 @@ static result_usize encode_bytes_with(const Alphabet *alphabet, u128 num, uint8_
 // Returns `EmptyInput`, `ArithmeticOverflow` or `InvalidBase62Byte` in the cases 1 to 6.
 // `InvalidBase62Byte` has the first byte that is not in the alphabet, and its index in `input`,
 // leading zeros included.
-static ALWAYS_INLINE result_u128 decode(const uint8_t *input, size_t input_length) {
+static B62_ALWAYS_INLINE result_u128 decode(const uint8_t *input, size_t input_length) {
     return decode_over(standard_tables(), input, input_length);
 }
 
@@ -1255,7 +1270,7 @@ static ALWAYS_INLINE result_u128 decode(const uint8_t *input, size_t input_lengt
 // # Errors
 //
 // Returns the errors of `decode`.
-static ALWAYS_INLINE result_u128 decode_alternative(const uint8_t *input, size_t input_length) {
+static B62_ALWAYS_INLINE result_u128 decode_alternative(const uint8_t *input, size_t input_length) {
     return decode_over(alternative_tables(), input, input_length);
 }
 
@@ -1277,11 +1292,11 @@ static result_u128 decode_with(const Alphabet *alphabet, const uint8_t *input, s
 
 typedef struct result_unit { bool is_ok; EncodeError err; } result_unit;
 
-static ALWAYS_INLINE result_unit ok_unit(void) {
+static B62_ALWAYS_INLINE result_unit ok_unit(void) {
     return (result_unit){.is_ok = true};
 }
 
-static ALWAYS_INLINE result_unit err_unit(EncodeError err) {
+static B62_ALWAYS_INLINE result_unit err_unit(EncodeError err) {
     return (result_unit){.is_ok = false, .err = err};
 }
 
@@ -1289,44 +1304,44 @@ typedef struct pair_u128_u128 { u128 _0; u128 _1; } pair_u128_u128;
 
 typedef struct option_pair_u128_u128 { bool is_some; pair_u128_u128 some; } option_pair_u128_u128;
 
-static ALWAYS_INLINE option_pair_u128_u128 some_pair_u128_u128(pair_u128_u128 some) {
+static B62_ALWAYS_INLINE option_pair_u128_u128 some_pair_u128_u128(pair_u128_u128 some) {
     return (option_pair_u128_u128){.is_some = true, .some = some};
 }
 
-static ALWAYS_INLINE option_pair_u128_u128 none_pair_u128_u128(void) {
+static B62_ALWAYS_INLINE option_pair_u128_u128 none_pair_u128_u128(void) {
     return (option_pair_u128_u128){.is_some = false};
 }
 
 typedef struct result_option_pair_u128_u128 { bool is_ok; option_pair_u128_u128 ok; DecodeError err;
     } result_option_pair_u128_u128;
 
-static ALWAYS_INLINE result_option_pair_u128_u128 ok_option_pair_u128_u128(option_pair_u128_u128 ok) {
+static B62_ALWAYS_INLINE result_option_pair_u128_u128 ok_option_pair_u128_u128(option_pair_u128_u128 ok) {
     return (result_option_pair_u128_u128){.is_ok = true, .ok = ok};
 }
 
-static ALWAYS_INLINE result_option_pair_u128_u128 err_option_pair_u128_u128(DecodeError err) {
+static B62_ALWAYS_INLINE result_option_pair_u128_u128 err_option_pair_u128_u128(DecodeError err) {
     return (result_option_pair_u128_u128){.is_ok = false, .err = err};
 }
 
 typedef struct result_unit_DecodeError { bool is_ok; DecodeError err; } result_unit_DecodeError;
 
-static ALWAYS_INLINE result_unit_DecodeError ok_unit_DecodeError(void) {
+static B62_ALWAYS_INLINE result_unit_DecodeError ok_unit_DecodeError(void) {
     return (result_unit_DecodeError){.is_ok = true};
 }
 
-static ALWAYS_INLINE result_unit_DecodeError err_unit_DecodeError(DecodeError err) {
+static B62_ALWAYS_INLINE result_unit_DecodeError err_unit_DecodeError(DecodeError err) {
     return (result_unit_DecodeError){.is_ok = false, .err = err};
 }
 
-static ALWAYS_INLINE result_unit fill_places(const Tables *tables, u128 n, uint8_t *restrict places,
+static B62_ALWAYS_INLINE result_unit fill_places(const Tables *tables, u128 n, uint8_t *B62_RESTRICT places,
     size_t places_length);
-static void write_padded(const Tables *tables, u128 n, size_t count, uint8_t *restrict places,
+static void write_padded(const Tables *tables, u128 n, size_t count, uint8_t *B62_RESTRICT places,
     size_t places_length);
 static result_option_pair_u128_u128 range_over(const Tables *tables, size_t width, const uint8_t *prefix,
     size_t prefix_length);
 static result_option_pair_u128_u128 range_found(const Tables *tables, size_t width, const uint8_t *prefix,
     size_t prefix_length);
-static ALWAYS_INLINE option_pair_u128_u128 ends_of(u128 number, size_t width, size_t len);
+static B62_ALWAYS_INLINE option_pair_u128_u128 ends_of(u128 number, size_t width, size_t len);
 static result_unit_DecodeError check_letters(const Tables *tables, const uint8_t *prefix, size_t prefix_length);
 
 // Writes `num` to `places` as exactly `places.len()` characters, padded with leading zeros.
@@ -1338,7 +1353,7 @@ static result_unit_DecodeError check_letters(const Tables *tables, const uint8_t
 //
 // Returns `BufferTooSmall` if `places` is shorter than the encoded string, so always if it is
 // empty, and never for 22 bytes or more. `places` is then left unchanged.
-static result_unit encode_fixed(u128 num, uint8_t *restrict places, size_t places_length) {
+static result_unit encode_fixed(u128 num, uint8_t *B62_RESTRICT places, size_t places_length) {
     return fill_places(standard_tables(), u128_number(num), places, places_length);
 }
 
@@ -1349,7 +1364,7 @@ static result_unit encode_fixed(u128 num, uint8_t *restrict places, size_t place
 // # Errors
 //
 // Returns the errors of `encode_fixed`.
-static result_unit encode_alternative_fixed(u128 num, uint8_t *restrict places, size_t places_length) {
+static result_unit encode_alternative_fixed(u128 num, uint8_t *B62_RESTRICT places, size_t places_length) {
     return fill_places(alternative_tables(), u128_number(num), places, places_length);
 }
 
@@ -1360,13 +1375,13 @@ static result_unit encode_alternative_fixed(u128 num, uint8_t *restrict places, 
 // # Errors
 //
 // Returns the errors of `encode_fixed`.
-static result_unit encode_fixed_with(const Alphabet *alphabet, u128 num, uint8_t *restrict places,
+static result_unit encode_fixed_with(const Alphabet *alphabet, u128 num, uint8_t *B62_RESTRICT places,
     size_t places_length) {
     return fill_places(Alphabet_as_tables(alphabet), u128_number(num), places, places_length);
 }
 
 // Writes the text of as many letters as there are places, over the alphabet of the tables.
-static ALWAYS_INLINE result_unit fill_places(const Tables *tables, u128 n, uint8_t *restrict places,
+static B62_ALWAYS_INLINE result_unit fill_places(const Tables *tables, u128 n, uint8_t *B62_RESTRICT places,
     size_t places_length) {
     const size_t count = digit_count(n);
     if (places_length < count) {
@@ -1377,7 +1392,7 @@ static ALWAYS_INLINE result_unit fill_places(const Tables *tables, u128 n, uint8
 }
 
 // Writes the text of a number, whose count of letters is given, with leading zeros.
-static void write_padded(const Tables *tables, u128 n, size_t count, uint8_t *restrict places,
+static void write_padded(const Tables *tables, u128 n, size_t count, uint8_t *B62_RESTRICT places,
     size_t places_length) {
     //@ assert requires: count <= places_length;
     uint8_t *zeros = places;
@@ -1450,7 +1465,7 @@ static result_option_pair_u128_u128 range_found(const Tables *tables, size_t wid
 }
 
 // Returns the ends of the interval of a prefix of this value and length, if it is not empty.
-static ALWAYS_INLINE option_pair_u128_u128 ends_of(u128 number, size_t width, size_t len) {
+static B62_ALWAYS_INLINE option_pair_u128_u128 ends_of(u128 number, size_t width, size_t len) {
     if (width == 0 || len > width) {
         return none_pair_u128_u128();
     }
@@ -1484,7 +1499,7 @@ static result_unit_DecodeError check_letters(const Tables *tables, const uint8_t
 // Keys of 22 characters, which sort in the order of their numbers, and the ranges of prefixes.
 
 // The length of a key is that of the longest text.
-#define KEY_LEN MAX_DIGITS
+#define B62_KEY_LEN B62_MAX_DIGITS
 
 // Encodes `num` as a key: exactly 22 characters of the standard alphabet, with leading zeros.
 //
@@ -1509,7 +1524,7 @@ static void encode_key(u128 num, uint8_t key[22]) {
 // Returns `InvalidBase62Byte`, with the first such byte and its index, if a byte of `prefix` is
 // not in the standard alphabet.
 static result_option_pair_u128_u128 key_range(const uint8_t *prefix, size_t prefix_length) {
-    return fixed_range(KEY_LEN, prefix, prefix_length);
+    return fixed_range(B62_KEY_LEN, prefix, prefix_length);
 }
 
 
@@ -1518,11 +1533,11 @@ static result_option_pair_u128_u128 key_range(const uint8_t *prefix, size_t pref
 // Numbers as two halves of 64 bits.
 
 static u128 joined(base62_number number) {
-    return u128_or(u128_shift_left(u128_of(number.high), 64), u128_of(number.low));
+    return u128_or(u128_shift_left_64(u128_of(number.high)), u128_of(number.low));
 }
 
 static base62_number halves(u128 n) {
-    return (base62_number){.high = u128_low(u128_shift_right(n, 64)),
+    return (base62_number){.high = u128_low(u128_shift_right_64(n)),
         .low = u128_low(u128_and(n, u128_of(UINT64_C(0xffffffffffffffff))))};
 }
 
@@ -1531,14 +1546,14 @@ static base62_number halves(u128 n) {
 
 // Results as a status, and values that are stored through pointers.
 
-#define OK ((uint32_t)0)
-#define BUFFER_TOO_SMALL ((uint32_t)1)
-#define EMPTY_INPUT ((uint32_t)2)
-#define INVALID_BYTE ((uint32_t)3)
-#define OVERFLOW ((uint32_t)4)
-#define NO_KEY ((uint32_t)5)
-#define REPEATED_LETTER ((uint32_t)6)
-#define NOT_CANONICAL ((uint32_t)7)
+#define B62_OK ((uint32_t)0)
+#define B62_BUFFER_TOO_SMALL ((uint32_t)1)
+#define B62_EMPTY_INPUT ((uint32_t)2)
+#define B62_INVALID_BYTE ((uint32_t)3)
+#define B62_OVERFLOW ((uint32_t)4)
+#define B62_NO_KEY ((uint32_t)5)
+#define B62_REPEATED_LETTER ((uint32_t)6)
+#define B62_NOT_CANONICAL ((uint32_t)7)
 
 static uint32_t store_error(DecodeError fault, base62_bad_byte *bad);
 
@@ -1552,7 +1567,7 @@ static uint32_t store_number(result_u128 answer, base62_number *number, base62_b
     if (answer.is_ok) {
         const u128 n = answer.ok;
         *number = halves(n);
-        return OK;
+        return B62_OK;
     }
     const DecodeError fault = answer.err;
     return store_error(fault, bad);
@@ -1562,9 +1577,9 @@ static uint32_t store_canonical(result_option_u128 answer, base62_number *number
     if (answer.is_ok && answer.ok.is_some) {
         const u128 n = answer.ok.some;
         *number = halves(n);
-        return OK;
+        return B62_OK;
     }
-    if (answer.is_ok && !answer.ok.is_some) return NOT_CANONICAL;
+    if (answer.is_ok && !answer.ok.is_some) return B62_NOT_CANONICAL;
     const DecodeError fault = answer.err;
     return store_error(fault, bad);
 }
@@ -1573,32 +1588,32 @@ static uint32_t store_range(result_option_pair_u128_u128 answer, base62_range *r
     if (answer.is_ok && answer.ok.is_some) {
         const u128 least = answer.ok.some._0, greatest = answer.ok.some._1;
         *range = (base62_range){.least = halves(least), .greatest = halves(greatest)};
-        return OK;
+        return B62_OK;
     }
-    if (answer.is_ok && !answer.ok.is_some) return NO_KEY;
+    if (answer.is_ok && !answer.ok.is_some) return B62_NO_KEY;
     const DecodeError fault = answer.err;
     return store_error(fault, bad);
 }
 
 static uint32_t store_error(DecodeError fault, base62_bad_byte *bad) {
-    if (fault.tag == DecodeError_EmptyInput_tag) return EMPTY_INPUT;
+    if (fault.tag == DecodeError_EmptyInput_tag) return B62_EMPTY_INPUT;
     if (fault.tag == DecodeError_InvalidBase62Byte_tag) {
         const uint8_t byte = fault.InvalidBase62Byte._0;
         const size_t index = fault.InvalidBase62Byte._1;
         *bad = (base62_bad_byte){.index = index, .byte = byte};
-        return INVALID_BYTE;
+        return B62_INVALID_BYTE;
     }
-    return OVERFLOW;
+    return B62_OVERFLOW;
 }
 
 static uint32_t store_repeat(AlphabetError fault, base62_bad_byte *bad) {
     const uint8_t byte = fault.Repeated._0;
     const size_t index = fault.Repeated._1;
     *bad = (base62_bad_byte){.index = index, .byte = byte};
-    return REPEATED_LETTER;
+    return B62_REPEATED_LETTER;
 }
 
-static size_t copy_text(const uint8_t *text, size_t text_length, uint8_t *restrict buf, size_t buf_length) {
+static size_t copy_text(const uint8_t *text, size_t text_length, uint8_t *B62_RESTRICT buf, size_t buf_length) {
     // An empty text is not copied, since `buf` may then be empty too.
     if (text_length == 0 || buf_length < text_length) {
         return 0;
@@ -1615,39 +1630,39 @@ static size_t copy_text(const uint8_t *text, size_t text_length, uint8_t *restri
 static void fixed_text(const uint8_t *text, size_t text_length, InlineText *result);
 
 static void text_of(uint32_t status, base62_bad_byte bad, InlineText *result) {
-    if (status == BUFFER_TOO_SMALL) {
+    if (status == B62_BUFFER_TOO_SMALL) {
         const EncodeError value = EncodeError_BufferTooSmall();
         EncodeError_text(&value, result);
         return;
     }
-    if (status == EMPTY_INPUT) {
+    if (status == B62_EMPTY_INPUT) {
         const DecodeError value = DecodeError_EmptyInput();
         DecodeError_text(&value, result);
         return;
     }
-    if (status == INVALID_BYTE) {
+    if (status == B62_INVALID_BYTE) {
         const DecodeError value = DecodeError_InvalidBase62Byte(bad.byte, bad.index);
         DecodeError_text(&value, result);
         return;
     }
-    if (status == OVERFLOW) {
+    if (status == B62_OVERFLOW) {
         const DecodeError value = DecodeError_ArithmeticOverflow();
         DecodeError_text(&value, result);
         return;
     }
-    if (status == NO_KEY) {
+    if (status == B62_NO_KEY) {
         static const uint8_t part[] = "No string of this width begins with the prefix";
-        fixed_text(TEXT(part), result);
+        fixed_text(B62_TEXT(part), result);
         return;
     }
-    if (status == REPEATED_LETTER) {
+    if (status == B62_REPEATED_LETTER) {
         const AlphabetError value = AlphabetError_Repeated(bad.byte, bad.index);
         AlphabetError_text(&value, result);
         return;
     }
-    if (status == NOT_CANONICAL) {
+    if (status == B62_NOT_CANONICAL) {
         static const uint8_t part[] = "Encoded input has a leading zero";
-        fixed_text(TEXT(part), result);
+        fixed_text(B62_TEXT(part), result);
         return;
     }
     InlineText_new(result);
@@ -1667,7 +1682,7 @@ static void fixed_text(const uint8_t *text, size_t text_length, InlineText *resu
 // a value.
 
 // The version: major times 10000, plus minor times 100, plus patch.
-#define VERSION_NUMBER ((uint32_t)30400)
+#define B62_VERSION_NUMBER ((uint32_t)30400)
 
 size_t base62_encode(base62_number number, char *buffer, size_t size) {
     const result_usize answer = encode_bytes(joined(number), (uint8_t *)buffer, size);
@@ -1759,7 +1774,7 @@ base62_status base62_make_alphabet(const char letters[BASE62_ALPHABET_LENGTH], b
     const result_unit_AlphabetError answer = Alphabet_new((const uint8_t *)letters, &made);
     if (answer.is_ok) {
         copy_bytes((uint8_t *)alphabet, (const uint8_t *)&made, sizeof(Alphabet));
-        return (base62_status)OK;
+        return (base62_status)B62_OK;
     }
     const AlphabetError fault = answer.err;
     return (base62_status)store_repeat(fault, bad);
@@ -1780,5 +1795,5 @@ size_t base62_fault_text(base62_status status, base62_bad_byte bad, char *buffer
 }
 
 uint32_t base62_version_number(void) {
-    return VERSION_NUMBER;
+    return B62_VERSION_NUMBER;
 }

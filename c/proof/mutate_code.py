@@ -23,27 +23,24 @@ OPERATORS = [
     ("(?<= )/(?= )", "%"), ("(?<= )%(?= )", "/"), ("<<", ">>"), ("(?<= )>>", "<<"), (r"(?<=[ (])!(?=\w)", ""),
     ("(?<= )&(?= )", "|"), (r"(?<= )\|(?= )", "&"), (r"\.high\b", ".low"), (r"\.low\b", ".high"),
     (r"\btrue\b", "false"), (r"\bfalse\b", "true"), (r"\bstandard_", "alternative_"), (r"\balternative_", "standard_"),
-    (NUMBER, r"(\g<0> + 1)"), (r"\b(?:POWER_\d+|[A-Z]+_[A-Z_]+|OK|OVERFLOW)\b(?!\()", r"(\g<0> + 1)"), (STATEMENT, ";"),
+    (NUMBER, r"(\g<0> + 1)"), (r"\bB62_(?:POWER_\d+|[A-Z]+_[A-Z_]+|OK|OVERFLOW)\b(?!\()", r"(\g<0> + 1)"), (STATEMENT, ";"),
 ]
 TEXT = (r'"(?=\w)', '"x')
 TABLES = [
-    ("POWERS", NUMBER, "power"), ("GREATEST", NUMBER, "greatest"),
-    ("GREATEST_NARROW", "(?!^)" + NUMBER, "greatest_narrow"),  # No number has no letters.
-    ("STANDARD", "'A'", "standard_letter"), ("STANDARD", r"\b10\b", "standard_byte"),
-    ("ALTERNATIVE", "'A'", "alternative_letter"), ("ALTERNATIVE", r"\b10\b", "alternative_byte"),
+    ("B62_POWERS", NUMBER, "power"), ("B62_GREATEST", NUMBER, "greatest"),
+    ("B62_GREATEST_NARROW", "(?!^)" + NUMBER, "greatest_narrow"),  # No number has no letters.
+    ("B62_STANDARD", "'A'", "standard_letter"), ("B62_STANDARD", r"\b10\b", "standard_byte"),
+    ("B62_ALTERNATIVE", "'A'", "alternative_letter"), ("B62_ALTERNATIVE", r"\b10\b", "alternative_byte"),
 ]
 
 # Changes that are no mistakes.
 SAME = {
     # Of two equal numbers either is the lesser.
-    "usize_min: static ALWAYS_INLINE size_t usize_min(size_t a, size_t b) { return a <= b ? a : b; }",
-    # The mask has no upper half, the halves differ there, and the shift is one by 64.
-    "u128_and: static ALWAYS_INLINE u128 u128_and(u128 a, u128 b) { return (u128){a.low & b.high, a.low & b.low}; }",
-    "u128_less: static ALWAYS_INLINE bool u128_less(u128 a, u128 b)"
+    "usize_min: static B62_ALWAYS_INLINE size_t usize_min(size_t a, size_t b) { return a <= b ? a : b; }",
+    # The mask has no upper half, and the halves differ there.
+    "u128_and: static B62_ALWAYS_INLINE u128 u128_and(u128 a, u128 b) { return (u128){a.low & b.high, a.low & b.low}; }",
+    "u128_less: static B62_ALWAYS_INLINE bool u128_less(u128 a, u128 b)"
     " { return a.high == b.high ? a.low < b.low : a.high <= b.high; }",
-    "u128_shift_left: static ALWAYS_INLINE u128 u128_shift_left(u128 a, unsigned bits)"
-    " { return (u128){a.low >> (bits - 64), 0}; }",
-    "u128_shift_right: if (bits >= 64) return (u128){0, a.high << (bits - 64)};",
     # The first byte is looked at before the loop.
     "count_zeros: for (size_t i = (0 + 1); i < input_length; i++) {",
     # Twice what is added for rounding changes no letter either, the fraction never equals `upper`, and five letters are

@@ -21,7 +21,7 @@ FALSE, NOT_TRIED = "an axiom of WP that is false", "WP tries no goal"
 RESERVED, ASKS, OTHER, FORMS = "a name that C reserves", "the files ask for", "GCC reads", "a directive or an operator"
 NUMBER, CHAR, APART = "a pointer from a number", "a plain char", "Memory model hypotheses"
 
-TOP = "== after #define KEY_LEN MAX_DIGITS\n"
+TOP = "== after #define B62_KEY_LEN B62_MAX_DIGITS\n"
 STEP = "== in count_zeros before return i;\n"
 NEXT = STEP + "assert first:\n\\true; */ "
 
@@ -104,7 +104,7 @@ LISTS = [
     (f"{TOP}/*@ ghost /@ assigns \\nothing; ensures \\false; @/ void planted(void); */", "no body: planted"),
     # A change of the code.
     (f"{STEP}// Here it ends. \\", CODE),
-    (f"{TOP}#undef MAX_DIGITS\n#define MAX_DIGITS ((size_t)21)", CODE),
+    (f"{TOP}#undef B62_MAX_DIGITS\n#define B62_MAX_DIGITS ((size_t)21)", CODE),
     (f"{NEXT}i++; /*@ assert last: \\true;", CODE),
     (f"{STEP}ghost return 0;", WARNING),
     (f"{STEP}ghost i = 0;", "rror"),
@@ -167,7 +167,7 @@ SOURCES = [
     ("(base62_u128)a * b;", "(base62_u128)a * b + 1;", "another body of u128_mul_64"),
     ("__builtin_clzll(n);", "__builtin_clzll(n | 1);", "another body of u64_ilog2"),
     ("((__always_inline__))", "((__always_inline__, const))", OTHER),
-    ("#define TEXT(", "#define JOIN(a, b) a##b\n#define TEXT(", FORMS),
+    ("#define B62_TEXT(", "#define JOIN(a, b) a##b\n#define B62_TEXT(", FORMS),
     # What WP keeps apart, or takes for something else.
     ("typedef struct InlineText {", "typedef union InlineText {", "a union"),
     ("typedef struct pair_u8_u8 { uint8_t _0;", "typedef struct pair_u8_u8 { uint8_t _0 : 6;", "a bit field"),

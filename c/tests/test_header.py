@@ -1,4 +1,5 @@
-"""Tests of base62.h: its version, what it defines, and what compilers warn of. CC is the compiler, by default gcc."""
+"""Tests of base62.h: its version, what it defines, and what compilers warn of; and of the names in base62.c. CC is the
+compiler, by default gcc."""
 
 import os
 import pathlib
@@ -144,6 +145,14 @@ class Header(unittest.TestCase):
                 with self.subTest(language=language, options=options):
                     found = macros(HEADER, *options, language=language) - macros(INCLUDES, *options, language=language)
                     self.assertEqual(found, MACROS)
+
+    def test_names_of_the_source(self):
+        """base62.c may stand behind other headers: they define OK, TEXT, OVERFLOW and the like."""
+        text = re.sub(r"/\*.*?\*/|//[^\n]*|\"[^\"\n]*\"|'[^\n]'", "", (FOLDER / "base62.c").read_text(), flags=re.S)
+        defined = re.findall(r"#\s*define (\w+)", text)
+        self.assertEqual([name for name in defined if not name.startswith("B62_")], [])
+        capitals = {name for name in re.findall(r"\b[A-Z][A-Z0-9_]+\b", text) if not re.match("B(ASE)?62_", name)}
+        self.assertEqual(capitals, {"CHAR_BIT", "GCC", "SIZE_MAX", "UINT64_C"})
 
     def test_includes(self):
         """They stand outside of extern "C": there no template may stand, as some systems' headers have them."""

@@ -158,7 +158,7 @@ class File:
         """A small function that makes or reads a value, if it is called."""
         if name not in self.done and re.search(rf"\b{name}\(", self.written):
             self.done.add(name)
-            self.out += ["", *wrapped(f"static ALWAYS_INLINE {back} {name}({', '.join(parts) or 'void'}) {{"),
+            self.out += ["", *wrapped(f"static B62_ALWAYS_INLINE {back} {name}({', '.join(parts) or 'void'}) {{"),
                          *wrapped(f"    return {value};"), "}"]
 
     def noted(self, definition, name, indent, line):

@@ -248,8 +248,11 @@ class Library:
                 of = self.owner_type(definition)
                 of = self.short(of) if of[0] != "array" else f"bytes_{of[2]}"
                 self.names[definition] = name = f"{of}_{name}"
-            if definition.kind in ("const", "static") and not re.fullmatch("[A-Z][A-Z0-9_]*", name, re.A):
-                refuse(definition.token, "a constant in small letters")
+            if definition.kind in ("const", "static"):
+                if not re.fullmatch("[A-Z][A-Z0-9_]*", name, re.A):
+                    refuse(definition.token, "a constant in small letters")
+                # Headers of C define OK, TEXT, OVERFLOW and the like.
+                self.names[definition] = name = "B62_" + name
             if not definition.is_declared and not definition.item.is_exported:
                 self.claim(name, definition)
             for variant in self.parts(definition) if definition.kind == "enum" else ():

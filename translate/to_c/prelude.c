@@ -19,6 +19,7 @@
  *     let x = f()?;       x = f(); if (!x.is_ok) return err_..(x.err); and then x.ok
  *     InlineText          a struct of the caller: a function that takes or returns one gets a pointer to it
  *     u128                a struct of two halves, and the functions u128_..
+ *     const, static       a macro or a constant with B62_ before its name, as headers define OK, TEXT and OVERFLOW
  *
  * Indexes are not checked: the proofs show that each is in bounds. Nothing is allocated, and there is no state. It is
  * C99, for machines of 32 or 64 bits and of either byte order. With BASE62_NO_INT128 it uses no integer of 128 bits.
@@ -38,12 +39,14 @@
 #endif
 
 #ifdef __GNUC__
-#define ALWAYS_INLINE inline __attribute__((__always_inline__))
+#define B62_ALWAYS_INLINE inline __attribute__((__always_inline__))
 #else
-#define ALWAYS_INLINE inline
+#define B62_ALWAYS_INLINE inline
 #endif
 #ifdef _MSC_VER
-#define restrict __restrict
+#define B62_RESTRICT __restrict
+#else
+#define B62_RESTRICT restrict
 #endif
 #if defined __GNUC__ && !defined __clang__ && __STDC_HOSTED__
 /* GCC packs the halves of a u128 into a vector register, only to unpack them again. With -ffreestanding this pragma
@@ -54,30 +57,31 @@
 /* Unsigned integers below 2^128, as two halves. Sums, differences and products are modulo 2^128. */
 typedef struct u128 { uint64_t high, low; } u128;
 
-static ALWAYS_INLINE u128 u128_of(uint64_t n) { return (u128){0, n}; }
-static ALWAYS_INLINE uint64_t u128_low(u128 a) { return a.low; }
-static ALWAYS_INLINE u128 u128_and(u128 a, u128 b) { return (u128){a.high & b.high, a.low & b.low}; }
-static ALWAYS_INLINE u128 u128_or(u128 a, u128 b) { return (u128){a.high | b.high, a.low | b.low}; }
-static ALWAYS_INLINE u128 u128_sub(u128 a, u128 b) { return (u128){a.high - b.high - (a.low < b.low), a.low - b.low}; }
-static ALWAYS_INLINE bool u128_less(u128 a, u128 b) { return a.high == b.high ? a.low < b.low : a.high < b.high; }
-static ALWAYS_INLINE bool u128_equal(u128 a, u128 b) { return a.high == b.high && a.low == b.low; }
+static B62_ALWAYS_INLINE u128 u128_of(uint64_t n) { return (u128){0, n}; }
+static B62_ALWAYS_INLINE uint64_t u128_low(u128 a) { return a.low; }
+static B62_ALWAYS_INLINE u128 u128_and(u128 a, u128 b) { return (u128){a.high & b.high, a.low & b.low}; }
+static B62_ALWAYS_INLINE u128 u128_or(u128 a, u128 b) { return (u128){a.high | b.high, a.low | b.low}; }
+static B62_ALWAYS_INLINE bool u128_less(u128 a, u128 b) { return a.high == b.high ? a.low < b.low : a.high < b.high; }
+static B62_ALWAYS_INLINE bool u128_equal(u128 a, u128 b) { return a.high == b.high && a.low == b.low; }
 
-static ALWAYS_INLINE u128 u128_add(u128 a, u128 b) {
+static B62_ALWAYS_INLINE u128 u128_add(u128 a, u128 b) {
     const uint64_t low = a.low + b.low;
     return (u128){a.high + b.high + (low < a.low), low};
 }
 
-/* By 64 bits or more. */
-static ALWAYS_INLINE u128 u128_shift_left(u128 a, unsigned bits) { return (u128){a.low << (bits - 64), 0}; }
+static B62_ALWAYS_INLINE u128 u128_sub(u128 a, u128 b) {
+    return (u128){a.high - b.high - (a.low < b.low), a.low - b.low};
+}
 
-/* By one bit or more. */
-static ALWAYS_INLINE u128 u128_shift_right(u128 a, unsigned bits) {
-    if (bits >= 64) return (u128){0, a.high >> (bits - 64)};
+static B62_ALWAYS_INLINE u128 u128_shift_left_64(u128 a) { return (u128){a.low, 0}; }
+static B62_ALWAYS_INLINE u128 u128_shift_right_64(u128 a) { return (u128){0, a.high}; }
+
+static B62_ALWAYS_INLINE u128 u128_shift_right_1_to_63(u128 a, unsigned bits) {
     return (u128){a.high >> bits, a.low >> bits | a.high << (64 - bits)};
 }
 
 /* The whole product of two 64-bit integers: by a 128-bit one if the compiler has those, or else by 32-bit halves. */
-static ALWAYS_INLINE u128 u128_mul_64(uint64_t a, uint64_t b) {
+static B62_ALWAYS_INLINE u128 u128_mul_64(uint64_t a, uint64_t b) {
 #if defined __SIZEOF_INT128__ && !defined BASE62_NO_INT128
     const base62_u128 product = (base62_u128)a * b;
     return (u128){(uint64_t)(product >> 64), (uint64_t)product};
@@ -88,20 +92,20 @@ static ALWAYS_INLINE u128 u128_mul_64(uint64_t a, uint64_t b) {
 #endif
 }
 
-static ALWAYS_INLINE u128 u128_mul(u128 a, u128 b) {
+static B62_ALWAYS_INLINE u128 u128_mul(u128 a, u128 b) {
     const u128 low = u128_mul_64(a.low, b.low);
     return (u128){low.high + a.high * b.low + a.low * b.high, low.low};
 }
 
 typedef struct option_u128 { bool is_some; u128 some; } option_u128;
 
-static ALWAYS_INLINE option_u128 u128_checked_add(u128 a, u128 b) {
+static B62_ALWAYS_INLINE option_u128 u128_checked_add(u128 a, u128 b) {
     const u128 sum = u128_add(a, b);
     return (option_u128){.is_some = !u128_less(sum, a), .some = sum};
 }
 
 /* If both upper halves are nonzero, the product overflows. Otherwise one cross product is 0. */
-static ALWAYS_INLINE option_u128 u128_checked_mul(u128 a, u128 b) {
+static B62_ALWAYS_INLINE option_u128 u128_checked_mul(u128 a, u128 b) {
     const u128 low = u128_mul_64(a.low, b.low);
     const u128 cross = a.high == 0 ? u128_mul_64(a.low, b.high) : u128_mul_64(a.high, b.low);
     const uint64_t high = low.high + cross.low;
@@ -109,7 +113,7 @@ static ALWAYS_INLINE option_u128 u128_checked_mul(u128 a, u128 b) {
     return (option_u128){.is_some = fits, .some = {high, low.low}};
 }
 
-static ALWAYS_INLINE u128 u128_from_be_bytes(const uint8_t bytes[16]) {
+static B62_ALWAYS_INLINE u128 u128_from_be_bytes(const uint8_t bytes[16]) {
     uint64_t high = 0, low = 0;
     for (int i = 0; i < 8; i++) {
         high = high * 256 + bytes[i];
@@ -118,7 +122,7 @@ static ALWAYS_INLINE u128 u128_from_be_bytes(const uint8_t bytes[16]) {
     return (u128){high, low};
 }
 
-static ALWAYS_INLINE void u128_to_be_bytes(u128 a, uint8_t bytes[16]) {
+static B62_ALWAYS_INLINE void u128_to_be_bytes(u128 a, uint8_t bytes[16]) {
     for (int i = 8; i > 0; i--) {
         bytes[i - 1] = (uint8_t)a.high;
         bytes[i + 7] = (uint8_t)a.low;
@@ -126,15 +130,15 @@ static ALWAYS_INLINE void u128_to_be_bytes(u128 a, uint8_t bytes[16]) {
     }
 }
 
-static ALWAYS_INLINE u128 u128_saturating_add(u128 a, u128 b) {
+static B62_ALWAYS_INLINE u128 u128_saturating_add(u128 a, u128 b) {
     const u128 sum = u128_add(a, b);
     return u128_less(sum, a) ? u128_sub(u128_of(0), u128_of(1)) : sum;
 }
 
-static ALWAYS_INLINE uint64_t u64_wrapping_add(uint64_t a, uint64_t b) { return a + b; }
+static B62_ALWAYS_INLINE uint64_t u64_wrapping_add(uint64_t a, uint64_t b) { return a + b; }
 
 /* The index of the highest bit of an integer that is not 0. */
-static ALWAYS_INLINE uint32_t u64_ilog2(uint64_t n) {
+static B62_ALWAYS_INLINE uint32_t u64_ilog2(uint64_t n) {
 #ifdef __GNUC__
     return 63 ^ (uint32_t)__builtin_clzll(n);
 #else
@@ -148,10 +152,10 @@ static ALWAYS_INLINE uint32_t u64_ilog2(uint64_t n) {
 #endif
 }
 
-static ALWAYS_INLINE size_t usize_min(size_t a, size_t b) { return a < b ? a : b; }
+static B62_ALWAYS_INLINE size_t usize_min(size_t a, size_t b) { return a < b ? a : b; }
 
 /* Compilers turn these loops into memcpy and memset. Provers understand them, and a length of 0 is fine. */
-static inline void copy_bytes(uint8_t *restrict to, const uint8_t *restrict from, size_t length) {
+static inline void copy_bytes(uint8_t *B62_RESTRICT to, const uint8_t *B62_RESTRICT from, size_t length) {
     for (size_t i = 0; i < length; i++) to[i] = from[i];
 }
 
@@ -160,7 +164,7 @@ static inline void fill_bytes(uint8_t *to, uint8_t byte, size_t length) {
 }
 
 /* The bytes of a constant text, and how many they are. */
-#define TEXT(text) text, sizeof(text) - 1
+#define B62_TEXT(text) text, sizeof(text) - 1
 
 /* A text of at most MAX_FAULT_TEXT bytes. */
 typedef struct InlineText {

@@ -16,8 +16,7 @@ from .types import (BITS, BOOL, BYTES, HELD, INLINE_TEXT, INTS, STANDARD, STR, T
 LEVEL = {"||": 4, "&&": 5, "|": 6, "^": 7, "&": 8, "==": 9, "!=": 9, "<": 10, ">": 10, "<=": 10, ">=": 10, "<<": 11,
          ">>": 11, "+": 12, "-": 12, "*": 13, "/": 13, "%": 13}
 UNARY, POSTFIX = 14, 15
-U128_CALLS = {"+": "add", "-": "sub", "*": "mul", ">>": "shift_right", "<<": "shift_left", "|": "or", "&": "and",
-              "<": "less", "==": "equal"}
+U128_CALLS = {"+": "add", "-": "sub", "*": "mul", "|": "or", "&": "and", "<": "less", "==": "equal"}
 CHANGING = ("fill", "copy_from_slice")
 WITHOUT_RECEIVER = ("u128_from_be_bytes", "InlineText_new")
 
@@ -407,6 +406,8 @@ class Values:
         of = BOOL if is_comparison else left.type
         if left.type == U128:
             return self.wide(op, left.text, right.text, of, node)
+        if is_shift and node.right.kind == "number" and node.right.number >= BITS[left.type[0]]:
+            refuse(node.right.token, "a shift by all bits or more")
         inner = UNARY if is_shift or op in ("|", "^", "&") else level
         text = f"{left.closed(inner)} {op} {right.closed(max(inner, level + 1))}"
         return Value(f"(uint8_t)({text})", U8, UNARY) if of == U8 else Value(text, of, level)
@@ -417,9 +418,20 @@ class Values:
             op, left, right = {">": "<", "<=": ">="}[op], right, left
         if op in (">=", "!="):
             return Value(f"!u128_{'less' if op == '>=' else 'equal'}({left}, {right})", of, UNARY)
+        if op in ("<<", ">>"):
+            return Value(self.wide_shift(op, left, node.right), of)
         if op not in U128_CALLS:
             refuse(node.token, "an operator of u128 that is not known")
         return Value(f"u128_{U128_CALLS[op]}({left}, {right})", of)
+
+    def wide_shift(self, op, left, by):
+        """A shift of u128, by a literal that the prelude serves."""
+        bits, to = by.number if by.kind == "number" else 0, "left" if op == "<<" else "right"
+        if bits == 64:
+            return f"u128_shift_{to}_64({left})"
+        if to == "left" or not 0 < bits < 64:
+            refuse(by.token, "a shift of u128 that the prelude does not serve")
+        return f"u128_shift_right_1_to_63({left}, {bits})"
 
     def value_cast(self, node, want):
         return self.converted(node.value, self.library.read(node.to, self.definition))
@@ -586,5 +598,5 @@ class Values:
     def slice_args(self, node, found, with_length=True):
         """A slice as arguments: its start, and its length if the function reads it."""
         if node.kind == "string" and with_length:
-            return [f"TEXT({found.text})"]
+            return [f"B62_TEXT({found.text})"]
         return [found.text] + [self.count(found)] * with_length

@@ -8,7 +8,7 @@ from .library import Local
 from .types import HELD, INLINE_TEXT, INTS, STR, U8, U32, U64, U128, UNIT, USIZE, WORK, behind, is_slice, parts_of
 from .values import LEVEL, UNARY, Values
 
-STORAGE = {"#[inline]": "inline ", "#[inline(always)]": "ALWAYS_INLINE "}
+STORAGE = {"#[inline]": "inline ", "#[inline(always)]": "B62_ALWAYS_INLINE "}
 # A length, a power or a name in a contract.
 WORD = re.compile(r"length (\w+)\.(?:now|old)|(\d+) \^ (\d+)|[A-Za-z_]\w*")
 
@@ -139,7 +139,7 @@ class Writer(Values):
         if is_slice(of):
             local.count = self.fresh(local.c + "_length")
             is_read = (self.definition, local.name) in library.lengths
-            return [library.c_type(of) + "restrict " * of[2] + local.c] + [f"size_t {local.count}"] * is_read
+            return [library.c_type(of) + "B62_RESTRICT " * of[2] + local.c] + [f"size_t {local.count}"] * is_read
         return ["const " * (of[0] == "array") + library.declared(of, local.c)]
 
     def exported_head(self):

@@ -113,11 +113,11 @@ for step in STEPS:
     print(f"loop invariant at_{step}: step == {step} ==> 0 < n < {max(4**step, 2):#x} && ({cases});")
 print("loop assigns bits, n, step;\nloop variant step;")
 print("""
-== after static ALWAYS_INLINE size_t wide_count(u128 n);
+== after static B62_ALWAYS_INLINE size_t wide_count(u128 n);
 /*@ ghost""")
 # The tables of the greatest numbers of k letters.
-for kind, read, most, end in (("wide", "number_of(GREATEST[k])", 22, "ACSL_2_128"),
-                              ("narrow", "GREATEST_NARROW[k]", 11, "ACSL_2_64")):
+for kind, read, most, end in (("wide", "number_of(B62_GREATEST[k])", 22, "ACSL_2_128"),
+                              ("narrow", "B62_GREATEST_NARROW[k]", 11, "ACSL_2_64")):
     print(f"""
     /@ requires 1 <= k <= {most}; assigns \\nothing; ensures {read} == (k == {most} ? {end} : pow62(k)) - 1; @/
     void greatest_{kind}(size_t k) {{

@@ -10,7 +10,7 @@ def cases(name, values):
 print("""== prove standard_letter, standard_byte, alternative_letter, alternative_byte: with tables
 == after typedef char Alphabet_is_base62_alphabet
 /*@ ghost""")
-for tables, letters in (("STANDARD", "standard"), ("ALTERNATIVE", "alternative")):
+for tables, letters in (("B62_STANDARD", "standard"), ("B62_ALTERNATIVE", "alternative")):
     print(f"""
     /@ requires d < 62;
        assigns \\nothing;

@@ -79,9 +79,8 @@ impl Random {
 
 /// What each side is given in a round.
 #[derive(Debug)]
-#[allow(dead_code)] // Each comparison needs some of it.
 pub struct Input {
-    pub round: usize,
+    round: usize,
     pub number: u128,
     pub text: Vec<u8>,
     pub letters: [u8; 62],
@@ -89,9 +88,7 @@ pub struct Input {
     /// Of a buffer.
     start: usize,
     size: usize,
-    /// Any widths, of texts and for displays.
     pub width: usize,
-    pub precision: usize,
 }
 
 impl Input {
@@ -107,7 +104,6 @@ impl Input {
             start: random.below(9),
             size: random.below(27),
             width: random.below(30),
-            precision: random.below(30),
         }
     }
 

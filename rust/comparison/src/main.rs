@@ -1,77 +1,60 @@
-//! Compares this crate with the crate `base62`: `comparison CALLS SEED`.
+//! Compares this crate with a library for C: `comparison CALLS SEED`.
 
 #[macro_use]
 mod driver;
+mod library;
 
 use driver::Input;
-use std::fmt::Display;
-use std::io::{self, Write};
 
-/// All that a fault shows. Its `Debug` has its name and its parts.
-fn in_each_way(fault: impl std::error::Error) -> String {
-    format!("{fault}|{fault:>90}|{fault:.3}|{fault:?}|{fault:#?}")
-}
+mod here {
+    pub use proved::*;
 
-/// The string, and how much it requested.
-fn grown(string: String) -> (String, usize) {
-    let capacity = string.capacity();
-    (string, capacity)
-}
-
-/// A call appends three times to a string with some room.
-fn appended(input: &Input, call: impl Fn(&mut String)) -> (String, usize) {
-    let mut string = String::with_capacity(input.width);
-    string.extend(std::iter::repeat_n('é', input.round % 100));
-    for _ in 0..3 {
-        call(&mut string);
+    pub fn text_of(fault: DecodeError) -> String {
+        fault.to_string()
     }
-    grown(string)
+
+    pub fn number_of(uuid: [u8; 16]) -> u128 {
+        u128::from_be_bytes(uuid)
+    }
 }
 
-/// A vector, by a trait object, and a writer that may be short.
-fn written(input: &Input, call: impl Fn(&mut dyn Write) -> io::Result<()>) -> String {
-    let mut whole = Vec::new();
-    let answer = call(&mut whole);
-    let short = input.buffer(|mut buffer| call(&mut buffer));
-    format!("{answer:?} {whole:?} {short:?}")
-}
-
-/// Ten ways to show a value.
-fn shown(input: &Input, it: impl Display) -> String {
-    let (width, precision) = (input.width, input.precision);
-    format!("{it}|{it:>width$}|{it:<width$}|{it:^width$}|{it:.precision$}|")
-        + &format!("{it:*^width$.precision$}|{it:0>22}|{it:08}|{it:#}|{it:+}")
-}
-
-const INDICES: [usize; 8] = [0, 1, 9, 10, 99, 100, 12345, usize::MAX];
-
+#[allow(unused_variables)] // Few calls take `own`.
 fn round(input: &Input) -> usize {
-    let (number, text) = (input.number, &input.text);
-    let index = INDICES[input.round / 256 % INDICES.len()];
-    same! { input, _ = proved (), theirs ();
-        input.buffer(|buf| encode_bytes(number, buf).map_err(in_each_way)),
-        input.buffer(|buf| encode_alternative_bytes(number, buf).map_err(in_each_way)),
-        grown(encode(number)),
-        grown(encode_alternative(number)),
-        appended(input, |string| encode_buf(number, string)),
-        appended(input, |string| encode_alternative_buf(number, string)),
-        written(input, |writer| encode_io(number, writer)),
-        written(input, |writer| encode_alternative_io(number, writer)),
-        shown(input, encode_fmt(number)),
-        shown(input, encode_fmt_alt(number)),
-        decode(text).map_err(in_each_way),
-        decode_alternative(text).map_err(in_each_way),
-        decode(encode(number)).map_err(in_each_way),
-        decode_alternative(encode_alternative(number)).map_err(in_each_way),
-        in_each_way(DecodeError::InvalidBase62Byte(input.round as u8, index)),
-        encode(number % 2 == 1),
-        encode(number as u8),
-        encode(number as u16),
-        encode(number as u32),
-        encode(number as u64),
-        encode(char::from(number as u8)),
-        encode(std::net::Ipv6Addr::from(number)),
-    }
+    let (number, text, width) = (input.number, &input.text[..], input.width);
+    let ours = proved::Alphabet::new(input.letters).unwrap();
+    let theirs = library::Alphabet::new(input.letters).unwrap_or_else(|fault| panic!("{fault}"));
+    // The same number over the other letters.
+    let mut buf = [0; 22];
+    let length = proved::encode_bytes_with(&ours, number, &mut buf).unwrap();
+    let of_number = same! { input, own = here &ours, library &theirs;
+        Alphabet::new(input.repeated).err(),
+        input.buffer(|buf| encode_bytes(number, buf)),
+        input.buffer(|buf| encode_alternative_bytes(number, buf)),
+        input.buffer(|buf| encode_bytes_with(own, number, buf)),
+        input.buffer(|places| encode_fixed(number, places)),
+        input.buffer(|places| encode_alternative_fixed(number, places)),
+        input.buffer(|places| encode_fixed_with(own, number, places)),
+        encode_key(number),
+        digit_count(number),
+        number_of(number.to_be_bytes()),
+    };
+    let of_text = |text: &[u8]| {
+        same! { input, own = here &ours, library &theirs;
+            decode(text),
+            decode_alternative(text),
+            decode_with(own, text),
+            decode_canonical(text),
+            decode_alternative_canonical(text),
+            decode_canonical_with(own, text),
+            decode_uuid(text),
+            key_range(text),
+            fixed_range(width, text),
+            fixed_range_with(own, width, text),
+            decode(text).err().map(text_of),
+            decode_with(own, text).err().map(text_of),
+        }
+    };
+    of_number + of_text(text) + of_text(&buf[..length])
 }
 
 fn main() {

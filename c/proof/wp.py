@@ -120,7 +120,7 @@ def checked(file, bare=None, calls=None):
     of = {kind: {name for each, name, _ in found if each == kind}
           for kind in ("defined", "declared", "public", "lemma", "constant")}
     wrong = [f"rejected: {name} {what}" for kind, name, what in dict.fromkeys(found)
-             if kind == "rejected" or kind == "char" and bare]
+             if kind in ("rejected", "form") or kind == "open" and bare]
     wrong += [f"no body: {name}" for name in sorted(of["declared"] - (set() if bare else calls or of["public"]))]
     wrong += bits.wrong(found)
     if bare and code(file) != bare:

@@ -76,7 +76,7 @@ static B62_ALWAYS_INLINE u128 u128_sub(u128 a, u128 b) {
 static B62_ALWAYS_INLINE u128 u128_shift_left_64(u128 a) { return (u128){a.low, 0}; }
 static B62_ALWAYS_INLINE u128 u128_shift_right_64(u128 a) { return (u128){0, a.high}; }
 
-static B62_ALWAYS_INLINE u128 u128_shift_right_1_to_63(u128 a, unsigned bits) {
+static B62_ALWAYS_INLINE u128 u128_shift_right_1_to_63(u128 a, uint32_t bits) {
     return (u128){a.high >> bits, a.low >> bits | a.high << (64 - bits)};
 }
 
@@ -115,7 +115,7 @@ static B62_ALWAYS_INLINE option_u128 u128_checked_mul(u128 a, u128 b) {
 
 static B62_ALWAYS_INLINE u128 u128_from_be_bytes(const uint8_t bytes[16]) {
     uint64_t high = 0, low = 0;
-    for (int i = 0; i < 8; i++) {
+    for (size_t i = 0; i < 8; i++) {
         high = high * 256 + bytes[i];
         low = low * 256 + bytes[8 + i];
     }
@@ -123,7 +123,7 @@ static B62_ALWAYS_INLINE u128 u128_from_be_bytes(const uint8_t bytes[16]) {
 }
 
 static B62_ALWAYS_INLINE void u128_to_be_bytes(u128 a, uint8_t bytes[16]) {
-    for (int i = 8; i > 0; i--) {
+    for (size_t i = 8; i > 0; i--) {
         bytes[i - 1] = (uint8_t)a.high;
         bytes[i + 7] = (uint8_t)a.low;
         a = (u128){a.high / 256, a.low / 256};
@@ -171,6 +171,9 @@ typedef struct InlineText {
     size_t length;
     uint8_t bytes[77];
 } InlineText;
+
+/* Blanks, since compilers clear such a struct slower than they copy it. */
+#define B62_NO_TEXT {0, "                                                                            "}
 
 static inline void InlineText_new(InlineText *result) { result->length = 0; }
 
@@ -428,7 +431,8 @@ static void append_escaped(InlineText *text, uint8_t byte) {
         return;
     }
     if (byte >= 32 && byte <= 126) {
-        append_bytes(text, (const uint8_t[]){byte}, 1);
+        const uint8_t bytes[1] = {byte};
+        append_bytes(text, bytes, 1);
         return;
     }
     const uint8_t escape[4] = {'\\', 'x', hex_digit((uint8_t)(byte / 16)), hex_digit((uint8_t)(byte % 16))};
@@ -504,7 +508,7 @@ static B62_ALWAYS_INLINE result_unit_AlphabetError err_unit_AlphabetError(Alphab
 // Returns `Repeated(byte, index)` if a byte is repeated. The index is the least one whose byte
 // is also at an earlier index.
 static result_unit_AlphabetError Alphabet_new(const uint8_t letters[62], Alphabet *made) {
-    uint8_t digits[256];
+    uint8_t digits[256] = {0};
     fill_bytes(digits, 255, sizeof digits);
     size_t index = 0;
     while (index < 62) {
@@ -1701,16 +1705,19 @@ size_t base62_encode_with(const base62_alphabet *alphabet, base62_number number,
 }
 
 size_t base62_encode_fixed(base62_number number, char *places, size_t width) {
-    return count_filled(encode_fixed(joined(number), (uint8_t *)places, width), width);
+    const result_unit answer = encode_fixed(joined(number), (uint8_t *)places, width);
+    return count_filled(answer, width);
 }
 
 size_t base62_encode_alternative_fixed(base62_number number, char *places, size_t width) {
-    return count_filled(encode_alternative_fixed(joined(number), (uint8_t *)places, width), width);
+    const result_unit answer = encode_alternative_fixed(joined(number), (uint8_t *)places, width);
+    return count_filled(answer, width);
 }
 
 size_t base62_encode_fixed_with(const base62_alphabet *alphabet, base62_number number, char *places, size_t width) {
-    return count_filled(encode_fixed_with((const Alphabet *)alphabet, joined(number), (uint8_t *)places, width),
+    const result_unit answer = encode_fixed_with((const Alphabet *)alphabet, joined(number), (uint8_t *)places,
         width);
+    return count_filled(answer, width);
 }
 
 void base62_encode_key(base62_number number, char key[BASE62_KEY_LENGTH]) {
@@ -1770,12 +1777,8 @@ base62_status base62_fixed_range_with(const base62_alphabet *alphabet, size_t wi
 // What `alphabet` points to is not read, so callers can pass uninitialized memory.
 base62_status base62_make_alphabet(const char letters[BASE62_ALPHABET_LENGTH], base62_alphabet *alphabet,
     base62_bad_byte *bad) {
-    Alphabet made;
-    const result_unit_AlphabetError answer = Alphabet_new((const uint8_t *)letters, &made);
-    if (answer.is_ok) {
-        copy_bytes((uint8_t *)alphabet, (const uint8_t *)&made, sizeof(Alphabet));
-        return (base62_status)B62_OK;
-    }
+    const result_unit_AlphabetError answer = Alphabet_new((const uint8_t *)letters, (Alphabet *)alphabet);
+    if (answer.is_ok) return (base62_status)B62_OK;
     const AlphabetError fault = answer.err;
     return (base62_status)store_repeat(fault, bad);
 }
@@ -1789,7 +1792,7 @@ void base62_uuid_of_number(base62_number number, unsigned char uuid[BASE62_UUID_
 }
 
 size_t base62_fault_text(base62_status status, base62_bad_byte bad, char *buffer, size_t size) {
-    InlineText text;
+    InlineText text = B62_NO_TEXT;
     text_of((uint32_t)status, bad, &text);
     return copy_text(text.bytes, text.length, (uint8_t *)buffer, size);
 }

@@ -9,18 +9,17 @@ Each of these files is a list. A line that begins with "==" says where the lines
     == prove NAME, ..: HOW          nowhere: WP proves these functions so, by one of HOW in wp.py. The lines say why
 
 The text @end is the last line of the function. A line that begins with "//" says why, and goes in as well. Of
-several lines "==" one directly under the other, each gets the lines after the last.
+several lines "==" one directly under the other, each gets the lines after the last. A text <<0..62 by 2: TEXT>> is that
+text for 0, 2, 4 and so on, each in the place of #, and 62^10 is a number.
 """
 
 import functools
 import pathlib
 import re
-import subprocess
-import sys
 
 FOLDER = pathlib.Path(__file__).parent
 
-# In the order in which they need each other. A list in Python prints what a list would say.
+# In the order in which they need each other.
 ANNOTATIONS = ("numbers faults powers results digits alphabets tables readers decoder texts canonical ranges fractions"
                " parts writers counts encoders fixed uuids exports").split()
 
@@ -39,20 +38,17 @@ def laws():
     return text_of(FOLDER / "laws.c") + text_of(FOLDER / "examples.c")
 
 
+def expanded(text):
+    """A list with its repeated texts and its powers written out."""
+    text = re.sub(r"<<(\d+)\.\.(\d+)(?: by (\d+))?: (.*?)>>", lambda found: "".join(
+        found[4].replace("#", str(n)) for n in range(int(found[1]), int(found[2]) + 1, int(found[3] or 1))), text)
+    return re.sub(r"\b(\d+)\^(\d+)\b", lambda found: str(int(found[1]) ** int(found[2])), text)
+
+
 @functools.cache
 def lists():
     """The texts of all lists."""
-    return [*texts_of_lists()]
-
-
-def texts_of_lists():
-    for name in ANNOTATIONS:
-        path = FOLDER / "annotations" / name
-        if path.with_suffix(".py").exists():
-            ran = subprocess.run([sys.executable, path.with_suffix(".py")], check=True, capture_output=True)
-            yield ran.stdout.decode()
-        else:
-            yield text_of(path.with_suffix(".acsl"))
+    return [expanded(text_of(FOLDER / "annotations" / f"{name}.acsl")) for name in ANNOTATIONS]
 
 
 @functools.cache

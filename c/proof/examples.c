@@ -14,7 +14,6 @@
 void escape(unsigned char byte) {}
 
 /* The least count of decimal digits that is enough, at most 20. */
-// == prove compute_decimals, index_again: z3 first
 /*@ assigns \nothing;
     ensures result: \result == decimal_length(number) && 1 <= \result <= 20;
     ensures enough: without_decimals(number, \result) == 0;

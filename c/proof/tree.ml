@@ -11,7 +11,142 @@ let () =
 let found = ref []
 let tell kind name what = found := String.concat "\t" [ kind; name; what ] :: !found
 let file_of (place : location) = Filename.basename (Filepath.Normalized.to_pretty_string (fst place).Filepath.pos_path)
+let is_library (place : location) =
+  String.starts_with ~prefix:"FRAMAC_SHARE/" (Filepath.Normalized.to_pretty_string (fst place).Filepath.pos_path)
 let at_place place what = Format.asprintf "%a: %s" Cil_printer.pp_location place what
+
+(* -------------------- The small C: what is not on these lists is rejected -------------------- *)
+
+module Forms = struct
+  open Cabs
+
+  let types = Hashtbl.create 50
+  let () = List.iter (fun name -> Hashtbl.replace types name ()) [ "uint8_t"; "uint32_t"; "uint64_t"; "size_t" ]
+  (* Calls within expressions, whose order C leaves open: each has to be of a function that writes nothing. *)
+  let nested = ref []
+  let tell_if wrong kind place what = if wrong then tell kind "" (at_place place (what ^ " that is not on the list"))
+  let reject_if wrong = tell_if wrong "form"
+  let reject place = reject_if true place
+
+  let rec expression e = match e.expr_node with
+    | CONSTANT (CONST_INT _ | CONST_CHAR [ _ ]) | VARIABLE _ | EXPR_SIZEOF { expr_node = PAREN { expr_node = VARIABLE _; _ } | VARIABLE _; _ } -> ()
+    | TYPE_SIZEOF (spec, decl) -> typ e.expr_loc [ JUSTBASE ] spec decl
+    | PAREN a | MEMBEROF (a, _) | MEMBEROFPTR (a, _) | UNARY ((NOT | MEMOF | MINUS), a) -> expression a
+    | UNARY (ADDROF, ({ expr_node = VARIABLE _ | MEMBEROF _ | MEMBEROFPTR _ | INDEX _; _ } as a)) -> expression a
+    | BINARY ((ADD | SUB | MUL | DIV | MOD | AND | OR | BAND | BOR | XOR | SHL | SHR | EQ | NE | LT | GT | LE | GE), a, b)
+    | INDEX (a, b) -> expression a; expression b
+    | QUESTION (a, b, c) -> List.iter expression [ a; b; c ]
+    | CAST ((spec, decl), SINGLE_INIT a) -> typ e.expr_loc [ JUSTBASE; PTR ([], JUSTBASE) ] spec decl; expression a
+    | CAST ((spec, JUSTBASE), (COMPOUND_INIT _ as i)) -> typ e.expr_loc [ JUSTBASE ] spec JUSTBASE; initial e.expr_loc i
+    | CALL ({ expr_node = VARIABLE f; _ }, all, []) -> nested := (f, e.expr_loc) :: !nested; List.iter expression all
+    | _ -> reject e.expr_loc "an expression"
+
+  (* What is set or returned may be a call that writes: nothing else is evaluated beside it. *)
+  and value e = match e.expr_node with
+    | CALL ({ expr_node = VARIABLE _; _ }, all, []) -> List.iter expression all
+    | CAST ((spec, JUSTBASE), SINGLE_INIT a) -> typ e.expr_loc [ JUSTBASE ] spec JUSTBASE; value a
+    | PAREN a -> value a
+    | NOTHING -> ()
+    | _ -> expression e
+
+  and initial place = function
+    | SINGLE_INIT { expr_node = CONSTANT (CONST_STRING _); _ } -> ()
+    | SINGLE_INIT e -> expression e
+    | COMPOUND_INIT all ->
+      let name = function INFIELD_INIT (name, NEXT_INIT) -> Some name | _ -> None in
+      let names = List.filter_map (fun (what, _) -> name what) all in
+      let is_listed = names <> [] || List.for_all (fun (what, _) -> what = NEXT_INIT) all in
+      reject_if (not is_listed || names <> [] && List.length (List.sort_uniq compare names) <> List.length all) place "an initializer";
+      List.iter (fun (_, i) -> initial place i) all
+    | NO_INIT -> tell "open" "" (at_place place "a variable that is not initialized where it is declared")
+
+  (* A type of one meaning on all targets, without what says how it is declared, and a declarator. *)
+  and typ place declarators spec decl =
+    let decl = match decl with PARENTYPE ([], decl, []) -> decl | _ -> decl in
+    let named = List.filter (function SpecCV CV_CONST -> false | _ -> true) spec in
+    let is_known = match named with
+      | [ SpecType Tbool ] | [ SpecType Tunsigned; SpecType Tchar ] -> true
+      | [ SpecType (Tnamed name) ] -> Hashtbl.mem types name
+      | [ SpecType Tvoid ] -> decl = JUSTBASE
+      | [ SpecType Tchar ] -> decl <> JUSTBASE
+      | _ -> false in
+    let is_short e = match e.expr_node with CONSTANT (CONST_INT n) -> String.length n < 4 | NOTHING -> true | _ -> false in
+    let is_array = match decl with ARRAY (JUSTBASE, [], n) -> is_short n | _ -> false in
+    tell_if (not is_known) "open" place "a type";
+    reject_if (not (is_array || List.mem decl declarators)) place "a declarator"
+
+  let place_of e = match e.expr_node with
+    | VARIABLE _ | MEMBEROF _ | MEMBEROFPTR _ | INDEX _ | UNARY (MEMOF, _) -> expression e
+    | _ -> reject e.expr_loc "an assignment"
+
+  let computation e = match e.expr_node with
+    | BINARY ((ASSIGN | ADD_ASSIGN | SUB_ASSIGN | MUL_ASSIGN | DIV_ASSIGN | SHL_ASSIGN | SHR_ASSIGN), a, b) -> place_of a; expression b
+    | UNARY ((POSINCR | POSDECR), a) -> place_of a
+    | CALL _ -> value e
+    | CAST (([ SpecType Tvoid ], JUSTBASE), SINGLE_INIT { expr_node = VARIABLE _; _ }) -> ()
+    | _ -> reject e.expr_loc "a statement"
+
+  let is_static = List.mem (SpecStorage STATIC)
+  let without all = List.filter (fun it -> not (List.mem it all))
+
+  let variable is_global place = function
+    | DECDEF (None, (spec, all), _) ->
+      let is_kept = is_global || is_static spec in
+      reject_if (is_kept && not (is_static spec && List.mem (SpecCV CV_CONST) spec)) place "a variable";
+      let spec = without [ SpecStorage STATIC ] spec in
+      List.iter (fun ((_, decl, attributes, _), init) ->
+        typ place (if is_kept then [ JUSTBASE ] else [ JUSTBASE; PTR ([], JUSTBASE) ]) spec decl;
+        reject_if (attributes <> []) place "an attribute";
+        match init with SINGLE_INIT e when not is_kept && decl = JUSTBASE -> value e | _ -> initial place init) all
+    | _ -> reject place "a declaration"
+
+  let rec statement s =
+    let reject what = function place -> reject place what in
+    match s.stmt_node with
+    | NOP _ | CODE_ANNOT _ | CODE_SPEC _ -> ()
+    | BLOCK ({ blabels = []; battrs = []; bstmts }, _, _) -> List.iter statement bstmts
+    | COMPUTATION (e, _) -> computation e
+    | RETURN (e, _) -> value e
+    | IF (c, a, b, _) -> expression c; statement a; statement b
+    | WHILE (_, c, a, _) -> expression c; statement a
+    | FOR (_, FC_DECL d, c, step, a, place) -> variable false place d; expression c; computation step; statement a
+    | DEFINITION (DECDEF (_, _, place) as d) -> variable false place d
+    | _ -> reject "a statement" (Cabshelper.get_statementloc s)
+
+  let rec fields place = List.iter (function
+    | FIELD ([ SpecType (Tstruct ("", Some inner, [])) ], [ ((_, JUSTBASE, [], _), None) ]) -> fields place inner
+    | FIELD ([ SpecType (Tenum ("", Some _, [])) ], [ ((_, JUSTBASE, [], _), None) ]) -> ()
+    | FIELD (spec, all) -> List.iter (function
+        | ((_, decl, [], place), None) -> typ place [ JUSTBASE ] spec decl
+        | _ -> reject place "a field") all
+    | _ -> reject place "a field")
+
+  let head place spec (_, decl, attributes, _) = match decl with
+    | PROTO (JUSTBASE, (_ :: _ as all), [], false) | PTR ([], PROTO (JUSTBASE, (_ :: _ as all), [], false)) ->
+      reject_if (List.mem SpecInline spec && not (is_static spec)) place "a function";
+      let is_more = function SpecStorage STATIC | SpecInline | SpecAttr _ -> false | _ -> true in
+      let spec = List.filter is_more spec in
+      if spec <> [ SpecType Tint ] then typ place [ JUSTBASE ] spec JUSTBASE;
+      List.iter (fun (spec, (_, decl, attributes, place)) ->
+        typ place [ JUSTBASE; PTR ([], JUSTBASE); PTR ([ "restrict", [] ], JUSTBASE) ] spec decl;
+        reject_if (attributes <> []) place "an attribute") all;
+      reject_if (attributes <> []) place "an attribute"
+    | _ -> reject place "a declaration"
+
+  let definition place = function
+    | FUNDEF (_, (spec, name), { blabels = []; battrs = []; bstmts }, _, _) -> head place spec name; List.iter statement bstmts
+    | DECDEF (_, (spec, [ ((_, (PROTO _ | PTR (_, PROTO _)), _, _) as name, NO_INIT) ]), _) -> head place spec name
+    | DECDEF _ as d -> variable true place d
+    | TYPEDEF ((SpecTypedef :: spec, [ (name, decl, [], _) ]), _) ->
+      (match spec, decl with
+        | [ SpecType (Tstruct (_, Some all, [])) ], JUSTBASE -> fields place all
+        | [ SpecType (Tenum (_, Some _, [])) ], JUSTBASE -> ()
+        | [ SpecType Tchar ], ARRAY _ -> ()
+        | _ -> reject place "a type");
+      Hashtbl.replace types name ()
+    | GLOBANNOT _ -> ()
+    | _ -> reject place "a declaration"
+end
 
 (* -------------------- Definitions: each ends -------------------- *)
 
@@ -182,6 +317,10 @@ let read_files () =
     | Cabs.FUNDEF (spec, (_, (name, _, _, _)), _, place, _) -> seen name spec place
     | Cabs.DECDEF (spec, (_, names), place) -> List.iter (fun ((name, _, _, _), _) -> seen name spec place) names
     | _ -> () in
+  let definition (ghost, d) =
+    let place = Cabshelper.get_definitionloc d in
+    if not (is_library place) then Forms.definition place d;
+    definition (ghost, d) in
   List.iter (fun (_, definitions) -> List.iter definition definitions) (Ast.UntypedFiles.get ())
 
 (* The parameter that an address is counted from. *)
@@ -240,10 +379,28 @@ let is_of_kind kind typ = match Cil.unrollType typ with TInt (k, _) -> k = kind 
 let is_through_a_number to_ from = Cil.isPointerType to_ <> Cil.isPointerType from && not (Cil.isVoidType to_)
 let through_a_number = "a pointer from a number, or a number from a pointer"
 let plain_char = "a plain char, which compilers may have with a sign"
+
+(* Bytes have one size and no alignment. *)
+let rec is_of_bytes typ = match Cil.unrollType typ with
+  | TInt ((IChar | IUChar), _) -> true
+  | TArray (t, Some _, _) -> is_of_bytes t
+  | TComp (c, _) -> List.for_all (fun f -> is_of_bytes f.ftype) (Option.value c.cfields ~default:[])
+  | _ -> false
+let is_constant_type typ = Cil.typeHasAttributeMemoryBlock "const" typ || Cil.typeHasQualifier "const" typ
+
+(* The kind of an enum is up to the compiler, and so is what an operator makes of it. *)
+let rec is_enum e = match e.enode with
+  | CastE (TInt _, a) -> is_enum a
+  | _ -> (match Cil.unrollType (Cil.typeOf e) with TEnum _ -> true | _ -> false)
+let is_pointer e = Cil.isPointerType (Cil.typeOf e)
+let is_same a b = Cil_datatype.Typ.equal (Cil.typeDeepDropAllAttributes a) (Cil.typeDeepDropAllAttributes b)
+let is_variable = function Var _, _ -> true | _ -> false
+let is_temporary = function Var v, NoOffset -> v.vtemp || v.vname = "__retres" | _ -> false
+let of_bytes = "sizeof of what does not consist of bytes"
+let of_enum = "an operator of an enum"
 (* Those that Frama-C itself gives, and what base62.h says of buffers. *)
 let known_attributes = [ "const"; "restrict"; "ghost"; "access"; "arraylen" ]
   @ [ "fc_ghost_formal"; "fc_local_static"; "fc_stdlib" ]
-let is_constant v = Cil.typeHasAttributeMemoryBlock "const" v.vtype || Cil.typeHasQualifier "const" v.vtype
 
 let read_whole = "a struct with an array is read whole, and WP 25 has a false axiom for it"
 let not_tried = "WP tries no goal that is named no_wp"
@@ -251,10 +408,13 @@ let calls = Hashtbl.create 1000
 
 class walk = object (self)
   inherit Visitor.frama_c_inplace
-  val passed = Hashtbl.create 1000
   method private name = match self#current_kf with Some kf -> Kernel_function.get_name kf | None -> ""
   method private reject place what = tell "rejected" self#name (at_place place what)
   method private reject_if wrong place what = if wrong then self#reject place what
+  (* What matters to compilers alone. *)
+  method private open_if wrong place what =
+    let is_ghost = match self#current_kf with Some kf -> (Kernel_function.get_vi kf).vghost | None -> false in
+    if wrong && not is_ghost then tell "open" self#name (at_place place what)
 
   method! vglob_aux g =
     let place = Cil_datatype.Global.loc g in
@@ -264,14 +424,7 @@ class walk = object (self)
         tell (if Kernel_function.is_definition kf then "defined" else "declared") f.vname "";
         if Hashtbl.mem in_header f.vorig_name && f.vstorage <> Static then tell "public" f.vname "";
         List.iter (fun what -> tell "rejected" f.vname (at_place place what)) (contract kf)
-      | GAsm _ -> self#reject place "assembler"
-      | GPragma _ -> self#reject place "a pragma"
-      | GVar (v, _, _) -> if v.vstorage = Static && is_constant v && file_of place = "base62.c" then tell "constant" v.vname ""
-      | GCompTag (c, _) ->
-        self#reject_if (not c.cstruct) place "a union, whose fields WP keeps apart";
-        let is_bit_field f = f.fbitfield <> None in
-        self#reject_if (List.exists is_bit_field (Option.value c.cfields ~default:[])) place
-          "a bit field, which WP takes for a whole object"
+      | GVar (v, _, _) -> if v.vstorage = Static && is_constant_type v.vtype && file_of place = "base62.c" then tell "constant" v.vname ""
       | _ -> ());
     Cil.DoChildren
 
@@ -310,22 +463,38 @@ class walk = object (self)
   method! vstmt_aux s =
     let place = Cil_datatype.Stmt.loc s in
     let is_variant a = match a.annot_content with AVariant _ -> true | _ -> false in
-    Hashtbl.replace passed s.sid ();
     (match s.skind with
       | Loop _ -> self#reject_if (Annotations.code_annot ~filter:is_variant s = []) place "a loop without a variant"
-      | Goto (target, _) -> self#reject_if (Hashtbl.mem passed !target.sid) place "a jump back"
-      | Instr (Asm _) -> self#reject place "assembler"
+      | If (e, _, _, _) -> self#open_if (is_pointer e) place "a pointer as a condition"
+      | Instr (Set (to_, { enode = Lval (Mem _, _); _ }, _)) when Cil.isStructOrUnionType (Cil.typeOfLval to_) && not (is_variable to_) ->
+        self#open_if true place "a struct that is copied from place to place"
+      | Instr (Set (to_, _, _)) -> self#open_if (Cil.isPointerType (Cil.typeOfLval to_) && not (is_temporary to_)) place "a pointer that is set anew"
       | Instr (Call (_, { enode = Lval (Var f, NoOffset); _ }, _, _))
       | Instr (Local_init (_, ConsInit (f, _, _), _)) -> Hashtbl.add calls self#name f.vname
-      | Instr (Call _) -> self#reject place "a call through a pointer"
       | _ -> ());
     Cil.DoChildren
 
-  method! vexpr e = match e.enode with
-    | SizeOfE _ | AlignOfE _ -> Cil.SkipChildren
+  method! vexpr e =
+    let open_if wrong = self#open_if wrong e.eloc in
+    match e.enode with
+    | SizeOf t -> open_if (not (is_of_bytes t)) of_bytes; Cil.SkipChildren
+    | SizeOfE a -> open_if (not (is_of_bytes (Cil.typeOf a))) of_bytes; Cil.SkipChildren
+    | Const (CStr _ | CWStr _) -> open_if true "a string that is no initializer"; Cil.SkipChildren
+    | BinOp (op, a, b, _) when is_pointer a || is_pointer b ->
+      open_if (op <> PlusPI || is_enum b) "an operator of pointers"; Cil.DoChildren
+    | BinOp ((Eq | Ne), a, b, _) when is_enum a || is_enum b ->
+      List.iter (fun a -> ignore (Visitor.visitFramacExpr (self :> Visitor.frama_c_visitor) (Cil.stripCasts a))) [ a; b ];
+      Cil.SkipChildren
+    | UnOp (_, a, _) -> open_if (is_pointer a || is_enum a) "an operator of a pointer or an enum"; Cil.DoChildren
+    | BinOp (_, a, b, _) -> open_if (is_enum a || is_enum b) of_enum; Cil.DoChildren
+    | CastE (TInt _, a) when is_enum a -> open_if true of_enum; Cil.DoChildren
+    | CastE (to_, a) when Cil.isPointerType to_ && is_pointer a ->
+      let to_, from = Cil.typeOf_pointed (Cil.unrollType to_), Cil.typeOf_pointed (Cil.unrollType (Cil.typeOf a)) in
+      open_if (is_constant_type from && not (is_constant_type to_)) "a cast that takes const away";
+      open_if (not (is_of_bytes to_ && is_of_bytes from || is_same to_ from)) "a cast to a pointer of another type"; Cil.DoChildren
     | CastE (to_, a) when is_through_a_number to_ (Cil.typeOf a) && not (Cil.isZero a) ->
       self#reject e.eloc through_a_number; Cil.DoChildren
-    | Lval _ | CastE _ when is_of_kind IChar (Cil.typeOf e) -> tell "char" self#name (at_place e.eloc plain_char); Cil.DoChildren
+    | Lval _ | CastE _ when is_of_kind IChar (Cil.typeOf e) -> tell "open" self#name (at_place e.eloc plain_char); Cil.DoChildren
     | Lval lval when has_array (Cil.typeOfLval lval) -> self#reject e.eloc read_whole; Cil.DoChildren
     | _ -> Cil.DoChildren
 
@@ -343,7 +512,7 @@ class walk = object (self)
       | TCastE (to_, { term_type = Linteger; _ }) when Cil.isPointerType to_ -> self#reject t.term_loc through_a_number
       | TCastE (to_, _) when is_of_kind IBool to_ -> self#reject t.term_loc "a cast to _Bool, which WP leaves out"
       | TLval _ | TCastE _ when (match t.term_type with Ctype typ -> is_of_kind IChar typ | _ -> false) ->
-        tell "char" self#name (at_place t.term_loc (plain_char ^ " in a clause"))
+        tell "open" self#name (at_place t.term_loc (plain_char ^ " in a clause"))
       | _ -> ());
     match t.term_type with
     | Ctype typ when has_array typ -> self#reject t.term_loc read_whole; Cil.SkipChildren
@@ -356,9 +525,17 @@ let rec endless names =
   let left = List.filter calls_one names in
   if List.length left = List.length names then names else endless left
 
+(* A function writes only by a pointer: no variable of the files changes. *)
+let writes name = match Globals.Functions.find_by_name name with
+  | kf -> List.exists (fun v -> match Cil.unrollType v.vtype with
+      | TPtr (typ, _) -> not (is_constant_type typ) | _ -> false) (Kernel_function.get_formals kf)
+  | exception Not_found -> true
+
 let main file =
   read_files ();
   Visitor.visitFramacFileSameGlobals (new walk) (Ast.get ());
+  List.iter (fun (name, place) -> if writes name then tell "open" name (at_place place "a call that may write, within an expression"))
+    !Forms.nested;
   let callers = List.sort_uniq compare (Hashtbl.fold (fun f _ all -> f :: all) calls []) in
   List.iter (fun f -> tell "rejected" f "it calls itself") (endless callers);
   let out = open_out file in

@@ -22,12 +22,12 @@ SPECIFICATION = FOLDER / "base62.acsl"
 # What stands before the bare code: no specification, and nothing that says who reads it.
 BARE = "#include <stddef.h>\n#include <stdint.h>\n#undef __FRAMAC__\n"
 FLAGS = f"-I{C} -D__FC_MACHDEP_X86_{BITS} -DBASE62_NO_INT128 -U__SIZEOF_INT128__ -U__GNUC__"
-LIMIT = int(os.environ.get("LIMIT", "120"))
+LIMIT = int(os.environ.get("LIMIT", "20"))
 CORES = int(os.environ.get("CORES", os.cpu_count()))
 
 # How a line "== prove" of the annotations or the laws says that WP proves a function. All others are proved without what
 # stands in constant tables, since it slows provers.
-HOW = {"with tables", "asserts named same with tables", "without a filter of hypotheses", "not split", "z3 first"}
+HOW = {"with tables", "asserts named same with tables", "without a filter of hypotheses", "not split"}
 
 
 @functools.cache
@@ -120,7 +120,7 @@ def checked(file, bare=None, calls=None):
     of = {kind: {name for each, name, _ in found if each == kind}
           for kind in ("defined", "declared", "public", "lemma", "constant")}
     wrong = [f"rejected: {name} {what}" for kind, name, what in dict.fromkeys(found)
-             if kind == "rejected" or kind == "char" and bare]
+             if kind in ("rejected", "form") or kind == "open" and bare]
     wrong += [f"no body: {name}" for name in sorted(of["declared"] - (set() if bare else calls or of["public"]))]
     wrong += bits.wrong(found)
     if bare and code(file) != bare:
@@ -155,9 +155,9 @@ def proved(file, function, last=None, limit=LIMIT):
 
 def run(file, function, with_tables, options, last, limit):
     """What one run of WP says, with or without what stands in constant tables."""
-    provers = "z3,cvc4" if is_proved(function, "z3 first") else "cvc4,z3"
-    options = [*options, "-wp", "-wp-rte", "-warn-invalid-pointer", "-wp-prover", provers, "-wp-timeout", str(limit),
-               "-wp-par", "1", "-wp-msg-key", "print-generated",
+    # Both provers try a goal at the same time, until one of them proves it.
+    options = [*options, "-wp", "-wp-rte", "-warn-invalid-pointer", "-wp-prover", "cvc4,z3", "-wp-timeout", str(limit),
+               "-wp-par", "2", "-wp-msg-key", "print-generated",
                "-wp-prop" if function == LEMMAS else "-wp-fct", function]
     options += [] if is_proved(function, "not split") else ["-wp-split"]
     options += [] if with_tables else ["-wp-no-init-const"]

@@ -76,7 +76,7 @@ static B62_ALWAYS_INLINE u128 u128_sub(u128 a, u128 b) {
 static B62_ALWAYS_INLINE u128 u128_shift_left_64(u128 a) { return (u128){a.low, 0}; }
 static B62_ALWAYS_INLINE u128 u128_shift_right_64(u128 a) { return (u128){0, a.high}; }
 
-static B62_ALWAYS_INLINE u128 u128_shift_right_1_to_63(u128 a, unsigned bits) {
+static B62_ALWAYS_INLINE u128 u128_shift_right_1_to_63(u128 a, uint32_t bits) {
     return (u128){a.high >> bits, a.low >> bits | a.high << (64 - bits)};
 }
 
@@ -115,7 +115,7 @@ static B62_ALWAYS_INLINE option_u128 u128_checked_mul(u128 a, u128 b) {
 
 static B62_ALWAYS_INLINE u128 u128_from_be_bytes(const uint8_t bytes[16]) {
     uint64_t high = 0, low = 0;
-    for (int i = 0; i < 8; i++) {
+    for (size_t i = 0; i < 8; i++) {
         high = high * 256 + bytes[i];
         low = low * 256 + bytes[8 + i];
     }
@@ -123,7 +123,7 @@ static B62_ALWAYS_INLINE u128 u128_from_be_bytes(const uint8_t bytes[16]) {
 }
 
 static B62_ALWAYS_INLINE void u128_to_be_bytes(u128 a, uint8_t bytes[16]) {
-    for (int i = 8; i > 0; i--) {
+    for (size_t i = 8; i > 0; i--) {
         bytes[i - 1] = (uint8_t)a.high;
         bytes[i + 7] = (uint8_t)a.low;
         a = (u128){a.high / 256, a.low / 256};
@@ -171,6 +171,9 @@ typedef struct InlineText {
     size_t length;
     uint8_t bytes[MAX_FAULT_TEXT];
 } InlineText;
+
+/* Blanks, since compilers clear such a struct slower than they copy it. */
+#define B62_NO_TEXT {0, "                                                                            "}
 
 static inline void InlineText_new(InlineText *result) { result->length = 0; }
 

@@ -174,7 +174,7 @@ class Values:
         """Writes a call that gives a text: where the one is that it gets, or else at a place that is wanted or new."""
         if not place:
             place = wanted or self.fresh("text")
-            self.emit(f"{self.library.declared(INLINE_TEXT, place)};") if not wanted else None
+            self.emit(f"{self.library.declared(INLINE_TEXT, place)} = B62_NO_TEXT;") if not wanted else None
             texts = texts + [self.address(place)]
         self.emit(f"{call}({', '.join(texts)});")
         return Value(place, INLINE_TEXT, UNARY)
@@ -356,7 +356,9 @@ class Values:
             refuse(node.token, "an array of numbers of no type that is known")
         items = ", ".join(self.text(item, U8) for item in node.items)
         self.in_any_order(node.items)
-        return Value(f"(const uint8_t[]){{{items}}}", ("array", U8, len(node.items)))
+        name = self.fresh("bytes")
+        self.emit(f"const uint8_t {name}[{len(node.items)}] = {{{items}}};")
+        return Value(name, ("array", U8, len(node.items)))
 
     def value_struct(self, node, want):
         found = self.module.find(node.path)
@@ -365,7 +367,7 @@ class Values:
         of, fields = ("defined", found), self.library.parts(found)
         if any(part[0] == "array" or part[0] == "defined" and not part[1].is_declared for part in fields.values()):
             name = self.fresh("made")
-            self.emit(f"{self.library.declared(of, name)};")
+            self.emit(f"{self.library.declared(of, name)} = {{0}};")
             self.fill(name + ".", node, fields)
             return Value(name, of)
         values = ", ".join(f".{field.name} = {self.text(field.value, fields[field.name])}" for field in node.fields)
@@ -560,6 +562,8 @@ class Values:
             arg.is_argument = all(of[0] != "ref" for of in parts_of(node.function.result))
             found = self.received(receiver, arg, parameter.type) if receiver and arg is args[0] else self.value(
                 arg, parameter.type)
+            if arg.function and arg.function.changes:  # An effect stands in a statement of its own.
+                found = found._replace(text=self.named(found, arg, "answer"))
             if is_slice(parameter.type):
                 texts += self.slice_args(arg, found, (definition, parameter.name) in self.library.lengths)
             else:
@@ -570,11 +574,15 @@ class Values:
         self.without_alias(node, args)
         if node.function.result == INLINE_TEXT:
             return self.written(self.use(definition), texts, place, wanted)
-        lent = node.function.lent and (self.fresh("made"), node.function.lent)
+        lent = node.function.lent and (self.lent_place(node), node.function.lent)
         if lent:
-            self.emit(f"{self.library.declared(lent[1], lent[0])};")
-            out = [f"&{lent[0]}"]
+            out = [self.address(lent[0])]
         return Value(f"{self.use(definition)}({', '.join(texts + out)})", node.function.result, lent=lent)
+
+    def lent_place(self, node):
+        """Where a call makes what its answer holds: in what the function is lent for it. A call that fails writes nothing."""
+        lent = [p for p in self.scopes[0].values() if p.opaque and p.type == ("ref", node.function.lent, True)]
+        return f"*{lent[0].c}" if len(lent) == 1 else refuse(node.token, "no place of what is made")
 
     def received(self, found, node, want):
         """What a method gets of its receiver, which is borrowed or copied by itself."""

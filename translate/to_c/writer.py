@@ -313,10 +313,8 @@ class Writer(Values):
         elif of[0] == "defined" and of[1].opaque:
             if place.kind != "dereference" or not (place.value.local and place.value.local.opaque):
                 refuse(place.token, "a place that is not known")
-            # What the header declares as bytes is no object of this type.
-            value = self.named(self.value(node.value, of), node.value, "made")
-            self.emit(f"copy_bytes((uint8_t *){place.value.local.opaque}, (const uint8_t *)&{value},"
-                      f" sizeof({self.library.c_type(of)}));")
+            if self.text(node.value, of) != found.text:
+                refuse(node.token, "a value that is not made in its place")
         elif node.op == "=" or of in (U32, U64, USIZE):
             value = self.text(node.value, of)
             self.in_any_order([place, node.value])
@@ -416,7 +414,7 @@ class Writer(Values):
         if pattern is self.returned:
             self.emit(f"fill_bytes({local.c}, {byte}, {count});")
             return
-        self.emit(f"{self.library.declared(local.type, local.c)}{' = {0}' if byte == '0' else ''};")
+        self.emit(f"{self.library.declared(local.type, local.c)} = {{0}};")
         if byte != "0":
             self.emit(f"fill_bytes({local.c}, {byte}, sizeof {local.c});")
 

@@ -3,164 +3,151 @@
 
 //! Parses the arguments.
 
-use crate::conversion::{Converter, Notation, Options};
-use crate::help::{self, Flag, flags};
+use crate::conversion::{Notation, Settings};
+use crate::escape::Escaped;
+use crate::help::{CommandOption, OPTIONS, SUBCOMMANDS, Subcommand, VERSION, help};
 use crate::reply::number_of;
-use crate::streams::escaped;
 use base62::Alphabet;
 
 pub(crate) enum Request {
     Convert(Box<Task>),
-    Print(&'static str),
+    Print(String),
 }
 
-pub(crate) struct Subcommand {
-    pub(crate) name: &'static str,
-    pub(crate) convert: Converter,
-    help: &'static str,
-}
-
-static SUBCOMMANDS: [Subcommand; 3] = [
-    Subcommand {
-        name: "encode",
-        convert: Options::encode,
-        help: help::ENCODE,
-    },
-    Subcommand {
-        name: "decode",
-        convert: Options::decode,
-        help: help::DECODE,
-    },
-    Subcommand {
-        name: "range",
-        convert: Options::range,
-        help: help::RANGE,
-    },
-];
-
-/// A subcommand with its options and operands.
+/// A subcommand with its settings and operands.
 pub(crate) struct Task {
     pub(crate) subcommand: &'static Subcommand,
-    pub(crate) options: Options,
+    pub(crate) settings: Settings,
     pub(crate) operands: Vec<Vec<u8>>,
 }
 
+/// An option and its value, which is empty if it has none.
+type Given = (&'static CommandOption, Vec<u8>);
+
 /// Parses the arguments after the name of the program. An error says what is wrong with them.
 pub(crate) fn parse(mut rest: impl Iterator<Item = Vec<u8>>) -> Result<Request, String> {
-    let mut task = Task {
-        subcommand: &SUBCOMMANDS[0],
-        options: Options {
-            alphabet: Alphabet::standard(),
-            width: None,
-            is_strict: false,
-            notation: Notation::Decimal,
-        },
-        operands: Vec::new(),
-    };
-    let mut given = Vec::new();
+    let (mut given, mut operands) = (Vec::new(), Vec::new());
     while let Some(argument) = rest.next() {
         match argument.as_slice() {
-            b"--" => task.operands.extend(rest.by_ref()),
-            [b'-', _, ..] => {
-                if let Some(text) = apply(&argument, &mut task, &mut given, &mut rest)? {
-                    return Ok(Request::Print(text));
-                }
+            b"--" => operands.extend(rest.by_ref()),
+            [b'-', b'-', ..] => given.push(long_option(&argument, &mut rest)?),
+            [b'-', letters @ ..] if !letters.is_empty() => {
+                short_options(letters, &mut rest, &mut given)?;
             }
-            _ => task.operands.push(argument),
+            _ => operands.push(argument),
+        }
+        let is_given = |name| given.iter().any(|(option, _)| option.name == name);
+        if is_given("version") {
+            return Ok(Request::Print(VERSION.into()));
+        }
+        if is_given("help") {
+            let behind = rest.filter(|argument| !argument.starts_with(b"-"));
+            return help_of(operands.into_iter().chain(behind));
         }
     }
-    choose(task, &given)
-}
-
-/// Takes the first operand as the subcommand. Rejects an option that it lacks.
-fn choose(mut task: Task, given: &[Flag]) -> Result<Request, String> {
-    if task.operands.is_empty() {
-        return Err("no subcommand is given".into());
-    }
-    let name = task.operands.remove(0);
+    let mut operands = operands.into_iter();
+    let name = operands.next().ok_or("no subcommand is given")?;
     if name == b"help" {
-        return help_of(task.operands.into_iter()).map(Request::Print);
+        return help_of(operands);
     }
-    task.subcommand = subcommand(&name)?;
-    let has = |flag: &&Flag| flags(task.subcommand.help).any(|it| it == **flag);
-    match given.iter().find(|flag| !has(flag)) {
-        Some(flag) => Err(format!("{} has no option {}", escaped(&name), flag.long)),
-        None => Ok(Request::Convert(Box::new(task))),
-    }
+    let subcommand = find_subcommand(&name)?;
+    Ok(Request::Convert(Box::new(Task {
+        subcommand,
+        settings: settings_of(subcommand, &given)?,
+        operands: operands.collect(),
+    })))
 }
 
-fn subcommand(name: &[u8]) -> Result<&'static Subcommand, String> {
+/// The help of the first subcommand among the operands, or of the command.
+fn help_of(mut operands: impl Iterator<Item = Vec<u8>>) -> Result<Request, String> {
+    let name = operands.find(|name| name != b"help");
+    let subcommand = name.map(|name| find_subcommand(&name)).transpose()?;
+    Ok(Request::Print(help(subcommand)))
+}
+
+fn find_subcommand(name: &[u8]) -> Result<&'static Subcommand, String> {
     let found = SUBCOMMANDS.iter().find(|it| it.name.as_bytes() == name);
-    found.ok_or_else(|| format!("there is no subcommand {}", escaped(name)))
-}
-
-/// The help of the first of the names, or of the command.
-fn help_of(mut names: impl Iterator<Item = Vec<u8>>) -> Result<&'static str, String> {
-    match names.find(|name| name != b"help") {
-        Some(name) => Ok(subcommand(&name)?.help),
-        None => Ok(help::COMMAND),
-    }
+    found.ok_or_else(|| format!("there is no subcommand {}", Escaped(name)))
 }
 
 type Rest<'a> = &'a mut dyn Iterator<Item = Vec<u8>>;
 
-/// Applies an argument such as `--width=11` or `-suw11`. Returns the text of help or of the version.
-fn apply(
-    argument: &[u8],
-    task: &mut Task,
-    given: &mut Vec<Flag>,
-    rest: Rest,
-) -> Result<Option<&'static str>, String> {
-    let options = &mut task.options;
-    for (name, value) in split(argument) {
-        let flag = find_flag(&name);
-        let flag = flag.ok_or_else(|| format!("there is no option {}", escaped(&name)))?;
-        let value = match (flag.needs_value, value) {
-            (false, Some(_)) => return Err(format!("{} takes no value", escaped(&name))),
-            (true, None) => rest.next(),
-            (_, value) => value.or_else(|| Some(Vec::new())),
-        };
-        let value = value.ok_or_else(|| format!("{} needs a value", escaped(&name)))?;
-        match flag.short {
-            "-a" => options.alphabet = Alphabet::alternative(),
-            "-l" => options.alphabet = parse_alphabet(&value)?,
-            "-w" => options.width = Some(parse_width(&value)?),
-            "-s" => options.is_strict = true,
-            "-u" => options.notation = Notation::Uuid,
-            "-x" => options.notation = Notation::Hexadecimal,
-            "-V" => return Ok(Some(help::VERSION)),
-            _ => {
-                let behind = rest.filter(|argument| !argument.starts_with(b"-"));
-                return help_of(task.operands.drain(..).chain(behind)).map(Some);
-            }
+/// The option of an argument such as `--width` or `--width=11`.
+fn long_option(argument: &[u8], rest: Rest) -> Result<Given, String> {
+    let mut parts = argument.splitn(2, |byte| *byte == b'=');
+    let name = parts.next().unwrap_or_default();
+    let option = find_option(name, |it| it.name.as_bytes() == &name[2..])?;
+    let value = parts.next().map(<[u8]>::to_vec);
+    if value.is_some() && option.value.is_empty() {
+        return Err(format!("{} takes no value", Escaped(name)));
+    }
+    Ok((option, value_of(name, option, value, rest)?))
+}
+
+/// The options of an argument such as `-suw11`, without the hyphen.
+fn short_options(letters: &[u8], rest: Rest, given: &mut Vec<Given>) -> Result<(), String> {
+    for (index, letter) in letters.iter().enumerate() {
+        let name = [b'-', *letter];
+        let option = find_option(&name, |it| it.letter == *letter)?;
+        let behind = &letters[index + 1..];
+        let has_value = !option.value.is_empty() && !behind.is_empty();
+        let value = has_value.then(|| behind.to_vec());
+        given.push((option, value_of(&name, option, value, rest)?));
+        if has_value {
+            break;
         }
-        given.push(flag);
     }
-    Ok(None)
+    Ok(())
 }
 
-/// An option by its short or its long name.
-fn find_flag(name: &[u8]) -> Option<Flag> {
-    let helps = SUBCOMMANDS.iter().map(|it| it.help).chain([help::COMMAND]);
-    let mut all = helps.flat_map(flags);
-    all.find(|flag| [flag.short, flag.long].map(str::as_bytes).contains(&name))
+/// The value in the same argument, or the next argument if the option needs it.
+fn value_of(
+    name: &[u8],
+    option: &CommandOption,
+    value: Option<Vec<u8>>,
+    rest: Rest,
+) -> Result<Vec<u8>, String> {
+    if option.value.is_empty() {
+        return Ok(Vec::new());
+    }
+    let value = value.or_else(|| rest.next());
+    value.ok_or_else(|| format!("{} needs a value", Escaped(name)))
 }
 
-/// The options of an argument, each with the value in the same argument.
-fn split(argument: &[u8]) -> Vec<(Vec<u8>, Option<Vec<u8>>)> {
-    if argument.starts_with(b"--") {
-        let mut parts = argument.splitn(2, |byte| *byte == b'=').map(<[u8]>::to_vec);
-        return vec![(parts.next().unwrap_or_default(), parts.next())];
+fn find_option(
+    name: &[u8],
+    is_it: impl Fn(&CommandOption) -> bool,
+) -> Result<&'static CommandOption, String> {
+    let found = OPTIONS.iter().find(|it| is_it(it));
+    found.ok_or_else(|| format!("there is no option {}", Escaped(name)))
+}
+
+/// What the options of a subcommand set. The last one of a kind applies.
+fn settings_of(subcommand: &Subcommand, given: &[Given]) -> Result<Settings, String> {
+    let mut settings = Settings {
+        alphabet: Alphabet::standard(),
+        width: None,
+        is_strict: false,
+        notation: Notation::Decimal,
+        keeps_empty: false,
+    };
+    for (option, value) in given {
+        if !subcommand.options.contains(&option.letter) {
+            let (name, option) = (subcommand.name, option.name);
+            return Err(format!("{name} has no option --{option}"));
+        }
+        match option.name {
+            "alternative" => settings.alphabet = Alphabet::alternative(),
+            "letters" => settings.alphabet = parse_alphabet(value)?,
+            "width" => settings.width = Some(parse_width(value)?),
+            "strict" => settings.is_strict = true,
+            "uuid" => settings.notation = Notation::Uuid,
+            "hex" => settings.notation = Notation::Hexadecimal,
+            "keep-empty" => settings.keeps_empty = true,
+            _ => unreachable!("no subcommand has it"),
+        }
     }
-    let mut options = Vec::new();
-    let mut letters = argument[1..].iter();
-    while let Some(letter) = letters.next() {
-        let name = vec![b'-', *letter];
-        let needs_value = find_flag(&name).is_some_and(|flag| flag.needs_value);
-        let value = (needs_value && letters.len() > 0).then(|| letters.by_ref().copied().collect());
-        options.push((name, value));
-    }
-    options
+    Ok(settings)
 }
 
 fn parse_width(value: &[u8]) -> Result<usize, String> {
@@ -169,15 +156,17 @@ fn parse_width(value: &[u8]) -> Result<usize, String> {
         let width = number_of(value).and_then(|it| it.try_into().ok());
         return Ok(width.unwrap_or(usize::MAX));
     }
-    let value = escaped(value);
-    Err(format!("a width is a whole number from 1 on, not {value}"))
+    let value = Escaped(value);
+    Err(format!("a width is an integer of 1 or more, not {value}"))
 }
 
 fn parse_alphabet(value: &[u8]) -> Result<Alphabet, String> {
     if !value.iter().all(|byte| matches!(byte, b' '..=b'~')) {
-        return Err("the letters are not all printable ASCII".into());
+        return Err("an alphabet has 62 printable ASCII characters".into());
     }
-    let letters = value.try_into();
-    let letters = letters.map_err(|_| format!("there are {} letters, not 62", value.len()))?;
+    let letters = value.try_into().map_err(|_| match value.len() {
+        1 => "the alphabet has 1 character, not 62".into(),
+        count => format!("the alphabet has {count} characters, not 62"),
+    })?;
     Alphabet::new(letters).map_err(|error| error.to_string())
 }

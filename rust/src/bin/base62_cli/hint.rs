@@ -1,40 +1,39 @@
 // SPDX-License-Identifier: MIT
 // Copyright (c) 2026 the maintainers of base62 for Rattle
 
-//! The run without arguments: the translated program over standard input and output.
+//! A hint for those who meant another program.
 
-use crate::fault::ToolFault;
-use crate::streams::{Input, Output, report};
-use crate::tool;
+use crate::streams::{Input, report};
 use std::io::{self, IsTerminal, Read};
-use std::process::ExitCode;
 
-pub(crate) fn run() -> Result<ExitCode, ToolFault> {
-    let mut input = HintingInput {
-        start: Some(Vec::new()),
-    };
-    if io::stdin().is_terminal() {
-        input.report_hint();
-    }
-    tool::run(&mut input, &mut Output).map(|()| ExitCode::SUCCESS)
-}
-
-/// Standard input. Reports a hint if the first line does not begin with a command.
-struct HintingInput {
-    /// The first bytes, until they show whether it does.
+/// Standard input. Reports the hint if it is a terminal, or if the first line does not begin with a command.
+pub(crate) struct HintingInput {
+    input: Input,
+    /// The first four bytes, until they show whether it does.
     start: Option<Vec<u8>>,
 }
 
 impl HintingInput {
+    pub(crate) fn new() -> HintingInput {
+        let mut input = HintingInput {
+            input: Input::new(),
+            start: Some(Vec::with_capacity(4)),
+        };
+        if io::stdin().is_terminal() {
+            input.report_hint();
+        }
+        input
+    }
+
     fn report_hint(&mut self) {
         self.start = None;
-        report("it answers lines such as `enc 1337` and `dec LZ`: try base62 --help");
+        report("it replies to lines such as `enc 1337` and `dec LZ`: try base62_cli --help");
     }
 }
 
 impl Read for HintingInput {
     fn read(&mut self, buf: &mut [u8]) -> io::Result<usize> {
-        let count = Input.read(buf)?;
+        let count = self.input.read(buf)?;
         let Some(start) = &mut self.start else {
             return Ok(count);
         };

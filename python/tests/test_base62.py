@@ -287,10 +287,11 @@ class Alphabets(RaisesTestCase):
         self.assertRaises(ValueError, of_type.fromhex, "00")
 
     def test_other_letters(self) -> None:
-        lengths: list[Any] = ["", "standard", STANDARD[:-1], STANDARD + "-", b"", STANDARD[:-1].encode()]
-        for letters in lengths:
+        lengths: list[tuple[Any, str]] = [("", "0 characters"), ("0", "1 character"), (b"0", "1 character")]
+        lengths += [(STANDARD[:-1], "61 characters"), (STANDARD.encode() + b"-", "63 characters")]
+        for letters, count in lengths:
             error = self.raised(ValueError, Alphabet, letters)
-            self.assertEqual(str(error), "an alphabet has 62 letters")
+            self.assertEqual(str(error), f"the alphabet has {count}, not 62")
             self.raised(ValueError, base62.encode, 1, letters)
             self.raised(ValueError, base62.decode, "9", letters)
         for letters in ("é" + STANDARD[1:], "é" + STANDARD[2:], "\ud800" + STANDARD[1:]):
@@ -303,7 +304,7 @@ class Alphabets(RaisesTestCase):
         for letters in (HIGH, Alphabet(HIGH), mixed, Alphabet(mixed)):
             for call in (lambda custom: base62.encode(1, custom), lambda custom: base62.encode_fixed(1, 5, custom)):
                 error = self.raised(ValueError, call, letters)
-                self.assertEqual(str(error), "an alphabet to encode has ASCII letters")
+                self.assertEqual(str(error), "an alphabet for encoding has ASCII characters")
         self.assertEqual(base62.decode("1", mixed), 1)
         self.assertEqual(base62.fixed_range(3, b"\x80", Alphabet(mixed)), (61 * 62**2, 62**3 - 1))
 
@@ -384,7 +385,7 @@ class Faults(RaisesTestCase):
         for call in OF_TEXTS:
             for text in (5, None, [1], {"0"}, 1.0):
                 error = self.raised(TypeError, call, text)
-                self.assertRegex(str(error), r"^a text is a str, bytes, bytearray or memoryview, not <class '\w+'>$")
+                self.assertRegex(str(error), r"^an encoded string is a str, bytes, bytearray or memoryview, not <class")
             for code in "HiIqQfd":
                 wide = array(code, [48, 49])
                 for items in (wide, memoryview(wide), memoryview(wide)[::2]):

@@ -36,7 +36,7 @@ class Package(unittest.TestCase):
         for name in base62.__all__:
             self.assertTrue(inspect.getdoc(getattr(base62, name)), name)
             self.assertEqual(getattr(base62, name).__module__, "base62", name)
-        types = ["AnyAlphabet", "AnyUUID", "Number", "Text"]
+        types = ["AnyAlphabet", "AnyUUID", "EncodedString", "Number", "Text"]
         self.assertEqual([name for name in dir(base62) if name[0] != "_"], sorted(base62.__all__ + types))
 
     def test_version(self) -> None:
@@ -127,7 +127,7 @@ class Modules(unittest.TestCase):
         errors = [base62.AlphabetError, base62.EmptyInputError, base62.InvalidByteError]
         errors += [base62.NotCanonicalError, base62.OutOfRangeError, base62.TooLargeError]
         alphabets = [base62.Alphabet, base62.Alphabet.STANDARD, base62.Alphabet.ALTERNATIVE]
-        conversions = [_types.to_int, _types.to_bytes, _types.to_letters]
+        conversions = [_types.to_int, _types.to_bytes, _types.to_letters, _types.uuid_to_int, _types.int_to_uuid, uuid.UUID]
         for owned in (*errors, *alphabets, *conversions):
             self.assertTrue(any(one is owned for one in found), owned)
         self.assertEqual(gc.get_referents(base62.Alphabet(CUSTOM)), [base62.Alphabet])
@@ -213,7 +213,6 @@ class Leaks(unittest.TestCase):
 
 
 def load_tests(loader: unittest.TestLoader, tests: unittest.TestSuite, pattern: object) -> unittest.TestSuite:
-    names = {**vars(base62), "uuid": uuid}
-    # Those of _types are found where callers find them.
-    tests.addTests(doctest.DocTestSuite(base62, globs=names))
+    # Those of _types are found where callers find them. An example can be pasted alone: it has its imports.
+    tests.addTests(doctest.DocTestSuite(base62, globs={}))
     return tests

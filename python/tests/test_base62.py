@@ -7,8 +7,10 @@ from __future__ import annotations
 import contextlib
 import copy
 import enum
+import os
 import pickle
 import random
+import subprocess
 import sys
 import threading
 import time
@@ -41,6 +43,17 @@ ALPHABETS: list[tuple[str | bytes, str]] = [
 
 # It has the standard letters, so that both have the same bad bytes.
 CUSTOM_ALPHABET = Alphabet(STANDARD.swapcase())
+
+# Stores a byte that is no letter in a bytes object of zeros, behind its header.
+FAR = """
+import base62, ctypes
+text = bytes(2**31 + 9)
+ctypes.memset(id(text) + bytes.__basicsize__ - 1 + 2**31 + 1, 255, 1)
+try:
+    base62.decode(text, bytes(range(62)))
+except base62.InvalidByteError as error:
+    print(error.byte, error.index)
+"""
 
 Call = Callable[..., Any]
 OF_NUMBERS: list[Call] = [
@@ -143,7 +156,6 @@ class Texts(unittest.TestCase):
             self.assertEqual(base62.digit_count(number), 22)
             self.assertEqual(value(base62.encode_key(number)), LARGEST)
 
-
     def test_kinds_of_uuids(self) -> None:
         class Subclass(str):
             replace: Any = None
@@ -153,11 +165,34 @@ class Texts(unittest.TestCase):
                 return 0
 
         name = uuid.UUID("92345678-9abc-def0-1234-56789abcdef0")
-        given: list[Any] = [str(name), Subclass(name), name.bytes, name, uuid.UUID(int=IntSubclass(name.int))]
+        class Indexed(uuid.UUID):
+            def __index__(self) -> int:
+                return 0
+
+        given: list[Any] = [name, uuid.UUID(int=IntSubclass(name.int)), Indexed(int=name.int)]
         for one in given:
-            self.assertEqual(value(base62.encode_uuid(one)), name.int)
-        for one in given[3:]:
             self.assertEqual(value(base62.encode(one)), name.int)
+        for one in (*given, str(name), Subclass(name), name.bytes):
+            self.assertEqual(value(base62.encode_uuid(one)), name.int)
+
+    def test_uuids_of_programs(self) -> None:
+        """A program can store any object as the int of a UUID."""
+        for stored, kind in ((-1, base62.OutOfRangeError), (LARGEST + 1, base62.OutOfRangeError), ("1", TypeError)):
+            name = uuid.UUID(int=1)
+            object.__setattr__(name, "int", stored)
+            self.assertRaises(kind, base62.encode, name)
+            self.assertRaises(kind, base62.encode_uuid, name)
+        object.__delattr__(name, "int")
+        self.assertRaises(AttributeError, base62.encode_uuid, name)
+
+    def test_created_uuids(self) -> None:
+        """A UUID has all that UUID(int=..) gives it."""
+        for number in numbers(20):
+            for decode in (base62.decode_uuid, base62.decode_uuid_canonical):
+                name, expected = decode(base62.encode(number)), uuid.UUID(int=number)
+                self.assertIs(type(name), uuid.UUID)
+                self.assertEqual((name, hash(name), name.is_safe), (expected, hash(expected), expected.is_safe))
+                self.assertEqual(pickle.dumps(name), pickle.dumps(expected))
 
 
 class Threads(unittest.TestCase):
@@ -414,6 +449,13 @@ class Faults(RaisesTestCase):
                 said = repr(bytes([byte]))
                 self.assertEqual(str(error), f"Encoded input contains the invalid byte {said} at index {index}")
         self.assertGreater(len(str(error)), 60)
+
+    def test_far_index(self) -> None:
+        """A string of more than 2**31 bytes. It takes no memory, since its zeros are only read: so another Python, since
+        the allocator of -X dev writes to all that it frees."""
+        arguments = [sys.executable, "-c", FAR]
+        result = subprocess.run(arguments, env=os.environ | {"PYTHONMALLOC": "malloc"}, capture_output=True, text=True)
+        self.assertEqual((result.stdout, result.stderr), (f"255 {2**31 + 1}\n", ""))
 
     def test_kinds(self) -> None:
         """What an except clause catches, in the order in which a name is looked up."""

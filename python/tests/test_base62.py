@@ -406,8 +406,10 @@ class Faults(RaisesTestCase):
 
     def test_uuids(self) -> None:
         """Bytes for a UUID are the 16 of its number, and never digits."""
-        for given in ("\ud800" * 32, b"", bytes(15), bytes(17), bytes(32), b"12345678123456781234567812345678"):
-            self.raised(ValueError, base62.encode_uuid, given)
+        digits = "12345678" * 4
+        given: list[str | bytes] = [b"", bytes(15), bytes(17), bytes(32), digits.encode()]
+        for one in (*given, "\ud800" * 32, f"{{{digits})", f"({digits}}}"):
+            self.raised(ValueError, base62.encode_uuid, one)
 
     def test_failing_index(self) -> None:
         class Failing:

@@ -192,8 +192,8 @@ class Leaks(unittest.TestCase):
     """A thousand runs of each valid and each invalid call leave memory and reference counts unchanged."""
 
     RUNS = 1_000
-    # What calls borrow, besides what they are given.
-    SHARED: list[object] = [None, False, True, 0, 64, uuid.UUID, base62.Alphabet]
+    # What calls borrow, besides what they are given. WIDE is the int of UUIDs.
+    SHARED: list[object] = [None, False, True, 0, 64, calls.WIDE, uuid.UUID, base62.Alphabet]
     SHARED += [base62.Alphabet.STANDARD, base62.Alphabet.ALTERNATIVE]
     SHARED += [base62.AlphabetError, base62.EmptyInputError, base62.InvalidByteError, base62.TooLargeError]
     SHARED += [base62.NotCanonicalError, base62.OutOfRangeError]

@@ -89,7 +89,7 @@ int uuid_or_raise(struct state *state, PyObject *argument, base62_number *number
     return failed;
 }
 
-/* Sets the attributes that UUID.__init__ sets, which takes several times as long. */
+/* Sets the attributes that UUID.__init__ sets after its checks. */
 static PyObject *uuid_of_int(struct state *state, PyObject *integer, PyObject *unknown) {
     PyObject *type = borrow(state, UUID), *name = borrow(state, INT), *is_safe = borrow(state, IS_SAFE);
     if (type == NULL || name == NULL || is_safe == NULL)

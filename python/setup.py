@@ -23,9 +23,9 @@ class SharedSdist(sdist):
 
 extension = Extension(
     "base62._base62",
-    ["base62/_base62.c", "base62/_library.c"],
+    ["base62/_base62.c", "base62/_alphabet.c", "base62/_uuid.c", "base62/_library.c"],
     include_dirs=[str(top / "c")],
-    depends=[str(top / "c/base62.c"), str(top / "c/base62.h")],
+    depends=[str(top / "c/base62.c"), str(top / "c/base62.h"), "base62/_base62.h"],
     py_limited_api=True,
 )
 setup(

@@ -1,69 +1,22 @@
 /* SPDX-License-Identifier: MIT */
 /* Copyright (c) 2026 the maintainers of base62 for Rattle */
 
-/* Hand-written. The functions of base62.h for Python: conversions of arguments and results, alphabets, exceptions. */
-#define Py_LIMITED_API 0x030b0000
-#include <Python.h>
-#include <base62.h>
-
-/* The objects that the module owns. Those before TYPES_END come from base62._types. */
-enum {
-    TO_INT,
-    TO_BYTES,
-    TO_LETTERS,
-    EMPTY_INPUT_ERROR,
-    INVALID_BYTE_ERROR,
-    TOO_LARGE_ERROR,
-    NOT_CANONICAL_ERROR,
-    ALPHABET_ERROR,
-    OUT_OF_RANGE_ERROR,
-    TYPES_END,
-    ALPHABET = TYPES_END,
-    STANDARD,
-    ALTERNATIVE,
-    OBJECT_COUNT
-};
-
-struct state {
-    PyObject *objects[OBJECT_COUNT];
-    /* The size of a bytes object without its items. */
-    Py_ssize_t bytes_basicsize;
-    /* The C function of str.isascii. */
-    PyCFunction str_isascii;
-};
-
-/* Bytes, and a reference to the object that contains them. It is NULL if this is a str that the caller owns. */
-struct text {
-    const char *bytes;
-    Py_ssize_t length;
-    PyObject *owner;
-};
-
-struct alphabet {
-    base62_alphabet tables;
-    char is_ascii;
-};
+/* Hand-written. The functions of base62.h for Python: conversions of arguments and results, and exceptions. */
+#include "_base62.h"
 
 static struct state *state_of(PyObject *module) {
     return PyModule_GetState(module);
 }
 
-static PyObject *borrow(struct state *state, int which) {
+PyObject *borrow(struct state *state, int which) {
     PyObject *object = state->objects[which];
     if (object == NULL)
         PyErr_SetString(PyExc_SystemError, "the module is cleared");
     return object;
 }
 
-/* Py_IncRef and Py_DecRef are functions of the running Python. Macros of 3.11 would count objects that are immortal
-   since 3.12. */
-static PyObject *new_ref(PyObject *object) {
-    Py_IncRef(object);
-    return object;
-}
-
 /* Converts an argument of an uncommon type by a function of base62._types. */
-static PyObject *convert(struct state *state, int converter, PyObject *argument) {
+PyObject *convert(struct state *state, int converter, PyObject *argument) {
     PyObject *function = borrow(state, converter);
     return function == NULL ? NULL : PyObject_CallFunctionObjArgs(function, argument, NULL);
 }
@@ -159,10 +112,22 @@ static int number_of_int_or_raise(struct state *state, PyObject *integer, base62
     return 0;
 }
 
-static int number_or_raise(struct state *state, PyObject *argument, base62_number *number) {
+/* The int of an argument that is not exactly an int. */
+static PyObject *int_or_raise(struct state *state, PyObject *argument) {
+    PyTypeObject *type = Py_TYPE(argument), *uuid = (PyTypeObject *)borrow(state, UUID);
+    if (uuid == NULL)
+        return NULL;
+    if (type == uuid)
+        return int_of_uuid(state, argument);
+    if (PyIndex_Check(argument) && !PyType_IsSubtype(type, uuid))
+        return PyNumber_Index(argument);
+    return convert(state, TO_INT, argument);
+}
+
+int number_or_raise(struct state *state, PyObject *argument, base62_number *number) {
     if (PyLong_CheckExact(argument))
         return number_of_int_or_raise(state, argument, number);
-    PyObject *integer = convert(state, TO_INT, argument);
+    PyObject *integer = int_or_raise(state, argument);
     int failed = integer == NULL ? -1 : number_of_int_or_raise(state, integer, number);
     Py_DecRef(integer);
     return failed;
@@ -178,7 +143,7 @@ static int width_or_raise(PyObject *argument, size_t *width) {
 }
 
 /* Steals the reference to a bytes object. It may be NULL. */
-static int steal_bytes_or_raise(PyObject *bytes, struct text *text) {
+int steal_bytes_or_raise(PyObject *bytes, struct text *text) {
     text->owner = bytes;
     text->bytes = bytes == NULL ? NULL : PyBytes_AsString(bytes);
     text->length = text->bytes == NULL ? -1 : PyBytes_Size(bytes);
@@ -190,7 +155,7 @@ static int steal_bytes_or_raise(PyObject *bytes, struct text *text) {
 
 /* An ASCII str is its own UTF-8. PyUnicode_AsUTF8AndSize caches a UTF-8 copy in a non-ASCII str, so such a str is
    encoded separately. */
-static int text_or_raise(struct state *state, PyObject *argument, struct text *text) {
+int text_or_raise(struct state *state, PyObject *argument, struct text *text) {
     if (!PyUnicode_Check(argument)) {
         PyObject *bytes = PyBytes_Check(argument) ? new_ref(argument) : convert(state, TO_BYTES, argument);
         return steal_bytes_or_raise(bytes, text);
@@ -206,9 +171,29 @@ static int text_or_raise(struct state *state, PyObject *argument, struct text *t
     return text->bytes == NULL ? -1 : 0;
 }
 
+/* Borrows the fields of an Alphabet. From letters it creates such fields in *storage. */
+static const struct alphabet *alphabet_or_raise(struct state *state, PyObject *argument, struct alphabet *storage) {
+    PyObject *object = argument == NULL ? borrow(state, STANDARD) : argument;
+    if (object == NULL)
+        return NULL;
+    if ((PyObject *)Py_TYPE(object) == state->objects[ALPHABET])
+        return fields_of(state, object);
+    return alphabet_of_letters_or_raise(state, object, storage) != 0 ? NULL : storage;
+}
+
+static const struct alphabet *ascii_alphabet_or_raise(struct state *state, PyObject *argument,
+                                                      struct alphabet *storage) {
+    const struct alphabet *alphabet = alphabet_or_raise(state, argument, storage);
+    if (alphabet == NULL || alphabet->is_ascii)
+        return alphabet;
+    PyErr_SetString(PyExc_ValueError, "an alphabet for encoding has ASCII characters");
+    return NULL;
+}
+
 /* Results */
 
-static PyObject *new_int(base62_number number) {
+PyObject *new_int(struct state *state, base62_number number) {
+    (void)state;
     if (number.high == 0)
         return PyLong_FromUnsignedLongLong(number.low);
     PyObject *high = PyLong_FromUnsignedLongLong(number.high), *low = PyLong_FromUnsignedLongLong(number.low);
@@ -220,7 +205,7 @@ static PyObject *new_int(base62_number number) {
     return integer;
 }
 
-static PyObject *raise_status(struct state *state, base62_status status, base62_bad_byte bad) {
+PyObject *raise_status(struct state *state, base62_status status, base62_bad_byte bad) {
     static const int errors[] = {
         [BASE62_EMPTY_INPUT] = EMPTY_INPUT_ERROR,
         [BASE62_INVALID_BYTE] = INVALID_BYTE_ERROR,
@@ -247,200 +232,26 @@ static PyObject *new_range_or_raise(struct state *state, base62_status status, b
         return new_ref(Py_None);
     if (status != BASE62_OK)
         return raise_status(state, status, bad);
-    return Py_BuildValue("NN", new_int(range.least), new_int(range.greatest));
-}
-
-/* Alphabets */
-
-static int make_alphabet_or_raise(struct state *state, const char *letters, struct alphabet *alphabet) {
-    base62_bad_byte bad = {0, 0};
-    base62_status status = base62_make_alphabet(letters, &alphabet->tables, &bad);
-    if (status != BASE62_OK) {
-        raise_status(state, status, bad);
-        return -1;
-    }
-    alphabet->is_ascii = 1;
-    for (int i = 0; i < BASE62_ALPHABET_LENGTH; i++)
-        if ((unsigned char)letters[i] > 127)
-            alphabet->is_ascii = 0;
-    return 0;
-}
-
-/* The letters of an argument that is not an Alphabet. */
-static int letters_or_raise(struct state *state, PyObject *argument, struct text *letters) {
-    PyObject *bytes = PyBytes_Check(argument) ? new_ref(argument) : convert(state, TO_LETTERS, argument);
-    if (steal_bytes_or_raise(bytes, letters) != 0)
-        return -1;
-    if (letters->length == BASE62_ALPHABET_LENGTH)
-        return 0;
-    PyErr_SetString(PyExc_ValueError, "an alphabet has 62 letters");
-    Py_DecRef(letters->owner);
-    return -1;
-}
-
-/* The fields that Alphabet adds to bytes. bytes has a variable size, so they follow its items. */
-static struct alphabet *fields_of(const struct state *state, PyObject *object) {
-    return (struct alphabet *)((char *)object + state->bytes_basicsize + Py_SIZE(object));
-}
-
-/* Borrows the fields of an Alphabet. From letters it creates such fields in *storage. */
-static const struct alphabet *alphabet_or_raise(struct state *state, PyObject *argument, struct alphabet *storage) {
-    PyObject *object = argument == NULL ? borrow(state, STANDARD) : argument;
-    if (object == NULL)
-        return NULL;
-    if ((PyObject *)Py_TYPE(object) == state->objects[ALPHABET])
-        return fields_of(state, object);
-    struct text letters;
-    if (letters_or_raise(state, object, &letters) != 0)
-        return NULL;
-    int failed = make_alphabet_or_raise(state, letters.bytes, storage);
-    Py_DecRef(letters.owner);
-    return failed ? NULL : storage;
-}
-
-static const struct alphabet *ascii_alphabet_or_raise(struct state *state, PyObject *argument,
-                                                      struct alphabet *storage) {
-    const struct alphabet *alphabet = alphabet_or_raise(state, argument, storage);
-    if (alphabet == NULL || alphabet->is_ascii)
-        return alphabet;
-    PyErr_SetString(PyExc_ValueError, "an alphabet to encode has ASCII letters");
-    return NULL;
-}
-
-PyDoc_STRVAR(Alphabet_doc,
-             "Alphabet(letters)\n--\n\n"
-             "A custom alphabet: 62 distinct bytes, in the order of their digit values.\n\n"
-             "It is immutable and cannot be subclassed. letters, an ASCII str or bytes, is checked here once; a str\n"
-             "or bytes passed to a function is checked on every call. With an alphabet that has\n"
-             "non-ASCII bytes, functions that encode raise ValueError.\n\n"
-             "Raises AlphabetError if a byte is repeated, ValueError if there are not 62, and UnicodeEncodeError if a\n"
-             "str is not ASCII.\n\n"
-             ">>> custom = Alphabet(\"23456789ABCDEFGHJKLMNPQRSTUVWXYZabcdefghijkmnpqrstuvwxyz-_.~!*\")\n"
-             ">>> encode(62, custom), decode(\"32\", custom)\n"
-             "('32', 62)");
-
-static PyObject *new_bytes(PyObject *bytes) {
-    return PyBytes_FromStringAndSize(PyBytes_AsString(bytes), PyBytes_Size(bytes));
-}
-
-static PyObject *new_alphabet_of(struct state *state, PyTypeObject *type, PyObject *letters,
-                                 const struct alphabet *fields) {
-    newfunc bytes_new = (newfunc)PyType_GetSlot(&PyBytes_Type, Py_tp_new);
-    /* A subclass of bytes could override what its bytes are. */
-    PyObject *tuple = bytes_new == NULL ? NULL : Py_BuildValue("(N)", new_bytes(letters));
-    PyObject *object = tuple == NULL ? NULL : bytes_new(type, tuple, NULL);
-    Py_DecRef(tuple);
-    if (object == NULL)
-        return NULL;
-    if ((char *)fields_of(state, object) != PyBytes_AsString(object) + BASE62_ALPHABET_LENGTH + 1) {
-        PyErr_SetString(PyExc_SystemError, "bytes has another layout");
-        Py_DecRef(object);
-        return NULL;
-    }
-    *fields_of(state, object) = *fields;
-    return object;
-}
-
-static PyObject *alphabet_new(PyTypeObject *type, PyObject *tuple, PyObject *dict) {
-    static const char *const names[] = {"letters", NULL};
-    struct state *state = PyType_GetModuleState(type);
-    PyObject *argument;
-    if (state == NULL || !PyArg_ParseTupleAndKeywords(tuple, dict, "O:Alphabet", (char **)names, &argument))
-        return NULL;
-    struct text letters;
-    if (letters_or_raise(state, argument, &letters) != 0)
-        return NULL;
-    struct alphabet fields;
-    int failed = make_alphabet_or_raise(state, letters.bytes, &fields);
-    PyObject *object = failed ? NULL : new_alphabet_of(state, type, letters.owner, &fields);
-    Py_DecRef(letters.owner);
-    return object;
-}
-
-static void alphabet_dealloc(PyObject *self) {
-    PyTypeObject *type = Py_TYPE(self);
-    PyObject_GC_UnTrack(self);
-    PyObject_GC_Del(self);
-    Py_DecRef((PyObject *)type);
-}
-
-/* The built-in alphabets are attributes of their type, so they and the type refer to each other. */
-static int alphabet_traverse(PyObject *self, visitproc visit, void *arg) {
-    Py_VISIT(Py_TYPE(self));
-    return 0;
-}
-
-static PyObject *alphabet_repr(PyObject *self) {
-    PyObject *letters = new_bytes(self), *repr = letters == NULL ? NULL : PyUnicode_FromFormat("Alphabet(%R)", letters);
-    Py_DecRef(letters);
-    return repr;
-}
-
-PyDoc_STRVAR(reduce_doc, "__reduce__($self, /)\n--\n\n"
-                         "Return the name of a built-in alphabet, or how to create another one.");
-
-static PyObject *alphabet_reduce(PyObject *self, PyObject *unused) {
-    (void)unused;
-    struct state *state = PyType_GetModuleState(Py_TYPE(self));
-    if (state == NULL)
-        return NULL;
-    if (self == state->objects[STANDARD])
-        return PyUnicode_FromString("Alphabet.STANDARD");
-    if (self == state->objects[ALTERNATIVE])
-        return PyUnicode_FromString("Alphabet.ALTERNATIVE");
-    return Py_BuildValue("O(N)", Py_TYPE(self), new_bytes(self));
-}
-
-static PyMethodDef alphabet_methods[] = {
-    {"__reduce__", alphabet_reduce, METH_NOARGS, reduce_doc},
-    {NULL, NULL, 0, NULL},
-};
-
-static PyType_Slot alphabet_slots[] = {
-    {Py_tp_doc, (void *)Alphabet_doc},
-    {Py_tp_new, alphabet_new},
-    {Py_tp_dealloc, alphabet_dealloc},
-    {Py_tp_traverse, alphabet_traverse},
-    {Py_tp_repr, alphabet_repr},
-    {Py_tp_str, alphabet_repr},
-    {Py_tp_methods, alphabet_methods},
-    {0, NULL},
-};
-
-static int add_alphabet(PyObject *module) {
-    struct state *state = state_of(module);
-    PyObject *size = PyObject_GetAttrString((PyObject *)&PyBytes_Type, "__basicsize__");
-    state->bytes_basicsize = size == NULL ? -1 : PyLong_AsSsize_t(size);
-    Py_DecRef(size);
-    if (state->bytes_basicsize < 0)
-        return 0;
-    PyType_Spec spec = {
-        .name = "base62.Alphabet",
-        .basicsize = (int)(state->bytes_basicsize + (Py_ssize_t)sizeof(struct alphabet)),
-        .itemsize = 1,
-        .flags = Py_TPFLAGS_DEFAULT | Py_TPFLAGS_HAVE_GC | Py_TPFLAGS_IMMUTABLETYPE,
-        .slots = alphabet_slots,
-    };
-    state->objects[ALPHABET] = PyType_FromModuleAndSpec(module, &spec, (PyObject *)&PyBytes_Type);
-    /* 3.11 does not always report that an allocation failed. */
-    if (state->objects[ALPHABET] == NULL && PyErr_Occurred() == NULL)
-        PyErr_NoMemory();
-    return state->objects[ALPHABET] != NULL &&
-           PyModule_AddObjectRef(module, "Alphabet", state->objects[ALPHABET]) == 0;
-}
-
-/* Setting an attribute of an immutable type raises TypeError, so it is stored in the type's __dict__. */
-static int add_built_in(PyObject *module, int which, const char *name, const char *letters) {
-    PyObject **objects = state_of(module)->objects, *type = objects[ALPHABET];
-    objects[which] = PyObject_CallFunction(type, "y", letters);
-    PyObject *dict = objects[which] == NULL ? NULL : PyObject_GenericGetDict(type, NULL);
-    int ok = dict != NULL && PyDict_SetItemString(dict, name, objects[which]) == 0;
-    PyType_Modified((PyTypeObject *)type);
-    Py_DecRef(dict);
-    return ok;
+    return Py_BuildValue("NN", new_int(state, range.least), new_int(state, range.greatest));
 }
 
 /* Calls */
+
+typedef int read_number(struct state *, PyObject *, base62_number *);
+
+/* Encodes the argument of a call, which a function converts to a number. */
+static inline PyObject *encode_or_raise(read_number *read, struct state *state, PyObject *const found[3]) {
+    base62_number number;
+    struct alphabet storage;
+    if (read(state, found[0], &number) != 0)
+        return NULL;
+    const struct alphabet *alphabet = ascii_alphabet_or_raise(state, found[1], &storage);
+    if (alphabet == NULL)
+        return NULL;
+    char text[BASE62_MAX_DIGITS];
+    size_t length = base62_encode_with(&alphabet->tables, number, text, sizeof text);
+    return PyUnicode_DecodeASCII(text, (Py_ssize_t)length, NULL);
+}
 
 PyDoc_STRVAR(encode_doc,
              "encode($module, /, number, alphabet=Alphabet.STANDARD)\n--\n\n"
@@ -449,25 +260,41 @@ PyDoc_STRVAR(encode_doc,
              "uuid.UUID.\n\n"
              "Raises OutOfRangeError for any other number, ValueError if the alphabet is not ASCII, and what\n"
              "Alphabet raises.\n\n"
-             ">>> encode(1337), encode(1337, Alphabet.ALTERNATIVE), encode(0)\n"
+             ">>> import base62\n"
+             ">>> import uuid\n"
+             ">>> base62.encode(1337), base62.encode(1337, base62.Alphabet.ALTERNATIVE), base62.encode(0)\n"
              "('LZ', 'lz', '0')\n"
-             ">>> encode(uuid.UUID(\"12345678-1234-5678-1234-567812345678\"))\n"
+             ">>> base62.encode(uuid.UUID(\"12345678-1234-5678-1234-567812345678\"))\n"
              "'YLmNWW2NwaipfRR50HIPA'");
 
 static PyObject *encode(PyObject *module, PyObject *const *args, Py_ssize_t nargs, PyObject *kwnames) {
     static const struct parameters signature = {"O|O:encode", {"number", "alphabet", NULL}, 1, 2};
-    struct state *state = state_of(module);
     PyObject *found[3];
-    base62_number number;
-    struct alphabet storage;
-    if (unpack(&signature, args, nargs, kwnames, found) != 0 || number_or_raise(state, found[0], &number) != 0)
+    if (unpack(&signature, args, nargs, kwnames, found) != 0)
         return NULL;
-    const struct alphabet *alphabet = ascii_alphabet_or_raise(state, found[1], &storage);
-    if (alphabet == NULL)
+    return encode_or_raise(number_or_raise, state_of(module), found);
+}
+
+PyDoc_STRVAR(encode_uuid_doc,
+             "encode_uuid($module, /, value, alphabet=Alphabet.STANDARD)\n--\n\n"
+             "Return the encoded string of a UUID's 128-bit integer, UUID.int.\n\n"
+             "value is a uuid.UUID, its 16 bytes, or a str of its 32 hexadecimal digits, uppercase or lowercase,\n"
+             "with or without hyphens, optionally in braces or after urn:uuid:. The bits of its version and\n"
+             "variant are not checked.\n\n"
+             "Raises ValueError for any other str or bytes, and what encode raises for the alphabet.\n\n"
+             ">>> import base62\n"
+             ">>> import uuid\n"
+             ">>> base62.encode_uuid(uuid.UUID(\"12345678-1234-5678-1234-567812345678\"))\n"
+             "'YLmNWW2NwaipfRR50HIPA'\n"
+             ">>> base62.encode_uuid(\"{12345678-1234-5678-1234-567812345678}\")\n"
+             "'YLmNWW2NwaipfRR50HIPA'");
+
+static PyObject *encode_uuid(PyObject *module, PyObject *const *args, Py_ssize_t nargs, PyObject *kwnames) {
+    static const struct parameters signature = {"O|O:encode_uuid", {"value", "alphabet", NULL}, 1, 2};
+    PyObject *found[3];
+    if (unpack(&signature, args, nargs, kwnames, found) != 0)
         return NULL;
-    char text[BASE62_MAX_DIGITS];
-    size_t length = base62_encode_with(&alphabet->tables, number, text, sizeof text);
-    return PyUnicode_DecodeASCII(text, (Py_ssize_t)length, NULL);
+    return encode_or_raise(uuid_or_raise, state_of(module), found);
 }
 
 static PyObject *new_fixed_or_raise(struct state *state, const base62_alphabet *tables, base62_number number,
@@ -480,7 +307,7 @@ static PyObject *new_fixed_or_raise(struct state *state, const base62_alphabet *
     size_t length = base62_encode_fixed_with(tables, number, buffer, width);
     restore_gil(saved);
     if (length == 0)
-        raise_out_of_range(state, "the number has more letters than the width");
+        raise_out_of_range(state, "the number needs more characters than the width");
     else
         result = PyUnicode_DecodeASCII(buffer, (Py_ssize_t)length, NULL);
     if (buffer != small)
@@ -496,7 +323,8 @@ PyDoc_STRVAR(encode_fixed_doc,
              "of width bytes is allocated besides the result.\n\n"
              "Raises OutOfRangeError if the number has more characters, ValueError if the width is negative,\n"
              "MemoryError if an allocation fails, and what encode raises.\n\n"
-             ">>> encode_fixed(1337, 4)\n"
+             ">>> import base62\n"
+             ">>> base62.encode_fixed(1337, 4)\n"
              "'00LZ'");
 
 static PyObject *encode_fixed(PyObject *module, PyObject *const *args, Py_ssize_t nargs, PyObject *kwnames) {
@@ -517,7 +345,8 @@ PyDoc_STRVAR(encode_key_doc,
              "encode_key($module, /, number)\n--\n\n"
              "Return the key of a number: its standard string, padded with leading zeros to 22 characters.\n\n"
              "Keys sort in numeric order. decode accepts them. Raises OutOfRangeError as encode does.\n\n"
-             ">>> encode_key(1337)\n"
+             ">>> import base62\n"
+             ">>> base62.encode_key(1337)\n"
              "'00000000000000000000LZ'");
 
 static PyObject *encode_key(PyObject *module, PyObject *const *args, Py_ssize_t nargs, PyObject *kwnames) {
@@ -536,7 +365,8 @@ PyDoc_STRVAR(digit_count_doc,
              "digit_count($module, /, number)\n--\n\n"
              "Return the length of the encoded string of a number, from 1 to 22.\n\n"
              "Raises OutOfRangeError as encode does.\n\n"
-             ">>> digit_count(61), digit_count(62)\n"
+             ">>> import base62\n"
+             ">>> base62.digit_count(61), base62.digit_count(62)\n"
              "(1, 2)");
 
 static PyObject *digit_count(PyObject *module, PyObject *const *args, Py_ssize_t nargs, PyObject *kwnames) {
@@ -551,8 +381,11 @@ static PyObject *digit_count(PyObject *module, PyObject *const *args, Py_ssize_t
 
 typedef base62_status decode_with(const base62_alphabet *, const char *, size_t, base62_number *, base62_bad_byte *);
 
-/* Decodes the text of a call, by a function of the library. */
-static inline PyObject *decode_or_raise(decode_with *decode, struct state *state, PyObject *const found[3]) {
+typedef PyObject *new_result(struct state *, base62_number);
+
+/* Decodes the text of a call by a function of the library, and returns the number as an object. */
+static inline PyObject *decode_or_raise(decode_with *decode, new_result *new, struct state *state,
+                                        PyObject *const found[3]) {
     struct text text;
     if (text_or_raise(state, found[0], &text) != 0)
         return NULL;
@@ -569,7 +402,7 @@ static inline PyObject *decode_or_raise(decode_with *decode, struct state *state
     Py_DecRef(text.owner);
     if (alphabet == NULL)
         return NULL;
-    return status == BASE62_OK ? new_int(number) : raise_status(state, status, bad);
+    return status == BASE62_OK ? new(state, number) : raise_status(state, status, bad);
 }
 
 PyDoc_STRVAR(decode_doc,
@@ -577,9 +410,10 @@ PyDoc_STRVAR(decode_doc,
              "Return the number that a string represents, from 0 to 2**128 - 1. Leading zeros are ignored.\n\n"
              "A str is encoded as UTF-8 first. A bytearray, a memoryview and a non-ASCII str are copied.\n\n"
              "Raises EmptyInputError, InvalidByteError or TooLargeError, and what Alphabet raises.\n\n"
-             ">>> decode(\"00LZ\"), decode(b\"lz\", Alphabet.ALTERNATIVE)\n"
+             ">>> import base62\n"
+             ">>> base62.decode(\"00LZ\"), base62.decode(b\"lz\", base62.Alphabet.ALTERNATIVE)\n"
              "(1337, 1337)\n"
-             ">>> decode(\"7n42DGM5Tflk9n8mt7Fhc8\")\n"
+             ">>> base62.decode(\"7n42DGM5Tflk9n8mt7Fhc8\")\n"
              "Traceback (most recent call last):\n"
              "base62.TooLargeError: Decoded number cannot fit into a `u128`");
 
@@ -588,7 +422,7 @@ static PyObject *decode(PyObject *module, PyObject *const *args, Py_ssize_t narg
     PyObject *found[3];
     if (unpack(&signature, args, nargs, kwnames, found) != 0)
         return NULL;
-    return decode_or_raise(base62_decode_with, state_of(module), found);
+    return decode_or_raise(base62_decode_with, new_int, state_of(module), found);
 }
 
 PyDoc_STRVAR(decode_canonical_doc,
@@ -596,9 +430,10 @@ PyDoc_STRVAR(decode_canonical_doc,
              "Like decode, but accept only canonical strings: those that encode returns.\n\n"
              "Each number has exactly one. Raises NotCanonicalError if decode accepts the string, but it has a\n"
              "leading zero, and otherwise what decode raises.\n\n"
-             ">>> decode_canonical(\"LZ\"), decode_canonical(\"0\")\n"
+             ">>> import base62\n"
+             ">>> base62.decode_canonical(\"LZ\"), base62.decode_canonical(\"0\")\n"
              "(1337, 0)\n"
-             ">>> decode_canonical(\"00LZ\")\n"
+             ">>> base62.decode_canonical(\"00LZ\")\n"
              "Traceback (most recent call last):\n"
              "base62.NotCanonicalError: Encoded input has a leading zero");
 
@@ -607,16 +442,50 @@ static PyObject *decode_canonical(PyObject *module, PyObject *const *args, Py_ss
     PyObject *found[3];
     if (unpack(&signature, args, nargs, kwnames, found) != 0)
         return NULL;
-    return decode_or_raise(base62_decode_canonical_with, state_of(module), found);
+    return decode_or_raise(base62_decode_canonical_with, new_int, state_of(module), found);
+}
+
+PyDoc_STRVAR(decode_uuid_doc,
+             "decode_uuid($module, /, text, alphabet=Alphabet.STANDARD)\n--\n\n"
+             "Return the UUID whose 128-bit integer a string represents.\n\n"
+             "Every integer below 2**128 is the int of exactly one UUID: the bits of its version and variant are\n"
+             "not checked. Raises what decode raises.\n\n"
+             ">>> import base62\n"
+             ">>> base62.decode_uuid(\"YLmNWW2NwaipfRR50HIPA\")\n"
+             "UUID('12345678-1234-5678-1234-567812345678')");
+
+static PyObject *decode_uuid(PyObject *module, PyObject *const *args, Py_ssize_t nargs, PyObject *kwnames) {
+    static const struct parameters signature = {"O|O:decode_uuid", {"text", "alphabet", NULL}, 1, 2};
+    PyObject *found[3];
+    if (unpack(&signature, args, nargs, kwnames, found) != 0)
+        return NULL;
+    return decode_or_raise(base62_decode_with, new_uuid, state_of(module), found);
+}
+
+PyDoc_STRVAR(decode_uuid_canonical_doc,
+             "decode_uuid_canonical($module, /, text, alphabet=Alphabet.STANDARD)\n--\n\n"
+             "Like decode_uuid, but accept only canonical strings: those that encode_uuid returns.\n\n"
+             "Raises what decode_canonical raises.\n\n"
+             ">>> import base62\n"
+             ">>> base62.decode_uuid_canonical(\"YLmNWW2NwaipfRR50HIPA\")\n"
+             "UUID('12345678-1234-5678-1234-567812345678')");
+
+static PyObject *decode_uuid_canonical(PyObject *module, PyObject *const *args, Py_ssize_t nargs, PyObject *kwnames) {
+    static const struct parameters signature = {"O|O:decode_uuid_canonical", {"text", "alphabet", NULL}, 1, 2};
+    PyObject *found[3];
+    if (unpack(&signature, args, nargs, kwnames, found) != 0)
+        return NULL;
+    return decode_or_raise(base62_decode_canonical_with, new_uuid, state_of(module), found);
 }
 
 PyDoc_STRVAR(key_range_doc,
              "key_range($module, /, prefix)\n--\n\n"
              "Return the least and the greatest number whose key begins with prefix, or None if no key does.\n\n"
              "Raises InvalidByteError.\n\n"
-             ">>> key_range(\"00000000000000000000L\")\n"
+             ">>> import base62\n"
+             ">>> base62.key_range(\"00000000000000000000L\")\n"
              "(1302, 1363)\n"
-             ">>> key_range(\"8\")");
+             ">>> base62.key_range(\"8\")");
 
 static PyObject *key_range(PyObject *module, PyObject *const *args, Py_ssize_t nargs, PyObject *kwnames) {
     static const struct parameters signature = {"O:key_range", {"prefix", NULL}, 1, 1};
@@ -640,9 +509,10 @@ PyDoc_STRVAR(fixed_range_doc,
              "The strings are those of encode_fixed. Return None if there is no such number. The width is\n"
              "unbounded.\n\n"
              "Raises InvalidByteError, ValueError if the width is negative, and what Alphabet raises.\n\n"
-             ">>> fixed_range(4, \"00L\")\n"
+             ">>> import base62\n"
+             ">>> base62.fixed_range(4, \"00L\")\n"
              "(1302, 1363)\n"
-             ">>> fixed_range(4, \"000LZ\")");
+             ">>> base62.fixed_range(4, \"000LZ\")");
 
 static PyObject *fixed_range(PyObject *module, PyObject *const *args, Py_ssize_t nargs, PyObject *kwnames) {
     static const struct parameters signature = {"OO|O:fixed_range", {"width", "prefix", "alphabet", NULL}, 2, 3};
@@ -672,8 +542,17 @@ static PyObject *fixed_range(PyObject *module, PyObject *const *args, Py_ssize_t
 #define CALL(name) {#name, (PyCFunction)(void (*)(void))name, METH_FASTCALL | METH_KEYWORDS, name##_doc}
 
 static PyMethodDef calls[] = {
-    CALL(encode),     CALL(encode_fixed),     CALL(encode_key), CALL(digit_count),
-    CALL(decode),     CALL(decode_canonical), CALL(key_range),  CALL(fixed_range),
+    CALL(encode),
+    CALL(encode_uuid),
+    CALL(encode_fixed),
+    CALL(encode_key),
+    CALL(digit_count),
+    CALL(decode),
+    CALL(decode_canonical),
+    CALL(decode_uuid),
+    CALL(decode_uuid_canonical),
+    CALL(key_range),
+    CALL(fixed_range),
     {NULL, NULL, 0, NULL},
 };
 
@@ -692,8 +571,19 @@ static int add_calls(PyObject *module) {
 
 static int import_types(PyObject **objects) {
     static const char *const names[TYPES_END] = {
-        "to_int",        "to_bytes",          "to_letters",    "EmptyInputError", "InvalidByteError",
-        "TooLargeError", "NotCanonicalError", "AlphabetError", "OutOfRangeError",
+        "to_int",
+        "to_bytes",
+        "to_letters",
+        "uuid_to_int",
+        "int_to_uuid",
+        "UUID",
+        "UNKNOWN",
+        "EmptyInputError",
+        "InvalidByteError",
+        "TooLargeError",
+        "NotCanonicalError",
+        "AlphabetError",
+        "OutOfRangeError",
     };
     PyObject *types = PyImport_ImportModule("base62._types");
     int ok = types != NULL;
@@ -720,9 +610,8 @@ static int find_isascii(struct state *state) {
 
 static int execute(PyObject *module) {
     struct state *state = state_of(module);
-    int ok = state != NULL && import_types(state->objects) && find_isascii(state) && add_alphabet(module) &&
-             add_built_in(module, STANDARD, "STANDARD", BASE62_STANDARD_LETTERS) &&
-             add_built_in(module, ALTERNATIVE, "ALTERNATIVE", BASE62_ALTERNATIVE_LETTERS) && add_calls(module);
+    int ok = state != NULL && import_types(state->objects) && find_isascii(state) && add_uuid_names(state) &&
+             add_alphabets(module) && add_calls(module);
     return ok ? PyModule_AddStringConstant(module, "__version__", BASE62_VERSION) : -1;
 }
 

@@ -2,9 +2,10 @@
 # Copyright (c) 2026 the maintainers of base62 for Rattle
 # Hand-written: the types of the extension, with its docstrings.
 from typing import ClassVar, Self, SupportsIndex, final
+from uuid import UUID
 
 from base62 import AnyAlphabet
-from base62._types import Number, Text
+from base62._types import AnyUUID, EncodedString, Number
 
 __version__: str
 
@@ -19,8 +20,9 @@ class Alphabet(bytes):
     Raises AlphabetError if a byte is repeated, ValueError if there are not 62, and UnicodeEncodeError if a
     str is not ASCII.
 
-    >>> custom = Alphabet("23456789ABCDEFGHJKLMNPQRSTUVWXYZabcdefghijkmnpqrstuvwxyz-_.~!*")
-    >>> encode(62, custom), decode("32", custom)
+    >>> import base62
+    >>> custom = base62.Alphabet("23456789ABCDEFGHJKLMNPQRSTUVWXYZabcdefghijkmnpqrstuvwxyz-_.~!*")
+    >>> base62.encode(62, custom), base62.decode("32", custom)
     ('32', 62)
     """
 
@@ -37,9 +39,28 @@ def encode(number: Number, alphabet: AnyAlphabet = Alphabet.STANDARD) -> str:
     Raises OutOfRangeError for any other number, ValueError if the alphabet is not ASCII, and what
     Alphabet raises.
 
-    >>> encode(1337), encode(1337, Alphabet.ALTERNATIVE), encode(0)
+    >>> import base62
+    >>> import uuid
+    >>> base62.encode(1337), base62.encode(1337, base62.Alphabet.ALTERNATIVE), base62.encode(0)
     ('LZ', 'lz', '0')
-    >>> encode(uuid.UUID("12345678-1234-5678-1234-567812345678"))
+    >>> base62.encode(uuid.UUID("12345678-1234-5678-1234-567812345678"))
+    'YLmNWW2NwaipfRR50HIPA'
+    """
+
+def encode_uuid(value: AnyUUID, alphabet: AnyAlphabet = Alphabet.STANDARD) -> str:
+    """Return the encoded string of a UUID's 128-bit integer, UUID.int.
+
+    value is a uuid.UUID, its 16 bytes, or a str of its 32 hexadecimal digits, uppercase or lowercase,
+    with or without hyphens, optionally in braces or after urn:uuid:. The bits of its version and
+    variant are not checked.
+
+    Raises ValueError for any other str or bytes, and what encode raises for the alphabet.
+
+    >>> import base62
+    >>> import uuid
+    >>> base62.encode_uuid(uuid.UUID("12345678-1234-5678-1234-567812345678"))
+    'YLmNWW2NwaipfRR50HIPA'
+    >>> base62.encode_uuid("{12345678-1234-5678-1234-567812345678}")
     'YLmNWW2NwaipfRR50HIPA'
     """
 
@@ -53,7 +74,8 @@ def encode_fixed(number: Number, width: SupportsIndex, alphabet: AnyAlphabet = A
     Raises OutOfRangeError if the number has more characters, ValueError if the width is negative,
     MemoryError if an allocation fails, and what encode raises.
 
-    >>> encode_fixed(1337, 4)
+    >>> import base62
+    >>> base62.encode_fixed(1337, 4)
     '00LZ'
     """
 
@@ -62,7 +84,8 @@ def encode_key(number: Number) -> str:
 
     Keys sort in numeric order. decode accepts them. Raises OutOfRangeError as encode does.
 
-    >>> encode_key(1337)
+    >>> import base62
+    >>> base62.encode_key(1337)
     '00000000000000000000LZ'
     """
 
@@ -71,49 +94,74 @@ def digit_count(number: Number) -> int:
 
     Raises OutOfRangeError as encode does.
 
-    >>> digit_count(61), digit_count(62)
+    >>> import base62
+    >>> base62.digit_count(61), base62.digit_count(62)
     (1, 2)
     """
 
-def decode(text: Text, alphabet: AnyAlphabet = Alphabet.STANDARD) -> int:
+def decode(text: EncodedString, alphabet: AnyAlphabet = Alphabet.STANDARD) -> int:
     """Return the number that a string represents, from 0 to 2**128 - 1. Leading zeros are ignored.
 
     A str is encoded as UTF-8 first. A bytearray, a memoryview and a non-ASCII str are copied.
 
     Raises EmptyInputError, InvalidByteError or TooLargeError, and what Alphabet raises.
 
-    >>> decode("00LZ"), decode(b"lz", Alphabet.ALTERNATIVE)
+    >>> import base62
+    >>> base62.decode("00LZ"), base62.decode(b"lz", base62.Alphabet.ALTERNATIVE)
     (1337, 1337)
-    >>> decode("7n42DGM5Tflk9n8mt7Fhc8")
+    >>> base62.decode("7n42DGM5Tflk9n8mt7Fhc8")
     Traceback (most recent call last):
     base62.TooLargeError: Decoded number cannot fit into a `u128`
     """
 
-def decode_canonical(text: Text, alphabet: AnyAlphabet = Alphabet.STANDARD) -> int:
+def decode_canonical(text: EncodedString, alphabet: AnyAlphabet = Alphabet.STANDARD) -> int:
     """Like decode, but accept only canonical strings: those that encode returns.
 
     Each number has exactly one. Raises NotCanonicalError if decode accepts the string, but it has a
     leading zero, and otherwise what decode raises.
 
-    >>> decode_canonical("LZ"), decode_canonical("0")
+    >>> import base62
+    >>> base62.decode_canonical("LZ"), base62.decode_canonical("0")
     (1337, 0)
-    >>> decode_canonical("00LZ")
+    >>> base62.decode_canonical("00LZ")
     Traceback (most recent call last):
     base62.NotCanonicalError: Encoded input has a leading zero
     """
 
-def key_range(prefix: Text) -> tuple[int, int] | None:
+def decode_uuid(text: EncodedString, alphabet: AnyAlphabet = Alphabet.STANDARD) -> UUID:
+    """Return the UUID whose 128-bit integer a string represents.
+
+    Every integer below 2**128 is the int of exactly one UUID: the bits of its version and variant are
+    not checked. Raises what decode raises.
+
+    >>> import base62
+    >>> base62.decode_uuid("YLmNWW2NwaipfRR50HIPA")
+    UUID('12345678-1234-5678-1234-567812345678')
+    """
+
+def decode_uuid_canonical(text: EncodedString, alphabet: AnyAlphabet = Alphabet.STANDARD) -> UUID:
+    """Like decode_uuid, but accept only canonical strings: those that encode_uuid returns.
+
+    Raises what decode_canonical raises.
+
+    >>> import base62
+    >>> base62.decode_uuid_canonical("YLmNWW2NwaipfRR50HIPA")
+    UUID('12345678-1234-5678-1234-567812345678')
+    """
+
+def key_range(prefix: EncodedString) -> tuple[int, int] | None:
     """Return the least and the greatest number whose key begins with prefix, or None if no key does.
 
     Raises InvalidByteError.
 
-    >>> key_range("00000000000000000000L")
+    >>> import base62
+    >>> base62.key_range("00000000000000000000L")
     (1302, 1363)
-    >>> key_range("8")
+    >>> base62.key_range("8")
     """
 
 def fixed_range(
-    width: SupportsIndex, prefix: Text, alphabet: AnyAlphabet = Alphabet.STANDARD
+    width: SupportsIndex, prefix: EncodedString, alphabet: AnyAlphabet = Alphabet.STANDARD
 ) -> tuple[int, int] | None:
     """Return the least and the greatest number whose string of this width begins with prefix.
 
@@ -122,7 +170,8 @@ def fixed_range(
 
     Raises InvalidByteError, ValueError if the width is negative, and what Alphabet raises.
 
-    >>> fixed_range(4, "00L")
+    >>> import base62
+    >>> base62.fixed_range(4, "00L")
     (1302, 1363)
-    >>> fixed_range(4, "000LZ")
+    >>> base62.fixed_range(4, "000LZ")
     """

@@ -5,17 +5,16 @@
 from __future__ import annotations
 
 import operator
-import re
 from typing import SupportsIndex
-from uuid import UUID
+from uuid import UUID, SafeUUID
 
 Number = SupportsIndex | UUID
-Text = str | bytes | bytearray | memoryview
+EncodedString = str | bytes | bytearray | memoryview
 AnyUUID = UUID | str | bytes
 
-_UUID = re.compile(
-    r"(\{|urn:uuid:)?([\da-f]{8}(?:-[\da-f]{4}){3}-[\da-f]{12}|[\da-f]{32})(\})?", re.ASCII | re.IGNORECASE
-)
+# What UUID(int=..) stores in is_safe, if a UUID has no other attributes. Then the extension creates it by setting them.
+_SLOTS = getattr(UUID, "__slots__", None)
+UNKNOWN = SafeUUID.unknown if _SLOTS == ("int", "is_safe", "__weakref__") else None
 
 
 class _BadByteError(ValueError):
@@ -31,7 +30,8 @@ class _BadByteError(ValueError):
 class AlphabetError(_BadByteError):
     """An alphabet repeats a character.
 
-    >>> Alphabet("0" * 62)
+    >>> import base62
+    >>> base62.Alphabet("0" * 62)
     Traceback (most recent call last):
     base62.AlphabetError: Alphabet repeats the byte b'0' at index 1
     """
@@ -69,9 +69,10 @@ class TooLargeError(DecodeError):
 class NotCanonicalError(DecodeError):
     """A string represents a number, but has a leading zero.
 
-    >>> decode("00LZ")
+    >>> import base62
+    >>> base62.decode("00LZ")
     1337
-    >>> decode_canonical("00LZ")
+    >>> base62.decode_canonical("00LZ")
     Traceback (most recent call last):
     base62.NotCanonicalError: Encoded input has a leading zero
     """
@@ -82,9 +83,10 @@ class NotCanonicalError(DecodeError):
 class InvalidByteError(_BadByteError, DecodeError):
     """A byte of a string is not a character of the alphabet.
 
+    >>> import base62
     >>> try:
-    ...     decode("00LZ-")
-    ... except InvalidByteError as error:
+    ...     base62.decode("00LZ-")
+    ... except base62.InvalidByteError as error:
     ...     print(error, error.byte, error.index, sep="; ")
     Encoded input contains the invalid byte b'-' at index 4; 45; 4
     """
@@ -101,7 +103,8 @@ class InvalidByteError(_BadByteError, DecodeError):
 class OutOfRangeError(OverflowError, ValueError):
     """A number is negative, or 2**128 or more, or has more characters than the width.
 
-    >>> encode(-1)
+    >>> import base62
+    >>> base62.encode(-1)
     Traceback (most recent call last):
     base62.OutOfRangeError: the number is not from 0 to 2**128 - 1
     """
@@ -119,31 +122,28 @@ def to_int(number: Number) -> int:
 
 
 def uuid_to_int(value: AnyUUID) -> int:
-    """Return the number of a UUID."""
-    if isinstance(value, UUID):
-        return value.int
-    if isinstance(value, bytes):
-        return UUID(bytes=value).int
-    if not isinstance(value, str):
+    """Return the int of a UUID that is neither exactly a uuid.UUID, nor a str nor bytes."""
+    if not isinstance(value, UUID):
         raise TypeError(f"a UUID is a uuid.UUID, a str or 16 bytes, not {type(value)}")
-    # uuid.UUID accepts more, such as 1-2345678.. and uuid:.., but not URN:UUID:..
-    match = _UUID.fullmatch(value)
-    if match is None or (match[1] == "{") != (match[3] == "}"):
-        raise ValueError("badly formed hexadecimal UUID string")
-    return int(match[2].replace("-", ""), 16)
+    return operator.index(value.int)
 
 
-def to_bytes(text: Text) -> bytes:
-    """Return the bytes of a text that is neither bytes nor an ASCII str."""
+def int_to_uuid(number: int) -> UUID:
+    """Return the UUID of an int."""
+    return UUID(int=number)
+
+
+def to_bytes(text: EncodedString) -> bytes:
+    """Return the bytes of an encoded string that is neither bytes nor an ASCII str."""
     if isinstance(text, str):
         # A lone surrogate is an invalid character too. A subclass may override encode.
         return str.encode(text, "utf-8", "surrogatepass")
     try:
         view = memoryview(text)
     except TypeError:
-        raise TypeError(f"a text is a str, bytes, bytearray or memoryview, not {type(text)}") from None
+        raise TypeError(f"an encoded string is a str, bytes, bytearray or memoryview, not {type(text)}") from None
     if view.itemsize != 1:
-        raise TypeError(f"a text has items of one byte, not of {view.itemsize} as this {type(text)}")
+        raise TypeError(f"an encoded string has items of one byte, not of {view.itemsize} as this {type(text)}")
     return bytes(view)
 
 

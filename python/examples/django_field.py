@@ -27,16 +27,27 @@ import django
 from django import forms
 from django.conf import settings
 from django.core.exceptions import ValidationError
-from django.db import connection, models
+from django.db import NotSupportedError, connection, models
 
 import base62
 
 
+# In these columns strings compare byte by byte, so that keys sort as their numbers. With their default collations, MySQL
+# and MariaDB ignore case: two keys would be one.
+TYPES = {
+    "sqlite": "varchar(22)",
+    "postgresql": 'varchar(22) COLLATE "C"',
+    "mysql": "varchar(22) COLLATE utf8mb4_bin",
+}
+
+
 class KeyField(models.Field):
-    """Keys sort as their numbers in a column that is compared byte by byte: in PostgreSQL with the collation C."""
+    """A column of keys. The vendor of MariaDB is mysql too."""
 
     def db_type(self, connection: Any) -> str:
-        return 'varchar(22) COLLATE "C"' if connection.vendor == "postgresql" else "varchar(22)"
+        if connection.vendor not in TYPES:
+            raise NotSupportedError(f"KeyField knows no binary collation of {connection.vendor}")
+        return TYPES[connection.vendor]
 
     def to_python(self, value: Any) -> Any:
         try:

@@ -23,11 +23,19 @@ import sqlalchemy
 import base62
 
 
+# With these strings compare byte by byte, so that keys sort as their numbers. With their default collations, MySQL and
+# MariaDB ignore case: two keys would be one.
+COLLATIONS = {"sqlite": None, "postgresql": "C", "mysql": "utf8mb4_bin", "mariadb": "utf8mb4_bin"}
+
+
 class Key(sqlalchemy.types.TypeDecorator):
-    """Keys sort as their numbers in a column that is compared byte by byte: in PostgreSQL with the collation C."""
+    """A column of keys."""
 
     impl = sqlalchemy.String(22)
     cache_ok = True
+
+    def load_dialect_impl(self, dialect: Any) -> Any:
+        return dialect.type_descriptor(sqlalchemy.String(22, collation=COLLATIONS[dialect.name]))
 
     def process_bind_param(self, value: Any, dialect: Any) -> str | None:
         return None if value is None else base62.encode_key(value)
@@ -41,5 +49,5 @@ link = sqlalchemy.Table(
     "link",
     metadata,
     sqlalchemy.Column("id", Key, primary_key=True),
-    sqlalchemy.Column("target", sqlalchemy.String, nullable=False),
+    sqlalchemy.Column("target", sqlalchemy.Text, nullable=False),
 )

@@ -18,6 +18,12 @@ HIGH = bytes(range(194, 256))
 WIDE = 2**128 - 1
 TEXT = "7n42DGM5Tflk9n8mt7Fhc7"
 
+
+
+class OtherUUID(uuid.UUID):
+    """A subclass, which goes another way than uuid.UUID."""
+
+
 Call = Callable[..., object]
 Invocation = tuple[Call, tuple[Any, ...], dict[str, Any]]
 
@@ -54,8 +60,11 @@ def valid_calls() -> Iterator[Invocation]:
     yield invocation(base62.Alphabet, CUSTOM)
     yield invocation(base62.key_bounds, "8")
     yield invocation(base62.key_bounds, "7n")
-    yield invocation(base62.encode_uuid, uuid.UUID(int=WIDE))
-    yield invocation(base62.decode_uuid, TEXT)
+    for value in (uuid.UUID(int=WIDE), OtherUUID(int=WIDE), str(uuid.UUID(int=WIDE)), bytes(16)):
+        yield invocation(base62.encode_uuid, value)
+    for text in ("LZ", TEXT, bytearray(TEXT, "ascii")):
+        yield invocation(base62.decode_uuid, text)
+        yield invocation(base62.decode_uuid, text[-2:], LETTERS)
 
 
 def invalid_calls() -> Iterator[Invocation]:
@@ -70,6 +79,8 @@ def invalid_calls() -> Iterator[Invocation]:
         (base62.decode, [("",), ("-",), (b"-",), (bytearray(b"-"),), ("é",), ("\ud800",), ("z" * 22,), (5,)]),
         (base62.decode, [(array("H", [48]),), (memoryview(array("H", [48])),)]),
         (base62.decode_canonical, [("00LZ",), ("",), ("é",), (5,)]),
+        (base62.encode_uuid, [("",), ("é" * 32,), (b"",), (5,), (uuid.UUID(int=1), HIGH), (str(uuid.UUID(int=1)), None)]),
+        (base62.decode_uuid, [("",), ("-",), ("é",), ("z" * 22,), (5,), ("1", REPEATED)]),
         (base62.encode_fixed, [(1337, 1), (1, -1), (1, -(2**64)), (1, "1"), (-1, 5), (1,)]),
         (base62.encode_fixed, [(1, 5, None), (1, 5, REPEATED), (1, 5, HIGH)]),
         (base62.key_range, [("-",), (bytearray(b"-"),), (5,), ()]),

@@ -1,6 +1,8 @@
 # SPDX-License-Identifier: MIT
 # Copyright (c) 2026 the maintainers of base62 for Rattle
-"""Runs each example that uses another library, and names those whose library this Python lacks."""
+"""Runs each example that uses another library, and names those whose library this Python lacks.
+
+The columns of keys compare byte by byte in each database, which the SQL shows that is compiled without a server."""
 
 from __future__ import annotations
 
@@ -8,6 +10,8 @@ import doctest
 import importlib
 import importlib.metadata
 import sys
+import unittest.mock
+from typing import Any
 
 import paths  # The folder of the examples is on the path then.
 
@@ -23,6 +27,39 @@ def is_here(library: str, least: int) -> bool:
         return False
 
 
+# What the type of a column of keys has to be, by the name of the database.
+TYPES = {
+    "sqlite": "varchar(22) NOT NULL",
+    "postgresql": 'varchar(22) COLLATE "C" NOT NULL',
+    "mysql": "varchar(22) COLLATE utf8mb4_bin NOT NULL",
+}
+
+
+def sql_by_django(module: Any, database: str) -> str:
+    connection = module.connection
+    with unittest.mock.patch.object(connection, "vendor", database):
+        with connection.schema_editor(collect_sql=True) as editor:
+            editor.create_model(module.Link)
+    return str(editor.collected_sql)
+
+
+def sql_by_sqlalchemy(module: Any, database: str) -> str:
+    dialect = importlib.import_module(f"sqlalchemy.dialects.{database}").dialect()
+    return str(module.sqlalchemy.schema.CreateTable(module.link).compile(dialect=dialect))
+
+
+SQL = {"django_field": sql_by_django, "sqlalchemy_column": sql_by_sqlalchemy}
+
+
+def wrong_databases(name: str, module: Any) -> list[str]:
+    """The databases in which a column of keys has another type."""
+    if name not in SQL:
+        return []
+    compile_sql = SQL[name]
+    found = {database: compile_sql(module, database).replace("VARCHAR", "varchar") for database in TYPES}
+    return [sql for database, sql in found.items() if TYPES[database] not in sql]
+
+
 def main() -> int:
     assert sorted(module for module, _, _ in EXAMPLES) == sorted(
         file.stem for file in (paths.PACKAGE / "examples").glob("*_*.py")
@@ -30,9 +67,11 @@ def main() -> int:
     failed = 0
     for module, library, least in EXAMPLES:
         if is_here(library, least):
-            result = doctest.testmod(importlib.import_module(module))
-            failed += result.failed or not result.attempted
-            print(f"{module}: {result.attempted} examples")
+            example = importlib.import_module(module)
+            result = doctest.testmod(example)
+            wrong = wrong_databases(module, example)
+            failed += result.failed or not result.attempted or len(wrong)
+            print(f"{module}: {result.attempted} examples", *wrong)
         else:
             print(f"left out: {module}: install {library} {least} or later")
     return failed

@@ -7,8 +7,10 @@ from __future__ import annotations
 import contextlib
 import copy
 import enum
+import os
 import pickle
 import random
+import subprocess
 import sys
 import threading
 import time
@@ -41,6 +43,17 @@ ALPHABETS: list[tuple[str | bytes, str]] = [
 
 # It has the standard letters, so that both have the same bad bytes.
 CUSTOM_ALPHABET = Alphabet(STANDARD.swapcase())
+
+# Stores a byte that is no letter in a bytes object of zeros, behind its header.
+FAR = """
+import base62, ctypes
+text = bytes(2**31 + 9)
+ctypes.memset(id(text) + bytes.__basicsize__ - 1 + 2**31 + 1, 255, 1)
+try:
+    base62.decode(text, bytes(range(62)))
+except base62.InvalidByteError as error:
+    print(error.byte, error.index)
+"""
 
 Call = Callable[..., Any]
 OF_NUMBERS: list[Call] = [
@@ -143,7 +156,6 @@ class Texts(unittest.TestCase):
             self.assertEqual(base62.digit_count(number), 22)
             self.assertEqual(value(base62.encode_key(number)), LARGEST)
 
-
     def test_kinds_of_uuids(self) -> None:
         class Subclass(str):
             replace: Any = None
@@ -153,11 +165,34 @@ class Texts(unittest.TestCase):
                 return 0
 
         name = uuid.UUID("92345678-9abc-def0-1234-56789abcdef0")
-        given: list[Any] = [str(name), Subclass(name), name.bytes, name, uuid.UUID(int=IntSubclass(name.int))]
+        class Indexed(uuid.UUID):
+            def __index__(self) -> int:
+                return 0
+
+        given: list[Any] = [name, uuid.UUID(int=IntSubclass(name.int)), Indexed(int=name.int)]
         for one in given:
-            self.assertEqual(value(base62.encode_uuid(one)), name.int)
-        for one in given[3:]:
             self.assertEqual(value(base62.encode(one)), name.int)
+        for one in (*given, str(name), Subclass(name), name.bytes):
+            self.assertEqual(value(base62.encode_uuid(one)), name.int)
+
+    def test_uuids_of_programs(self) -> None:
+        """A program can store any object as the int of a UUID."""
+        for stored, kind in ((-1, base62.OutOfRangeError), (LARGEST + 1, base62.OutOfRangeError), ("1", TypeError)):
+            name = uuid.UUID(int=1)
+            object.__setattr__(name, "int", stored)
+            self.assertRaises(kind, base62.encode, name)
+            self.assertRaises(kind, base62.encode_uuid, name)
+        object.__delattr__(name, "int")
+        self.assertRaises(AttributeError, base62.encode_uuid, name)
+
+    def test_created_uuids(self) -> None:
+        """A UUID has all that UUID(int=..) gives it."""
+        for number in numbers(20):
+            for decode in (base62.decode_uuid, base62.decode_uuid_canonical):
+                name, expected = decode(base62.encode(number)), uuid.UUID(int=number)
+                self.assertIs(type(name), uuid.UUID)
+                self.assertEqual((name, hash(name), name.is_safe), (expected, hash(expected), expected.is_safe))
+                self.assertEqual(pickle.dumps(name), pickle.dumps(expected))
 
 
 class Threads(unittest.TestCase):
@@ -287,10 +322,11 @@ class Alphabets(RaisesTestCase):
         self.assertRaises(ValueError, of_type.fromhex, "00")
 
     def test_other_letters(self) -> None:
-        lengths: list[Any] = ["", "standard", STANDARD[:-1], STANDARD + "-", b"", STANDARD[:-1].encode()]
-        for letters in lengths:
+        lengths: list[tuple[Any, str]] = [("", "0 characters"), ("0", "1 character"), (b"0", "1 character")]
+        lengths += [(STANDARD[:-1], "61 characters"), (STANDARD.encode() + b"-", "63 characters")]
+        for letters, count in lengths:
             error = self.raised(ValueError, Alphabet, letters)
-            self.assertEqual(str(error), "an alphabet has 62 letters")
+            self.assertEqual(str(error), f"the alphabet has {count}, not 62")
             self.raised(ValueError, base62.encode, 1, letters)
             self.raised(ValueError, base62.decode, "9", letters)
         for letters in ("é" + STANDARD[1:], "é" + STANDARD[2:], "\ud800" + STANDARD[1:]):
@@ -303,7 +339,7 @@ class Alphabets(RaisesTestCase):
         for letters in (HIGH, Alphabet(HIGH), mixed, Alphabet(mixed)):
             for call in (lambda custom: base62.encode(1, custom), lambda custom: base62.encode_fixed(1, 5, custom)):
                 error = self.raised(ValueError, call, letters)
-                self.assertEqual(str(error), "an alphabet to encode has ASCII letters")
+                self.assertEqual(str(error), "an alphabet for encoding has ASCII characters")
         self.assertEqual(base62.decode("1", mixed), 1)
         self.assertEqual(base62.fixed_range(3, b"\x80", Alphabet(mixed)), (61 * 62**2, 62**3 - 1))
 
@@ -370,8 +406,10 @@ class Faults(RaisesTestCase):
 
     def test_uuids(self) -> None:
         """Bytes for a UUID are the 16 of its number, and never digits."""
-        for given in ("\ud800" * 32, b"", bytes(15), bytes(17), bytes(32), b"12345678123456781234567812345678"):
-            self.raised(ValueError, base62.encode_uuid, given)
+        digits = "12345678" * 4
+        given: list[str | bytes] = [b"", bytes(15), bytes(17), bytes(32), digits.encode()]
+        for one in (*given, "\ud800" * 32, f"{{{digits})", f"({digits}}}"):
+            self.raised(ValueError, base62.encode_uuid, one)
 
     def test_failing_index(self) -> None:
         class Failing:
@@ -384,7 +422,7 @@ class Faults(RaisesTestCase):
         for call in OF_TEXTS:
             for text in (5, None, [1], {"0"}, 1.0):
                 error = self.raised(TypeError, call, text)
-                self.assertRegex(str(error), r"^a text is a str, bytes, bytearray or memoryview, not <class '\w+'>$")
+                self.assertRegex(str(error), r"^an encoded string is a str, bytes, bytearray or memoryview, not <class")
             for code in "HiIqQfd":
                 wide = array(code, [48, 49])
                 for items in (wide, memoryview(wide), memoryview(wide)[::2]):
@@ -413,6 +451,13 @@ class Faults(RaisesTestCase):
                 said = repr(bytes([byte]))
                 self.assertEqual(str(error), f"Encoded input contains the invalid byte {said} at index {index}")
         self.assertGreater(len(str(error)), 60)
+
+    def test_far_index(self) -> None:
+        """A string of more than 2**31 bytes. It takes no memory, since its zeros are only read: so another Python, since
+        the allocator of -X dev writes to all that it frees."""
+        arguments = [sys.executable, "-c", FAR]
+        result = subprocess.run(arguments, env=os.environ | {"PYTHONMALLOC": "malloc"}, capture_output=True, text=True)
+        self.assertEqual((result.stdout, result.stderr), (f"255 {2**31 + 1}\n", ""))
 
     def test_kinds(self) -> None:
         """What an except clause catches, in the order in which a name is looked up."""

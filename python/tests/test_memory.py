@@ -16,7 +16,8 @@ import calls
 from base62 import _types
 from calls import LETTERS, WIDE, Call
 
-# More allocations than any of the calls makes.
+# A call has made its allocations if it succeeds although each of the next ones would fail. No call makes so many.
+NEXT_ALLOCATIONS = 40
 MAX_ALLOCATIONS = 240
 
 try:
@@ -72,11 +73,12 @@ class AllocationTestCase(unittest.TestCase):
         """Makes each allocation of the call fail in turn, first alone and then with all later ones."""
         wanted = outcome(call, given, named)
         for follow in (False, True):
-            failures = [
-                self.reports_failure(wanted, first, 0 if follow else first + 1, call, *given, **named)
-                for first in range(MAX_ALLOCATIONS)
-            ]
-            self.assertFalse(any(failures[-20:]), f"{call} makes more allocations")
+            failures: list[bool] = []
+            while len(failures) < NEXT_ALLOCATIONS or any(failures[-NEXT_ALLOCATIONS:]):
+                first = len(failures)
+                self.assertLess(first, MAX_ALLOCATIONS, f"{call} makes more allocations")
+                last = 0 if follow else first + 1
+                failures.append(self.reports_failure(wanted, first, last, call, *given, **named))
             self.failures += sum(failures)
 
 

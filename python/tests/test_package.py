@@ -16,6 +16,7 @@ import inspect
 import pathlib
 import sys
 import unittest
+import unittest.mock
 import uuid
 import weakref
 from collections.abc import Callable
@@ -36,8 +37,9 @@ class Package(unittest.TestCase):
         for name in base62.__all__:
             self.assertTrue(inspect.getdoc(getattr(base62, name)), name)
             self.assertEqual(getattr(base62, name).__module__, "base62", name)
-        types = ["AnyAlphabet", "AnyUUID", "Number", "Text"]
+        types = ["AnyAlphabet", "AnyUUID", "EncodedString", "Number", "Text"]
         self.assertEqual([name for name in dir(base62) if name[0] != "_"], sorted(base62.__all__ + types))
+        self.assertIs(base62.Text, base62.EncodedString)
 
     def test_version(self) -> None:
         self.assertEqual(base62.__version__, (TOP / "VERSION").read_text().strip())
@@ -121,6 +123,17 @@ class Modules(unittest.TestCase):
             self.assertEqual(module.encode(1337, module.Alphabet.ALTERNATIVE), "lz")
             self.assertRaises(module.InvalidByteError, module.decode, "-")
 
+    def test_other_uuids(self) -> None:
+        """If a Python's UUID has other attributes, its own way creates one."""
+
+        class Other:
+            def __init__(self, *, int: int) -> None:
+                self.number = int
+
+        with unittest.mock.patch("uuid.UUID", Other):
+            again = reimported()
+        self.assertEqual(vars(again.decode_uuid("LZ")), {"number": 1337})
+
     def test_gc_traverse(self) -> None:
         """The collector finds the objects that the module and an alphabet refer to."""
         found = gc.get_referents(_base62)
@@ -128,7 +141,8 @@ class Modules(unittest.TestCase):
         errors += [base62.NotCanonicalError, base62.OutOfRangeError, base62.TooLargeError]
         alphabets = [base62.Alphabet, base62.Alphabet.STANDARD, base62.Alphabet.ALTERNATIVE]
         conversions = [_types.to_int, _types.to_bytes, _types.to_letters]
-        for owned in (*errors, *alphabets, *conversions):
+        of_uuids = [_types.uuid_to_int, _types.int_to_uuid, uuid.UUID, uuid.SafeUUID.unknown, "int", "is_safe"]
+        for owned in (*errors, *alphabets, *conversions, *of_uuids):
             self.assertTrue(any(one is owned for one in found), owned)
         self.assertEqual(gc.get_referents(base62.Alphabet(CUSTOM)), [base62.Alphabet])
 
@@ -175,11 +189,11 @@ def failing(call: Callable[..., object]) -> Callable[..., None]:
 
 @unittest.skipUnless(sys.getallocatedblocks(), "Python counts no blocks of memory of another malloc")
 class Leaks(unittest.TestCase):
-    """Two thousand runs of each valid and each invalid call leave memory and reference counts unchanged."""
+    """A thousand runs of each valid and each invalid call leave memory and reference counts unchanged."""
 
-    RUNS = 2_000
-    # What calls borrow, besides what they are given.
-    SHARED: list[object] = [None, False, True, 0, 64, uuid.UUID, base62.Alphabet]
+    RUNS = 1_000
+    # What calls borrow, besides what they are given. WIDE is the int of UUIDs.
+    SHARED: list[object] = [None, False, True, 0, 64, calls.WIDE, uuid.UUID, base62.Alphabet]
     SHARED += [base62.Alphabet.STANDARD, base62.Alphabet.ALTERNATIVE]
     SHARED += [base62.AlphabetError, base62.EmptyInputError, base62.InvalidByteError, base62.TooLargeError]
     SHARED += [base62.NotCanonicalError, base62.OutOfRangeError]
@@ -197,7 +211,7 @@ class Leaks(unittest.TestCase):
         before = state()
         run(self.RUNS)
         for was, now in zip(before, state()):
-            self.assertLess(abs(now - was), self.RUNS // 20, f"{call} of {given} and {named}")
+            self.assertLess(abs(now - was), self.RUNS // 10, f"{call} of {given} and {named}")
 
     def test_calls(self) -> None:
         for call, given, named in calls.valid_calls():
@@ -213,7 +227,6 @@ class Leaks(unittest.TestCase):
 
 
 def load_tests(loader: unittest.TestLoader, tests: unittest.TestSuite, pattern: object) -> unittest.TestSuite:
-    names = {**vars(base62), "uuid": uuid}
-    # Those of _types are found where callers find them.
-    tests.addTests(doctest.DocTestSuite(base62, globs=names))
+    # Those of _types are found where callers find them. An example can be pasted alone: it has its imports.
+    tests.addTests(doctest.DocTestSuite(base62, globs={}))
     return tests

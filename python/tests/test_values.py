@@ -113,7 +113,8 @@ class Values(unittest.TestCase):
     def test_narrow(self) -> None:
         for name, number, width in rows("narrow"):
             if name in OF_ASCII:
-                with self.assertRaisesRegex(base62.OutOfRangeError, "^the number has more letters than the width$"):
+                message = "^the number needs more characters than the width$"
+                with self.assertRaisesRegex(base62.OutOfRangeError, message):
                     base62.encode_fixed(int(number), int(width), ALPHABETS[name])
 
     def test_ranges(self) -> None:

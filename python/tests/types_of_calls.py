@@ -4,7 +4,7 @@
 
 from __future__ import annotations
 
-from typing import assert_type
+from typing import SupportsIndex, assert_type
 from uuid import UUID
 
 import base62
@@ -17,8 +17,7 @@ def right(number: int, name: UUID, text: str, packed: bytes, custom: Alphabet) -
     assert_type(base62.encode(True, text), str)
     assert_type(base62.decode(text), int)
     assert_type(base62.decode(packed, packed), int)
-    assert_type(base62.decode(bytearray(packed), alphabet=text), int)
-    assert_type(base62.decode(text=memoryview(packed), alphabet=custom), int)
+    assert_type(base62.decode(text=packed, alphabet=custom), int)
     assert_type(base62.decode_canonical(text, packed), int)
     assert_type(base62.decode_canonical(text=packed, alphabet=custom), int)
     assert_type(base62.digit_count(number), int)
@@ -41,6 +40,18 @@ def right(number: int, name: UUID, text: str, packed: bytes, custom: Alphabet) -
     assert_type(base62.__version__, str)
 
 
+def buffers(text: bytearray | memoryview, width: SupportsIndex) -> None:
+    """Neither is taken for bytes: mypy runs without its promotions."""
+    assert_type(base62.decode(text), int)
+    assert_type(base62.decode_canonical(text), int)
+    assert_type(base62.decode_uuid(text), UUID)
+    assert_type(base62.decode_uuid_canonical(text), UUID)
+    assert_type(base62.key_range(text), tuple[int, int] | None)
+    assert_type(base62.key_bounds(text), tuple[str, str] | None)
+    assert_type(base62.fixed_range(width, text), tuple[int, int] | None)
+    assert_type(base62.encode_fixed(width, width), str)
+
+
 def attributes(invalid: InvalidByteError, repeated: AlphabetError) -> None:
     assert_type((invalid.byte, invalid.index), tuple[int, int])
     assert_type((repeated.byte, repeated.index), tuple[int, int])
@@ -49,7 +60,7 @@ def attributes(invalid: InvalidByteError, repeated: AlphabetError) -> None:
     fault = repeated  # type: ignore[assignment]
 
 
-def wrong(number: int, name: UUID, text: str, custom: Alphabet) -> None:
+def wrong(number: int, name: UUID, text: str, custom: Alphabet, view: memoryview) -> None:
     base62.encode(text)  # type: ignore[arg-type]
     base62.encode(1.0)  # type: ignore[arg-type]
     base62.encode(number, None)  # type: ignore[arg-type]
@@ -72,6 +83,9 @@ def wrong(number: int, name: UUID, text: str, custom: Alphabet) -> None:
     base62.key_bounds(number)  # type: ignore[arg-type]
     base62.key_bounds(text)[0]  # type: ignore[index]
     base62.encode_uuid(number)  # type: ignore[arg-type]
+    base62.encode_uuid(bytearray(16))  # type: ignore[arg-type]
+    base62.encode_uuid(view)  # type: ignore[arg-type]
+    base62.encode(number, view)  # type: ignore[arg-type]
     base62.encode_uuid(name, number)  # type: ignore[arg-type]
     base62.decode_uuid(name)  # type: ignore[arg-type]
     base62.decode_uuid(text, number)  # type: ignore[arg-type]

@@ -1,0 +1,181 @@
+/* SPDX-License-Identifier: MIT */
+/* Copyright (c) 2026 the maintainers of base62 for Rattle */
+
+/* Hand-written. The type Alphabet: a bytes object with the tables of the library behind its items. */
+#include "_base62.h"
+
+static int make_alphabet_or_raise(struct state *state, const char *letters, struct alphabet *alphabet) {
+    base62_bad_byte bad = {0, 0};
+    base62_status status = base62_make_alphabet(letters, &alphabet->tables, &bad);
+    if (status != BASE62_OK) {
+        raise_status(state, status, bad);
+        return -1;
+    }
+    alphabet->is_ascii = 1;
+    for (int i = 0; i < BASE62_ALPHABET_LENGTH; i++)
+        if ((unsigned char)letters[i] > 127)
+            alphabet->is_ascii = 0;
+    return 0;
+}
+
+/* The letters of an argument that is not an Alphabet. */
+static int letters_or_raise(struct state *state, PyObject *argument, struct text *letters) {
+    PyObject *bytes = PyBytes_Check(argument) ? new_ref(argument) : convert(state, TO_LETTERS, argument);
+    if (steal_bytes_or_raise(bytes, letters) != 0)
+        return -1;
+    if (letters->length == BASE62_ALPHABET_LENGTH)
+        return 0;
+    const char *plural = letters->length == 1 ? "" : "s";
+    PyErr_Format(PyExc_ValueError, "the alphabet has %zd character%s, not 62", letters->length, plural);
+    Py_DecRef(letters->owner);
+    return -1;
+}
+
+/* Creates the fields of an alphabet from an argument that is not an Alphabet. */
+int alphabet_of_letters_or_raise(struct state *state, PyObject *argument, struct alphabet *alphabet) {
+    struct text letters;
+    if (letters_or_raise(state, argument, &letters) != 0)
+        return -1;
+    int failed = make_alphabet_or_raise(state, letters.bytes, alphabet);
+    Py_DecRef(letters.owner);
+    return failed;
+}
+
+PyDoc_STRVAR(Alphabet_doc,
+             "Alphabet(letters)\n--\n\n"
+             "A custom alphabet: 62 distinct bytes, in the order of their digit values.\n\n"
+             "It is immutable and cannot be subclassed. letters, an ASCII str or bytes, is checked here once; a str\n"
+             "or bytes passed to a function is checked on every call. With an alphabet that has\n"
+             "non-ASCII bytes, functions that encode raise ValueError.\n\n"
+             "Raises AlphabetError if a byte is repeated, ValueError if there are not 62, and UnicodeEncodeError if a\n"
+             "str is not ASCII.\n\n"
+             ">>> import base62\n"
+             ">>> custom = base62.Alphabet(\"23456789ABCDEFGHJKLMNPQRSTUVWXYZabcdefghijkmnpqrstuvwxyz-_.~!*\")\n"
+             ">>> base62.encode(62, custom), base62.decode(\"32\", custom)\n"
+             "('32', 62)");
+
+static PyObject *new_bytes(PyObject *bytes) {
+    return PyBytes_FromStringAndSize(PyBytes_AsString(bytes), PyBytes_Size(bytes));
+}
+
+static PyObject *new_alphabet_of(struct state *state, PyTypeObject *type, PyObject *letters,
+                                 const struct alphabet *fields) {
+    newfunc bytes_new = (newfunc)PyType_GetSlot(&PyBytes_Type, Py_tp_new);
+    /* A subclass of bytes could override what its bytes are. */
+    PyObject *tuple = bytes_new == NULL ? NULL : Py_BuildValue("(N)", new_bytes(letters));
+    PyObject *object = tuple == NULL ? NULL : bytes_new(type, tuple, NULL);
+    Py_DecRef(tuple);
+    if (object == NULL)
+        return NULL;
+    if ((char *)fields_of(state, object) != PyBytes_AsString(object) + BASE62_ALPHABET_LENGTH + 1) {
+        PyErr_SetString(PyExc_SystemError, "bytes has another layout");
+        Py_DecRef(object);
+        return NULL;
+    }
+    *fields_of(state, object) = *fields;
+    return object;
+}
+
+static PyObject *alphabet_new(PyTypeObject *type, PyObject *tuple, PyObject *dict) {
+    static const char *const names[] = {"letters", NULL};
+    struct state *state = PyType_GetModuleState(type);
+    PyObject *argument;
+    if (state == NULL || !PyArg_ParseTupleAndKeywords(tuple, dict, "O:Alphabet", (char **)names, &argument))
+        return NULL;
+    struct text letters;
+    if (letters_or_raise(state, argument, &letters) != 0)
+        return NULL;
+    struct alphabet fields;
+    int failed = make_alphabet_or_raise(state, letters.bytes, &fields);
+    PyObject *object = failed ? NULL : new_alphabet_of(state, type, letters.owner, &fields);
+    Py_DecRef(letters.owner);
+    return object;
+}
+
+static void alphabet_dealloc(PyObject *self) {
+    PyTypeObject *type = Py_TYPE(self);
+    PyObject_GC_UnTrack(self);
+    PyObject_GC_Del(self);
+    Py_DecRef((PyObject *)type);
+}
+
+/* The built-in alphabets are attributes of their type, so they and the type refer to each other. */
+static int alphabet_traverse(PyObject *self, visitproc visit, void *arg) {
+    Py_VISIT(Py_TYPE(self));
+    return 0;
+}
+
+static PyObject *alphabet_repr(PyObject *self) {
+    PyObject *letters = new_bytes(self), *repr = letters == NULL ? NULL : PyUnicode_FromFormat("Alphabet(%R)", letters);
+    Py_DecRef(letters);
+    return repr;
+}
+
+PyDoc_STRVAR(reduce_doc, "__reduce__($self, /)\n--\n\n"
+                         "Return the name of a built-in alphabet, or how to create another one.");
+
+static PyObject *alphabet_reduce(PyObject *self, PyObject *unused) {
+    (void)unused;
+    struct state *state = PyType_GetModuleState(Py_TYPE(self));
+    if (state == NULL)
+        return NULL;
+    if (self == state->objects[STANDARD])
+        return PyUnicode_FromString("Alphabet.STANDARD");
+    if (self == state->objects[ALTERNATIVE])
+        return PyUnicode_FromString("Alphabet.ALTERNATIVE");
+    return Py_BuildValue("O(N)", Py_TYPE(self), new_bytes(self));
+}
+
+static PyMethodDef alphabet_methods[] = {
+    {"__reduce__", alphabet_reduce, METH_NOARGS, reduce_doc},
+    {NULL, NULL, 0, NULL},
+};
+
+static PyType_Slot alphabet_slots[] = {
+    {Py_tp_doc, (void *)Alphabet_doc},
+    {Py_tp_new, alphabet_new},
+    {Py_tp_dealloc, alphabet_dealloc},
+    {Py_tp_traverse, alphabet_traverse},
+    {Py_tp_repr, alphabet_repr},
+    {Py_tp_str, alphabet_repr},
+    {Py_tp_methods, alphabet_methods},
+    {0, NULL},
+};
+
+static int add_type(PyObject *module) {
+    struct state *state = PyModule_GetState(module);
+    PyObject *size = PyObject_GetAttrString((PyObject *)&PyBytes_Type, "__basicsize__");
+    state->bytes_basicsize = size == NULL ? -1 : PyLong_AsSsize_t(size);
+    Py_DecRef(size);
+    if (state->bytes_basicsize < 0)
+        return 0;
+    PyType_Spec spec = {
+        .name = "base62.Alphabet",
+        .basicsize = (int)(state->bytes_basicsize + (Py_ssize_t)sizeof(struct alphabet)),
+        .itemsize = 1,
+        .flags = Py_TPFLAGS_DEFAULT | Py_TPFLAGS_HAVE_GC | Py_TPFLAGS_IMMUTABLETYPE,
+        .slots = alphabet_slots,
+    };
+    state->objects[ALPHABET] = PyType_FromModuleAndSpec(module, &spec, (PyObject *)&PyBytes_Type);
+    /* 3.11 does not always report that an allocation failed. */
+    if (state->objects[ALPHABET] == NULL && PyErr_Occurred() == NULL)
+        PyErr_NoMemory();
+    return state->objects[ALPHABET] != NULL &&
+           PyModule_AddObjectRef(module, "Alphabet", state->objects[ALPHABET]) == 0;
+}
+
+/* Setting an attribute of an immutable type raises TypeError, so it is stored in the type's __dict__. */
+static int add_built_in(PyObject *module, int which, const char *name, const char *letters) {
+    PyObject **objects = ((struct state *)PyModule_GetState(module))->objects, *type = objects[ALPHABET];
+    objects[which] = PyObject_CallFunction(type, "y", letters);
+    PyObject *dict = objects[which] == NULL ? NULL : PyObject_GenericGetDict(type, NULL);
+    int ok = dict != NULL && PyDict_SetItemString(dict, name, objects[which]) == 0;
+    PyType_Modified((PyTypeObject *)type);
+    Py_DecRef(dict);
+    return ok;
+}
+
+int add_alphabets(PyObject *module) {
+    return add_type(module) && add_built_in(module, STANDARD, "STANDARD", BASE62_STANDARD_LETTERS) &&
+           add_built_in(module, ALTERNATIVE, "ALTERNATIVE", BASE62_ALTERNATIVE_LETTERS);
+}

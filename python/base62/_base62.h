@@ -1,0 +1,91 @@
+/* SPDX-License-Identifier: MIT */
+/* Copyright (c) 2026 the maintainers of base62 for Rattle */
+
+/* What the files of the extension _base62 share. */
+#ifndef BASE62_PYTHON_H
+#define BASE62_PYTHON_H
+
+#define Py_LIMITED_API 0x030b0000
+#include <Python.h>
+#ifdef __GNUC__
+#pragma GCC visibility push(hidden)
+#endif
+#include <base62.h>
+
+/* The objects that the module owns. Those before TYPES_END come from base62._types. */
+enum {
+    TO_INT,
+    TO_BYTES,
+    TO_LETTERS,
+    UUID_TO_INT,
+    INT_TO_UUID,
+    UUID,
+    UNKNOWN,
+    EMPTY_INPUT_ERROR,
+    INVALID_BYTE_ERROR,
+    TOO_LARGE_ERROR,
+    NOT_CANONICAL_ERROR,
+    ALPHABET_ERROR,
+    OUT_OF_RANGE_ERROR,
+    TYPES_END,
+    /* The names of the attributes of a UUID. */
+    INT = TYPES_END,
+    IS_SAFE,
+    ALPHABET,
+    STANDARD,
+    ALTERNATIVE,
+    OBJECT_COUNT
+};
+
+struct state {
+    PyObject *objects[OBJECT_COUNT];
+    /* The size of a bytes object without its items. */
+    Py_ssize_t bytes_basicsize;
+    /* The C function of str.isascii. */
+    PyCFunction str_isascii;
+};
+
+/* Bytes, and a reference to the object that contains them. It is NULL if this is a str that the caller owns. */
+struct text {
+    const char *bytes;
+    Py_ssize_t length;
+    PyObject *owner;
+};
+
+struct alphabet {
+    base62_alphabet tables;
+    char is_ascii;
+};
+
+/* Py_IncRef and Py_DecRef are functions of the running Python. Macros of 3.11 would count objects that are immortal
+   since 3.12. */
+static inline PyObject *new_ref(PyObject *object) {
+    Py_IncRef(object);
+    return object;
+}
+
+/* The fields that Alphabet adds to bytes. bytes has a variable size, so they follow its items. */
+static inline struct alphabet *fields_of(const struct state *state, PyObject *object) {
+    return (struct alphabet *)((char *)object + state->bytes_basicsize + Py_SIZE(object));
+}
+
+/* In _base62.c: objects of the module, arguments and results. */
+PyObject *borrow(struct state *state, int which);
+PyObject *convert(struct state *state, int converter, PyObject *argument);
+int number_or_raise(struct state *state, PyObject *argument, base62_number *number);
+int steal_bytes_or_raise(PyObject *bytes, struct text *text);
+int text_or_raise(struct state *state, PyObject *argument, struct text *text);
+PyObject *new_int(struct state *state, base62_number number);
+PyObject *raise_status(struct state *state, base62_status status, base62_bad_byte bad);
+
+/* In _alphabet.c. */
+int alphabet_of_letters_or_raise(struct state *state, PyObject *argument, struct alphabet *alphabet);
+int add_alphabets(PyObject *module);
+
+/* In _uuid.c. */
+PyObject *int_of_uuid(struct state *state, PyObject *uuid);
+int uuid_or_raise(struct state *state, PyObject *argument, base62_number *number);
+PyObject *new_uuid(struct state *state, base62_number number);
+int add_uuid_names(struct state *state);
+
+#endif

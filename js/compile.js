@@ -11,6 +11,6 @@ export function compile(base64) {
     return new WebAssembly.Module(bytes);
   } catch (cause) {
     const ways = 'allow it in the Content-Security-Policy, or load base62-proved/module';
-    throw new Error(`this host refuses to compile WebAssembly: ${ways}`, { cause });
+    throw new Error(`this runtime does not compile WebAssembly: ${ways}`, { cause });
   }
 }

@@ -20,7 +20,14 @@ export type Integer = number | bigint | boolean;
  * An encoded string, or the bytes of one. A string is encoded as UTF-8. A lone surrogate is encoded as its own three
  * bytes, not as U+FFFD.
  */
-export type Text = string | Uint8Array;
+export type EncodedString = string | Uint8Array;
+
+/**
+ * The former name of {@link EncodedString}. The DOM has a class `Text`.
+ *
+ * @deprecated It is removed in 4.0.
+ */
+export type Text = EncodedString;
 
 /**
  * A UUID: 16 bytes, big-endian, or a string of 32 hexadecimal digits in either case. It may have hyphens as in
@@ -32,7 +39,12 @@ export type Uuid = string | Uint8Array;
 /**
  * Encodes a number as its shortest string, of 1 to 22 characters.
  *
- * @example encode(1337) === 'LZ'
+ * @example
+ * ```js
+ * import { encode } from 'base62-proved';
+ *
+ * console.log(encode(1337)); // LZ
+ * ```
  * @param number an integer from 0 to 2n ** 128n - 1n. A `number` is at most 2**53 - 1, since greater ones may have been
  *   rounded. -0 is 0.
  * @throws {Base62Error} `OUT_OF_RANGE` for any other number, such as 1.5, -1 or NaN
@@ -44,12 +56,17 @@ export function encode(number: Integer, alphabet?: Alphabet): string;
  * sort in numeric order if the alphabet's characters are in ascending ASCII order ({@link Alphabet.standard} is;
  * {@link Alphabet.alternative} is not).
  *
- * @example encodeFixed(1337, 4) === '00LZ'
+ * @example
+ * ```js
+ * import { encodeFixed } from 'base62-proved';
+ *
+ * console.log(encodeFixed(1337, 4)); // 00LZ
+ * ```
  * @param value a number as in {@link encode}, or a UUID as in {@link encodeUuid}. A string is always a UUID.
- * @param width an integer from 1 to 2**53 - 1, limited by memory. 22 characters are enough for any number.
+ * @param width an integer from 1 to 2**53 - 1. 22 characters are enough for any number.
  * @throws {Base62Error} `BUFFER_TOO_SMALL` if the number needs more characters or the width is 0, `OUT_OF_RANGE` for
  *   any other number or width that is not such an integer, `INVALID_UUID`
- * @throws {Error} an error of the runtime, without a `code`, if an allocation fails
+ * @throws {Error} an error of the runtime, without a `code`, if the width is more than its strings can have
  */
 export function encodeFixed(value: Integer | Uuid, width: number, alphabet?: Alphabet): string;
 
@@ -57,7 +74,12 @@ export function encodeFixed(value: Integer | Uuid, width: number, alphabet?: Alp
  * Encodes a number or a UUID as a key: exactly 22 characters of the standard alphabet. Keys sort in numeric order,
  * and in the order of their UUIDs' bytes.
  *
- * @example encodeKey(1337) === '00000000000000000000LZ'
+ * @example
+ * ```js
+ * import { encodeKey } from 'base62-proved';
+ *
+ * console.log(encodeKey(1337)); // 00000000000000000000LZ
+ * ```
  * @param value as in {@link encodeFixed}
  * @throws {Base62Error} `OUT_OF_RANGE`, `INVALID_UUID`
  */
@@ -66,7 +88,12 @@ export function encodeKey(value: Integer | Uuid): string;
 /**
  * Encodes a UUID, read as a big-endian 128-bit integer, as its shortest string, of 1 to 22 characters.
  *
- * @example encodeUuid('550e8400-e29b-41d4-a716-446655440000') === '2aUyqjCzEIiEcYMKj7TZtw'
+ * @example
+ * ```js
+ * import { encodeUuid } from 'base62-proved';
+ *
+ * console.log(encodeUuid('550e8400-e29b-41d4-a716-446655440000')); // 2aUyqjCzEIiEcYMKj7TZtw
+ * ```
  * @throws {Base62Error} `INVALID_UUID` if the string or the bytes are not a {@link Uuid}
  */
 export function encodeUuid(uuid: Uuid, alphabet?: Alphabet): string;
@@ -74,7 +101,12 @@ export function encodeUuid(uuid: Uuid, alphabet?: Alphabet): string;
 /**
  * Returns the length of the string that {@link encode} returns, from 1 to 22.
  *
- * @example digitCount(1337) === 2
+ * @example
+ * ```js
+ * import { digitCount } from 'base62-proved';
+ *
+ * console.log(digitCount(1337)); // 2
+ * ```
  * @throws {Base62Error} `OUT_OF_RANGE` as {@link encode}
  */
 export function digitCount(number: Integer): number;
@@ -82,82 +114,121 @@ export function digitCount(number: Integer): number;
 /**
  * Decodes a string of any length. Leading zeros are ignored.
  *
- * @example decode('LZ') === 1337n
+ * @example
+ * ```js
+ * import { decode } from 'base62-proved';
+ *
+ * console.log(decode('LZ')); // 1337n
+ * ```
  * @returns the number that the string represents, from 0n to 2n ** 128n - 1n
  * @throws {Base62Error} `EMPTY_INPUT` if it is empty, `INVALID_BYTE` if a byte is not in the alphabet, `OVERFLOW` if
  *   it represents 2**128 or more, or has more than 22 bytes after its leading zeros. If the string has several errors,
  *   docs/DEFINITIONS.md of the repository says which one is thrown.
  */
-export function decode(text: Text, alphabet?: Alphabet): bigint;
+export function decode(text: EncodedString, alphabet?: Alphabet): bigint;
 
 /**
  * Like {@link decode}, but returns a `number`, from 0 to 2**53 - 1.
  *
- * @example decodeNumber('LZ') === 1337
+ * @example
+ * ```js
+ * import { decodeNumber } from 'base62-proved';
+ *
+ * console.log(decodeNumber('LZ')); // 1337
+ * ```
  * @throws {Base62Error} as {@link decode}, and `UNSAFE_INTEGER` if the number is above 2**53 - 1
  */
-export function decodeNumber(text: Text, alphabet?: Alphabet): number;
+export function decodeNumber(text: EncodedString, alphabet?: Alphabet): number;
 
 /**
  * Like {@link decode}, but accepts only canonical strings, which are those that {@link encode} returns. Each number has
  * exactly one.
  *
- * @example decodeCanonical('LZ') === 1337n
+ * @example
+ * ```js
+ * import { decodeCanonical } from 'base62-proved';
+ *
+ * console.log(decodeCanonical('LZ')); // 1337n
+ * ```
  * @throws {Base62Error} as {@link decode}, and `NOT_CANONICAL` for a leading zero, as in `'0LZ'`
  */
-export function decodeCanonical(text: Text, alphabet?: Alphabet): bigint;
+export function decodeCanonical(text: EncodedString, alphabet?: Alphabet): bigint;
 
 /**
  * Like {@link decodeCanonical}, but returns a `number`, from 0 to 2**53 - 1.
  *
- * @example decodeNumberCanonical('LZ') === 1337
+ * @example
+ * ```js
+ * import { decodeNumberCanonical } from 'base62-proved';
+ *
+ * console.log(decodeNumberCanonical('LZ')); // 1337
+ * ```
  * @throws {Base62Error} as {@link decodeCanonical}, and `UNSAFE_INTEGER` if the number is above 2**53 - 1
  */
-export function decodeNumberCanonical(text: Text, alphabet?: Alphabet): number;
+export function decodeNumberCanonical(text: EncodedString, alphabet?: Alphabet): number;
 
 /**
  * Decodes a string to the UUID of its number, in lowercase with hyphens. Each number below 2**128 has one: the bits of
  * the version and the variant are not checked.
  *
- * @example decodeUuid('2aUyqjCzEIiEcYMKj7TZtw') === '550e8400-e29b-41d4-a716-446655440000'
+ * @example
+ * ```js
+ * import { decodeUuid } from 'base62-proved';
+ *
+ * console.log(decodeUuid('2aUyqjCzEIiEcYMKj7TZtw')); // 550e8400-e29b-41d4-a716-446655440000
+ * ```
  * @throws {Base62Error} as {@link decode}
  */
-export function decodeUuid(text: Text, alphabet?: Alphabet): string;
+export function decodeUuid(text: EncodedString, alphabet?: Alphabet): string;
 
 /**
  * Like {@link decodeUuid}, but accepts only canonical strings, which are those that {@link encodeUuid} returns.
  *
  * @throws {Base62Error} as {@link decodeCanonical}
  */
-export function decodeUuidCanonical(text: Text, alphabet?: Alphabet): string;
+export function decodeUuidCanonical(text: EncodedString, alphabet?: Alphabet): string;
 
 /**
  * Returns the least and the greatest number whose strings of `width` characters begin with `prefix`. Exactly the
  * numbers from the least to the greatest have such strings. Returns null if there are no such numbers.
  *
- * @example fixedRange(7, '00a') returns [531948096n, 546724431n]
+ * @example
+ * ```js
+ * import { fixedRange } from 'base62-proved';
+ *
+ * console.log(fixedRange(7, '00a')); // [ 531948096n, 546724431n ]
+ * ```
  * @param width an integer from 0 to 2**53 - 1
  * @param prefix may be empty, or longer than the width
  * @returns numbers from 0n to 2n ** 128n - 1n. The greatest may exceed a 64-bit column: see the README.
  * @throws {Base62Error} `INVALID_BYTE` for the prefix, `OUT_OF_RANGE` for the width
  */
-export function fixedRange(width: number, prefix: Text, alphabet?: Alphabet): [least: bigint, greatest: bigint] | null;
+export function fixedRange(
+  width: number,
+  prefix: EncodedString,
+  alphabet?: Alphabet,
+): [least: bigint, greatest: bigint] | null;
 
 /**
  * Like {@link fixedRange}, but for keys, which have 22 characters of the standard alphabet.
  *
  * @throws {Base62Error} `INVALID_BYTE`
  */
-export function keyRange(prefix: Text): [least: bigint, greatest: bigint] | null;
+export function keyRange(prefix: EncodedString): [least: bigint, greatest: bigint] | null;
 
 /**
  * Like {@link keyRange}, but returns the keys of both numbers, as bounds for `BETWEEN` in a database column that
  * compares byte by byte: `COLLATE "C"` in PostgreSQL, `BINARY` in SQLite.
  *
- * @example keyBounds('00000000000000000000L') returns ['00000000000000000000L0', '00000000000000000000Lz']
+ * @example
+ * ```js
+ * import { keyBounds } from 'base62-proved';
+ *
+ * console.log(keyBounds('00000000000000000000L')); // [ '00000000000000000000L0', '00000000000000000000Lz' ]
+ * ```
  * @throws {Base62Error} `INVALID_BYTE`
  */
-export function keyBounds(prefix: Text): [least: string, greatest: string] | null;
+export function keyBounds(prefix: EncodedString): [least: string, greatest: string] | null;
 
 /** An alphabet: 62 distinct ASCII characters in the order of their digit values, 0 to 61. */
 export class Alphabet {

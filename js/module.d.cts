@@ -6,8 +6,8 @@ import type * as base62 from './index.cjs';
 
 /**
  * Returns the functions of the package over a compiled module, for runtimes that do not compile WebAssembly. Each call
- * of `load` returns a copy, which has 128 kB of memory of its own, and more for long strings. An
- * {@link base62.Alphabet} works only with the copy that it belongs to.
+ * of `load` returns a copy, which has 128 kB of memory of its own. An {@link base62.Alphabet} works only with the copy
+ * that it belongs to.
  *
  * @param module the `WebAssembly.Module` of `base62-proved/base62.wasm`. Its type is not named, so that these types
  *   do not need TypeScript's `dom` library.

@@ -90,6 +90,6 @@ for (const browser of process.env.BROWSERS?.split(' ') ?? Object.keys(optionsOf)
   test(`${browser}: the page shows what is typed, and what is wrong`, async () => {
     const checks = await resultOf(browser, page);
     for (const [name, shown, wanted] of checks) assert.deepEqual(shown, wanted, name);
-    assert.equal(checks.length, 18);
+    assert.equal(checks.length, 19);
   });
 }

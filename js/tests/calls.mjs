@@ -75,14 +75,14 @@ function codesWithout(code) {
   return Array.from({ length: 63 }, (_, it) => it).filter((it) => it !== code).slice(0, 62);
 }
 
-// A call with the fault of a row. There is none here for a long text, a letter outside ASCII, or a prefix of no text.
+// A call with the fault of a row. There is none here for a long text, a letter outside ASCII, a prefix of no text, or a
+// narrow buffer.
 function callWith(base62, [kind, byte, index]) {
-  const { Alphabet, decode, decodeCanonical, encodeFixed } = base62;
+  const { Alphabet, decode, decodeCanonical } = base62;
   if (index > 10_000) return undefined;
   if (kind === 'empty') return () => decode('');
   if (kind === 'overflow') return () => decode('z'.repeat(22));
   if (kind === 'zero') return () => decodeCanonical('00');
-  if (kind === 'narrow') return () => encodeFixed(62, 1);
   const codes = codesWithout(Number(byte));
   if (kind === 'byte') {
     const alphabet = new Alphabet(String.fromCharCode(...codes));
@@ -113,9 +113,14 @@ const faults = {
   empty: 'EMPTY_INPUT',
   overflow: 'OVERFLOW',
   zero: 'NOT_CANONICAL',
-  narrow: 'BUFFER_TOO_SMALL',
   repeated: 'REPEATED_LETTER',
 };
+
+// What refuses takes of a bad byte, with the message.
+function invalid(byte, index) {
+  const escape = `\\x${byte.toString(16)}`;
+  return ['INVALID_BYTE', `Encoded input contains the invalid byte b'${escape}' at index ${index}`, byte, index];
+}
 
 function decodersOf({ decode, decodeCanonical, ...others }) {
   const { decodeNumber, decodeNumberCanonical, decodeUuid, decodeUuidCanonical } = others;
@@ -154,9 +159,10 @@ const tests = {
         same(base62.decodeNumber(text, alphabet), number);
         same(base62.decodeNumberCanonical(text, alphabet), number);
       } else {
+        const said = 'the number is above 2**53 - 1: use';
         refused(() => base62.encode(number, alphabet), 'OUT_OF_RANGE');
-        refused(() => base62.decodeNumber(text, alphabet), 'UNSAFE_INTEGER');
-        refused(() => base62.decodeNumberCanonical(text, alphabet), 'UNSAFE_INTEGER');
+        refused(() => base62.decodeNumber(text, alphabet), 'UNSAFE_INTEGER', `${said} decode`);
+        refused(() => base62.decodeNumberCanonical(text, alphabet), 'UNSAFE_INTEGER', `${said} decodeCanonical`);
       }
     }
   },
@@ -168,10 +174,12 @@ const tests = {
       same(base62.decode(text, alphabets[name]), BigInt(digits));
       if (name === 'standard' && width === '22') same(base62.encodeKey(BigInt(digits)), text);
     }
+    const message = 'the number needs more characters than the width';
     for (const [name, digits, width] of rowsOf('narrow')) {
-      refused(() => base62.encodeFixed(BigInt(digits), Number(width), alphabets[name]), 'BUFFER_TOO_SMALL');
+      const number = BigInt(digits);
+      refused(() => base62.encodeFixed(number, Number(width), alphabets[name]), 'BUFFER_TOO_SMALL', message);
     }
-    for (const width of [22, 98, 99, 100, 101, 65000, 66000, 1e6]) {
+    for (const width of [22, 23, 100, 1e6]) {
       same(base62.encodeFixed(1337, width), 'LZ'.padStart(width, '0'));
       same(base62.encodeFixed(1337, width, alphabet), 'Pd'.padStart(width, '2'));
     }
@@ -230,7 +238,7 @@ const tests = {
   },
 
   'invalid numbers are rejected'({ base62, refused }) {
-    // No memory has room for the second width.
+    // No string has the second width.
     const ofUuids = [base62.encodeKey, ...[22, 2 ** 40].map((width) => (it) => base62.encodeFixed(it, width))];
     const calls = [base62.encode, base62.digitCount, ...ofUuids];
     const rounded = [2 ** 53, 1.5, 5e-324, NaN, Infinity, -Infinity, -1];
@@ -274,7 +282,6 @@ const tests = {
           if (name === 'standard') refused(() => call(text), ...wantedOf(fault));
         }
       }
-      refused(() => call('0-'.padStart(40000, '0')), 'INVALID_BYTE', undefined, 45, 39999);
     }
     refused(() => decodeNumber('fFgnDxSe8'), 'UNSAFE_INTEGER');
     same(decodeNumber('fFgnDxSe7'), 2 ** 53 - 1);
@@ -330,7 +337,7 @@ const tests = {
 
   'the error names what was passed as an alphabet'({ base62, custom }) {
     const index = 'an alphabet is an Alphabet, not 0: give map a function such as (n) => encode(n)';
-    const letters = 'an alphabet is an Alphabet, not a string: make one by new Alphabet(..)';
+    const letters = 'an alphabet is an Alphabet, not a string: create one with new Alphabet(..)';
     const calls = [
       [() => [1, 2, 3].map(base62.encode), index],
       [() => ['LZ'].map(base62.decode), index],
@@ -372,7 +379,7 @@ const tests = {
     const lengths = ['', standard.slice(1), `${standard}-`];
     const others = ['\u00e9', 'z\u00e9', '\u{1f600}'].map((it) => standard.slice(0, -2) + it);
     for (const wrong of [...lengths, ...others]) {
-      refused(() => new Alphabet(wrong), 'INVALID_ALPHABET');
+      refused(() => new Alphabet(wrong), 'INVALID_ALPHABET', 'an alphabet has 62 ASCII characters');
     }
     same(base62.encode(1337, alphabets.readable), 'Pd');
     same(base62.encode(1337), 'LZ');
@@ -399,19 +406,52 @@ const tests = {
     refusesType(() => base62.keyRange(sent));
   },
 
-  'texts of each length are read'({ base62, alphabet, refused }) {
-    // The memory of the library has room for some, and has to grow for others.
-    for (let length = 61000; length < 66000; length++) {
-      const zeros = new Uint8Array(length).fill(48);
-      zeros.set([76, 90], length - 2);
-      same(base62.decode(zeros), 1337n);
-      if (length % 16 === 0) same(base62.decode('Pd'.padStart(length, '2'), alphabet), 1337n);
+  'texts of each length are read'({ base62, refused, alphabets, letters }) {
+    const { decode, decodeCanonical, fixedRange } = base62;
+    // Long texts are read in pieces, whose ends are at some of these lengths.
+    for (const count of [...Array(300).keys(), 70_000]) {
+      for (const name of ['standard', 'readable']) {
+        const [zero, one] = letters[name];
+        const zeros = zero.repeat(count);
+        for (const form of [String, bytesOf]) {
+          const call = (decoder, text) => decoder(form(text), alphabets[name]);
+          same(call(decode, `${zeros}${one}${zero}`), 62n);
+          same(call(decode, zeros + zero), 0n);
+          same(call(decode, `${zeros}${one}${zero.repeat(21)}`), 62n ** 21n);
+          refused(() => call(decode, `${zeros}${one}${zero.repeat(22)}`), 'OVERFLOW');
+          refused(() => call(decode, `${zeros}${one}\x7f`), ...invalid(127, count + 1));
+          if (count > 0) refused(() => call(decodeCanonical, zeros + zero), 'NOT_CANONICAL');
+          if (count > 0) refused(() => call(decodeCanonical, zeros + one), 'NOT_CANONICAL');
+        }
+      }
     }
-    for (let length = 20000; length < 22500; length++) same(base62.decode('LZ'.padStart(length, '0')), 1337n);
-    const long = '\u20ac'.padStart(50000, '0');
-    refused(() => base62.decode(long), 'INVALID_BYTE', undefined, 0xe2, 49999);
-    refused(() => base62.decode('\u20ac'.repeat(25000)), 'OVERFLOW');
-    refused(() => base62.keyRange('\u20ac'.repeat(25000)), 'INVALID_BYTE', undefined, 0xe2, 0);
+    refused(() => decode('\u20ac'.repeat(25000)), 'OVERFLOW');
+  },
+
+  'prefixes of each length are read'({ base62, refused, alphabets, letters }) {
+    const greatest = 2n ** 128n - 1n;
+    for (const count of [...Array(300).keys(), 70_000]) {
+      for (const name of ['standard', 'readable']) {
+        const [zero, one] = letters[name];
+        const zeros = zero.repeat(count);
+        for (const form of [String, bytesOf]) {
+          const range = (width, prefix) => base62.fixedRange(width, form(prefix), alphabets[name]);
+          sameRange(range(count + 2, zeros + one), [62n, 123n]);
+          sameRange(range(count + 1, zeros + one), [1n, 1n]);
+          same(range(count, zeros + one), null);
+          sameRange(range(count + 1, zeros), [0n, 61n]);
+          same(range(Number.MAX_SAFE_INTEGER, zeros + one), null);
+          sameRange(range(Number.MAX_SAFE_INTEGER, zeros), [0n, greatest]);
+          refused(() => range(count + 2, `${zeros}\x7f`), ...invalid(127, count));
+          refused(() => range(1, `${one.repeat(count)}\x7f`), ...invalid(127, count));
+          if (count > 22) same(range(count, one.repeat(count)), null);
+        }
+        for (const [character, byte] of [['\u20ac', 0xe2], ['\u{1f600}', 0xf0], ['\ud83d', 0xed]]) {
+          const prefix = one.repeat(count) + character;
+          refused(() => base62.fixedRange(count, prefix + one, alphabets[name]), ...invalid(byte, count));
+        }
+      }
+    }
   },
 
   'a million numbers give the texts of a plain loop'({ base62, standard }) {

@@ -1,4 +1,4 @@
-// Tests the package in Debian's jsdom, which has no TextDecoder, as in most tests of front ends.
+// Tests the package in Debian's jsdom, as in most tests of front ends.
 import assert from 'node:assert/strict';
 import { existsSync, readFileSync } from 'node:fs';
 import { createRequire } from 'node:module';
@@ -8,7 +8,6 @@ const JSDOM = '/usr/share/nodejs/jsdom';
 
 test('the calls work in jsdom', { skip: !existsSync(JSDOM) && 'install node-jsdom' }, () => {
   const { window } = new (createRequire(import.meta.url)(JSDOM).JSDOM)('', { runScripts: 'outside-only' });
-  assert.equal(window.TextDecoder, undefined);
   const script = readFileSync(new URL('../index.cjs', import.meta.url), 'utf8');
   const { decode, encode, encodeFixed } = window.eval(`((module) => {${script}; return module.exports})({})`);
   assert.equal(encode(1337), 'LZ');

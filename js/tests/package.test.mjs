@@ -33,14 +33,35 @@ test('each form has the same calls', () => {
   }
 });
 
-test('the examples of the types are true', () => {
+test('the examples of the types are programs that print what they say', () => {
   const types = read('index.d.cts');
-  const examples = [...types.matchAll(/@example (.+?) (?:===|returns) (.+)/g)];
+  const examples = [...types.matchAll(/^ \* @example\n \* ```js\n(.+?)^ \* ```$/gms)];
   assert.equal(examples.length, types.split('@example').length - 1);
-  for (const [, call, result] of examples) {
-    const [actual, wanted] = Function(...Object.keys(module), `return [${call}, ${result}]`)(...Object.values(module));
-    assert.deepEqual(actual, wanted, call);
+  for (const [, lines] of examples) {
+    const program = lines.replace(/^ \* ?/gm, '');
+    const options = { cwd: fileURLToPath(new URL('..', import.meta.url)), encoding: 'utf8' };
+    const printed = execFileSync(process.execPath, ['--input-type=module', '--eval', program], options);
+    assert.deepEqual(printed.trim().split('\n'), Array.from(program.matchAll(/\/\/ (.+)/g), ([, it]) => it));
   }
+});
+
+test('each subpath can be imported and required', async () => {
+  const require = createRequire(import.meta.url);
+  const { exports } = JSON.parse(read('package.json'));
+  assert.deepEqual(Object.keys(exports), ['.', './module', './base62.wasm', './package.json']);
+  for (const [subpath, entry] of Object.entries(exports)) {
+    const name = subpath.replace('.', 'base62-proved');
+    const file = new URL(`../${entry.require?.default ?? entry}`, import.meta.url);
+    assert.equal(require.resolve(name), fileURLToPath(file));
+    if (!entry.import) continue;
+    assert.equal(await import(name), await import(`../${entry.import.default}`));
+    for (const { types } of [entry.import, entry.require]) assert.ok(read(types));
+  }
+});
+
+test('package.json and README name the same version of Node', () => {
+  const [, oldest] = /^>=(\d+)$/.exec(JSON.parse(read('package.json')).engines.node);
+  assert.match(read('README.md'), new RegExp(`for Node ${oldest} and later`));
 });
 
 test('the WebAssembly is small, and imports nothing', () => {

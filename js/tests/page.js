@@ -31,6 +31,7 @@ for (const name of names) {
   checks.push([name, Object.fromEntries(names.map((it) => [it, valueOf(it)])), known]);
 }
 for (const [id, text, mark, message] of [
+  ['standard', '-LZ', '-', "Encoded input contains the invalid byte b'-' at index 0"],
   ['standard', '00LZ-x', '-', "Encoded input contains the invalid byte b'-' at index 4"],
   ['standard', 'LZ\u{1f600}', '\u{1f600}', "Encoded input contains the invalid byte b'\\xf0' at index 2"],
   ['alternative', '7N42dgm5tFLK9N8MT7fHC8', undefined, 'Decoded number cannot fit into a `u128`'],

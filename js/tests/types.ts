@@ -1,10 +1,10 @@
 // Compiles only if the types of the package are exactly these, and each line below @ts-expect-error is rejected.
 import * as base62 from 'base62-proved';
-import { Alphabet, Base62Error, type Integer, type Text, type Uuid } from 'base62-proved';
+import { Alphabet, Base62Error, type EncodedString, type Integer, type Text, type Uuid } from 'base62-proved';
 
 type Same<A, B> = (<T>() => T extends A ? 1 : 2) extends <T>() => T extends B ? 1 : 2 ? true : false;
 type AllOf<T extends true[]> = T;
-type Decodes<T> = (text: Text, alphabet?: Alphabet) => T;
+type Decodes<T> = (text: EncodedString, alphabet?: Alphabet) => T;
 type Code =
   | 'BUFFER_TOO_SMALL'
   | 'EMPTY_INPUT'
@@ -20,7 +20,8 @@ type Code =
 export type Checks = AllOf<
   [
     Same<Integer, number | bigint | boolean>,
-    Same<Text, string | Uint8Array>,
+    Same<EncodedString, string | Uint8Array>,
+    Same<Text, EncodedString>,
     Same<Uuid, string | Uint8Array>,
     Same<typeof base62.encode, (number: Integer, alphabet?: Alphabet) => string>,
     Same<typeof base62.encodeFixed, (value: Integer | Uuid, width: number, alphabet?: Alphabet) => string>,
@@ -33,9 +34,9 @@ export type Checks = AllOf<
     Same<typeof base62.decodeNumberCanonical, Decodes<number>>,
     Same<typeof base62.decodeUuid, Decodes<string>>,
     Same<typeof base62.decodeUuidCanonical, Decodes<string>>,
-    Same<typeof base62.fixedRange, (width: number, prefix: Text, alphabet?: Alphabet) => [bigint, bigint] | null>,
-    Same<typeof base62.keyRange, (prefix: Text) => [bigint, bigint] | null>,
-    Same<typeof base62.keyBounds, (prefix: Text) => [string, string] | null>,
+    Same<typeof base62.fixedRange, (width: number, prefix: EncodedString, alphabet?: Alphabet) => [bigint, bigint] | null>,
+    Same<typeof base62.keyRange, (prefix: EncodedString) => [bigint, bigint] | null>,
+    Same<typeof base62.keyBounds, (prefix: EncodedString) => [string, string] | null>,
     Same<ConstructorParameters<typeof Alphabet>, [string]>,
     Same<Pick<Alphabet, keyof Alphabet>, { readonly letters: string }>,
     Same<

@@ -133,3 +133,10 @@ test('a stack overflow is an error, and overwrites no tables', () => {
   assert.throws(encode, WebAssembly.RuntimeError);
   stack.value = top;
 });
+
+test('its own data end below what module.js writes', () => {
+  // NUMBER of module.js, with room above for the arguments and results of a call.
+  assert.ok(library.__heap_base.value <= 0x18000);
+  const { exports } = new WebAssembly.Instance(new WebAssembly.Module(code));
+  assert.ok(exports.memory.buffer.byteLength >= 0x18000 + 1024);
+});

@@ -41,7 +41,7 @@ static inline bool fail_with(call_error *error, error_kind kind, const char *mes
 
 static inline bool fail_with_status(call_error *error, base62_status status, base62_bad_byte bad) {
     error->kind = INVALID_TEXT;
-    if (status == BASE62_OVERFLOW || status == BASE62_BUFFER_TOO_SMALL)
+    if (status == BASE62_OVERFLOW)
         error->kind = OUT_OF_RANGE;
     if (status == BASE62_REPEATED_LETTER)
         error->kind = INVALID_PARAMETER;
@@ -61,14 +61,14 @@ static inline bool create_alphabet(const char *letters, size_t length, base62_al
         ascii = 0 < letter && letter < 128;
     }
     if (!ascii)
-        return fail_with(error, INVALID_PARAMETER, "an alphabet is 62 letters of ASCII");
+        return fail_with(error, INVALID_PARAMETER, "an alphabet has 62 ASCII characters");
     status = base62_make_alphabet(letters, alphabet, &bad);
     return status == BASE62_OK || fail_with_status(error, status, bad);
 }
 
 static inline bool number_of_int64(int64_t value, base62_number *number, call_error *error) {
     *number = base62_from_u64((uint64_t)value);
-    return value >= 0 || fail_with(error, OUT_OF_RANGE, "a negative number has no base62 text");
+    return value >= 0 || fail_with(error, OUT_OF_RANGE, "a negative number has no base62 string");
 }
 
 /* Returns whether the number is below 2^63, and if so writes it. */
@@ -96,10 +96,9 @@ static inline size_t encode_shortest(const base62_alphabet *alphabet, base62_num
 /* The buffer has width bytes. */
 static inline bool encode_width(const base62_alphabet *alphabet, base62_number number, char *buffer, size_t width,
                                 call_error *error) {
-    base62_bad_byte none = {0, 0};
     size_t length = alphabet == NULL ? base62_encode_fixed(number, buffer, width)
                                      : base62_encode_fixed_with(alphabet, number, buffer, width);
-    return length != 0 || fail_with_status(error, BASE62_BUFFER_TOO_SMALL, none);
+    return length != 0 || fail_with(error, OUT_OF_RANGE, "the number needs more characters than the width");
 }
 
 static inline bool decode_text(const base62_alphabet *alphabet, const char *text, size_t length, bool canonical,

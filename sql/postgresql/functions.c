@@ -130,7 +130,7 @@ static const base62_alphabet *get_alphabet(FunctionCallInfo fcinfo, int argument
             cached = function->fn_extra = MemoryContextAlloc(function->fn_mcxt, sizeof *cached);
         memcpy(cached->letters, letters, sizeof cached->letters);
         cached->alphabet = alphabet;
-        elog(DEBUG1, "base62 made an alphabet");
+        elog(DEBUG1, "base62 created an alphabet");
     }
     return &cached->alphabet;
 }
@@ -186,10 +186,12 @@ static base62_number decode_or_raise(FunctionCallInfo fcinfo, bool canonical) {
 }
 
 static Datum decode_int8(FunctionCallInfo fcinfo, bool canonical) {
+    const char *suffix = canonical ? "_canonical" : "";
     int64_t value;
     if (!int64_of_number(decode_or_raise(fcinfo, canonical), &value))
         ereport(ERROR, (errcode(ERRCODE_NUMERIC_VALUE_OUT_OF_RANGE), errmsg("bigint out of range"),
-                        errhint("base62_decode_uuid and base62_decode_numeric take numbers up to 2^128 - 1.")));
+                        errhint("base62_decode_uuid%s and base62_decode_numeric%s take numbers up to 2^128 - 1.",
+                                suffix, suffix)));
     PG_RETURN_INT64(value);
 }
 

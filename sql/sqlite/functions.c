@@ -127,6 +127,10 @@ static void encode(sqlite3_context *context, int argc, sqlite3_value **argv) {
     sqlite3_result_text(context, text, (int)length, SQLITE_TRANSIENT);
 }
 
+static int is_for_canonical(sqlite3_context *context) {
+    return sqlite3_user_data(context) == &canonical_tag;
+}
+
 /* Returns 0 if the result is null or an error. */
 static int decode_or_set_error(sqlite3_context *context, int argc, sqlite3_value **argv, base62_number *number) {
     const char *text;
@@ -137,7 +141,7 @@ static int decode_or_set_error(sqlite3_context *context, int argc, sqlite3_value
     if (any_null(argc, argv) || !read_text(context, argv[0], &text, &length) ||
         !read_alphabet(context, 1, argc, argv, &copy, &alphabet))
         return 0;
-    return decode_text(alphabet, text, length, sqlite3_user_data(context) == &canonical_tag, number, &error) ||
+    return decode_text(alphabet, text, length, is_for_canonical(context), number, &error) ||
            set_call_error(context, &error);
 }
 
@@ -149,7 +153,9 @@ static void decode(sqlite3_context *context, int argc, sqlite3_value **argv) {
     if (int64_of_number(number, &value))
         sqlite3_result_int64(context, value);
     else
-        set_error(context, "base62: the number is 2^63 or more, which base62_decode_blob takes");
+        set_error(context, is_for_canonical(context)
+                               ? "base62: the number is 2^63 or more, which base62_decode_blob_canonical takes"
+                               : "base62: the number is 2^63 or more, which base62_decode_blob takes");
 }
 
 static void decode_blob(sqlite3_context *context, int argc, sqlite3_value **argv) {

@@ -3,7 +3,7 @@
 
 /* Makes each allocation of SQLite fail in turn, in each of the queries below and while the module that is named is
  * loaded. A query has to return the result beside it or to be out of memory, takes little memory, and leaks none. The
- * last query allocates less memory than an alphabet for each of its rows would take. */
+ * last queries allocate less memory than an alphabet for each of their rows would take. */
 #include <sqlite3.h>
 #include <stdio.h>
 #include <stdlib.h>
@@ -43,6 +43,7 @@ static void check(int holds, const char *condition) {
 #define CHECK(condition) check(condition, #condition)
 
 #define CUSTOM "'zyxwvutsrqponmlkjihgfedcbaZYXWVUTSRQPONMLKJIHGFEDCBA9876543210'"
+#define ALTERNATIVE "'0123456789abcdefghijklmnopqrstuvwxyzABCDEFGHIJKLMNOPQRSTUVWXYZ'"
 
 /* More bytes than a query below takes at once. */
 #define LITTLE 10000
@@ -71,6 +72,7 @@ static const struct {
     {"SELECT base62_is_text('-', own) FROM stored", "0"},
     {"SELECT base62_is_integer(t) FROM stored", "1"},
     {"SELECT base62_encode(n, " CUSTOM ") || base62_encode(61, " CUSTOM ") FROM stored", "eQ0"},
+    {"SELECT group_concat(base62_encode_fixed(n, 3, own)) FROM stored", "zeQ,0lz"},
     {"SELECT base62_key_first(t, 3) FROM stored", "LZ0"},
     {"SELECT base62_key_last(t, 3) FROM stored", "LZz"},
     {"SELECT base62_range_first(t, 3) FROM stored", "82894"},
@@ -128,14 +130,11 @@ static int fail_loading(const char *module, long before) {
     return failed;
 }
 
-/* A constant alphabet is created once for all rows. */
-static void check_rows(sqlite3 *db) {
+/* In such a query of 10000 rows a constant alphabet is created once. */
+static void check_rows(sqlite3 *db, const char *query) {
     sqlite3_stmt *statement;
-    current = "SELECT count(base62_is_text(n, " CUSTOM ")) FROM many";
-    CHECK(sqlite3_exec(db, "CREATE TABLE many AS WITH RECURSIVE rows (n) AS"
-                           "(SELECT 1 UNION ALL SELECT n + 1 FROM rows LIMIT 10000) SELECT n FROM rows",
-                       NULL, NULL, NULL) == SQLITE_OK);
-    CHECK(sqlite3_prepare_v2(db, current, -1, &statement, NULL) == SQLITE_OK);
+    current = query;
+    CHECK(sqlite3_prepare_v2(db, query, -1, &statement, NULL) == SQLITE_OK);
     allocations = 0;
     CHECK(sqlite3_step(statement) == SQLITE_ROW && sqlite3_column_int(statement, 0) == 10000);
     CHECK(allocations < 100);
@@ -157,11 +156,16 @@ int main(int argc, char **argv) {
     db = open_database();
     CHECK(sqlite3_load_extension(db, argv[1], NULL, NULL) == SQLITE_OK);
     CHECK(sqlite3_exec(db, "PRAGMA encoding = 'UTF-16'; CREATE TABLE stored (n, t, own);"
-                           "INSERT INTO stored VALUES (1337, 'LZ', " CUSTOM ")", NULL, NULL, NULL) == SQLITE_OK);
+                           "INSERT INTO stored VALUES (1337, 'LZ', " CUSTOM "), (1337, 'LZ', " ALTERNATIVE ")",
+                       NULL, NULL, NULL) == SQLITE_OK);
     for (size_t i = 0; i < sizeof queries / sizeof *queries; i++)
         for (long before = 0; fail_query(db, queries[i].query, queries[i].result, before); before++)
             failures++;
-    check_rows(db);
+    CHECK(sqlite3_exec(db, "CREATE TABLE many AS WITH RECURSIVE rows (n) AS"
+                           "(SELECT 1 UNION ALL SELECT n + 1 FROM rows LIMIT 10000) SELECT n FROM rows",
+                       NULL, NULL, NULL) == SQLITE_OK);
+    check_rows(db, "SELECT count(base62_is_text(n, " CUSTOM ")) FROM many");
+    check_rows(db, "SELECT count(base62_range_first('A', 5 + n % 2, " CUSTOM ")) FROM many");
     CHECK(sqlite3_close(db) == SQLITE_OK);
     CHECK(sqlite3_shutdown() == SQLITE_OK && sqlite3_memory_used() == 0);
     printf("%ld failures\n", failures);

@@ -20,13 +20,15 @@ if not hasattr(sqlite3.Connection, "enable_load_extension"):
     sys.exit(f"{sys.executable} can't load extensions of SQLite. Set PYTHON to one that can, such as Debian's.")
 
 MODULE = os.environ["BASE62_SQLITE"]
-LETTERS = "base62: an alphabet is 62 letters of ASCII"
-NEGATIVE = "base62: a negative number has no base62 text"
+LETTERS = "base62: an alphabet has 62 ASCII characters"
+NEGATIVE = "base62: a negative number has no base62 string"
 NUMBER = "base62: a number is an integer or a blob of 16 bytes"
 TEXT = "base62: the argument is no text"
 WIDTH = "base62: a width is an integer from 1 to 1000"
+NARROW = "base62: the number needs more characters than the width"
 TOO_BIG = "string or blob too big"
 LARGE = "base62: the number is 2^63 or more, which base62_decode_blob takes"
+LARGE_CANONICAL = LARGE.replace("base62_decode_blob", "base62_decode_blob_canonical")
 BIGINT = 2**63 - 1
 KEY = 22
 WIDEST = 1000
@@ -87,9 +89,9 @@ class Values(Case):
             self.assertEqual(self.over(alphabet, "base62_is_text(?, ?)", encoded), 1)
             self.assertEqual(self.over(alphabet, "base62_is_canonical(?, ?)", encoded), 1)
             self.assertEqual(self.over(alphabet, "base62_is_integer(?, ?)", encoded), number <= BIGINT)
-            wanted = number if number <= BIGINT else LARGE
-            self.assertEqual(self.over(alphabet, "base62_decode(?, ?)", encoded), wanted)
-            self.assertEqual(self.over(alphabet, "base62_decode_canonical(?, ?)", encoded), wanted)
+            for name, error in (("decode", LARGE), ("decode_canonical", LARGE_CANONICAL)):
+                wanted = number if number <= BIGINT else error
+                self.assertEqual(self.over(alphabet, f"base62_{name}(?, ?)", encoded), wanted)
             if number <= BIGINT:
                 self.assertEqual(self.over(alphabet, "base62_encode(?, ?)", number), encoded)
 
@@ -125,7 +127,7 @@ class Values(Case):
             self.assertEqual(self.over(alphabet, "base62_decode_blob(?, ?)", encoded), blob(number))
         for alphabet, digits, width in (row for row in rows("narrow") if row[0] in ALPHABETS):
             call = "base62_encode_fixed(?, ?, ?)"
-            wanted = WIDTH if width == "0" else message(["narrow"])
+            wanted = WIDTH if width == "0" else NARROW
             self.assertEqual(self.over(alphabet, call, blob(int(digits)), int(width)), wanted)
 
     def test_prefixes(self) -> None:
@@ -250,8 +252,15 @@ class Arguments(Case):
         self.db.execute("CREATE TABLE chosen (id INTEGER PRIMARY KEY, letters TEXT)")
         chosen = OWN, ALTERNATIVE, OWN, STANDARD
         self.db.executemany("INSERT INTO chosen (letters) VALUES (?)", [(letters,) for letters in chosen])
-        query = "SELECT base62_encode(1337, letters), base62_encode(id, ?) FROM chosen ORDER BY id"
-        wanted = [(text(1337, letters), text(number, OWN)) for number, letters in enumerate(chosen, 1)]
+        # SQLite caches by the argument, and here the second is constant.
+        query = (
+            "SELECT base62_encode(1337, letters), base62_encode(id, ?), base62_encode_fixed(1337, 2, letters),"
+            " base62_range_first('1', 1, letters) FROM chosen ORDER BY id"
+        )
+        wanted = [
+            (text(1337, letters), text(number, OWN), text(1337, letters), letters.index("1"))
+            for number, letters in enumerate(chosen, 1)
+        ]
         self.assertEqual(self.db.execute(query, (OWN,)).fetchall(), wanted)
         errors = {REPEATED: "base62: Alphabet repeats the byte b'0' at index 1", OWN[1:]: LETTERS}
         for letters in (*chosen, REPEATED, *chosen, OWN[1:], OWN):

@@ -24,7 +24,7 @@ BEGIN
         RETURN NEXT;
     END LOOP;
 END $$;
-SELECT * FROM updated('1.0', '1.1', '1.2', '1.3', '1.4');
+SELECT * FROM updated('1.0', '1.1', '1.2', '1.3', '1.4', '1.5');
 ALTER EXTENSION base62 UPDATE;
 SELECT extversion FROM pg_extension WHERE extname = 'base62';
 INSERT INTO item VALUES ('00000000-0000-0000-0000-00000000053a');

@@ -43,7 +43,7 @@ END $$;
 CREATE TABLE message AS SELECT f[3] kind, f[4] byte, max(regexp_replace(text_of(f[2]), '\d+$', '')) message
     FROM line WHERE f[1] = 'message' GROUP BY 1, 2;
 CREATE FUNCTION error(VARIADIC given text[]) RETURNS text LANGUAGE sql AS $$
-    SELECT CASE WHEN kind IN ('overflow', 'narrow') THEN '22003' WHEN kind = 'repeated' THEN '22023' ELSE '22P02' END
+    SELECT CASE WHEN kind = 'overflow' THEN '22003' WHEN kind = 'repeated' THEN '22023' ELSE '22P02' END
         || ' ' || message || coalesce(given[3], '')
     FROM message WHERE kind = given[1] AND byte IS NOT DISTINCT FROM given[2]
 $$;
@@ -124,9 +124,9 @@ SELECT * FROM fixed WHERE name = 'standard' AND w = 22
     AND (base62_encode_key_uuid(u) IS DISTINCT FROM t OR n IS NOT NULL AND base62_encode_key(n) IS DISTINCT FROM t);
 SELECT f FROM line JOIN alphabet ON name = f[2] WHERE f[1] = 'narrow' AND f[4] <> '0'
     AND result('base62_encode_fixed_uuid(%L, %s, %L)', uuid_of(f[3]::numeric)::text, f[4], letters)
-    IS DISTINCT FROM error('narrow');
+    IS DISTINCT FROM '22003 the number needs more characters than the width';
 SELECT f FROM line WHERE f[1] = 'narrow' AND f[4] <> '0' AND f[2] = 'standard' AND bigint_of(f[3]::numeric) IS NOT NULL
-    AND result('base62_encode_fixed(%s, %s)', f[3], f[4]) IS DISTINCT FROM error('narrow');
+    AND result('base62_encode_fixed(%s, %s)', f[3], f[4]) IS DISTINCT FROM '22003 the number needs more characters than the width';
 
 \echo The texts of the least and the greatest number of a prefix, and whether there are enough
 CREATE TABLE prefix AS

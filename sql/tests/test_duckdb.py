@@ -18,9 +18,10 @@ from values import ALPHABETS, ALTERNATIVE, HERE, OWN, REPEATED, STANDARD, messag
 
 SHELL = [os.environ.get("DUCKDB", "duckdb"), "-init", os.devnull, "-unsigned", "-json"]
 LOAD = f"LOAD '{os.environ['BASE62_DUCKDB']}';\n"
-ALPHABET = "base62: an alphabet is 62 letters of ASCII"
-NEGATIVE = "base62: a negative number has no base62 text"
+ALPHABET = "base62: an alphabet has 62 ASCII characters"
+NEGATIVE = "base62: a negative number has no base62 string"
 WIDTH = "base62: a width is an integer from 1 to 1000"
+NARROW = "base62: the number needs more characters than the width"
 WIDEST = 1000
 
 
@@ -117,7 +118,7 @@ class Values(Case):
         keys = [f"width <> 22 OR letters <> '{STANDARD}' OR base62_encode_key({it}) = s" for it in ("n::UHUGEINT", "u")]
         self.check_rows("letters, n, u, width, s", fixed, calls + keys)
         self.check_errors({f"base62_encode_fixed({n}, {width}, {literal(letters)})":
-                           WIDTH if width == "0" else message(["narrow"]) for letters, n, width in of_ascii("narrow")})
+                           WIDTH if width == "0" else NARROW for letters, n, width in of_ascii("narrow")})
 
     def test_ranges(self) -> None:
         table: list[tuple[Any, ...]] = []

@@ -1,7 +1,7 @@
 /* SPDX-License-Identifier: MIT */
 /* Copyright (c) 2026 the maintainers of base62 for Rattle */
 
-/* Hand-written. What the modules of both databases share: functions over the standard or a custom alphabet, and their
+/* Hand-written. What the modules of all databases share: functions over the standard or a custom alphabet, and their
  * errors. Every function is static, so that a program that links a module gets no further names from it.
  *
  * A function that returns bool writes its result and returns true, or stores why it fails in *error and returns false.

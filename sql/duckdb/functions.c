@@ -272,7 +272,7 @@ static inline bool version(struct chunk *chunk) {
 
 #define OVER_ROWS(function)                                                                                            \
     static void function##_rows(duckdb_function_info info, duckdb_data_chunk input, duckdb_vector output) {            \
-        struct chunk chunk;                                                                                                 \
+        struct chunk chunk;                                                                                            \
         begin(&chunk, info, input, output);                                                                            \
         for (; skip_nulls(&chunk); chunk.row++)                                                                        \
             if (!function(&chunk))                                                                                     \

@@ -14,7 +14,7 @@ from pathlib import Path
 from typing import Any
 from urllib.parse import unquote_to_bytes
 
-from values import ALPHABETS, ALTERNATIVE, HERE, OWN, REPEATED, STANDARD, message, rows, text
+from values import ALPHABETS, ALTERNATIVE, HERE, OWN, REPEATED, STANDARD, TEXTS, message, rows, text
 
 if not hasattr(sqlite3.Connection, "enable_load_extension"):
     sys.exit(f"{sys.executable} can't load extensions of SQLite. Set PYTHON to one that can, such as Debian's.")

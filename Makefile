@@ -31,7 +31,7 @@ generate-texts: # all but those of js/
 check-generated: ## fail if a generated file is out of date; check-js compares those of js/
 	scripts/check-generated
 
-version: ## set the version everywhere: make version V=3.3.0
+version: ## set the version everywhere: make version V=X.Y.Z
 	scripts/version.py '$(V)'
 	$(MAKE) --no-print-directory generate
 

@@ -129,13 +129,12 @@ copy_files() {
     done | xargs -0 cp -d --parents -t "$1"
 }
 
-# FOLDER. Makes there a repository of the files as they are, which has the version as a tag.
+# FOLDER. Makes there a repository of the files as they are.
 make_repository() {
     git init --quiet "$1"
     copy_files "$1"
     git -C "$1" add .
     git -C "$1" -c user.name=base62 -c user.email=base62@localhost commit --quiet -m base62
-    git -C "$1" tag "$version"
 }
 
 # Fails if cargo has warned as it ran quietly, and is strict.

@@ -1,5 +1,5 @@
 #!/usr/bin/env python3
-"""Sets the version everywhere: scripts/version.py 3.3.0. Without an argument it compares each place with VERSION."""
+"""Sets the version everywhere: scripts/version.py X.Y.Z. Without an argument it compares each place with VERSION."""
 
 import re
 import sys
@@ -25,7 +25,7 @@ def places(version: str) -> list[tuple[str, str, str]]:
 
 given = sys.argv[1:] or [(TOP / "VERSION").read_bytes().decode().removesuffix("\n")]
 if len(given) > 1 or not re.fullmatch(VERSION, given[0]):
-    raise SystemExit(f"{' '.join(given)!r} is no version such as 3.3.0")
+    raise SystemExit(f"{' '.join(given)!r} is no version X.Y.Z of numbers")
 texts = {name: (TOP / name).read_bytes().decode() for name, _, _ in places(given[0])}
 for name, pattern, wanted in places(given[0]):
     found = list(re.finditer(pattern, texts[name]))

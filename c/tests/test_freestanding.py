@@ -1,6 +1,7 @@
-"""Tests of base62.c without a C library: which external functions it calls, and how much stack it takes. CC is the
-compiler, by default gcc."""
+"""Tests of base62.c without a C library, as README.md says: which external functions it calls, and how much stack it
+takes. CC is the compiler, by default gcc."""
 
+import itertools
 import os
 import pathlib
 import re
@@ -12,15 +13,15 @@ import unittest
 FOLDER = pathlib.Path(__file__).resolve().parents[1]
 COMPILER = shlex.split(os.environ.get("CC") or "gcc")
 IS_GCC = "Free Software Foundation" in subprocess.run([*COMPILER, "--version"], capture_output=True, text=True).stdout
-# As README.md says. GCC also writes which function calls which, and how much stack each takes.
-FREESTANDING = ["-std=c99", "-O2", "-ffreestanding", *(["-fcallgraph-info=su"] if IS_GCC else [])]
+IS_X86_64 = os.uname().machine == "x86_64"
 
 
 def compiled(*options):
-    """The names of base62.c's object, each with its kind, and what GCC writes beside it."""
+    """The names of base62.c's object, each with its kind, and what GCC writes of the calls and stack of functions."""
     with tempfile.TemporaryDirectory() as folder:
         file = pathlib.Path(folder, "base62.o")
-        subprocess.run([*COMPILER, *FREESTANDING, *options, "-c", "-o", file, FOLDER / "base62.c"], check=True)
+        options = ["-std=c99", *(["-fcallgraph-info=su"] if IS_GCC else []), *options]
+        subprocess.run([*COMPILER, *options, "-c", "-o", file, FOLDER / "base62.c"], check=True)
         listed = subprocess.run(["nm", file], capture_output=True, text=True, check=True).stdout
         graph = file.with_suffix(".ci").read_text() if IS_GCC else ""
         return {name: kind for kind, name in re.findall(r"(?m) ([A-Za-z]) (\w+)$", listed)}, graph
@@ -28,8 +29,7 @@ def compiled(*options):
 
 def stack(graph):
     """The most bytes of stack that each exported function takes, with all that it calls."""
-    sizes = {"memcpy": 0}  # It is defined elsewhere.
-    sizes |= {name: int(size) for name, size in re.findall(r'node: \{ title: "(.*?)" .*?\\n(\d+) bytes \(', graph)}
+    sizes = {name: int(size) for name, size in re.findall(r'node: \{ title: "(.*?)" .*?\\n(\d+) bytes \(', graph)}
     calls = re.findall(r'edge: \{ sourcename: "(.*?)" targetname: "(.*?)"', graph)
 
     def deepest(name):
@@ -40,19 +40,24 @@ def stack(graph):
 
 
 class Freestanding(unittest.TestCase):
-    def test_as_readme_says(self):
+    @unittest.skipUnless(IS_X86_64, "README speaks of x86-64")
+    def test_external_functions(self):
+        for level, library in itertools.product(range(4), ([], ["-ffreestanding"])):
+            with self.subTest(level=level, library=library):
+                names, _ = compiled(f"-O{level}", *library)
+                self.assertEqual(names["base62_encode"], "T")
+                may_call = {"memcpy", "memset"} if not library or level == 0 and not IS_GCC else set()
+                self.assertLessEqual({name for name, kind in names.items() if kind == "U"}, may_call)
+
+    @unittest.skipUnless(IS_X86_64 and IS_GCC, "README speaks of GCC on x86-64")
+    def test_stack(self):
         readme = (FOLDER / "README.md").read_text()
         most, others = (float(it) * 1000 for it in re.findall(r"at most (\d\.\d) kB of stack", readme))
-        for options in [], ["-DBASE62_NO_INT128"]:
-            names, graph = compiled(*options)
-            self.assertEqual(names["base62_encode"], "T")
-            undefined = {name for name, kind in names.items() if kind == "U"}
-            self.assertLessEqual(undefined, {"memcpy"})
-            if IS_GCC and os.uname().machine == "x86_64":
-                taken = stack(graph)
-                self.assertGreater(len(taken), 20)
-                self.assertLessEqual(taken.pop("base62_make_alphabet"), most)
-                self.assertLessEqual(max(taken.values()), others)
+        for way in [], ["-DBASE62_NO_INT128"]:
+            taken = stack(compiled("-O2", "-ffreestanding", *way)[1])
+            self.assertGreater(len(taken), 20)
+            self.assertLessEqual(taken.pop("base62_make_alphabet"), most)
+            self.assertLessEqual(max(taken.values()), others)
 
 
 if __name__ == "__main__":

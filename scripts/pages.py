@@ -1,7 +1,8 @@
 #!/usr/bin/env python3
 """Checks the pages of the repository, which are its Markdown files.
 
-    scripts/pages.py links                 checks that each link to a page, a heading or a file has a target
+    scripts/pages.py links [FOLDER]        checks that each link to a page, a heading or a file has a target, in the
+                                           pages that git tracks or in those of the folder, which they do not leave
     scripts/pages.py write PAGE FOLDER     writes each block of PAGE whose fence names files, as in: ```c lz.c
     scripts/pages.py run PAGE FOLDER       runs PAGE in FOLDER: writes such files, runs the blocks of sh, and
                                            compares what one prints with the block of text that follows it
@@ -48,16 +49,15 @@ def anchors(page: Path) -> set[str]:
     return {re.sub(r"[^\w\- ]", "", it).replace(" ", "-") for it in headings}
 
 
-def lost_links() -> Iterator[str]:
-    names = subprocess.run(["git", "ls-files", "*.md"], check=True, capture_output=True, text=True).stdout
-    for page in map(Path, names.splitlines()):
+def lost_links(pages: list[Path], top: Path) -> Iterator[str]:
+    for page in pages:
         for number, fence, line in parts(page):
             for link in LINK.findall("" if fence else line):
                 if re.match(r"[a-z]+:", link):
                     continue
                 path, _, heading = link.partition("#")
-                to = page.parent / path if path else page
-                if not to.exists() or heading and heading not in anchors(to):
+                to = (page.parent / path if path else page).resolve()
+                if not to.is_relative_to(top.resolve()) or not to.exists() or heading and heading not in anchors(to):
                     yield f"{page}:{number}: {link} leads nowhere"
 
 
@@ -91,8 +91,10 @@ def run(page: Path, folder: Path, wanted: list[bool]) -> None:
 
 def main() -> None:
     match sys.argv[1:]:
-        case ["links"]:
-            if lost := list(lost_links()):
+        case ["links", *folder] if len(folder) < 2:
+            names = subprocess.run(["git", "ls-files", "*.md"], check=True, capture_output=True, text=True).stdout
+            pages = [*Path(*folder).rglob("*.md")] if folder else [*map(Path, names.splitlines())]
+            if lost := list(lost_links(pages, Path(*folder))):
                 raise SystemExit("\n".join(lost))
         case [mode, page, folder] if mode in MODES:
             run(Path(page), Path(folder), MODES[mode])

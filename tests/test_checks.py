@@ -1,5 +1,6 @@
 #!/usr/bin/env python3
-"""Tests that a check that fails makes `make check` fail: parts in which one command fails, in each way that parts run it."""
+"""Tests that a check that fails makes `make check` fail: parts in which one command fails, in each way that parts run it.
+Tests too which edits the gate takes for rejected."""
 
 import os
 import shutil
@@ -50,6 +51,38 @@ PARTS = [
     ("needs", "needs bash no-such-tool; false", "left out"),
     ("has", "! has no-such-tool it || false", "passed"),
 ]
+
+# What the kit says of an edit, and whether that is a rejection for a contract.
+EDITS = [
+    ("refused, as it must be: note: src/codec.rt:1: it is not proved that ..", True),
+    ("refused, as it must be: ./proofs/Codec.antt:1: error: `GOAL`: ..", True),
+    ("refused, as it must be: ./proofs/Codec.antt:1: error: `GOAL` is not in scope", False),
+    ("refused, as it must be (only by a limit of the prover): ..", False),
+    ("refused, as it must be", False),
+    ("NOT REFUSED: ..", False),
+    ("NOT REJECTED: ..", False),
+    ("NOT TRIED: ..", False),
+    ("BAD EDIT: ..", False),
+]
+
+
+class Edits(unittest.TestCase):
+    def test_each_answer(self):
+        """The kit may count an edit that was not rejected as failed, or not."""
+        for said, is_rejected in EDITS:
+            for failed in (0, 1):
+                with self.subTest(said, failed=failed):
+                    self.expect([said], failed, is_rejected and not failed)
+                    self.expect([EDITS[0][0], said], failed, is_rejected and not failed)
+
+    def test_no_edit(self):
+        self.expect([], 0, False)
+
+    def expect(self, edits, failed, passes):
+        lines = "".join(f"rt: must-fail base62/x.edit: {said}\n" for said in edits)
+        ran = subprocess.run([TOP / ".ci/rejected-edits"], input=f"{lines}9 passed, {failed} failed\n", capture_output=True, text=True)
+        self.assertEqual((ran.returncode == 0, ran.stderr), (passes, ""))
+        self.assertEqual(ran.stdout.endswith(" 0 failed\n"), passes or not edits)
 
 
 class Checks(unittest.TestCase):

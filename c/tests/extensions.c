@@ -1,14 +1,21 @@
 /*
  * Tests the two functions of base62.c that use extensions of the compiler, if it has them: u128_mul_64 and u64_ilog2.
- * Each result is compared with long multiplication and with a shift by one bit at a time. The command takes how many
- * random pairs to try, and a seed, by default the current time.
+ * Each result is compared with long multiplication and with a shift by one bit at a time. With TEST_OTHER_COMPILERS
+ * base62.c is compiled in the forms for compilers without these extensions. The command takes how many random pairs to
+ * try, and a seed, by default the current time.
  */
-#include "base62.c"
-
 #include <inttypes.h>
+#include <limits.h>
+#include <stdbool.h>
 #include <time.h>
 
 #include "guard_pages.h"
+
+#ifdef TEST_OTHER_COMPILERS
+#undef __GNUC__
+#define _MSC_VER 1
+#endif
+#include "base62.c"
 
 static const uint32_t corners[] = {0,          1,          2,          0xffff,     0x10000,    0x10001,
                                    0x7fffffff, 0x80000000, 0x80000001, 0xfffffffe, 0xffffffff};

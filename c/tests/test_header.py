@@ -154,6 +154,16 @@ class Header(unittest.TestCase):
         capitals = {name for name in re.findall(r"\b[A-Z][A-Z0-9_]+\b", text) if not re.match("B(ASE)?62_", name)}
         self.assertEqual(capitals, {"CHAR_BIT", "GCC", "SIZE_MAX", "UINT64_C"})
 
+    def test_machines(self):
+        """base62.c is for bytes of 8 bits, and a size_t of 32 bits or more."""
+        machines = ("limits", "CHAR_BIT", "8", "16"), ("stdint", "SIZE_MAX", "0xffffffff", "0xffff")
+        for header, macro, least, other in machines:
+            source = f'#include <{header}.h>\n#undef {macro}\n#define {macro} %s\n#include "base62.c"\n'
+            compiled(source % least, "-E")
+            with self.subTest(macro), self.assertRaises(subprocess.CalledProcessError) as ended:
+                compiled(source % other, "-E")
+            self.assertIn("base62.c is for", ended.exception.stderr)
+
     def test_includes(self):
         """They stand outside of extern "C": there no template may stand, as some systems' headers have them."""
         with tempfile.TemporaryDirectory() as folder:

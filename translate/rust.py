@@ -294,7 +294,7 @@ class Crate:
 def main():
     os.chdir(Path(__file__).resolve().parent.parent)
     texts = Crate("base62", "rust/src/generated", USES, [], True).texts()
-    texts |= Crate("base62_cli", "rust/src/bin/base62/generated", PROGRAM_USES, PROGRAM, False).texts()
+    texts |= Crate("base62_cli", "rust/src/bin/base62_cli/generated", PROGRAM_USES, PROGRAM, False).texts()
     for file, text in texts.items():
         file.parent.mkdir(parents=True, exist_ok=True)
         file.with_suffix(".new").write_bytes(text.encode())

@@ -1,7 +1,7 @@
 // SPDX-License-Identifier: MIT
 // Copyright (c) 2026 the maintainers of base62 for Rattle
 
-//! The command with arguments: what it prints, what it writes to standard error, and its status.
+//! The command: what it prints, what it writes to standard error, and its status.
 #![cfg(all(feature = "std", unix))]
 
 mod support;
@@ -122,6 +122,19 @@ fn a_line_for_each_input() {
 }
 
 #[test]
+fn empty_inputs_that_are_kept() {
+    prints(r"printf '1337\n\n\r\n61' | base62 encode -e", "LZ\n\n\nz\n");
+    prints("base62 decode --keep-empty LZ '' z", "1337\n\n61\n");
+    prints("base62 encode -euw22 ''", "\n");
+    // A blank one is not empty, and other errors are none the less errors.
+    rejects("base62 encode -e ' '", &format!(" : {NO_NUMBER}"));
+    rejects(
+        "base62 decode -e <<<-",
+        "line 1: -: Encoded input contains the invalid byte b'-' at index 0",
+    );
+}
+
+#[test]
 fn names_of_files() {
     let hint = |name| format!("base62 reads standard input: base62 {name} <FILE");
     for name in ["encode", "decode", "range"] {
@@ -139,31 +152,38 @@ fn names_of_files() {
     prints(&format!("{line}; base62 decode LZ"), "1337\n");
 }
 
-/// The first line shows that another program may have been meant.
+/// Without arguments.
 #[test]
-fn lines_of_no_command() {
-    let expected = "base62: it answers lines such as `enc 1337` and `dec LZ`: try base62 --help\n";
-    let fault = "fault: unknown command\n";
-    for line in ["1337", "", "enc", "ENC 5", "encode 5", "\\xff"] {
-        let (line, two) = (format!("printf '{line}\\n"), fault.repeat(2));
-        ends(&format!("{line}' | base62"), 0, fault, expected);
-        ends(&format!("{line}x\\n' | base62"), 0, &two, expected);
+fn replies() {
+    let warning = "base62: no subcommand is given, so it replies to lines, which ends with version 4.0: \
+                   call base62_cli, or try base62 --help\n";
+    ends("base62 </dev/null", 0, "", warning);
+    ends("printf 'enc 1337\ndec z' | base62", 0, "LZ\n61\n", warning);
+    ends("printf 'enc 1337\ndec z' | base62 2>&-", 0, "LZ\n61\n", "");
+    for fault in ["enc x", "dec !", "alt -5", "adc ", "1337", ""] {
+        for (before, behind) in [
+            ("", ""),
+            ("enc 61\n", ""),
+            ("", "enc 5\n"),
+            ("enc 5\n", "dec z\n"),
+        ] {
+            let lines = format!("{before}{fault}\n{behind}");
+            let line =
+                format!("printf '{lines}' | base62 | grep -c '^fault: '; exit ${{PIPESTATUS[1]}}");
+            ends(&line, 1, "1\n", warning);
+        }
     }
-    for line in ["e", "enc", "encode"] {
-        ends(&format!("printf {line} | base62"), 0, fault, expected);
-    }
-    prints("base62 </dev/null", "");
-    for command in ["enc", "alt", "dec", "adc"] {
-        let output = format!("5\n{fault}");
-        prints(&format!("printf '{command} 5\\nx\\n' | base62"), &output);
-    }
-    prints("{ printf en; sleep .2; printf 'c 5\\n'; } | base62", "5\n");
-    // The hint comes before the reply, and once.
-    let line = r#"coproc base62 2>&1; echo 5 >&${COPROC[1]}
-        read -t 20 -ru ${COPROC[0]} line; echo "$line""#;
-    prints(line, expected);
-    let slow = "{ printf en; sleep .2; printf 'd 5\\n'; sleep .2; echo x; } | base62";
-    ends(slow, 0, &fault.repeat(2), expected);
+    // The error is in an earlier read.
+    let line = "{ echo dec; sleep .2; echo enc 5; } | base62";
+    ends(line, 1, "fault: unknown command\n5\n", warning);
+    ends(
+        "base62 </",
+        1,
+        "",
+        &format!("{warning}base62: read failed\n"),
+    );
+    let line = "echo enc 5 | base62 >/dev/full";
+    ends(line, 1, "", &format!("{warning}base62: write failed\n"));
 }
 
 #[test]
@@ -255,7 +275,7 @@ fn wrong_arguments() {
     is_wrong("-- --help", "there is no subcommand --help");
     is_wrong("-a", "no subcommand is given");
     is_wrong("--", "no subcommand is given");
-    for option in ["help", "version", "hex", "strict", "uuid"] {
+    for option in ["help", "version", "hex", "strict", "uuid", "keep-empty"] {
         let error = format!("--{option} takes no value");
         is_wrong(&format!("--{option}=5"), &error);
         is_wrong(&format!("encode --{option}= 5"), &error);
@@ -266,6 +286,7 @@ fn wrong_arguments() {
         ("range -s 5", "strict"),
         ("range -aux 5", "uuid"),
         ("range -x 5", "hex"),
+        ("range -e 5", "keep-empty"),
     ] {
         let (name, _) = arguments.split_once(' ').unwrap();
         is_wrong(arguments, &format!("{name} has no option --{option}"));
@@ -278,15 +299,19 @@ fn wrong_arguments() {
 fn wrong_values() {
     for width in ["0", "00", "x", "", "-5", "+5", "=5", "5 5", "5.0"] {
         let shown = if width.is_empty() { "''" } else { width };
-        let error = format!("a width is a whole number from 1 on, not {shown}");
+        let error = format!("a width is an integer of 1 or more, not {shown}");
         is_wrong(&format!("encode -w '{width}' 5"), &error);
         is_wrong(&format!("range --width='{width}' 5"), &error);
     }
-    is_wrong("encode -l ${letters:1}", "there are 61 letters, not 62");
-    is_wrong(
-        "decode --letters=${letters}!",
-        "there are 63 letters, not 62",
-    );
+    for (letters, count) in [
+        ("''", "0 characters"),
+        ("5", "1 character"),
+        ("${letters:1}", "61 characters"),
+        ("${letters}!", "63 characters"),
+    ] {
+        let error = format!("the alphabet has {count}, not 62");
+        is_wrong(&format!("encode -l {letters}"), &error);
+    }
     is_wrong(
         "range -l 1${letters:1} 5",
         "Alphabet repeats the byte b'1' at index 1",
@@ -294,7 +319,7 @@ fn wrong_values() {
     for letter in [r"\xe9", r"\x1f", r"\x7f"] {
         is_wrong(
             &format!("encode -l ${{letters:1}}$'{letter}'"),
-            "the letters are not all printable ASCII",
+            "an alphabet has 62 printable ASCII characters",
         );
     }
 }
@@ -360,7 +385,7 @@ fn inputs_in_messages() {
     is_wrong(&format!("--{byte}=5"), r"there is no option --\xff");
     is_wrong(
         &format!("encode -w {byte}"),
-        r"a width is a whole number from 1 on, not \xff",
+        r"a width is an integer of 1 or more, not \xff",
     );
 }
 
@@ -450,9 +475,9 @@ fn a_terminal() {
         println!("left out: a terminal: install bsdutils");
         return;
     }
-    let help = "base62: it answers lines such as `enc 1337` and `dec LZ`: try base62 --help\r\n";
+    let help = "base62_cli: it replies to lines such as `enc 1337` and `dec LZ`: try base62_cli --help\r\n";
     // A terminal shows what is typed, too.
-    let shown = at_terminal("base62", "<<<'enc 1337'");
+    let shown = at_terminal("base62_cli", "<<<'enc 1337'");
     assert!(shown.contains(help) && shown.ends_with("LZ\r\n"), "{shown}");
     let shown = at_terminal("base62 encode", "<<<1337");
     assert!(
@@ -460,7 +485,7 @@ fn a_terminal() {
         "{shown}"
     );
     // From here on the output alone is a terminal.
-    assert_eq!(at_terminal("base62 </dev/null", "</dev/null"), "");
+    assert_eq!(at_terminal("base62_cli </dev/null", "</dev/null"), "");
     // Each result is a write, which Linux counts.
     let line = r#"file=$(mktemp -u); trap 'rm -f $file' EXIT; mkfifo $file
         base62 encode <$file & exec 3>$file; printf '1\n2\n3\n' >&3

@@ -151,8 +151,7 @@ fn values_of_widths() {
     });
     each("narrow", |options, rows| {
         each_width(rows, 2, |width, rows| {
-            let letters = if width == "1" { "letter" } else { "letters" };
-            let error = |_: &Row| format!("its text has more than {width} {letters}");
+            let error = |_: &Row| "the number needs more characters than the width".into();
             check(
                 &[&["encode", "-w", width], options].concat(),
                 errors(rows, error),

@@ -1,8 +1,8 @@
 // SPDX-License-Identifier: MIT
 // Copyright (c) 2026 the maintainers of base62 for Rattle
 
-//! The program without arguments, if its input, output or memory fails, and if all goes well. `BASE62_CLI` names another
-//! program to test, which `.ci/io-errors` sets.
+//! `base62_cli`, if its input, output or memory fails, and if all goes well. `BASE62_CLI` names another program to test,
+//! which `.ci/io-errors` sets.
 #![cfg(all(feature = "std", unix))]
 
 mod support;
@@ -32,18 +32,13 @@ fn other() -> Option<String> {
 
 /// The status, the output and the errors of a line of bash, in which `$program` is the program and `$input` the stored run.
 fn run(line: &str) -> (Option<i32>, String, String) {
-    let program = other().unwrap_or(env!("CARGO_BIN_EXE_base62").into());
+    let program = other().unwrap_or(env!("CARGO_BIN_EXE_base62_cli").into());
     support::run(line, &[("program", &program), ("input", &input())])
 }
 
 /// The message of the program about an error.
 fn message(fault: &str) -> String {
-    let name = if other().is_some() {
-        "base62_cli"
-    } else {
-        "base62"
-    };
-    format!("{name}: {fault}\n")
+    format!("base62_cli: {fault}\n")
 }
 
 fn fails(line: &str, fault: &str, output: &str) {
@@ -74,10 +69,72 @@ fn the_stored_run() {
         r#"printf %s "$input" | dd bs=1 status=none | "$program""#,
         &output,
     );
-    // It ignores arguments.
+    // The other one ignores arguments.
     if other().is_some() {
         ends_well(r#"printf %s "$input" | "$program" dec LZ --help"#, &output);
     }
+}
+
+#[test]
+fn arguments() {
+    if other().is_some() {
+        return;
+    }
+    let version = concat!("base62_cli ", env!("CARGO_PKG_VERSION"), "\n");
+    for argument in ["-V", "--version"] {
+        ends_well(&format!(r#""$program" {argument}"#), version);
+    }
+    let help = run(r#""$program" --help"#).1;
+    ends_well(r#""$program" -h"#, &help);
+    let (example, reply) = ("  $ echo enc 1337 | base62_cli\n", "  LZ\n");
+    assert!(help.contains(&[example, reply].concat()), "{help}");
+    ends_well(r#"echo enc 1337 | "$program""#, "LZ\n");
+    for argument in ["enc", "''", "--", "-x"] {
+        let line =
+            format!(r#"{{ "$program" {argument}; status=$?; cat; exit $status; }} <<<unread"#);
+        let error = "it reads standard input, and has no operands: try base62_cli --help";
+        assert_eq!(run(&line), (Some(2), "unread\n".into(), message(error)));
+    }
+}
+
+/// The first line shows that another program may have been meant.
+#[test]
+fn lines_of_no_command() {
+    if other().is_some() {
+        return;
+    }
+    let hint =
+        message("it replies to lines such as `enc 1337` and `dec LZ`: try base62_cli --help");
+    let fault = "fault: unknown command\n";
+    let hints = |line: &str, output: &str| {
+        let line = format!(r#"{line} | "$program""#);
+        assert_eq!(run(&line), (Some(0), output.into(), hint.clone()), "{line}");
+    };
+    for line in ["1337", "", "enc", "ENC 5", "encode 5", "\\xff"] {
+        hints(&format!(r"printf '{line}\n'"), fault);
+        hints(&format!(r"printf '{line}\nx\n'"), &fault.repeat(2));
+    }
+    for line in ["e", "enc", "encode"] {
+        hints(&format!("printf {line}"), fault);
+    }
+    // It comes once.
+    hints(
+        r"{ printf en; sleep .2; printf 'd 5\n'; sleep .2; echo x; }",
+        &fault.repeat(2),
+    );
+    ends_well(r#""$program" </dev/null"#, "");
+    for command in ["enc", "alt", "dec", "adc"] {
+        let line = format!(r#"printf '{command} 5\nx\n' | "$program""#);
+        ends_well(&line, &format!("5\n{fault}"));
+    }
+    ends_well(
+        r#"{ printf en; sleep .2; printf 'c 5\n'; } | "$program""#,
+        "5\n",
+    );
+    // And before the reply.
+    let line = r#"coproc "$program" 2>&1; echo 5 >&${COPROC[1]}
+        read -t 20 -ru ${COPROC[0]} line; echo "$line""#;
+    ends_well(line, &hint);
 }
 
 #[test]

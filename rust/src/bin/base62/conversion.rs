@@ -3,15 +3,51 @@
 
 //! The result of a subcommand for one input.
 
+use crate::fault::ToolFault;
 use crate::memory::Bytes;
-use crate::reply::number_of;
-use base62::{Alphabet, MAX_DIGITS};
-use std::error::Error;
+use crate::numbers::{append_decimal, parse_decimal, parse_hex, parse_uuid, trim_blanks, uuid_of};
+use crate::reply::append;
+use base62::{Alphabet, DecodeError, MAX_DIGITS};
+use std::fmt::{self, Display, Formatter};
 use std::io::Write;
 
-/// Appends the result for an input. Fails with an `io::Error` if an allocation fails, and else with what is wrong with
-/// the input.
-pub(crate) type Converter = fn(&Options, &[u8], &mut Bytes) -> Result<(), Box<dyn Error>>;
+/// Appends the result for an input. If the input is invalid, it appends nothing.
+pub(crate) type Converter = fn(&Settings, &[u8], &mut Bytes) -> Result<(), ConversionError>;
+
+/// Why an input has no result: a failure of the program, or what is wrong with the input.
+pub(crate) enum ConversionError {
+    Failure(ToolFault),
+    Decode(DecodeError),
+    Invalid(&'static str),
+}
+
+impl From<ToolFault> for ConversionError {
+    fn from(fault: ToolFault) -> Self {
+        ConversionError::Failure(fault)
+    }
+}
+
+impl From<DecodeError> for ConversionError {
+    fn from(error: DecodeError) -> Self {
+        ConversionError::Decode(error)
+    }
+}
+
+impl From<&'static str> for ConversionError {
+    fn from(error: &'static str) -> Self {
+        ConversionError::Invalid(error)
+    }
+}
+
+impl Display for ConversionError {
+    fn fmt(&self, f: &mut Formatter) -> fmt::Result {
+        match self {
+            ConversionError::Failure(fault) => fault.fmt(f),
+            ConversionError::Decode(error) => error.fmt(f),
+            ConversionError::Invalid(error) => error.fmt(f),
+        }
+    }
+}
 
 /// How numbers are read and printed.
 pub(crate) enum Notation {
@@ -20,96 +56,61 @@ pub(crate) enum Notation {
     Uuid,
 }
 
-pub(crate) struct Options {
+/// What the options set.
+pub(crate) struct Settings {
     pub(crate) alphabet: Alphabet,
     pub(crate) width: Option<usize>,
     pub(crate) is_strict: bool,
     pub(crate) notation: Notation,
+    pub(crate) keeps_empty: bool,
 }
 
-impl Options {
-    pub(crate) fn encode(&self, input: &[u8], out: &mut Bytes) -> Result<(), Box<dyn Error>> {
+impl Settings {
+    pub(crate) fn encode(&self, input: &[u8], out: &mut Bytes) -> Result<(), ConversionError> {
         let digits = trim_blanks(input);
         let number = match self.notation {
-            Notation::Decimal => number_of(digits).ok_or("not a decimal number below 2^128"),
+            Notation::Decimal => parse_decimal(digits).ok_or("not a decimal number below 2^128"),
             Notation::Hexadecimal => parse_hex(digits).ok_or("not 1 to 32 hexadecimal digits"),
             Notation::Uuid => parse_uuid(digits).ok_or("not a UUID"),
         }?;
-        let Some(width) = self.width else {
-            let mut buffer = [0; MAX_DIGITS];
-            let length = base62::encode_bytes_with(&self.alphabet, number, &mut buffer)?;
-            return Ok(out.write_all(&buffer[..length])?);
-        };
-        let letters = if width == 1 { "letter" } else { "letters" };
-        base62::encode_fixed_with(&self.alphabet, number, out.extend(width)?)
-            .map_err(|_| format!("its text has more than {width} {letters}").into())
+        let mut buffer = [0; MAX_DIGITS];
+        let length = base62::encode_bytes_with(&self.alphabet, number, &mut buffer);
+        let string = &buffer[..length.unwrap_or_default()];
+        if let Some(width) = self.width {
+            let zeros = width.checked_sub(string.len());
+            let zeros = zeros.ok_or("the number needs more characters than the width")?;
+            append_repeated(self.alphabet.letters()[0], zeros, out)?;
+        }
+        Ok(append(string, out)?)
     }
 
-    pub(crate) fn decode(&self, text: &[u8], out: &mut Bytes) -> Result<(), Box<dyn Error>> {
+    pub(crate) fn decode(&self, string: &[u8], out: &mut Bytes) -> Result<(), ConversionError> {
         let number = if self.is_strict {
-            let number = base62::decode_canonical_with(&self.alphabet, text)?;
+            let number = base62::decode_canonical_with(&self.alphabet, string)?;
             number.ok_or("Encoded input has a leading zero")?
         } else {
-            base62::decode_with(&self.alphabet, text)?
+            base62::decode_with(&self.alphabet, string)?
         };
         match self.notation {
-            Notation::Decimal => write!(out, "{number}")?,
-            Notation::Hexadecimal => write!(out, "{number:x}")?,
-            Notation::Uuid => {
-                let mut uuid = format!("{number:032x}");
-                for place in [8, 13, 18, 23] {
-                    uuid.insert(place, '-');
-                }
-                out.write_all(uuid.as_bytes())?;
-            }
-        }
+            Notation::Decimal => append_decimal(number, out),
+            Notation::Hexadecimal => write!(out, "{number:x}").or(Err(ToolFault::Memory)),
+            Notation::Uuid => append(&uuid_of(number), out),
+        }?;
         Ok(())
     }
 
-    pub(crate) fn range(&self, prefix: &[u8], out: &mut Bytes) -> Result<(), Box<dyn Error>> {
+    pub(crate) fn range(&self, prefix: &[u8], out: &mut Bytes) -> Result<(), ConversionError> {
         let width = self.width.unwrap_or(MAX_DIGITS);
         let range = base62::fixed_range_with(&self.alphabet, width, prefix)?;
         let range = range.ok_or("No string of this width begins with the prefix")?;
-        Ok(write!(out, "{} {}", range.start(), range.end())?)
+        append_decimal(*range.start(), out)?;
+        append(b" ", out)?;
+        Ok(append_decimal(*range.end(), out)?)
     }
 }
 
-/// The input without the spaces and tabs around it.
-fn trim_blanks(mut input: &[u8]) -> &[u8] {
-    while let [b' ' | b'\t', rest @ ..] | [rest @ .., b' ' | b'\t'] = input {
-        input = rest;
-    }
-    input
-}
-
-/// The number that 32 hexadecimal digits represent, with or without hyphens, also in braces or after `urn:uuid:`.
-fn parse_uuid(input: &[u8]) -> Option<u128> {
-    let uuid = match (input, input.split_at_checked(9)) {
-        ([b'{', uuid @ .., b'}'], _) => uuid,
-        (_, Some((urn, uuid))) if urn.eq_ignore_ascii_case(b"urn:uuid:") => uuid,
-        _ => input,
-    };
-    let groups = uuid.split(|byte| *byte == b'-').map(<[u8]>::len);
-    if !groups.clone().eq([32]) && !groups.eq([8, 4, 4, 4, 12]) {
-        return None;
-    }
-    parse_hex_digits(uuid.iter().filter(|byte| **byte != b'-'))
-}
-
-/// The number that 1 to 32 hexadecimal digits represent, with or without `0x`.
-fn parse_hex(input: &[u8]) -> Option<u128> {
-    let digits = match input {
-        [b'0', b'x' | b'X', digits @ ..] => digits,
-        _ => input,
-    };
-    matches!(digits.len(), 1..=32)
-        .then(|| parse_hex_digits(digits.iter()))
-        .flatten()
-}
-
-/// The number that at most 32 hexadecimal digits represent, in either case.
-fn parse_hex_digits<'a>(mut digits: impl Iterator<Item = &'a u8>) -> Option<u128> {
-    digits.try_fold(0, |number, byte| {
-        Some((number << 4) | u128::from(char::from(*byte).to_digit(16)?))
-    })
+fn append_repeated(letter: u8, count: usize, out: &mut Bytes) -> Result<(), ToolFault> {
+    out.reserve(count).or(Err(ToolFault::Memory))?;
+    out.0.resize(out.0.len() + count, letter);
+    Ok(())
 }

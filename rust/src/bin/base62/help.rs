@@ -1,54 +1,162 @@
 // SPDX-License-Identifier: MIT
 // Copyright (c) 2026 the maintainers of base62 for Rattle
 
-//! The help, which is also the list of the options: the program parses its arguments by it, `tests/page` writes the
-//! manual page from it, and the completions read it from the installed command. A test runs the examples.
+//! The tables of subcommands and options, by which arguments are parsed, and the help, which is printed from them.
+//! `tests/page` writes the manual page from the help, and the completions read it from the installed command. A test
+//! runs the examples.
+
+use crate::conversion::{Converter, Settings};
+
+pub(crate) struct Subcommand {
+    pub(crate) name: &'static str,
+    operand: &'static str,
+    purpose: &'static str,
+    /// The letters of its options.
+    pub(crate) options: &'static [u8],
+    pub(crate) convert: Converter,
+    description: &'static str,
+    example: [&'static str; 2],
+}
+
+/// An option, such as `-w` or `--width`, whose value the help names `N`.
+pub(crate) struct CommandOption {
+    pub(crate) letter: u8,
+    pub(crate) name: &'static str,
+    /// Nothing if the option has no value.
+    pub(crate) value: &'static str,
+    purpose: &'static str,
+}
+
+pub(crate) static SUBCOMMANDS: [Subcommand; 3] = [
+    Subcommand {
+        name: "encode",
+        operand: "NUMBER",
+        purpose: "print each number as an encoded string",
+        options: b"alwuxe",
+        convert: Settings::encode,
+        description: "\
+Encodes each decimal number, or each line of standard input. Spaces and tabs
+around a number are ignored. An invalid number gives an empty line.",
+        example: ["$ echo 1337 | base62 encode -w 4", "00LZ"],
+    },
+    Subcommand {
+        name: "decode",
+        operand: "STRING",
+        purpose: "print the number that each string represents",
+        options: b"alsuxe",
+        convert: Settings::decode,
+        description: "\
+Decodes each string, or each line of standard input. An invalid string gives an
+empty line.",
+        example: ["$ base62 decode LZ", "1337"],
+    },
+    Subcommand {
+        name: "range",
+        operand: "PREFIX",
+        purpose: "print the least and the greatest number of each prefix",
+        options: b"alw",
+        convert: Settings::range,
+        description: "\
+Prints the least and the greatest number whose string begins with the prefix,
+for each prefix or each line of standard input. The strings have 22 characters,
+or as many as -w says, with leading zeros. If no string begins with the prefix,
+the line is empty.",
+        example: ["$ base62 range -w 5 000L", "1302 1363"],
+    },
+];
+
+const HELP: &str = "print this help, or that of a subcommand";
+
+pub(crate) static OPTIONS: [CommandOption; 9] = [
+    CommandOption {
+        letter: b'a',
+        name: "alternative",
+        value: "",
+        purpose: "use the alphabet 0 to 9, a to z, A to Z",
+    },
+    CommandOption {
+        letter: b'l',
+        name: "letters",
+        value: "LETTERS",
+        purpose: "use these 62 printable ASCII characters, the zero first",
+    },
+    CommandOption {
+        letter: b'w',
+        name: "width",
+        value: "N",
+        purpose: "strings have N characters, with leading zeros",
+    },
+    CommandOption {
+        letter: b's',
+        name: "strict",
+        value: "",
+        purpose: "reject strings with leading zeros",
+    },
+    CommandOption {
+        letter: b'u',
+        name: "uuid",
+        value: "",
+        purpose: "numbers are UUIDs",
+    },
+    CommandOption {
+        letter: b'x',
+        name: "hex",
+        value: "",
+        purpose: "numbers are hexadecimal",
+    },
+    CommandOption {
+        letter: b'e',
+        name: "keep-empty",
+        value: "",
+        purpose: "an empty input gives an empty line, and is no error",
+    },
+    CommandOption {
+        letter: b'h',
+        name: "help",
+        value: "",
+        purpose: HELP,
+    },
+    CommandOption {
+        letter: b'V',
+        name: "version",
+        value: "",
+        purpose: "print the version",
+    },
+];
 
 pub(crate) const VERSION: &str = concat!("base62 ", env!("CARGO_PKG_VERSION"), "\n");
 
-/// An option.
-#[derive(Clone, Copy, PartialEq)]
-pub(crate) struct Flag {
-    pub(crate) short: &'static str,
-    pub(crate) long: &'static str,
-    pub(crate) needs_value: bool,
+/// The help of a subcommand, or of the command.
+pub(crate) fn help(subcommand: Option<&Subcommand>) -> String {
+    match subcommand {
+        Some(it) => format!(
+            "Usage: base62 {} [OPTION]... [{}]...\n{}\n\n{}\n  {}\n",
+            it.name,
+            it.operand,
+            it.description,
+            table(rows_of_options(it.options)),
+            it.example.join("\n  ")
+        ),
+        None => format!(
+            "{COMMAND}{}\n{}{INPUT}",
+            table(rows_of_subcommands()),
+            table(rows_of_options(b"hV"))
+        ),
+    }
 }
 
-/// The options that a help lists, in lines such as `  -w, --width N  ..`.
-pub(crate) fn flags(help: &'static str) -> impl Iterator<Item = Flag> {
-    help.lines().filter_map(|line| {
-        let (names, _) = line.strip_prefix("  ")?.split_once("  ")?;
-        let (short, long) = names.split_once(", ")?;
-        let mut words = long.split(' ');
-        Some(Flag {
-            short,
-            long: words.next()?,
-            needs_value: words.next().is_some(),
-        })
-    })
-}
-
-pub(crate) const COMMAND: &str = "\
-Usage: base62 SUBCOMMAND [OPTION].. [OPERAND]..
+const COMMAND: &str = "\
+Usage: base62 SUBCOMMAND [OPTION]... [OPERAND]...
 Encodes unsigned integers below 2^128 as short strings of 0 to 9, A to Z and
 a to z, or of a custom alphabet, and decodes them.
 
-  encode [NUMBER]..  print each number as an encoded string
-  decode [TEXT]..    print the number that each string represents
-  range [PREFIX]..   print the least and the greatest number of each prefix
-  help [SUBCOMMAND]  print this help, or that of a subcommand
+";
 
-  -h, --help         print this help, or that of a subcommand
-  -V, --version      print the version
-
+const INPUT: &str = "
 Without an operand, a subcommand reads the lines of standard input. For each
 operand or line it prints one line, which is empty if the input is invalid.
 
-Without arguments, base62 replies to lines: to enc NUMBER and dec TEXT, and to
-alt NUMBER and adc TEXT for the alphabet 0 to 9, a to z, A to Z. The reply to an
-invalid line begins with fault:, and the exit status is still 0.
-
-  $ echo enc 1337 | base62
+  $ base62 encode 1337
   LZ
 
 Exit status:
@@ -57,47 +165,32 @@ Exit status:
   2  an argument is invalid
 ";
 
-pub(crate) const ENCODE: &str = "\
-Usage: base62 encode [OPTION].. [NUMBER]..
-Encodes each decimal number, or each line of standard input. Spaces and tabs
-around a number are ignored. An invalid number gives an empty line.
+/// What is called or written, and what it is for.
+type Row = (String, &'static str);
 
-  -a, --alternative      use the alphabet 0 to 9, a to z, A to Z
-  -l, --letters LETTERS  use a custom alphabet of 62 characters, the zero first
-  -w, --width N          print exactly N characters, padded with leading zeros
-  -u, --uuid             read numbers as UUIDs
-  -x, --hex              read hexadecimal numbers, with or without 0x
+fn rows_of_subcommands() -> Vec<Row> {
+    let row = |it: &Subcommand| (format!("{} [{}]...", it.name, it.operand), it.purpose);
+    let mut rows: Vec<_> = SUBCOMMANDS.iter().map(row).collect();
+    rows.push(("help [SUBCOMMAND]".into(), HELP));
+    rows
+}
 
-  $ echo 1337 | base62 encode -w 4
-  00LZ
-";
+fn rows_of_options(letters: &[u8]) -> Vec<Row> {
+    let options = OPTIONS.iter().filter(|it| letters.contains(&it.letter));
+    options.map(row_of_option).collect()
+}
 
-pub(crate) const DECODE: &str = "\
-Usage: base62 decode [OPTION].. [TEXT]..
-Decodes each string, or each line of standard input. An invalid string gives an
-empty line.
+fn row_of_option(it: &CommandOption) -> Row {
+    let names = format!("-{}, --{} {}", char::from(it.letter), it.name, it.value);
+    (names.trim_end().into(), it.purpose)
+}
 
-  -a, --alternative      use the alphabet 0 to 9, a to z, A to Z
-  -l, --letters LETTERS  use a custom alphabet of 62 characters, the zero first
-  -s, --strict           reject strings with leading zeros
-  -u, --uuid             print numbers as UUIDs
-  -x, --hex              print hexadecimal numbers
-
-  $ base62 decode LZ
-  1337
-";
-
-pub(crate) const RANGE: &str = "\
-Usage: base62 range [OPTION].. [PREFIX]..
-For each prefix, or each line of standard input, prints the least and the
-greatest number below 2^128 whose string of N characters, padded with leading
-zeros, begins with it. A prefix that is invalid, or with which no string begins,
-gives an empty line.
-
-  -a, --alternative      use the alphabet 0 to 9, a to z, A to Z
-  -l, --letters LETTERS  use a custom alphabet of 62 characters, the zero first
-  -w, --width N          the width of the strings, by default 22
-
-  $ base62 range -w 5 000L
-  1302 1363
-";
+/// The rows in two columns.
+fn table(rows: Vec<Row>) -> String {
+    let width = rows.iter().map(|(left, _)| left.len()).max();
+    let width = width.unwrap_or_default();
+    let lines = rows
+        .iter()
+        .map(|(left, right)| format!("  {left:width$}  {right}\n"));
+    lines.collect()
+}

@@ -1,21 +1,24 @@
 // SPDX-License-Identifier: MIT
 // Copyright (c) 2026 the maintainers of base62 for Rattle
 
-//! The command `base62`, which encodes and decodes operands or lines. Without arguments it is the translated program
-//! `base62_cli`.
+//! The command `base62`, which encodes and decodes operands or lines.
 
 mod arguments;
 mod conversion;
+mod escape;
 mod help;
-mod line_end;
-mod memory;
+mod no_arguments;
+mod numbers;
 mod printer;
-mod protocol;
-mod streams;
-#[cfg(test)]
-mod tests;
 
-// Translated from `crates/base62_cli`.
+// Those of `base62_cli`.
+#[path = "../base62_cli/line_end.rs"]
+mod line_end;
+#[path = "../base62_cli/memory.rs"]
+mod memory;
+#[path = "../base62_cli/streams.rs"]
+mod streams;
+#[path = "../base62_cli/generated"]
 mod generated {
     pub(crate) mod fault;
     pub(crate) mod reply;
@@ -26,20 +29,19 @@ use generated::*;
 use arguments::Request;
 use std::process::ExitCode;
 use std::{env, ffi::OsString};
-use streams::{print, report};
+use streams::{print, report, status_of};
 
 fn main() -> ExitCode {
-    let outcome = match arguments::parse(env::args_os().skip(1).map(OsString::into_encoded_bytes)) {
-        _ if env::args_os().len() < 2 => protocol::run(),
-        Ok(Request::Convert(task)) => printer::print_all(&task),
-        Ok(Request::Print(text)) => print(text.as_bytes()).map(|()| ExitCode::SUCCESS),
+    if env::args_os().len() < 2 {
+        return status_of(no_arguments::reply());
+    }
+    let arguments = env::args_os().skip(1).map(OsString::into_encoded_bytes);
+    match arguments::parse(arguments) {
+        Ok(Request::Convert(task)) => status_of(printer::print_all(&task)),
+        Ok(Request::Print(text)) => status_of(print(text.as_bytes()).map(|()| ExitCode::SUCCESS)),
         Err(error) => {
             report(format_args!("{error}: try base62 --help"));
-            return ExitCode::from(2);
+            ExitCode::from(2)
         }
-    };
-    outcome.unwrap_or_else(|fault| {
-        report(fault);
-        ExitCode::FAILURE
-    })
+    }
 }

@@ -4,13 +4,14 @@
 //! Prints the results for operands, or for the lines of standard input.
 
 use crate::arguments::Task;
+use crate::conversion::ConversionError;
+use crate::escape::Escaped;
 use crate::fault::ToolFault;
 use crate::line_end::line_end;
 use crate::memory::Bytes;
 use crate::reply::append;
-use crate::streams::{Input, escaped, print, report};
+use crate::streams::{Input, print, report};
 use crate::tool::CHUNK_LEN;
-use std::error::Error;
 use std::io::{self, IsTerminal, Read};
 use std::process::ExitCode;
 use std::{fs, str};
@@ -53,16 +54,13 @@ impl Printer<'_> {
     /// Prints the result for an operand, or for the line of this number. If the input is invalid, first prints the
     /// results so far and reports the error. Then the line of output is empty.
     fn print(&mut self, input: &[u8], line: Option<u64>) -> Result<(), ToolFault> {
-        let length = self.buffer.as_slice().len();
-        match (self.task.subcommand.convert)(&self.task.options, input, &mut self.buffer) {
-            Ok(()) => (),
-            Err(error) if error.is::<io::Error>() => return Err(ToolFault::Memory),
-            Err(error) => {
-                self.buffer.truncate(length);
-                self.flush()?;
-                report(self.message(input, line, &*error));
-                self.status = ExitCode::FAILURE;
+        if let Err(error) = self.append_result(input) {
+            if let ConversionError::Failure(fault) = error {
+                return Err(fault);
             }
+            self.flush()?;
+            self.report(input, line, &error);
+            self.status = ExitCode::FAILURE;
         }
         append(b"\n", &mut self.buffer)?;
         if self.buffer.as_slice().len() > self.limit {
@@ -71,14 +69,22 @@ impl Printer<'_> {
         Ok(())
     }
 
-    fn message(&self, input: &[u8], line: Option<u64>, error: &dyn Error) -> String {
-        let (name, shown) = (self.task.subcommand.name, escaped(input));
+    fn append_result(&mut self, input: &[u8]) -> Result<(), ConversionError> {
+        let settings = &self.task.settings;
+        if input.is_empty() && settings.keeps_empty {
+            return Ok(());
+        }
+        (self.task.subcommand.convert)(settings, input, &mut self.buffer)
+    }
+
+    fn report(&self, input: &[u8], line: Option<u64>, error: &ConversionError) {
+        let (name, shown) = (self.task.subcommand.name, Escaped(input));
         match line {
-            Some(number) => format!("line {number}: {shown}: {error}"),
-            None if is_file(input) => {
-                format!("{shown}: base62 reads standard input: base62 {name} <FILE")
-            }
-            None => format!("{shown}: {error}"),
+            Some(number) => report(format_args!("line {number}: {shown}: {error}")),
+            None if is_file(input) => report(format_args!(
+                "{shown}: base62 reads standard input: base62 {name} <FILE"
+            )),
+            None => report(format_args!("{shown}: {error}")),
         }
     }
 

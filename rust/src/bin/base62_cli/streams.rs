@@ -4,9 +4,10 @@
 //! Standard input, output and error.
 
 use crate::fault::ToolFault;
+use crate::memory::Bytes;
 use std::fmt::Display;
 use std::io::{self, ErrorKind, Read, Write};
-use std::process;
+use std::process::{self, ExitCode};
 
 /// Standard input.
 pub(crate) struct Input;
@@ -55,15 +56,16 @@ pub(crate) fn print(bytes: &[u8]) -> Result<(), ToolFault> {
 
 /// Writes one line to standard error. If this fails, only the exit status reports the error.
 pub(crate) fn report(message: impl Display) {
-    let _ = io::stderr().write_all(format!("base62: {message}\n").as_bytes());
+    let mut line = Bytes::new();
+    if writeln!(line, "{}: {message}", env!("CARGO_BIN_NAME")).is_ok() {
+        let _ = io::stderr().write_all(line.as_slice());
+    }
 }
 
-/// The first 100 bytes of an argument or a line, in ASCII without control characters.
-pub(crate) fn escaped(bytes: &[u8]) -> String {
-    let (start, end) = match bytes.len() {
-        0 => (bytes, "''"),
-        1..=100 => (bytes, ""),
-        _ => (&bytes[..100], ".."),
-    };
-    format!("{}{end}", start.escape_ascii())
+/// The exit status of a run, whose failure it reports.
+pub(crate) fn status_of(outcome: Result<ExitCode, ToolFault>) -> ExitCode {
+    outcome.unwrap_or_else(|fault| {
+        report(fault);
+        ExitCode::FAILURE
+    })
 }

@@ -6,7 +6,7 @@
 use std::io::{self, ErrorKind, Write};
 
 /// A `Vec<u8>` with the calls that the program needs.
-pub(crate) struct Bytes(Vec<u8>);
+pub(crate) struct Bytes(pub(crate) Vec<u8>);
 
 impl Bytes {
     pub(crate) fn new() -> Bytes {
@@ -21,19 +21,7 @@ impl Bytes {
         self.0.clear();
     }
 
-    pub(crate) fn truncate(&mut self, length: usize) {
-        self.0.truncate(length);
-    }
-
-    /// Appends `count` bytes 0, and returns them.
-    pub(crate) fn extend(&mut self, count: usize) -> io::Result<&mut [u8]> {
-        self.reserve(count)?;
-        let start = self.0.len();
-        self.0.resize(start + count, 0);
-        Ok(&mut self.0[start..])
-    }
-
-    fn reserve(&mut self, count: usize) -> io::Result<()> {
+    pub(crate) fn reserve(&mut self, count: usize) -> io::Result<()> {
         let reserved = self.0.try_reserve(count);
         reserved.map_err(|_| ErrorKind::OutOfMemory.into())
     }

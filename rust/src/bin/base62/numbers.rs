@@ -1,0 +1,100 @@
+// SPDX-License-Identifier: MIT
+// Copyright (c) 2026 the maintainers of base62 for Rattle
+
+//! Numbers as they are read and printed: in decimal, in hexadecimal and as UUIDs.
+
+use crate::fault::ToolFault;
+use crate::memory::Bytes;
+use crate::reply::{append, number_of};
+use std::io::Write;
+
+/// The decimal digits of each number below 100.
+const TWO_DIGITS: [[u8; 2]; 100] = {
+    let (mut all, mut number) = ([[0; 2]; 100], 0);
+    while number < 100 {
+        all[number] = [b'0' + number as u8 / 10, b'0' + number as u8 % 10];
+        number += 1;
+    }
+    all
+};
+
+/// Appends a number in decimal. Of a `u128`, each division takes longer.
+pub(crate) fn append_decimal(number: u128, out: &mut Bytes) -> Result<(), ToolFault> {
+    let Ok(mut left) = u64::try_from(number) else {
+        return write!(out, "{number}").or(Err(ToolFault::Memory));
+    };
+    // The last digits come first. A `u64` has at most twenty.
+    let (mut digits, mut start) = ([0; 20], 20);
+    while left >= 100 {
+        start -= 2;
+        [digits[start], digits[start + 1]] = TWO_DIGITS[(left % 100) as usize];
+        left /= 100;
+    }
+    start -= 2;
+    [digits[start], digits[start + 1]] = TWO_DIGITS[left as usize];
+    append(&digits[start + usize::from(left < 10)..], out)
+}
+
+/// A number as a UUID: its sixteen bytes in hexadecimal, with hyphens.
+pub(crate) fn uuid_of(number: u128) -> [u8; 36] {
+    const HEXADECIMAL: &[u8; 16] = b"0123456789abcdef";
+    const PLACES: [usize; 16] = [0, 2, 4, 6, 9, 11, 14, 16, 19, 21, 24, 26, 28, 30, 32, 34];
+    let mut uuid = [b'-'; 36];
+    for (byte, place) in number.to_be_bytes().into_iter().zip(PLACES) {
+        uuid[place] = HEXADECIMAL[usize::from(byte >> 4)];
+        uuid[place + 1] = HEXADECIMAL[usize::from(byte & 15)];
+    }
+    uuid
+}
+
+/// The input without the spaces and tabs around it.
+pub(crate) fn trim_blanks(mut input: &[u8]) -> &[u8] {
+    while let [b' ' | b'\t', rest @ ..] | [rest @ .., b' ' | b'\t'] = input {
+        input = rest;
+    }
+    input
+}
+
+/// The number that decimal digits represent, if it is below 2^128. Products of 64 bits take less time.
+pub(crate) fn parse_decimal(digits: &[u8]) -> Option<u128> {
+    let small = digits.iter().try_fold(0_u64, |number, byte| {
+        let digit = char::from(*byte).to_digit(10)?;
+        number.checked_mul(10)?.checked_add(digit.into())
+    });
+    match small {
+        Some(number) if !digits.is_empty() => Some(number.into()),
+        _ => number_of(digits),
+    }
+}
+
+/// The number that 32 hexadecimal digits represent, with or without hyphens, also in braces or after `urn:uuid:`.
+pub(crate) fn parse_uuid(input: &[u8]) -> Option<u128> {
+    let uuid = match (input, input.split_at_checked(9)) {
+        ([b'{', uuid @ .., b'}'], _) => uuid,
+        (_, Some((urn, uuid))) if urn.eq_ignore_ascii_case(b"urn:uuid:") => uuid,
+        _ => input,
+    };
+    let groups = uuid.split(|byte| *byte == b'-').map(<[u8]>::len);
+    if !groups.clone().eq([32]) && !groups.eq([8, 4, 4, 4, 12]) {
+        return None;
+    }
+    parse_hex_digits(uuid.iter().filter(|byte| **byte != b'-'))
+}
+
+/// The number that 1 to 32 hexadecimal digits represent, with or without `0x`.
+pub(crate) fn parse_hex(input: &[u8]) -> Option<u128> {
+    let digits = match input {
+        [b'0', b'x' | b'X', digits @ ..] => digits,
+        _ => input,
+    };
+    matches!(digits.len(), 1..=32)
+        .then(|| parse_hex_digits(digits.iter()))
+        .flatten()
+}
+
+/// The number that at most 32 hexadecimal digits represent, in either case.
+fn parse_hex_digits<'a>(mut digits: impl Iterator<Item = &'a u8>) -> Option<u128> {
+    digits.try_fold(0, |number, byte| {
+        Some((number << 4) | u128::from(char::from(*byte).to_digit(16)?))
+    })
+}

@@ -18,7 +18,7 @@ required=(build cargo cargo-clippy clang clang-tidy cmake ensurepip g++ gcc git 
     uuidgen wasm-ld wheel)
 # and `make setup-full` these too.
 optional=(aarch64-linux-gnu-gcc arm-linux-gnueabihf-gcc chromium cvc4 cvc5 debootstrap django esbuild express firefox-esr
-    fish frama-c go help2man i686-linux-gnu-gcc jsdom librust node-base62 ocamlfind pandas pydantic qemu-aarch64 qemu-arm
+    fish frama-c gawk go help2man i686-linux-gnu-gcc jsdom librust mlr node-base62 ocamlfind pandas pydantic qemu-aarch64 qemu-arm
     qemu-i386 qemu-riscv64 qemu-s390x riscv64-linux-gnu-gcc ruby-base62 s390x-linux-gnu-gcc shortuuid sqlalchemy why3 wine
     x86_64-w64-mingw32-gcc z3 zsh)
 # The packages of Debian that have them, where their names are others.
@@ -27,7 +27,7 @@ declare -A packages=(
     [gmpy2]=python3-gmpy2 [pandas]=python3-pandas [pip]=python3-pip [pydantic]=python3-pydantic [Python.h]=python3-dev [/usr/bin/python3]=python3
     [shortuuid]=python3-shortuuid [sqlalchemy]=python3-sqlalchemy [wheel]=python3-wheel-whl [cargo-clippy]=rust-clippy
     [clang]='clang libclang-rt-dev' [gcc]='gcc libc6-dev' [gmp.h]=libgmp-dev [gnuplot]=gnuplot-nox [go]=golang-go
-    [node]=nodejs [script]=bsdutils [tsc]=node-typescript
+    [mlr]=miller [node]=nodejs [script]=bsdutils [tsc]=node-typescript
     [wasm-ld]=lld [pg_virtualenv]=postgresql-common [postgres]=postgresql [postgres.h]=postgresql-server-dev-all
     [sqlite3ext.h]=libsqlite3-dev [frama-c]=frama-c-base [ocamlfind]=ocaml-findlib [wine]='wine wine64'
     [jsdom]=node-jsdom [librust]='librust-serde-dev librust-uuid-dev' [uuidgen]=uuid-runtime [x86_64-w64-mingw32-gcc]=gcc-mingw-w64-x86-64

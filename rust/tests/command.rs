@@ -8,6 +8,7 @@ mod support;
 
 use std::env;
 use std::path::Path;
+use support::{STANDARD, digits};
 
 const PROGRAM: &str = env!("CARGO_BIN_EXE_base62");
 const ALPHABET: &str = "0123456789ABCDEFGHIJKLMNOPQRSTUVWXYZabcdefghijklmnopqrstuvwxyz";
@@ -67,6 +68,37 @@ fn lines() {
     prints("printf 'LZ\\r\\nz\\r\\n' | base62 decode", "1337\n61\n");
     prints("base62 decode </dev/null", "");
     prints("base62 encode <&-", "");
+}
+
+#[test]
+fn carriage_returns() {
+    prints(
+        r"{ printf '1337\r'; sleep .2; printf '\n61\r\n'; } | base62 encode",
+        "LZ\nz\n",
+    );
+    // Reads end anywhere in these lines.
+    let line = r"for ((n = 0; n < 20000; n++)); do printf '%s\r\n' $((n * n)); done >$file; base62 encode <$file";
+    let strings = (0..20_000).map(|n| [digits(STANDARD, n * n), b"\n".to_vec()].concat());
+    let strings: Vec<u8> = strings.flatten().collect();
+    prints(&in_a_file(line), &String::from_utf8(strings).unwrap());
+}
+
+/// A read takes 32,768 bytes.
+#[test]
+fn a_first_line_about_the_length_of_a_read() {
+    for zeros in 32_760..=32_770 {
+        for end in [r"\n", r"\r\n"] {
+            let line = format!("printf '%0{zeros}dLZ{end}z{end}!' 0 >$file; base62 decode <$file");
+            let error =
+                "base62: line 3: !: Encoded input contains the invalid byte b'!' at index 0\n";
+            ends(&in_a_file(&line), 1, "1337\n61\n\n", error);
+        }
+    }
+}
+
+/// The line, with a name for a new file, which is removed.
+fn in_a_file(line: &str) -> String {
+    format!("file=$(mktemp); trap 'rm $file' EXIT; {line}")
 }
 
 /// As `wc -l`, `uniq -c` and `cut` of some systems write them.

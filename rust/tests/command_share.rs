@@ -1,7 +1,7 @@
 // SPDX-License-Identifier: MIT
 // Copyright (c) 2026 the maintainers of base62 for Rattle
 
-//! What is installed beside the command: the manual page is that of its help, and the completions find the words there.
+//! What is installed beside the command: the manual pages are those of the help, and the completions find the words there.
 #![cfg(all(feature = "std", unix))]
 
 mod support;
@@ -34,14 +34,17 @@ fn is_here(tool: &str, what: &str) -> bool {
 }
 
 #[test]
-fn page() {
-    if is_here("help2man", "the page of the manual") {
-        let page = Path::new(env!("CARGO_MANIFEST_DIR")).join("share/man/man1/base62.1");
-        let page = fs::read_to_string(page).unwrap();
+fn pages() {
+    if !is_here("help2man", "the pages of the manual") {
+        return;
+    }
+    for name in ["base62", "base62_cli"] {
+        let page = format!("share/man/man1/{name}.1");
+        let page = Path::new(env!("CARGO_MANIFEST_DIR")).join(page);
         assert_eq!(
-            output_of("$file", "tests/page"),
-            page,
-            "tests/page writes it anew"
+            output_of(&format!("$file {name}"), "tests/page"),
+            fs::read_to_string(page).unwrap(),
+            "tests/page {name} writes it anew"
         );
     }
 }
@@ -49,16 +52,17 @@ fn page() {
 /// Compares the words that are completed behind some arguments.
 fn are_completed(completed: impl Fn(&str) -> String) {
     let command = "--help --version -V -h decode encode help range";
-    let decode = "--alternative --hex --letters --strict --uuid -a -l -s -u -x";
     for (arguments, words) in [
         ("", command),
         ("help", command),
         (
             "encode",
-            "--alternative --hex --letters --uuid --width -a -l -u -w -x",
+            "--alternative --hex --keep-empty --letters --uuid --width -a -e -l -u -w -x",
         ),
-        ("decode", decode),
-        ("-a decode -x", decode),
+        (
+            "decode",
+            "--alternative --hex --keep-empty --letters --strict --uuid -a -e -l -s -u -x",
+        ),
         ("range", "--alternative --letters --width -a -l -w"),
     ] {
         let output = completed(arguments);
@@ -78,7 +82,7 @@ fn words_in_bash() {
         output_of(&line, BASH)
     };
     are_completed(|arguments| completed(&format!("{arguments} ''")));
-    assert_eq!(completed("decode --s"), "--strict\n");
+    assert_eq!(completed("-a decode -x --s"), "--strict\n");
     // In the place of a value there is no word.
     for words in ["encode -w ''", "encode --width ''", "range -l ''"] {
         assert_eq!(completed(words), "\n");
@@ -106,36 +110,43 @@ fn words_in_fish() {
         let words: Vec<_> = words.map(|line| line.split('\t').next().unwrap()).collect();
         words.join("\n")
     });
-    assert_eq!(
-        completed("decode --h"),
-        "--hex\tprint hexadecimal numbers\n"
-    );
+    assert_eq!(completed("decode --h"), "--hex\tnumbers are hexadecimal\n");
     // An option that needs a value is the last of an argument.
     assert_eq!(completed("encode -w"), "");
 }
+
+/// A zsh at a terminal of its own, in which the tab key is pressed behind each line of `$lines`. It writes each word that it
+/// completes to the file `$found`.
+const ZSH_AT_TERMINAL: &str = r#"
+found=$(mktemp); trap 'rm $found' EXIT; export found lines
+start='fpath=(${file:h} $fpath); autoload -Uz compinit; compinit -u -D; LISTMAX=1000
+    compadd() {
+        local -a hits
+        [[ ${@[1,(i)--]} = *\ -[OAD]\ * ]] || { builtin compadd -A hits "$@"; print -rl -- $hits >>$found }
+        builtin compadd "$@"
+    }
+    clear() { BUFFER= }; zle -N clear; bindkey ^X clear
+    leave() { exit }; zle -N leave; bindkey ^G leave; echo rea""dy' timeout 60 zsh -fc '
+    zmodload zsh/zpty
+    zpty terminal zsh -fi
+    zpty -w terminal "eval \$start"
+    zpty -r terminal said "*ready*"
+    for line in ${(f)lines}; zpty -n -w terminal "$line"$'"'\t\x18'"'
+    zpty -n -w terminal $'"'\a'"'
+    while zpty -r terminal said; do :; done'
+sort -u $found | grep ."#;
 
 #[test]
 fn words_in_zsh() {
     if !is_here("zsh", "completions of zsh") {
         return;
     }
-    // Prints what zsh completes: options, and subcommands if the next word may be one.
-    let completed = |arguments: &str| {
-        let line = format!(
-            r#"zsh -fc '_arguments() {{ print -rl -- ${{(M)@:#\(*}} ${{${{(M)@:#${{#words}}:subcommand:*}}:+$subcommands}}; }}
-            words=(base62 {arguments}); source $file'"#
-        );
-        output_of(&line, ZSH)
-    };
-    are_completed(|arguments| {
-        let output = completed(arguments);
-        let words = output.lines().map(|line| line.rsplit(')').next().unwrap());
-        let words: Vec<_> = words
-            .map(|word| word.split(['[', ':']).next().unwrap())
-            .collect();
-        words.join("\n")
-    });
-    let decode = completed("decode");
-    assert!(decode.contains("\n(-x --hex)-x[print hexadecimal numbers]\n"));
-    assert!(decode.contains("the zero first]:LETTERS:\n"));
+    let completed = |lines: &str| output_of(&format!("lines='{lines}'; {ZSH_AT_TERMINAL}"), ZSH);
+    // Without a hyphen it completes subcommands, if there is none.
+    are_completed(|arguments| completed(&format!("base62 {arguments} \nbase62 {arguments} -")));
+    assert_eq!(completed("base62 decode --s"), "--strict\n");
+    // In the place of a value there is no word, and no option twice.
+    let line =
+        "base62 encode --width \nbase62 -a decode -s --s\nbase62 range -w5 --w\nbase62 range --w";
+    assert_eq!(completed(line), "--width\n");
 }

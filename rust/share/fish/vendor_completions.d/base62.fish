@@ -8,7 +8,7 @@ for subcommand in help encode decode range
     set -l condition "__fish_seen_subcommand_from $subcommand"
     test $subcommand = help; and set condition 'not __fish_seen_subcommand_from encode decode range'
     for line in (base62 help $subcommand 2>/dev/null)
-        if set -l found (string match -r '^  -(.), --([a-z]+)( [A-Z]+|)  +(.*)' -- $line)
+        if set -l found (string match -r '^  -(.), --([a-z-]+)( [A-Z]+|)  +(.*)' -- $line)
             set -l value
             test -z $found[4]; or set value -x
             complete -c base62 -n $condition -s $found[2] -l $found[3] $value -d $found[5]

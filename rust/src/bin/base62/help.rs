@@ -2,8 +2,8 @@
 // Copyright (c) 2026 the maintainers of base62 for Rattle
 
 //! The tables of subcommands and options, by which arguments are parsed, and the help, which is printed from them.
-//! `tests/page` writes the manual page from the help, and the completions read it from the installed command. A test
-//! runs the examples.
+//! The completions read the help of the installed command, and `tests/page` writes the manual page from it. A test runs
+//! the examples.
 
 use crate::conversion::{Converter, Settings};
 
@@ -84,7 +84,7 @@ pub(crate) static OPTIONS: [CommandOption; 9] = [
         letter: b'w',
         name: "width",
         value: "N",
-        purpose: "strings have N characters, with leading zeros",
+        purpose: "strings have exactly N characters, with leading zeros",
     },
     CommandOption {
         letter: b's',

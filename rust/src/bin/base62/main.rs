@@ -32,11 +32,11 @@ use std::{env, ffi::OsString};
 use streams::{print, report, status_of};
 
 fn main() -> ExitCode {
-    if env::args_os().len() < 2 {
+    let mut arguments = env::args_os().skip(1).peekable();
+    if arguments.peek().is_none() {
         return status_of(no_arguments::reply());
     }
-    let arguments = env::args_os().skip(1).map(OsString::into_encoded_bytes);
-    match arguments::parse(arguments) {
+    match arguments::parse(arguments.map(OsString::into_encoded_bytes)) {
         Ok(Request::Convert(task)) => status_of(printer::print_all(&task)),
         Ok(Request::Print(text)) => status_of(print(text.as_bytes()).map(|()| ExitCode::SUCCESS)),
         Err(error) => {

@@ -15,8 +15,11 @@ pub(crate) fn reply() -> Result<ExitCode, ToolFault> {
         "no subcommand is given, so it replies to lines, which ends with version 4.0: \
          call base62_cli, or try base62 --help",
     );
-    let mut replies = Replies { has_error: false };
-    tool::run(&mut Input, &mut replies)?;
+    let mut replies = Replies {
+        output: Output::new(),
+        has_error: false,
+    };
+    tool::run(&mut Input::new(), &mut replies)?;
     Ok(if replies.has_error {
         ExitCode::FAILURE
     } else {
@@ -26,13 +29,14 @@ pub(crate) fn reply() -> Result<ExitCode, ToolFault> {
 
 /// Writes replies to standard output, and looks for an error among them.
 struct Replies {
+    output: Output,
     has_error: bool,
 }
 
 impl Write for Replies {
     /// The program hands over whole replies, and so this writes all of them.
     fn write(&mut self, replies: &[u8]) -> io::Result<usize> {
-        Output.write_all(replies)?;
+        self.output.write_all(replies)?;
         let mut lines = replies.split(|byte| *byte == b'\n');
         self.has_error |= lines.any(|reply| reply.starts_with(b"fault: "));
         Ok(replies.len())

@@ -97,9 +97,10 @@ impl Printer<'_> {
     /// Prints the result for each line of standard input. Writes the results so far before a read, which may block.
     fn print_lines(&mut self) -> Result<(), ToolFault> {
         let (mut chunk, mut start, mut number) = ([0; CHUNK_LEN], Bytes::new(), 0);
+        let mut input = Input::new();
         loop {
             self.flush()?;
-            let Ok(count) = Input.read(&mut chunk) else {
+            let Ok(count) = input.read(&mut chunk) else {
                 return Err(ToolFault::Read);
             };
             if count == 0 {

@@ -8,6 +8,7 @@ use std::io::{self, IsTerminal, Read};
 
 /// Standard input. Reports the hint if it is a terminal, or if the first line does not begin with a command.
 pub(crate) struct HintingInput {
+    input: Input,
     /// The first bytes, and how many there are.
     start: [u8; 4],
     length: usize,
@@ -22,6 +23,7 @@ impl HintingInput {
             report_hint();
         }
         HintingInput {
+            input: Input::new(),
             start: [0; 4],
             length: 0,
             is_done: is_terminal,
@@ -49,7 +51,7 @@ fn report_hint() {
 
 impl Read for HintingInput {
     fn read(&mut self, buf: &mut [u8]) -> io::Result<usize> {
-        let count = Input.read(buf)?;
+        let count = self.input.read(buf)?;
         if !self.is_done {
             self.look_at(&buf[..count]);
         }

@@ -29,9 +29,9 @@ Usage: base62_cli [OPTION]
 Replies to each line of standard input with one line.
 
   enc NUMBER  the reply is the encoded string of a decimal number below 2^128
-  dec STRING  the reply is the number that the string represents
+  dec STRING  the reply is the decimal number that the string represents
   alt NUMBER  like enc, but in the alphabet 0 to 9, a to z, A to Z
-  adc STRING  like dec, but in this alphabet
+  adc STRING  like dec, but in that alphabet
 
   -h, --help     print this help
   -V, --version  print the version
@@ -51,7 +51,7 @@ const VERSION: &str = concat!("base62_cli ", env!("CARGO_PKG_VERSION"), "\n");
 fn main() -> ExitCode {
     let argument = env::args_os().nth(1).map(OsString::into_encoded_bytes);
     let outcome = match argument.as_deref() {
-        None => tool::run(&mut HintingInput::new(), &mut Output),
+        None => tool::run(&mut HintingInput::new(), &mut Output::new()),
         Some(b"-h" | b"--help") => print(HELP.as_bytes()),
         Some(b"-V" | b"--version") => print(VERSION.as_bytes()),
         Some(_) => {

@@ -6,15 +6,21 @@
 use crate::fault::ToolFault;
 use crate::memory::Bytes;
 use std::fmt::Display;
-use std::io::{self, ErrorKind, Read, Write};
+use std::io::{self, ErrorKind, Read, Stdin, Stdout, Write};
 use std::process::{self, ExitCode};
 
-/// Standard input.
-pub(crate) struct Input;
+/// Standard input. The runtime of Rust allocates its buffer here, and aborts if it cannot.
+pub(crate) struct Input(Stdin);
+
+impl Input {
+    pub(crate) fn new() -> Input {
+        Input(io::stdin())
+    }
+}
 
 impl Read for Input {
     fn read(&mut self, buf: &mut [u8]) -> io::Result<usize> {
-        read_uninterrupted(&mut io::stdin(), buf)
+        read_uninterrupted(&mut self.0, buf)
     }
 }
 
@@ -28,15 +34,21 @@ pub(crate) fn read_uninterrupted(input: &mut impl Read, buf: &mut [u8]) -> io::R
     }
 }
 
-/// Standard output. A closed pipe ends the program, as SIGPIPE does, but with status 0.
-pub(crate) struct Output;
+/// Standard output, whose buffer is allocated likewise. A closed pipe ends the program, as SIGPIPE does, but with
+/// status 0.
+pub(crate) struct Output(Stdout);
+
+impl Output {
+    pub(crate) fn new() -> Output {
+        Output(io::stdout())
+    }
+}
 
 impl Write for Output {
     /// Flushes too: a write may leave some bytes in a buffer.
     fn write(&mut self, bytes: &[u8]) -> io::Result<usize> {
-        let mut stdout = io::stdout();
-        let written = stdout.write(bytes);
-        let written = written.and_then(|count| stdout.flush().map(|()| count));
+        let written = self.0.write(bytes);
+        let written = written.and_then(|count| self.0.flush().map(|()| count));
         written.inspect_err(|error| {
             if error.kind() == ErrorKind::BrokenPipe {
                 process::exit(0);
@@ -51,7 +63,7 @@ impl Write for Output {
 
 /// Writes all bytes to standard output.
 pub(crate) fn print(bytes: &[u8]) -> Result<(), ToolFault> {
-    Output.write_all(bytes).or(Err(ToolFault::Write))
+    Output::new().write_all(bytes).or(Err(ToolFault::Write))
 }
 
 /// Writes one line to standard error. If this fails, only the exit status reports the error.

@@ -13,7 +13,7 @@ use std::io::Write;
 use std::os::unix::ffi::OsStrExt;
 use std::process::{Command, Output, Stdio};
 use std::thread;
-use support::{bytes, decode_error, rows};
+use support::{STANDARD, bytes, decode_error, digits, rows};
 
 /// A row of values, without its kind.
 type Row = Vec<&'static str>;
@@ -137,6 +137,28 @@ fn values_of_texts() {
             );
         }
     });
+}
+
+/// Each count of decimal digits, with and without leading zeros.
+#[test]
+fn decimal_numbers() {
+    let powers = (0..39).map(|count| 10_u128.pow(count));
+    let last = [u128::from(u64::MAX), u128::from(u64::MAX) + 1, u128::MAX];
+    let numbers: Vec<_> = powers
+        .flat_map(|it| [it - 1, it, it + 1])
+        .chain(last)
+        .collect();
+    let line = |number: &u128| (number.to_string().into(), Ok(digits(STANDARD, *number)));
+    check(&["encode"], numbers.iter().map(line));
+    let line = |number: &u128| {
+        (
+            format!("{number:050}").into(),
+            Ok(digits(STANDARD, *number)),
+        )
+    };
+    check(&["encode"], numbers.iter().map(line));
+    let line = |number: &u128| (digits(STANDARD, *number), Ok(number.to_string().into()));
+    check(&["decode"], numbers.iter().map(line));
 }
 
 #[test]

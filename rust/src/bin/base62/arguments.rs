@@ -21,25 +21,28 @@ pub(crate) struct Task {
     pub(crate) operands: Vec<Vec<u8>>,
 }
 
+/// An option and its value, which is empty if it has none.
+type Given = (&'static CommandOption, Vec<u8>);
+
 /// Parses the arguments after the name of the program. An error says what is wrong with them.
-pub(crate) fn parse(rest: impl Iterator<Item = Vec<u8>>) -> Result<Request, String> {
-    let mut arguments = Arguments {
-        rest,
-        letters: Vec::new().into_iter(),
-        has_only_operands: false,
-    };
-    let (mut options, mut operands) = (Vec::new(), Vec::new());
-    while let Some(argument) = arguments.next()? {
-        match argument {
-            Argument::Operand(operand) => operands.push(operand),
-            Argument::Option(option, _) if option.name == "version" => {
-                return Ok(Request::Print(VERSION.into()));
+pub(crate) fn parse(mut rest: impl Iterator<Item = Vec<u8>>) -> Result<Request, String> {
+    let (mut given, mut operands) = (Vec::new(), Vec::new());
+    while let Some(argument) = rest.next() {
+        match argument.as_slice() {
+            b"--" => operands.extend(rest.by_ref()),
+            [b'-', b'-', ..] => given.push(long_option(&argument, &mut rest)?),
+            [b'-', letters @ ..] if !letters.is_empty() => {
+                short_options(letters, &mut rest, &mut given)?;
             }
-            Argument::Option(option, _) if option.name == "help" => {
-                let behind = arguments.rest.filter(|it| !it.starts_with(b"-"));
-                return help_of(operands.into_iter().chain(behind));
-            }
-            Argument::Option(option, value) => options.push((option, value)),
+            _ => operands.push(argument),
+        }
+        let is_given = |name| given.iter().any(|(option, _)| option.name == name);
+        if is_given("version") {
+            return Ok(Request::Print(VERSION.into()));
+        }
+        if is_given("help") {
+            let behind = rest.filter(|argument| !argument.starts_with(b"-"));
+            return help_of(operands.into_iter().chain(behind));
         }
     }
     let mut operands = operands.into_iter();
@@ -50,7 +53,7 @@ pub(crate) fn parse(rest: impl Iterator<Item = Vec<u8>>) -> Result<Request, Stri
     let subcommand = find_subcommand(&name)?;
     Ok(Request::Convert(Box::new(Task {
         subcommand,
-        settings: settings_of(subcommand, &options)?,
+        settings: settings_of(subcommand, &given)?,
         operands: operands.collect(),
     })))
 }
@@ -67,6 +70,50 @@ fn find_subcommand(name: &[u8]) -> Result<&'static Subcommand, String> {
     found.ok_or_else(|| format!("there is no subcommand {}", Escaped(name)))
 }
 
+type Rest<'a> = &'a mut dyn Iterator<Item = Vec<u8>>;
+
+/// The option of an argument such as `--width` or `--width=11`.
+fn long_option(argument: &[u8], rest: Rest) -> Result<Given, String> {
+    let mut parts = argument.splitn(2, |byte| *byte == b'=');
+    let name = parts.next().unwrap_or_default();
+    let option = find_option(name, |it| it.name.as_bytes() == &name[2..])?;
+    let value = parts.next().map(<[u8]>::to_vec);
+    if value.is_some() && option.value.is_empty() {
+        return Err(format!("{} takes no value", Escaped(name)));
+    }
+    Ok((option, value_of(name, option, value, rest)?))
+}
+
+/// The options of an argument such as `-suw11`, without the hyphen.
+fn short_options(letters: &[u8], rest: Rest, given: &mut Vec<Given>) -> Result<(), String> {
+    for (index, letter) in letters.iter().enumerate() {
+        let name = [b'-', *letter];
+        let option = find_option(&name, |it| it.letter == *letter)?;
+        let behind = &letters[index + 1..];
+        let has_value = !option.value.is_empty() && !behind.is_empty();
+        let value = has_value.then(|| behind.to_vec());
+        given.push((option, value_of(&name, option, value, rest)?));
+        if has_value {
+            break;
+        }
+    }
+    Ok(())
+}
+
+/// The value in the same argument, or the next argument if the option needs it.
+fn value_of(
+    name: &[u8],
+    option: &CommandOption,
+    value: Option<Vec<u8>>,
+    rest: Rest,
+) -> Result<Vec<u8>, String> {
+    if option.value.is_empty() {
+        return Ok(Vec::new());
+    }
+    let value = value.or_else(|| rest.next());
+    value.ok_or_else(|| format!("{} needs a value", Escaped(name)))
+}
+
 fn find_option(
     name: &[u8],
     is_it: impl Fn(&CommandOption) -> bool,
@@ -75,81 +122,8 @@ fn find_option(
     found.ok_or_else(|| format!("there is no option {}", Escaped(name)))
 }
 
-/// An operand, or an option and its value, which is empty if the option has none.
-enum Argument {
-    Operand(Vec<u8>),
-    Option(&'static CommandOption, Vec<u8>),
-}
-
-struct Arguments<I> {
-    rest: I,
-    /// What is left of an argument such as `-suw11`.
-    letters: std::vec::IntoIter<u8>,
-    /// After `--`.
-    has_only_operands: bool,
-}
-
-impl<I: Iterator<Item = Vec<u8>>> Arguments<I> {
-    fn next(&mut self) -> Result<Option<Argument>, String> {
-        if let Some(letter) = self.letters.next() {
-            return self.short_option(letter).map(Some);
-        }
-        let Some(argument) = self.rest.next() else {
-            return Ok(None);
-        };
-        match argument.as_slice() {
-            b"--" if !self.has_only_operands => {
-                self.has_only_operands = true;
-                self.next()
-            }
-            [b'-', b'-', _, ..] if !self.has_only_operands => self.long_option(&argument).map(Some),
-            [b'-', _, ..] if !self.has_only_operands => {
-                self.letters = argument.into_iter();
-                self.letters.next();
-                self.next()
-            }
-            _ => Ok(Some(Argument::Operand(argument))),
-        }
-    }
-
-    /// An option such as `-w`. Its value is what is left of the argument, or the next argument.
-    fn short_option(&mut self, letter: u8) -> Result<Argument, String> {
-        let name = [b'-', letter];
-        let option = find_option(&name, |it| it.letter == letter)?;
-        if option.value.is_empty() {
-            return Ok(Argument::Option(option, Vec::new()));
-        }
-        let left: Vec<u8> = self.letters.by_ref().collect();
-        let value = if left.is_empty() {
-            self.rest.next()
-        } else {
-            Some(left)
-        };
-        let value = value.ok_or_else(|| format!("{} needs a value", Escaped(&name)))?;
-        Ok(Argument::Option(option, value))
-    }
-
-    /// An option such as `--width`, or `--width=11` with its value.
-    fn long_option(&mut self, argument: &[u8]) -> Result<Argument, String> {
-        let mut parts = argument.splitn(2, |byte| *byte == b'=');
-        let name = parts.next().unwrap_or_default();
-        let option = find_option(name, |it| it.name.as_bytes() == &name[2..])?;
-        let given = parts.next().map(<[u8]>::to_vec);
-        let value = match (option.value.is_empty(), given) {
-            (true, Some(_)) => return Err(format!("--{} takes no value", option.name)),
-            (true, None) => Some(Vec::new()),
-            (false, given) => given.or_else(|| self.rest.next()),
-        };
-        let value = value.ok_or_else(|| format!("--{} needs a value", option.name))?;
-        Ok(Argument::Option(option, value))
-    }
-}
-
 /// What the options of a subcommand set. The last one of a kind applies.
-fn settings_of(
-    subcommand: &Subcommand,
-    options: &[(&CommandOption, Vec<u8>)],
-) -> Result<Settings, String> {
+fn settings_of(subcommand: &Subcommand, given: &[Given]) -> Result<Settings, String> {
     let mut settings = Settings {
         alphabet: Alphabet::standard(),
         width: None,
@@ -157,12 +131,10 @@ fn settings_of(
         notation: Notation::Decimal,
         keeps_empty: false,
     };
-    for (option, value) in options {
+    for (option, value) in given {
         if !subcommand.options.contains(&option.letter) {
-            return Err(format!(
-                "{} has no option --{}",
-                subcommand.name, option.name
-            ));
+            let (name, option) = (subcommand.name, option.name);
+            return Err(format!("{name} has no option --{option}"));
         }
         match option.name {
             "alternative" => settings.alphabet = Alphabet::alternative(),
@@ -192,13 +164,9 @@ fn parse_alphabet(value: &[u8]) -> Result<Alphabet, String> {
     if !value.iter().all(|byte| matches!(byte, b' '..=b'~')) {
         return Err("an alphabet has 62 printable ASCII characters".into());
     }
-    let count = value.len();
-    let characters = if count == 1 {
-        "character"
-    } else {
-        "characters"
-    };
-    let letters = value.try_into();
-    let letters = letters.map_err(|_| format!("the alphabet has {count} {characters}, not 62"))?;
+    let letters = value.try_into().map_err(|_| match value.len() {
+        1 => "the alphabet has 1 character, not 62".into(),
+        count => format!("the alphabet has {count} characters, not 62"),
+    })?;
     Alphabet::new(letters).map_err(|error| error.to_string())
 }

@@ -126,30 +126,10 @@ pub(crate) static OPTIONS: [CommandOption; 9] = [
 
 pub(crate) const VERSION: &str = concat!("base62 ", env!("CARGO_PKG_VERSION"), "\n");
 
-/// The help of a subcommand, or of the command.
-pub(crate) fn help(subcommand: Option<&Subcommand>) -> String {
-    match subcommand {
-        Some(it) => format!(
-            "Usage: base62 {} [OPTION]... [{}]...\n{}\n\n{}\n  {}\n",
-            it.name,
-            it.operand,
-            it.description,
-            table(rows_of_options(it.options)),
-            it.example.join("\n  ")
-        ),
-        None => format!(
-            "{COMMAND}{}\n{}{INPUT}",
-            table(rows_of_subcommands()),
-            table(rows_of_options(b"hV"))
-        ),
-    }
-}
-
 const COMMAND: &str = "\
 Usage: base62 SUBCOMMAND [OPTION]... [OPERAND]...
 Encodes unsigned integers below 2^128 as short strings of 0 to 9, A to Z and
 a to z, or of a custom alphabet, and decodes them.
-
 ";
 
 const INPUT: &str = "
@@ -165,32 +145,32 @@ Exit status:
   2  an argument is invalid
 ";
 
-/// What is called or written, and what it is for.
-type Row = (String, &'static str);
-
-fn rows_of_subcommands() -> Vec<Row> {
-    let row = |it: &Subcommand| (format!("{} [{}]...", it.name, it.operand), it.purpose);
-    let mut rows: Vec<_> = SUBCOMMANDS.iter().map(row).collect();
-    rows.push(("help [SUBCOMMAND]".into(), HELP));
-    rows
+/// The help of a subcommand, or of the command.
+pub(crate) fn help(subcommand: Option<&Subcommand>) -> String {
+    if let Some(it) = subcommand {
+        let (options, example) = (rows_of_options(it.options), it.example.join("\n  "));
+        return format!(
+            "Usage: base62 {} [OPTION]... [{}]...\n{}\n\n{options}\n  {example}\n",
+            it.name, it.operand, it.description
+        );
+    }
+    let rows = SUBCOMMANDS.iter().map(|it| {
+        let called = format!("{} [{}]...", it.name, it.operand);
+        row(&called, it.purpose)
+    });
+    let rows: String = rows.chain([row("help [SUBCOMMAND]", HELP)]).collect();
+    format!("{COMMAND}\n{rows}\n{}{INPUT}", rows_of_options(b"hV"))
 }
 
-fn rows_of_options(letters: &[u8]) -> Vec<Row> {
+fn rows_of_options(letters: &[u8]) -> String {
     let options = OPTIONS.iter().filter(|it| letters.contains(&it.letter));
-    options.map(row_of_option).collect()
+    let rows = options.map(|it| {
+        let names = format!("-{}, --{} {}", char::from(it.letter), it.name, it.value);
+        row(names.trim_end(), it.purpose)
+    });
+    rows.collect()
 }
 
-fn row_of_option(it: &CommandOption) -> Row {
-    let names = format!("-{}, --{} {}", char::from(it.letter), it.name, it.value);
-    (names.trim_end().into(), it.purpose)
-}
-
-/// The rows in two columns.
-fn table(rows: Vec<Row>) -> String {
-    let width = rows.iter().map(|(left, _)| left.len()).max();
-    let width = width.unwrap_or_default();
-    let lines = rows
-        .iter()
-        .map(|(left, right)| format!("  {left:width$}  {right}\n"));
-    lines.collect()
+fn row(left: &str, right: &str) -> String {
+    format!("  {left:21}  {right}\n")
 }

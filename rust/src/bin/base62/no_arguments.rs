@@ -20,11 +20,7 @@ pub(crate) fn reply() -> Result<ExitCode, ToolFault> {
         has_error: false,
     };
     tool::run(&mut Input::new(), &mut replies)?;
-    Ok(if replies.has_error {
-        ExitCode::FAILURE
-    } else {
-        ExitCode::SUCCESS
-    })
+    Ok(ExitCode::from(u8::from(replies.has_error)))
 }
 
 /// Writes replies to standard output, and looks for an error among them.

@@ -3,6 +3,7 @@
 
 //! The translated program, over readers and writers that move one byte a call.
 
+use crate::line_end::line_end;
 use crate::streams::read_uninterrupted;
 use crate::tool::{CHUNK_LEN, run};
 use std::collections::VecDeque;
@@ -132,6 +133,23 @@ fn lines_about_the_length_of_a_read() {
         for (behind, last) in [("", ""), ("\n", ""), ("\nenc 1337\n", "LZ\n")] {
             let output = [&reply, last].concat();
             replies(&[&line, behind.as_bytes()].concat(), output.as_bytes());
+        }
+    }
+}
+
+/// Eight bytes are compared at a time, by a subtraction whose borrow reaches the bytes behind the first end of a line.
+#[test]
+fn line_ends_at_each_index() {
+    for byte in [0, 9, 11, 10 ^ 128, 255] {
+        for length in 0..34 {
+            assert_eq!(line_end(&vec![byte; length]), None);
+            for end in 0..length {
+                let mut bytes = vec![byte; length];
+                bytes[end] = b'\n';
+                assert_eq!(line_end(&bytes), Some(end));
+                bytes[length - 1] = b'\n';
+                assert_eq!(line_end(&bytes), Some(end));
+            }
         }
     }
 }

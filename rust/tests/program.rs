@@ -169,7 +169,7 @@ fn in_a_file(line: &str) -> String {
 #[cfg(target_os = "linux")]
 #[test]
 fn no_memory_for_a_line() {
-    let line = r#"{ echo enc 1337; exec cat /dev/zero; } 2>/dev/null | (ulimit -v 65536; exec "$program")"#;
+    let line = r#"{ echo enc 1337; exec head -c 200000000 /dev/zero; } 2>/dev/null | (ulimit -v 65536; exec "$program")"#;
     assert_eq!(
         run(line),
         (Some(1), "LZ\n".into(), message("out of memory"))

@@ -17,17 +17,17 @@ required=(build cargo cargo-clippy clang clang-tidy cmake ensurepip g++ gcc git 
     pg_virtualenv pip pkg-config postgres postgres.h Python.h python3 /usr/bin/python3 reuse rustfmt script sqlite3 sqlite3ext.h tsc
     uuidgen wasm-ld wheel)
 # and `make setup-full` these too.
-optional=(aarch64-linux-gnu-gcc arm-linux-gnueabihf-gcc chromium cvc4 cvc5 debootstrap django esbuild express firefox-esr
-    fish frama-c go help2man i686-linux-gnu-gcc jsdom librust node-base62 ocamlfind pandas pydantic qemu-aarch64 qemu-arm
+optional=(aarch64-linux-gnu-gcc arm-linux-gnueabihf-gcc chromium cvc4 cvc5 debootstrap distributed django duckdb esbuild express firefox-esr
+    fish frama-c go help2man i686-linux-gnu-gcc jsdom librust node-base62 ocamlfind pandas pyarrow pydantic qemu-aarch64 qemu-arm
     qemu-i386 qemu-riscv64 qemu-s390x riscv64-linux-gnu-gcc ruby-base62 s390x-linux-gnu-gcc shortuuid sqlalchemy why3 wine
     x86_64-w64-mingw32-gcc z3 zsh)
 # The packages of Debian that have them, where their names are others.
 declare -A packages=(
-    [build]=python3-build [django]=python3-django [ensurepip]=python3-venv [express]=node-express
-    [gmpy2]=python3-gmpy2 [pandas]=python3-pandas [pip]=python3-pip [pydantic]=python3-pydantic [Python.h]=python3-dev [/usr/bin/python3]=python3
+    [build]=python3-build [distributed]=python3-distributed [django]=python3-django [ensurepip]=python3-venv [express]=node-express
+    [gmpy2]=python3-gmpy2 [pandas]=python3-pandas [pip]=python3-pip [pyarrow]=python3-pyarrow [pydantic]=python3-pydantic [Python.h]=python3-dev [/usr/bin/python3]=python3
     [shortuuid]=python3-shortuuid [sqlalchemy]=python3-sqlalchemy [wheel]=python3-wheel-whl [cargo-clippy]=rust-clippy
     [clang]='clang libclang-rt-dev' [gcc]='gcc libc6-dev' [gmp.h]=libgmp-dev [gnuplot]=gnuplot-nox [go]=golang-go
-    [node]=nodejs [script]=bsdutils [tsc]=node-typescript
+    [duckdb]='duckdb libduckdb-dev' [node]=nodejs [script]=bsdutils [tsc]=node-typescript
     [wasm-ld]=lld [pg_virtualenv]=postgresql-common [postgres]=postgresql [postgres.h]=postgresql-server-dev-all
     [sqlite3ext.h]=libsqlite3-dev [frama-c]=frama-c-base [ocamlfind]=ocaml-findlib [wine]='wine wine64'
     [jsdom]=node-jsdom [librust]='librust-serde-dev librust-uuid-dev' [uuidgen]=uuid-runtime [x86_64-w64-mingw32-gcc]=gcc-mingw-w64-x86-64
@@ -40,6 +40,8 @@ declare -A packages=(
 # The oldest Rust that the crate is for, and the folder for the oldest one of Debian that can.
 oldest_rust=$(sed -n 's/^rust-version = "\(.*\)"$/\1/p' rust/Cargo.toml)
 old_rust=${XDG_CACHE_HOME:-~/.cache}/base62-rust
+# The root of Debian unstable, which scripts/fetch-unstable makes.
+unstable=${XDG_CACHE_HOME:-~/.cache}/base62-unstable
 
 # VERSION VERSION. Whether the first is not after the second.
 in_order() {
@@ -55,7 +57,9 @@ version_of() {
 is_installed() {
     case $1 in
         # Of the system's Python, if there is one: Debian's setuptools works with no other.
-        build | django | ensurepip | gmpy2 | pandas | pip | pydantic | shortuuid | sqlalchemy) PATH=/usr/bin:$PATH python3 -c "import $1" ;;
+        build | distributed | django | ensurepip | gmpy2 | pandas | pip | pydantic | shortuuid | sqlalchemy) PATH=/usr/bin:$PATH python3 -c "import $1" ;;
+        duckdb) command -v duckdb || [[ -e $unstable/fetched ]] ;;
+        pyarrow) PATH=/usr/bin:$PATH python3 -c "import pyarrow" || [[ -e $unstable/fetched ]] ;;
         cargo) in_order "$oldest_rust" "$(version_of cargo)" ;;
         cargo-clippy | rustfmt) is_installed cargo && command -v "$1" ;;
         # Debian's file, which serves each Python without a network.
@@ -71,6 +75,19 @@ is_installed() {
         sqlite3ext.h) [[ -e /usr/include/sqlite3ext.h ]] ;;
         *) command -v "$1" ;;
     esac >/dev/null 2>&1
+}
+
+# COMMAND.. Runs a command in the root of Debian unstable, which has the current folder as /srv and $work as /mnt. What is
+# mounted there ends with it. Without root this needs user namespaces.
+in_unstable() {
+    local user=()
+    ((EUID == 0)) || user=(--map-root-user)
+    unshare --mount "${user[@]}" bash -euc '
+        for folder in proc sys dev; do mount --rbind "/$folder" "$0/$folder"; done
+        mount --bind . "$0/srv"
+        mount --bind "$1" "$0/mnt"
+        exec chroot "$0" env -i PATH=/usr/sbin:/usr/bin:/sbin:/bin HOME=/mnt LC_ALL=C.UTF-8 "${@:2}"' \
+        "$unstable" "$work" "$@"
 }
 
 # WHAT THING.. Says what is left out for lack of them, and the command that brings them. Under CI the check ends here.

@@ -21,18 +21,23 @@ class SharedSdist(sdist):
             self.copy_file(str(top / name), str(copy))
 
 
-extension = Extension(
-    "base62._base62",
-    ["base62/_base62.c", "base62/_library.c"],
-    include_dirs=[str(top / "c")],
-    depends=[str(top / "c/base62.c"), str(top / "c/base62.h")],
-    py_limited_api=True,
-)
+
+def extension(name, *sources):
+    return Extension(
+        f"base62.{name}",
+        [f"base62/{source}" for source in (*sources, "_library.c")],
+        include_dirs=[str(top / "c")],
+        depends=[str(top / "c/base62.c"), str(top / "c/base62.h"), "base62/_arrow.h", "base62/_columns.h"],
+        py_limited_api=True,
+    )
+
+
+columns = ("_columns.c", "_columns_input.c", "_columns_list.c", "_columns_read.c", "_columns_result.c")
 setup(
     version=(top / "VERSION").read_text().strip(),
     # As a field of pyproject.toml it has a form until setuptools 77, and another since.
     license="MIT",
-    ext_modules=[extension],
+    ext_modules=[extension("_base62", "_base62.c"), extension("_columns", *columns)],
     data_files=[("share/doc/base62-proved", [str(top / "CHANGELOG.md")])],
     cmdclass={"sdist": SharedSdist},
 )

@@ -1,0 +1,45 @@
+# SPDX-License-Identifier: MIT
+# Copyright (c) 2026 the maintainers of base62 for Rattle
+# Hand-written: the types of the extension, with the docstrings of what is public.
+from collections.abc import Callable
+from typing import Any, final
+from uuid import UUID
+
+from typing_extensions import Buffer
+
+from base62 import Alphabet
+
+@final
+class Column(Buffer):
+    """A column that a function of this module returns. It is immutable.
+
+    Arrow libraries take it by __arrow_c_array__. A column of numbers without nulls is a buffer of
+    uint64 too, which numpy.asarray takes without a copy.
+    """
+
+    def __len__(self) -> int: ...
+    def __arrow_c_array__(self, requested_schema: object = None) -> tuple[object, object]:
+        """Return the capsules of an ArrowSchema and an ArrowArray, which share the column's memory.
+
+        Strings are also returned as large_utf8, binary or large_binary, and UUIDs as
+        fixed_size_binary(16), if this is requested.
+        """
+
+    def __arrow_c_schema__(self) -> object:
+        """Return the capsule of an ArrowSchema."""
+
+    def tolist(self) -> list[Any]:
+        """Return the rows as a list of str, int or uuid.UUID. A null is None."""
+
+def encode(
+    column: object, alphabet: Alphabet, width: int, coerces: bool, convert_one: Callable[..., object], /
+) -> Column: ...
+def decode(
+    column: object,
+    alphabet: Alphabet,
+    is_canonical: bool,
+    is_uuid: bool,
+    coerces: bool,
+    convert_one: Callable[..., object],
+    /,
+) -> Column: ...

@@ -26,28 +26,34 @@ enum outcome { DONE, INVALID_ROW, UNREADABLE_ROW, NO_MEMORY };
 
 /* Blocks */
 
-static void store_offset(const struct conversion *conversion, int64_t row) {
-    struct result *result = conversion->result;
+/* Where the string of the row before a row ends. */
+static void store_offset(struct result *result, int64_t row, size_t offset) {
     if (result->type == UTF8)
-        ((int32_t *)result->offsets)[row] = (int32_t)conversion->used;
+        ((int32_t *)result->offsets)[row] = (int32_t)offset;
     else
-        ((int64_t *)result->offsets)[row] = (int64_t)conversion->used;
+        ((int64_t *)result->offsets)[row] = (int64_t)offset;
+}
+
+static inline size_t encode_number(const struct conversion *conversion, base62_number number, char *place, size_t size) {
+    return conversion->is_fixed
+               ? base62_encode_fixed_with(&conversion->alphabet, number, place, conversion->width)
+               : base62_encode_with(&conversion->alphabet, number, place, size);
 }
 
 static void encode_block(struct conversion *conversion, struct block *block) {
+    struct result *result = conversion->result;
+    size_t used = conversion->used;
     for (int i = 0; i < block->count; i++) {
-        char *place = conversion->result->values + conversion->used;
-        size_t length = 0, size = conversion->size - conversion->used;
+        size_t length = 0;
         if (block->states[i] == ROW_VALID) {
-            length = conversion->is_fixed
-                         ? base62_encode_fixed_with(&conversion->alphabet, block->numbers[i], place, conversion->width)
-                         : base62_encode_with(&conversion->alphabet, block->numbers[i], place, size);
+            length = encode_number(conversion, block->numbers[i], result->values + used, conversion->size - used);
             if (length == 0)
                 block->states[i] = ROW_INVALID;
         }
-        conversion->used += length;
-        store_offset(conversion, conversion->row + i + 1);
+        used += length;
+        store_offset(result, conversion->row + i + 1, used);
     }
+    conversion->used = used;
 }
 
 static void decode_block(struct conversion *conversion, struct block *block) {
@@ -217,7 +223,7 @@ static PyObject *convert_input(const struct state *state, struct conversion *con
     conversion->result = new_result_or_raise(conversion, input, type, width);
     int failed = conversion->result == NULL;
     if (!failed && conversion->kind == NUMBERS)
-        store_offset(conversion, 0);
+        store_offset(conversion->result, 0, 0);
     for (Py_ssize_t i = 0; !failed && i < input->source_count; i++)
         failed = convert_source(conversion, &input->sources[i]) != 0;
     if (failed) {

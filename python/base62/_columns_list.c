@@ -22,16 +22,20 @@ static PyObject *convert(const struct source *source, int converter, PyObject *i
 
 /* Stores an int of 2^63 or more. Returns the state of its row, or -1 with an exception. */
 static int read_wide(PyObject *integer, base62_number *number) {
-    PyObject *bytes = PyObject_CallMethod(integer, "to_bytes", "is", BASE62_UUID_LENGTH, "big");
-    if (bytes == NULL && PyErr_ExceptionMatches(PyExc_OverflowError)) {
+    PyObject *bits = PyLong_FromLong(64), *high = bits == NULL ? NULL : PyNumber_Rshift(integer, bits);
+    Py_DecRef(bits);
+    if (high == NULL)
+        return -1;
+    number->high = PyLong_AsUnsignedLongLong(high);
+    Py_DecRef(high);
+    if (number->high == UINT64_MAX && PyErr_Occurred() != NULL) {
+        if (!PyErr_ExceptionMatches(PyExc_OverflowError))
+            return -1;
         PyErr_Clear();
         return ROW_INVALID;
     }
-    const char *big = bytes == NULL ? NULL : PyBytes_AsString(bytes);
-    if (big != NULL)
-        *number = base62_number_of_uuid((const unsigned char *)big);
-    Py_DecRef(bytes);
-    return big == NULL ? -1 : ROW_VALID;
+    number->low = PyLong_AsUnsignedLongLongMask(integer);
+    return number->low == UINT64_MAX && PyErr_Occurred() != NULL ? -1 : ROW_VALID;
 }
 
 static int read_int(PyObject *integer, base62_number *number) {

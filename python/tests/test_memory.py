@@ -13,7 +13,7 @@ from typing import Any
 
 import base62
 import calls
-from base62 import _types
+from base62 import _columns, _types
 from calls import LETTERS, WIDE, Call
 
 # More allocations than any of the calls makes.
@@ -27,7 +27,8 @@ except ImportError:
 
 def outcome(call: Call, given: tuple[object, ...], named: dict[str, object]) -> object:
     try:
-        return call(*given, **named)
+        result = call(*given, **named)
+        return result.tolist() if isinstance(result, _columns.Column) else result
     except (ValueError, TypeError, OverflowError) as error:
         if not str(error) and type(error) in (ValueError, TypeError, OverflowError):
             # An earlier 3.11 drops a message whose allocation fails.
@@ -35,14 +36,22 @@ def outcome(call: Call, given: tuple[object, ...], named: dict[str, object]) -> 
         return type(error), str(error), vars(error)
 
 
-def load_extension() -> str:
-    """Return a result of a new module of the extension, which CPython's own functions load."""
-    spec = importlib.util.find_spec("base62._base62")
+def load_extension(name: str) -> Any:
+    """Return a new module of an extension, which CPython's own functions load."""
+    spec = importlib.util.find_spec(name)
     assert spec is not None
     of_python: Any = importlib.import_module("_imp")
     module = of_python.create_dynamic(spec)
     of_python.exec_dynamic(module)
-    return str(module.encode(WIDE))
+    return module
+
+
+def encode_by_new_extension() -> str:
+    return str(load_extension("base62._base62").encode(WIDE))
+
+
+def name_of_new_extension() -> str:
+    return str(load_extension("base62._columns").Column.__name__)
 
 
 @unittest.skipIf(memory is None, "this Python has no _testcapi, by which allocations fail")
@@ -105,7 +114,8 @@ class AllocationFailures(AllocationTestCase):
     def test_loading(self) -> None:
         """A module that fails to load releases what it has imported."""
         before = sys.getrefcount(_types.to_int)
-        self.sweep(load_extension)
+        self.sweep(encode_by_new_extension)
+        self.sweep(name_of_new_extension)
         gc.collect()
         self.assertEqual(sys.getrefcount(_types.to_int), before)
 

@@ -23,7 +23,7 @@ from typing import Any
 
 import base62
 import calls
-from base62 import _base62, _types
+from base62 import _base62, _columns, _types
 from calls import CUSTOM
 from paths import PACKAGE, TOP
 
@@ -36,8 +36,8 @@ class Package(unittest.TestCase):
         for name in base62.__all__:
             self.assertTrue(inspect.getdoc(getattr(base62, name)), name)
             self.assertEqual(getattr(base62, name).__module__, "base62", name)
-        types = ["AnyAlphabet", "AnyUUID", "Number", "Text"]
-        self.assertEqual([name for name in dir(base62) if name[0] != "_"], sorted(base62.__all__ + types))
+        others = ["AnyAlphabet", "AnyUUID", "Number", "Text", "columns"]
+        self.assertEqual([name for name in dir(base62) if name[0] != "_"], sorted(base62.__all__ + others))
 
     def test_version(self) -> None:
         self.assertEqual(base62.__version__, (TOP / "VERSION").read_text().strip())
@@ -47,9 +47,10 @@ class Package(unittest.TestCase):
         """The files and what they say of themselves: one wheel serves each Python from 3.11 on."""
         package = importlib.metadata.distribution("base62-proved")
         files = {file.name: file for file in package.files or () if file.suffix != ".pyc"}
-        extension = pathlib.Path(_base62.__file__).name
-        modules = [name for name, file in files.items() if file.parts[0] == "base62"]
-        self.assertEqual(sorted(modules), ["__init__.py", extension, "_base62.pyi", "_types.py", "py.typed"])
+        modules = [file.name for file in files.values() if file.parts[0] == "base62"]
+        wanted = ["__init__.py", "_base62.pyi", "_columns.pyi", "_types.py", "columns.py", "py.typed"]
+        wanted += [pathlib.Path(extension.__file__).name for extension in (_base62, _columns)]
+        self.assertEqual(sorted(modules), sorted(wanted))
         self.assertEqual(files["LICENSE"].read_text(), (TOP / "LICENSE").read_text())
         self.assertEqual(files["CHANGELOG.md"].read_text(), (TOP / "CHANGELOG.md").read_text())
         self.assertEqual(package.metadata["Description"].strip(), (PACKAGE / "README.md").read_text().strip())
@@ -142,7 +143,8 @@ class Modules(unittest.TestCase):
         self.assertEqual([one() for one in left], [None] * len(left))
 
     def run_in_subinterpreter(self, isolated: bool) -> None:
-        said = "import base62\nassert base62.decode(base62.encode(2**128 - 1)) == 2**128 - 1"
+        said = "import base62.columns\nassert base62.decode(base62.encode(2**128 - 1)) == 2**128 - 1\n"
+        said += "assert base62.columns.decode(base62.columns.encode([5])).tolist() == [5]"
         maker = interpreters()
         for _ in range(3):
             if maker.__name__ == "_interpreters":

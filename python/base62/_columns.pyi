@@ -21,8 +21,8 @@ class Column(Buffer):
     def __arrow_c_array__(self, requested_schema: object = None) -> tuple[object, object]:
         """Return the capsules of an ArrowSchema and an ArrowArray, which share the column's memory.
 
-        Strings are also returned as large_utf8, binary or large_binary, and UUIDs as
-        fixed_size_binary(16), if this is requested.
+        If this is requested, strings are in any other form of utf8 or binary, numbers are int64 if
+        they fit, and UUIDs are fixed_size_binary(16).
         """
 
     def __arrow_c_schema__(self) -> object:

@@ -71,13 +71,21 @@ static const struct {
     char value[10];
 } uuid_metadata = {1, 20, "ARROW:extension:name", 10, "arrow.uuid"};
 
+/* A format that a column has, and its metadata. */
 struct form {
     const char *format, *metadata;
 };
 
+/* Those of each type. The first is the default one. */
+static const char *const formats[][7] = {
+    [UTF8] = {"u", "z", "U", "Z", "vu", "vz"},
+    [LARGE_UTF8] = {"U", "Z"},
+    [UINT64] = {"L", "l"},
+    [UUIDS] = {"w:16"},
+};
+
 static struct form default_form(const struct result *result) {
-    static const char *const formats[] = {[UTF8] = "u", [LARGE_UTF8] = "U", [UINT64] = "L", [UUIDS] = "w:16"};
-    return (struct form){formats[result->type], result->type == UUIDS ? (const char *)&uuid_metadata : NULL};
+    return (struct form){formats[result->type][0], result->type == UUIDS ? (const char *)&uuid_metadata : NULL};
 }
 
 static void release_schema(struct ArrowSchema *schema) {
@@ -106,9 +114,16 @@ static PyObject *new_schema_capsule(struct form form) {
     return capsule;
 }
 
-/* The form that a consumer requests, if it is one of these, and otherwise the default one, as the protocol asks. */
+static int fits_int64(const struct result *result) {
+    const uint64_t *values = (const void *)result->values;
+    int64_t row = 0;
+    while (row < result->rows && values[row] <= INT64_MAX)
+        row++;
+    return row == result->rows;
+}
+
+/* The form that a consumer requests. If the column does not have it, this is the default one, as the protocol asks. */
 static int requested_form(const struct result *result, PyObject *capsule, struct form *form) {
-    static const char *const texts[] = {"u", "z", "U", "Z"};
     *form = default_form(result);
     if (capsule == NULL || capsule == Py_None)
         return 0;
@@ -119,12 +134,9 @@ static int requested_form(const struct result *result, PyObject *capsule, struct
         PyErr_SetString(PyExc_ValueError, "the requested schema is not that of a column");
         return -1;
     }
-    if (result->type == UUIDS && strcmp(schema->format, "w:16") == 0 && schema->metadata == NULL)
-        form->metadata = NULL;
-    if (result->offsets != NULL && schema->dictionary == NULL)
-        for (int i = result->type == UTF8 ? 0 : 2; i < 4; i++)
-            if (strcmp(schema->format, texts[i]) == 0)
-                form->format = texts[i];
+    for (const char *const *format = formats[result->type]; schema->dictionary == NULL && *format != NULL; format++)
+        if (strcmp(schema->format, *format) == 0 && (strcmp(*format, "l") != 0 || fits_int64(result)))
+            *form = (struct form){*format, schema->metadata == NULL ? NULL : form->metadata};
     return 0;
 }
 
@@ -133,13 +145,15 @@ static int requested_form(const struct result *result, PyObject *capsule, struct
 /* What an exported array refers to. */
 struct export {
     struct result *result;
-    const void *buffers[3];
-    int64_t *wide_offsets;
+    const void *buffers[4];
+    /* Offsets or views that only this array has, and the size of what the views are in. */
+    void *made;
+    int64_t size;
 };
 
 static void release_export(struct export *export) {
     release_result(export->result);
-    free(export->wide_offsets);
+    free(export->made);
     free(export);
 }
 
@@ -155,32 +169,52 @@ static void destroy_array_capsule(PyObject *capsule) {
     free(array);
 }
 
-/* The offsets of 32 bits as those of 64. */
-static int widen_offsets(struct export *export) {
-    const struct result *result = export->result;
-    export->wide_offsets = malloc(((size_t)result->rows + 1) * sizeof(int64_t));
-    if (export->wide_offsets == NULL)
-        return -1;
-    for (int64_t row = 0; row <= result->rows; row++)
-        export->wide_offsets[row] = offset_of(result, row);
-    export->buffers[1] = export->wide_offsets;
-    return 0;
+static int64_t *new_wide_offsets(const struct result *result) {
+    int64_t *offsets = malloc(((size_t)result->rows + 1) * sizeof *offsets);
+    for (int64_t row = 0; offsets != NULL && row <= result->rows; row++)
+        offsets[row] = offset_of(result, row);
+    return offsets;
+}
+
+/* A view has a length; then the bytes if there are at most 12, and else the first four, a buffer, and an offset. */
+struct view {
+    int32_t length;
+    char start[4];
+    int32_t buffer, offset;
+};
+
+static struct view *new_views(const struct result *result) {
+    struct view *views = calloc((size_t)result->rows + 1, sizeof *views);
+    for (int64_t row = 0; views != NULL && row < result->rows; row++) {
+        int32_t first = (int32_t)offset_of(result, row), length = (int32_t)offset_of(result, row + 1) - first;
+        struct view *view = &views[row];
+        view->length = length;
+        memcpy((char *)view + sizeof length, result->values + first, length <= 12 ? (size_t)length : 4);
+        if (length > 12)
+            view->offset = first;
+    }
+    return views;
 }
 
 static struct export *new_export(struct result *result, struct form form) {
     struct export *export = calloc(1, sizeof *export);
     if (export == NULL)
         return NULL;
+    int is_view = form.format[0] == 'v', is_wide = form.format[0] == 'U' || form.format[0] == 'Z';
+    int is_made = is_view || (is_wide && result->type == UTF8);
     result->references++;
     export->result = result;
+    export->made = is_view ? (void *)new_views(result) : is_made ? new_wide_offsets(result) : NULL;
+    if (is_made && export->made == NULL) {
+        release_export(export);
+        return NULL;
+    }
+    export->size = result->offsets == NULL ? 0 : offset_of(result, result->rows);
     export->buffers[0] = result->validity;
-    export->buffers[1] = result->offsets == NULL ? (void *)result->values : result->offsets;
+    export->buffers[1] = is_made ? export->made : result->offsets == NULL ? result->values : result->offsets;
     export->buffers[2] = result->values;
-    int is_wide = form.format[0] == 'U' || form.format[0] == 'Z';
-    if (result->type != UTF8 || !is_wide || widen_offsets(export) == 0)
-        return export;
-    release_export(export);
-    return NULL;
+    export->buffers[3] = &export->size;
+    return export;
 }
 
 static PyObject *new_array_capsule(struct result *result, struct form form) {
@@ -192,7 +226,7 @@ static PyObject *new_array_capsule(struct result *result, struct form form) {
     }
     array->length = result->rows;
     array->null_count = result->null_count;
-    array->n_buffers = result->offsets == NULL ? 2 : 3;
+    array->n_buffers = result->offsets == NULL ? 2 : form.format[0] == 'v' ? 4 : 3;
     array->buffers = export->buffers;
     array->release = release_array;
     array->private_data = export;
@@ -241,8 +275,8 @@ static void column_dealloc(PyObject *self) {
 
 PyDoc_STRVAR(array_doc, "__arrow_c_array__($self, /, requested_schema=None)\n--\n\n"
                         "Return the capsules of an ArrowSchema and an ArrowArray, which share the column's memory.\n\n"
-                        "Strings are also returned as large_utf8, binary or large_binary, and UUIDs as\n"
-                        "fixed_size_binary(16), if this is requested.");
+                        "If this is requested, strings are in any other form of utf8 or binary, numbers are int64 if\n"
+                        "they fit, and UUIDs are fixed_size_binary(16).");
 
 static PyObject *column_array(PyObject *self, PyObject *tuple, PyObject *dict) {
     static const char *const names[] = {"requested_schema", NULL};

@@ -242,6 +242,16 @@ def consume(column: Any, requested: Requested | None = None) -> tuple[str, list[
     return form, rows, metadata
 
 
+def text_of_view(view: bytes, data: bytes) -> bytes:
+    length, start, buffer, offset = struct.unpack("=i4sii", view)
+    if length <= 12:
+        assert view[4 + length :] == bytes(12 - length)
+        return view[4 : 4 + length]
+    text = data[offset : offset + length]
+    assert (buffer, len(text), text[:4]) == (0, length, start)
+    return text
+
+
 def read(form: str, array: Array) -> list[Any]:
     """The rows of an array without an offset, as a column returns it."""
     assert (array.offset, array.n_children, bool(array.dictionary)) == (0, 0, False)
@@ -258,7 +268,12 @@ def read(form: str, array: Array) -> list[Any]:
         data = ctypes.string_at(array.buffers[2], ends[-1])
         assert ends[0] == 0
         return [data[first:end] if is_valid else None for first, end, is_valid in zip(ends, ends[1:], valid)]
+    if form in VIEWS:
+        assert array.n_buffers == 4
+        (size,) = struct.unpack("=q", ctypes.string_at(array.buffers[3], 8))
+        data, views = ctypes.string_at(array.buffers[2], size), ctypes.string_at(array.buffers[1], 16 * length)
+        return [text_of_view(view, data) if is_valid else None for (view,), is_valid in zip(struct.iter_unpack("16s", views), valid)]
     assert array.n_buffers == 2
-    code = {"L": "Q", "w:16": "16s"}[form]
+    code = {"L": "Q", "l": "q", "w:16": "16s"}[form]
     data = ctypes.string_at(array.buffers[1], struct.calcsize(code) * length)
     return [it if is_valid else None for (it,), is_valid in zip(struct.iter_unpack("=" + code, data), valid)]

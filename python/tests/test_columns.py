@@ -234,13 +234,15 @@ class Forms(unittest.TestCase):
         """What a consumer requests is honoured if the column has such a form, and is ignored if not."""
         texts = [encoded(it) for it in (1337, None, 2**128 - 1)]
         small, large = columns.encode([1337, None, 2**128 - 1]), columns.encode_fixed([None], 2**31)
-        for form, expected in {"u": "u", "z": "z", "U": "U", "Z": "Z", "vu": "u", "L": "u", "i": "u", "?": "u"}.items():
+        for form, expected in {"u": "u", "z": "z", "U": "U", "Z": "Z", "vu": "vu", "vz": "vz", "L": "u", "?": "u"}.items():
             self.assertEqual(consume(small, Requested(form)), (expected, texts, {}))
-        for form, expected in {"u": "U", "z": "U", "U": "U", "Z": "Z"}.items():
+        for form, expected in {"u": "U", "z": "U", "U": "U", "Z": "Z", "vu": "U"}.items():
             self.assertEqual(consume(large, Requested(form)), (expected, [None], {}))
-        numbers = columns.decode(["LZ", None])
-        for form in ("L", "l", "u", "U"):
-            self.assertEqual(consume(numbers, Requested(form)), ("L", [1337, None], {}))
+        lengths = [62**it for it in range(20)]
+        self.assertEqual(consume(columns.encode(lengths), Requested("vu"))[1], [encoded(it) for it in lengths])
+        for form, expected in {"L": "L", "l": "l", "i": "L", "u": "L"}.items():
+            self.assertEqual(consume(columns.decode(["AzL8n0Y58m7", None]), Requested(form)), (expected, [2**63 - 1, None], {}))
+        self.assertEqual(consume(columns.decode(["1", "AzL8n0Y58m8"]), Requested("l")), ("L", [1, 2**63], {}))
         names, metadata = columns.decode_uuid(["LZ"]), {b"ARROW:extension:name": b"arrow.uuid"}
         self.assertEqual(consume(names, Requested("w:16")), ("w:16", [big(1337)], {}))
         self.assertEqual(consume(names, Requested("w:16", b"\0" * 4)), ("w:16", [big(1337)], metadata))

@@ -83,7 +83,7 @@ class PyArrow(unittest.TestCase):
 
     def test_requested(self) -> None:
         strings, names = columns.encode([5, None]), columns.decode_uuid(["5", None])
-        for name in ("string", "large_string", "string_view", "binary", "large_binary"):
+        for name in ("string", "large_string", "string_view", "binary", "large_binary", "binary_view"):
             result = pyarrow.array(strings, type=getattr(pyarrow, name)())
             result.validate(full=True)
             self.assertEqual(result.cast(pyarrow.string()).to_pylist(), ["5", None])
@@ -135,10 +135,12 @@ class Pandas(unittest.TestCase):
     @unittest.skipIf(pyarrow is None, "pyarrow is not installed")
     def test_arrow(self) -> None:
         series = pandas.Series([0, None, 2**63 - 1], dtype="int64[pyarrow]")
-        strings = pandas.Series(pyarrow.array(columns.encode(series.array)), dtype="string[pyarrow]")
+        strings = pandas.Series(pyarrow.array(columns.encode(pyarrow.array(series))), dtype="string[pyarrow]")
         self.assertEqual(strings.tolist(), ["0", pandas.NA, "AzL8n0Y58m7"])
         self.assertEqual(columns.decode(pyarrow.array(strings)).tolist(), [0, None, 2**63 - 1])
         self.assertEqual(columns.encode(pandas.DataFrame({"id": [0, 61]})).tolist(), ["0", "z"])
+        if hasattr(pandas.Series, "__arrow_c_stream__"):
+            self.assertEqual(columns.encode(series).tolist(), ["0", None, "AzL8n0Y58m7"])
         if hasattr(pandas.Series, "from_arrow"):
             self.assertEqual(pandas.Series.from_arrow(columns.decode(["5"])).tolist(), [5])
 
@@ -151,7 +153,6 @@ class NumPy(unittest.TestCase):
             wanted = [base62.encode(it) for it in range(127)]
             self.assertEqual(columns.encode(given).tolist(), wanted)
             self.assertEqual(columns.encode(given[::-3]).tolist(), wanted[::-3])
-            self.assertEqual(columns.encode(given.newbyteorder("=") if 0 else given.astype("=" + kind)).tolist(), wanted)
         packed = numpy.zeros(3, numpy.dtype([("pad", "u1"), ("id", "u8")]))
         packed["id"] = [5, 62, 2**64 - 1]
         self.assertEqual(columns.encode(packed["id"]).tolist(), ["5", "10", "LygHa16AHYF"])

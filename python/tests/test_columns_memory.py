@@ -67,9 +67,10 @@ class Leaks(unittest.TestCase):
 
     def test_capsules(self) -> None:
         """Capsules that nobody consumes release the array, with the column and after it."""
-        strings, wide = columns.encode(NUMBERS), Requested("U")
+        strings, wide, views = columns.encode(NUMBERS), Requested("U"), Requested("vu")
         self.check_no_leak(4 * COUNT, lambda: columns.encode(NUMBERS).__arrow_c_array__())
         self.check_no_leak(8 * COUNT, lambda: strings.__arrow_c_array__(wide.capsule))
+        self.check_no_leak(16 * COUNT, lambda: strings.__arrow_c_array__(views.capsule))
         self.check_no_leak(8 * COUNT, lambda: rejected(columns.decode, columns.decode(strings)))
 
     def test_errors(self) -> None:
@@ -145,7 +146,8 @@ class MallocFailures(unittest.TestCase):
         self.sweep(lambda: columns.decode(["5", None, "7"]).tolist(), 3)
         self.sweep(lambda: columns.decode(["5", "-", "7"], errors="null").tolist(), 3)
         self.sweep(lambda: columns.encode_fixed(columns.decode_uuid(["5", None]), 5).tolist(), 8)
-        self.sweep(lambda: consume(columns.encode([1, None]), Requested("U")), 6)
+        for form in ("U", "vu"):
+            self.sweep(lambda: consume(columns.encode([1, None]), Requested(form)), 6)
         self.sweep(lambda: columns.encode([1]).__arrow_c_schema__() is None, 4)
 
 

@@ -1,20 +1,28 @@
 # SPDX-License-Identifier: MIT
 # Copyright (c) 2026 the maintainers of base62 for Rattle
-"""A column of texts for a column of numbers, and back, in pandas.
+"""A column of strings for a column of numbers, and back, in pandas. A missing value stays missing.
 
 >>> frame = pandas.DataFrame({"id": [0, 61, 1337]})
->>> frame["text"] = frame["id"].map(base62.encode)
+>>> frame["text"] = strings_of(frame["id"])
 >>> frame["text"].tolist()
 ['0', 'z', 'LZ']
->>> frame["text"].map(base62.decode).tolist()
+>>> numbers_of(frame["text"]).tolist()
 [0, 61, 1337]
-
-A missing value is no text: `map` raises TypeError, or with `na_action="ignore"` returns floats, which round integers
-above 2**53. So decode the others, and reindex:
-
->>> texts = pandas.Series(["LZ", None, "AzL8n0Y58m7"])
->>> texts.dropna().map(base62.decode).astype("Int64").reindex(texts.index).tolist()
+>>> numbers = numbers_of(pandas.Series(["LZ", None, "AzL8n0Y58m7"]))
+>>> numbers.tolist()
 [1337, <NA>, 9223372036854775807]
+>>> strings_of(numbers).tolist()
+['LZ', <NA>, 'AzL8n0Y58m7']
+
+Rows that are no string of a number become missing too, or raise the exception of `base62.decode` with their index:
+
+>>> numbers_of(pandas.Series(["LZ", "-"]), errors="null").tolist()
+[1337, <NA>]
+>>> try:
+...     numbers_of(pandas.Series(["LZ", "-"]))
+... except base62.InvalidByteError as error:
+...     print(error.row)
+1
 """
 
 from __future__ import annotations
@@ -22,3 +30,28 @@ from __future__ import annotations
 import pandas
 
 import base62
+from base62 import columns
+
+try:
+    import pyarrow
+except ImportError:
+    pyarrow = None
+
+
+def strings_of(numbers: pandas.Series) -> pandas.Series:
+    if pyarrow:
+        strings = pyarrow.array(columns.encode(pyarrow.array(numbers)))
+        return pandas.Series(strings, numbers.index, "string[pyarrow]")
+    return pandas.Series(columns.encode(rows_of(numbers)).tolist(), numbers.index, "string")
+
+
+def numbers_of(strings: pandas.Series, errors: columns.Errors = "raise") -> pandas.Series:
+    if pyarrow:
+        numbers = pyarrow.array(columns.decode(pyarrow.array(strings), errors=errors))
+        return pandas.Series(numbers, strings.index, pandas.ArrowDtype(numbers.type))
+    return pandas.Series(columns.decode(rows_of(strings), errors=errors).tolist(), strings.index, "UInt64")
+
+
+def rows_of(series: pandas.Series) -> list[object]:
+    """The rows as a list, for a pandas without pyarrow."""
+    return series.astype(object).where(series.notna(), None).tolist()

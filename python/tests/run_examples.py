@@ -13,7 +13,7 @@ import paths  # The folder of the examples is on the path then.
 
 # The module, and the library with the least major version.
 EXAMPLES = [("pydantic_type", "pydantic", 2), ("sqlalchemy_column", "SQLAlchemy", 1), ("django_field", "Django", 3),
-           ("pandas_column", "pandas", 1)]
+           ("pandas_column", "pandas", 1), ("dask_column", "distributed", 2022)]
 
 
 def is_here(library: str, least: int) -> bool:

@@ -77,7 +77,7 @@ is_installed() {
     esac >/dev/null 2>&1
 }
 
-# COMMAND.. Runs a command in the root of Debian unstable, which has the current folder as /srv and $work as /mnt. What is
+# COMMAND.. Runs a command in the root of Debian unstable, at /srv, which is the current folder. /mnt is $work. What is
 # mounted there ends with it. Without root this needs user namespaces.
 in_unstable() {
     local user=()
@@ -86,7 +86,7 @@ in_unstable() {
         for folder in proc sys dev; do mount --rbind "/$folder" "$0/$folder"; done
         mount --bind . "$0/srv"
         mount --bind "$1" "$0/mnt"
-        exec chroot "$0" env -i PATH=/usr/sbin:/usr/bin:/sbin:/bin HOME=/mnt LC_ALL=C.UTF-8 "${@:2}"' \
+        exec chroot "$0" env -i --chdir=/srv PATH=/usr/sbin:/usr/bin:/sbin:/bin HOME=/mnt LC_ALL=C.UTF-8 "${@:2}"' \
         "$unstable" "$work" "$@"
 }
 

@@ -84,16 +84,21 @@ class Leaks(unittest.TestCase):
 class AllocationFailures(AllocationTestCase):
     """Each allocation of Python's fails in turn, alone and with all later ones."""
 
+    def leaks(self, call: Callable[..., object], *given: object) -> bool:
+        """Whether each sweep leaves a block, each time: what CPython keeps for itself has an end."""
+        for _ in range(20):
+            gc.collect()
+            before = sys.getallocatedblocks()
+            for _ in range(4):
+                self.sweep(call, *given)
+            gc.collect()
+            if sys.getallocatedblocks() - before < 4:
+                return False
+        return True
+
     def sweep_all(self, call: Callable[..., object], columns: list[Any], *given: object) -> None:
         for column in columns:
-            blocks = []
-            for _ in range(5):
-                for _ in range(4):
-                    self.sweep(call, column, base62.Alphabet.STANDARD, *given)
-                gc.collect()
-                blocks.append(sys.getallocatedblocks())
-            # A leak is in all of them, and what CPython keeps in some.
-            self.assertLess(min(after - before for before, after in zip(blocks, blocks[1:])), 4)
+            self.assertFalse(self.leaks(call, column, base62.Alphabet.STANDARD, *given), column)
 
     def tearDown(self) -> None:
         self.assertGreater(self.failures, 50)

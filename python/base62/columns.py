@@ -17,8 +17,7 @@ from __future__ import annotations
 
 import operator
 import sys
-from collections.abc import Callable
-from typing import TYPE_CHECKING, Any, Literal, Protocol, SupportsIndex, Union
+from typing import TYPE_CHECKING, SupportsIndex
 
 import base62
 from base62 import Alphabet, AnyAlphabet, OutOfRangeError, _columns
@@ -35,37 +34,24 @@ __all__ = [
     "encode_key",
 ]
 
-Errors = Literal["raise", "null"]
-
-
-class _ArrowArray(Protocol):
-    def __arrow_c_array__(self) -> tuple[object, object]: ...
-
-
-class _ArrowStream(Protocol):
-    def __arrow_c_stream__(self) -> object: ...
-
-
 if TYPE_CHECKING:
-    from typing_extensions import Buffer
-
-    AnyColumn = Union[_ArrowArray, _ArrowStream, list[Any], Buffer]
+    from base62._columns import _AnyColumn, _Call, _Errors
 
 
-def _coerces(errors: Errors) -> bool:
+def _coerces(errors: _Errors) -> bool:
     if errors not in ("raise", "null"):
         raise ValueError(f"errors is 'raise' or 'null', not {errors!r}")
     return errors == "null"
 
 
-def _encode(column: AnyColumn, width: int, errors: Errors, letters: Alphabet, encode_one: Callable[..., str]) -> Column:
+def _encode(column: _AnyColumn, width: int, errors: _Errors, letters: Alphabet, encode_one: _Call) -> Column:
     # An alphabet that is not ASCII raises ValueError.
     base62.encode(0, letters)
     return _columns.encode(column, letters, width, _coerces(errors), encode_one)
 
 
-def _decode(column: AnyColumn, is_uuid: bool, errors: Errors, letters: Alphabet, decode: Callable[..., int]) -> Column:
-    def decode_one(text: Any) -> None:
+def _decode(column: _AnyColumn, is_uuid: bool, errors: _Errors, letters: Alphabet, decode: _Call) -> Column:
+    def decode_one(text: object) -> None:
         decode(text, letters)
         raise OutOfRangeError("the number is not from 0 to 2**64 - 1")
 
@@ -73,7 +59,7 @@ def _decode(column: AnyColumn, is_uuid: bool, errors: Errors, letters: Alphabet,
     return _columns.decode(column, letters, is_canonical, is_uuid, _coerces(errors), decode_one)
 
 
-def encode(column: AnyColumn, alphabet: AnyAlphabet = Alphabet.STANDARD, *, errors: Errors = "raise") -> Column:
+def encode(column: _AnyColumn, alphabet: AnyAlphabet = Alphabet.STANDARD, *, errors: _Errors = "raise") -> Column:
     """Encode a column of numbers, without leading zeros.
 
     The column has integers of any type, or UUIDs or numbers of 16 bytes, the most significant first. The result is
@@ -91,11 +77,11 @@ def encode(column: AnyColumn, alphabet: AnyAlphabet = Alphabet.STANDARD, *, erro
 
 
 def encode_fixed(
-    column: AnyColumn,
+    column: _AnyColumn,
     width: SupportsIndex,
     alphabet: AnyAlphabet = Alphabet.STANDARD,
     *,
-    errors: Errors = "raise",
+    errors: _Errors = "raise",
 ) -> Column:
     """Like encode, but pad each string with leading zeros to exactly width characters.
 
@@ -112,7 +98,7 @@ def encode_fixed(
     return _encode(column, places, errors, letters, lambda number: base62.encode_fixed(number, places, letters))
 
 
-def encode_key(column: AnyColumn, *, errors: Errors = "raise") -> Column:
+def encode_key(column: _AnyColumn, *, errors: _Errors = "raise") -> Column:
     """Encode a column of numbers as keys: standard strings of 22 characters, which sort in numeric order.
 
     Raises what base62.encode_key raises.
@@ -123,7 +109,7 @@ def encode_key(column: AnyColumn, *, errors: Errors = "raise") -> Column:
     return _encode(column, 22, errors, Alphabet.STANDARD, base62.encode_key)
 
 
-def decode(column: AnyColumn, alphabet: AnyAlphabet = Alphabet.STANDARD, *, errors: Errors = "raise") -> Column:
+def decode(column: _AnyColumn, alphabet: AnyAlphabet = Alphabet.STANDARD, *, errors: _Errors = "raise") -> Column:
     """Decode a column of strings to uint64. Leading zeros are ignored.
 
     The column has utf8 or binary values of any Arrow type, or is a buffer of NumPy's bytes of a fixed width, without
@@ -141,7 +127,7 @@ def decode(column: AnyColumn, alphabet: AnyAlphabet = Alphabet.STANDARD, *, erro
 
 
 def decode_canonical(
-    column: AnyColumn, alphabet: AnyAlphabet = Alphabet.STANDARD, *, errors: Errors = "raise"
+    column: _AnyColumn, alphabet: AnyAlphabet = Alphabet.STANDARD, *, errors: _Errors = "raise"
 ) -> Column:
     """Like decode, but accept only canonical strings: those that encode returns.
 
@@ -153,7 +139,7 @@ def decode_canonical(
     return _decode(column, False, errors, Alphabet(alphabet), base62.decode_canonical)
 
 
-def decode_uuid(column: AnyColumn, alphabet: AnyAlphabet = Alphabet.STANDARD, *, errors: Errors = "raise") -> Column:
+def decode_uuid(column: _AnyColumn, alphabet: AnyAlphabet = Alphabet.STANDARD, *, errors: _Errors = "raise") -> Column:
     """Decode a column of strings to UUIDs: fixed_size_binary(16), with the extension type arrow.uuid.
 
     These are also the 16 bytes of any number below 2**128. Raises what base62.decode raises.
@@ -165,7 +151,7 @@ def decode_uuid(column: AnyColumn, alphabet: AnyAlphabet = Alphabet.STANDARD, *,
 
 
 def decode_uuid_canonical(
-    column: AnyColumn, alphabet: AnyAlphabet = Alphabet.STANDARD, *, errors: Errors = "raise"
+    column: _AnyColumn, alphabet: AnyAlphabet = Alphabet.STANDARD, *, errors: _Errors = "raise"
 ) -> Column:
     """Like decode_uuid, but accept only canonical strings: those that encode returns.
 

@@ -27,6 +27,8 @@ Rows that are no string of a number become missing too, or raise the exception o
 
 from __future__ import annotations
 
+from typing import Literal
+
 import pandas
 
 import base62
@@ -45,7 +47,7 @@ def strings_of(numbers: pandas.Series) -> pandas.Series:
     return pandas.Series(columns.encode(rows_of(numbers)).tolist(), numbers.index, "string")
 
 
-def numbers_of(strings: pandas.Series, errors: columns.Errors = "raise") -> pandas.Series:
+def numbers_of(strings: pandas.Series, errors: Literal["raise", "null"] = "raise") -> pandas.Series:
     if pyarrow:
         numbers = pyarrow.array(columns.decode(pyarrow.array(strings), errors=errors))
         return pandas.Series(numbers, strings.index, pandas.ArrowDtype(numbers.type))

@@ -67,6 +67,11 @@ pointer_of: Any = ctypes.pythonapi.PyCapsule_GetPointer
 pointer_of.restype = ctypes.c_void_p
 pointer_of.argtypes = [ctypes.py_object, ctypes.c_char_p]
 
+# What a structure has that is released.
+NO_SCHEMA, NO_ARRAY, NO_STREAM = (
+    ctypes.cast(0, kind) for kind in (RELEASE_SCHEMA, RELEASE_ARRAY, RELEASE_STREAM)
+)
+
 INTEGERS = {"c": "b", "C": "B", "s": "h", "S": "H", "i": "i", "I": "I", "l": "q", "L": "Q"}
 OFFSETS = {"u": "i", "z": "i", "U": "q", "Z": "q"}
 VIEWS = ("vu", "vz")
@@ -137,11 +142,11 @@ class Column:
 
     def release(self, array: Any) -> None:
         self.released += 1
-        array.contents.release = RELEASE_ARRAY()
+        array.contents.release = NO_ARRAY
 
     def release_schema(self, schema: Any) -> None:
         self.schemas_released += 1
-        schema.contents.release = RELEASE_SCHEMA()
+        schema.contents.release = NO_SCHEMA
 
     def __arrow_c_array__(self, requested_schema: object = None) -> tuple[object, object]:
         schema, array = ctypes.addressof(self.schema), ctypes.addressof(self.array)
@@ -183,17 +188,21 @@ class Chunks:
     def get_next(self, stream: object, array: Any) -> int:
         chunk = next(self.next, None)
         if chunk is None:
-            array.contents.release = RELEASE_ARRAY()
+            array.contents.release = NO_ARRAY
             return self.code
         ctypes.memmove(array, ctypes.pointer(chunk.array), ctypes.sizeof(Array))
         return 0
 
     def release(self, stream: Any) -> None:
         self.released += 1
-        stream.contents.release = RELEASE_STREAM()
+        stream.contents.release = NO_STREAM
 
     def __arrow_c_stream__(self, requested_schema: object = None) -> object:
         return new_capsule(ctypes.addressof(self.stream), b"arrow_array_stream", None)
+
+
+def buffer_of(column: Any) -> memoryview:
+    return memoryview(column)
 
 
 class Requested:
@@ -230,8 +239,8 @@ def consume(column: Any, requested: Requested | None = None) -> tuple[str, list[
     schema, array = Schema.from_buffer_copy(ctypes.string_at(schema_at, ctypes.sizeof(Schema))), Array.from_buffer_copy(
         ctypes.string_at(array_at, ctypes.sizeof(Array))
     )
-    Schema.from_address(schema_at).release = RELEASE_SCHEMA()
-    Array.from_address(array_at).release = RELEASE_ARRAY()
+    Schema.from_address(schema_at).release = NO_SCHEMA
+    Array.from_address(array_at).release = NO_ARRAY
     # The array outlives the column and its capsules.
     del capsules, column
     form, metadata = schema.format.decode(), metadata_of(schema)

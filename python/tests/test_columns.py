@@ -18,13 +18,19 @@ from typing import Any
 from urllib.parse import unquote_to_bytes
 
 import base62
-from arrow import INTEGERS, OFFSETS, RELEASE_ARRAY, RELEASE_SCHEMA, VIEWS
-from arrow import Chunks, Column, Requested, Schema, Table, consume, pointer_of
+from arrow import INTEGERS, NO_SCHEMA, OFFSETS, RELEASE_ARRAY, VIEWS
+from arrow import Chunks, Column, Requested, Schema, Table, buffer_of, consume, pointer_of
 from base62 import _columns, columns
 from test_values import ALPHABETS, KINDS, OF_ASCII, forms_of_text, rows
 
 NUMBERS = [*INTEGERS, "w:16"]
 TEXTS = [*OFFSETS, *VIEWS]
+ENCODINGS: list[Callable[..., columns.Column]] = [
+    columns.encode,
+    columns.encode_key,
+    lambda column: columns.encode_fixed(column, 30),
+]
+OUT_OF_RANGE = "the number is not from 0 to 2**128 - 1"
 # More than two blocks of rows.
 ROWS = 700
 
@@ -64,7 +70,8 @@ class Values(unittest.TestCase):
     def test_encode(self) -> None:
         for name in OF_ASCII:
             found = [(int(digits), unquote_to_bytes(text)) for it, digits, text in rows("encode") if it == name]
-            for given in ([number for number, _ in found], Column("w:16", [big(number) for number, _ in found], 3)):
+            forms: list[Any] = [[number for number, _ in found], Column("w:16", [big(number) for number, _ in found], 3)]
+            for given in forms:
                 column = columns.encode(given, ALPHABETS[name])
                 self.assertEqual(consume(column), ("u", [text for _, text in found], {}))
                 self.assertEqual(column.tolist(), [text.decode() for _, text in found])
@@ -146,7 +153,7 @@ class Forms(unittest.TestCase):
                     self.assertEqual(consume(column)[1], numbers)
                 numbers = numbers_for("L", offset, has_nulls=False)
                 column = columns.decode_canonical(Column(form, texts_of(numbers), offset, has_bitmap=False))
-                self.assertEqual((consume(column)[1], memoryview(column).tolist()), (numbers, numbers))
+                self.assertEqual((consume(column)[1], buffer_of(column).tolist()), (numbers, numbers))
 
     def test_null_count(self) -> None:
         """An array that has no nulls by its count may have any bitmap."""
@@ -165,7 +172,8 @@ class Forms(unittest.TestCase):
                 column.array.buffers = column.buffers if count else None
                 self.assertEqual(consume(convert(column))[1], [])
         self.assertEqual(consume(columns.encode(Chunks(Column("L", []), [])))[1], [])
-        for empty in ([], b"", array("Q")):
+        empties: list[Any] = [[], b"", array("Q")]
+        for empty in empties:
             self.assertEqual((columns.encode(empty).tolist(), len(columns.encode(empty))), ([], 0))
 
     def test_no_characters(self) -> None:
@@ -282,18 +290,20 @@ class Errors(unittest.TestCase):
             least = -(2 ** struct_bits(form))
             for row in (0, 255, 256, 699):
                 given = [7] * row + [least, None, least]
-                for encode in (columns.encode, columns.encode_key, lambda it: columns.encode_fixed(it, 30)):
-                    self.check_row(row, base62.OutOfRangeError, "the number is not from 0 to 2**128 - 1", encode, Column(form, given, 3))
+                for encode in ENCODINGS:
+                    self.check_row(row, base62.OutOfRangeError, OUT_OF_RANGE, encode, Column(form, given, 3))
                 column = columns.encode(Column(form, given, 3), errors="null")
                 self.assertEqual(consume(column)[1], [b"7"] * row + [None] * 3)
-                self.check_row(row, base62.OutOfRangeError, "the number is not from 0 to 2**128 - 1", columns.encode, given)
-        for column in ([62**5], Column("l", [62**5]), Column("w:16", [big(2**128 - 1)]), Column("L", [2**64 - 1])):
-            narrow = lambda it: columns.encode_fixed(it, 5)
+                self.check_row(row, base62.OutOfRangeError, OUT_OF_RANGE, columns.encode, given)
+        wide: list[Any] = [[62**5], Column("l", [62**5]), Column("w:16", [big(2**128 - 1)]), Column("L", [2**64 - 1])]
+        for given_wide in wide:
             with self.assertRaises(base62.OutOfRangeError) as single:
                 base62.encode_fixed(62**5, 5)
-            self.check_row(0, base62.OutOfRangeError, str(single.exception), narrow, column)
-        for wide in (["1", b"LygHa16AHYG"], Column("u", [b"1", b"LygHa16AHYG"])):
-            self.check_row(1, base62.OutOfRangeError, "the number is not from 0 to 2**64 - 1", columns.decode, wide)
+            self.check_row(0, base62.OutOfRangeError, str(single.exception), columns.encode_fixed, given_wide, 5)
+        strings: list[Any] = [["1", b"LygHa16AHYG"], Column("u", [b"1", b"LygHa16AHYG"])]
+        for given_strings in strings:
+            message = "the number is not from 0 to 2**64 - 1"
+            self.check_row(1, base62.OutOfRangeError, message, columns.decode, given_strings)
         self.assertEqual(columns.decode(["1", "LygHa16AHYF", "LygHa16AHYG"], errors="null").tolist(), [1, 2**64 - 1, None])
 
     def check_row(self, row: int, kind: type[Exception], message: str, call: Callable[..., object], *given: Any) -> None:
@@ -308,12 +318,13 @@ class Errors(unittest.TestCase):
 
     def test_objects(self) -> None:
         """An object of another type raises what the function for one value raises, also with errors="null"."""
-        for convert, one, bad in (
+        cases: list[tuple[Any, Any, Any]] = [
             (columns.encode, base62.encode, "1"),
             (columns.encode, base62.encode, float("nan")),
             (columns.decode, base62.decode, 5),
             (columns.decode, base62.decode, array("H", [48])),
-        ):
+        ]
+        for convert, one, bad in cases:
             with self.assertRaises(TypeError) as single:
                 one(bad)
             for errors in ("raise", "null"):
@@ -350,22 +361,26 @@ class Errors(unittest.TestCase):
         self.assertRaisesRegex(TypeError, "'dictionary'", columns.encode, column)
         for other in (None, "1", 1, (1, 2), {1}, 1.0, object()):
             self.assertRaisesRegex(TypeError, f"not {type(other)}$", columns.encode, other)
-        for children in ([], [Column("L", [1]), Column("L", [1])]):
+        tables: list[list[Column]] = [[], [Column("L", [1]), Column("L", [1])]]
+        for children in tables:
             self.assertRaisesRegex(TypeError, f"one column, not {len(children)}$", columns.encode, Table(children, 0))
-        for wrong in (array("d", [1.0]), memoryview((ctypes.c_uint32.__ctype_be__ * 2)()), memoryview(b"ab").cast("c"), memoryview(b"ab").cast("?")):
+        big_endian: Any = ctypes.c_uint32.__ctype_be__  # type: ignore[attr-defined]
+        views = [memoryview((big_endian * 2)()), memoryview(b"ab").cast("c"), memoryview(b"ab").cast("?")]
+        for wrong in (array("d", [1.0]), *views):
             self.assertRaisesRegex(TypeError, "the buffer format '", columns.encode, wrong)
         self.assertRaisesRegex(TypeError, "not the buffer format 'B'$", columns.decode, b"LZ")
         self.assertRaisesRegex(TypeError, "one dimension, not 2$", columns.encode, memoryview(bytes(4)).cast("B", (2, 2)))
 
     def test_arguments(self) -> None:
         for convert in (columns.encode, columns.decode, columns.decode_uuid):
-            for wrong in (None, "short", "0" * 62, "é" * 62, 5):
+            letters: list[Any] = [None, "short", "0" * 62, "é" * 62, 5]
+            for wrong in letters:
                 with self.assertRaises((TypeError, ValueError)) as single:
                     base62.decode("1", wrong)
                 self.assertRaisesRegex(type(single.exception), str(single.exception)[:20], convert, [], wrong)
         high = bytes(range(194, 256))
-        for encode in (columns.encode, lambda *given: columns.encode_fixed(given[0], 5, given[1])):
-            self.assertRaises(ValueError, encode, [1], high)
+        self.assertRaises(ValueError, columns.encode, [1], high)
+        self.assertRaises(ValueError, columns.encode_fixed, [1], 5, high)
         self.assertRaises(ValueError, columns.encode_fixed, [1], -1)
         self.assertRaises(TypeError, columns.encode_fixed, [1], "1")
         self.assertRaisesRegex(MemoryError, "", columns.encode_fixed, [1], 2**70)
@@ -376,8 +391,8 @@ class Errors(unittest.TestCase):
     def test_buffer_of_column(self) -> None:
         for column in (columns.encode([1]), columns.decode([None]), columns.decode_uuid(["1"])):
             self.assertRaises(BufferError, memoryview, column)
-        self.assertTrue(memoryview(columns.decode(["1"])).readonly)
-        self.assertEqual(bytes(columns.decode(["LZ"])), struct.pack("=Q", 1337))
+        self.assertTrue(buffer_of(columns.decode(["1"])).readonly)
+        self.assertEqual(bytes(buffer_of(columns.decode(["LZ"]))), struct.pack("=Q", 1337))
         self.assertRaises(TypeError, io.BytesIO(b"").readinto, columns.decode(["1"]))
 
 
@@ -463,7 +478,7 @@ class Malformed(unittest.TestCase):
         self.assertEqual((column.released, column.schemas_released), (1, 0))
         self.assertRaisesRegex(ValueError, "released", columns.encode, Exporter(pair))
         column = Column("L", [1])
-        column.schema.release = RELEASE_SCHEMA()
+        column.schema.release = NO_SCHEMA
         self.assertRaisesRegex(ValueError, "released", columns.encode, column)
 
     def test_streams(self) -> None:
@@ -472,11 +487,12 @@ class Malformed(unittest.TestCase):
             stream = Chunks(Column("L", []), chunks, error, code=5)
             with self.assertRaisesRegex(OSError, f"^.Errno 5. the Arrow stream fails: {message}$"):
                 columns.encode(stream)
-            self.assertEqual([it.released for it in (*chunks, stream)], [1, 1, 1])
+            self.assertEqual([*(it.released for it in chunks), stream.released], [1, 1, 1])
         chunks = [Column("L", [it]) for it in range(70)]
         stream = Chunks(Column("L", []), chunks)
         self.assertEqual(columns.encode(stream).tolist(), [base62.encode(it) for it in range(70)])
-        self.assertEqual([it.released for it in (*chunks, stream, stream.schema)], [1] * 71 + [0])
+        self.assertEqual([*(it.released for it in chunks), stream.released], [1] * 71)
+        self.assertEqual((stream.schema.released, stream.schema.schemas_released), (0, 1))
         self.assertRaisesRegex(ValueError, "released", columns.encode, stream)
 
 

@@ -20,7 +20,7 @@ from collections.abc import Callable
 from typing import Any
 
 import base62
-from arrow import Requested, consume
+from arrow import Requested, buffer_of, consume
 from base62 import _columns, columns
 from test_memory import AllocationTestCase, memory
 
@@ -44,23 +44,23 @@ def rejected(call: Callable[..., object], *given: Any) -> None:
 
 @unittest.skipUnless(sys.platform == "linux", "resident memory is read as on Linux")
 class Leaks(unittest.TestCase):
-    """Forty runs take less than half of the memory that they would leak, if each leaked a buffer of this size."""
+    """Twenty-four runs take less than half of the memory that they would leak, if each leaked a buffer of this size."""
 
     def check_no_leak(self, size: int, call: Callable[..., object], *given: Any) -> None:
         for _ in range(5):
             call(*given)
         gc.collect()
         before = resident()
-        for _ in range(40):
+        for _ in range(24):
             call(*given)
         gc.collect()
-        self.assertLess(resident() - before, 20 * size)
+        self.assertLess(resident() - before, 12 * size)
 
     def test_results(self) -> None:
         strings = columns.encode(NUMBERS)
         self.check_no_leak(4 * COUNT, columns.encode, NUMBERS)
         self.check_no_leak(8 * COUNT, columns.decode, strings)
-        self.check_no_leak(8 * COUNT, lambda: bytes(columns.decode(strings)))
+        self.check_no_leak(8 * COUNT, lambda: bytes(buffer_of(columns.decode(strings))))
         self.check_no_leak(COUNT // 2, lambda: columns.encode(b"\xff" * 4 * COUNT))
         negative = memoryview(b"\xff" * 4 * COUNT).cast("b")
         self.check_no_leak(COUNT // 2, lambda: columns.encode(negative, errors="null"))

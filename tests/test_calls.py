@@ -14,9 +14,13 @@ def text(*names: str) -> str:
     return "".join(file.read_bytes().decode() for name in names for file in sorted(TOP.glob(name)))
 
 
-def python() -> list[str]:
-    lists = [it for it in ast.parse(text("python/base62/__init__.py")).body if isinstance(it, ast.Assign)]
+def all_of(module: str) -> list[str]:
+    lists = [it for it in ast.parse(text(f"python/base62/{module}.py")).body if isinstance(it, ast.Assign)]
     return next(ast.literal_eval(it.value) for it in lists if ast.unparse(it.targets[0]) == "__all__")
+
+
+def python() -> list[str]:
+    return [*all_of("__init__"), *(f"columns.{name}" for name in all_of("columns"))]
 
 
 def exported() -> dict[str, set[str]]:
@@ -39,7 +43,7 @@ def listed() -> dict[str, set[str]]:
     """The names by the columns of the page."""
     rows = [line.strip("|").split("|") for line in text("docs/CALLS.md").splitlines() if line.startswith("|")]
     head, _, *others = rows
-    return {name.strip(): {it for row in others for it in re.findall(r"`(\w+)`", row[i])} for i, name in enumerate(head) if i}
+    return {name.strip(): {it for row in others for it in re.findall(r"`([\w.]+)`", row[i])} for i, name in enumerate(head) if i}
 
 
 def main() -> None:

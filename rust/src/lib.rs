@@ -5,8 +5,8 @@
 //!
 //! It has each function of the crate `base62` 2.2.6, with the same name, types, features and results. The codec is
 //! written in Rattle, which is Rust with contracts, and each of its functions is proved to meet its contract. The
-//! modules of this crate are that source without its contracts and proofs. A program of the project takes them out; it
-//! is tested, not proved.
+//! modules of this crate are that source without its contracts and proofs. The program that
+//! removes these is tested, not proved.
 //!
 //! ```
 //! let mut buffer = [0; base62::MAX_DIGITS];
@@ -18,9 +18,9 @@
 //!
 //! # Numbers and strings
 //!
-//! A number is any `T: Into<u128>`: `u8` to `u128`, `bool`, `char`, `NonZero<u128>`, `Ipv6Addr`. A bare literal is an
-//! `i32`, which can be negative and does not convert, so write `1337_u32`. Neither do a `usize` and signed integers:
-//! write `n as u64` for a `usize`, and `u64::try_from(id)?` for an `i64`. The encoded string of a number is the
+//! A number is any `T: Into<u128>`: `u8` to `u128`, `bool`, `char`, `NonZero<u128>`, `Ipv6Addr`. Signed integers and
+//! `usize` do not convert: write `u64::try_from(id)?` for an `i64`, `n as u64` for a `usize`, and `1337_u32` for a
+//! literal, which alone is an `i32`. The encoded string of a number is the
 //! shortest nonempty one that represents it, and has 1 to 22 characters.
 //!
 //! The standard alphabet is `0` to `9`, `A` to `Z`, `a` to `z`, and the alternative one `0` to `9`, `a` to `z`, `A` to

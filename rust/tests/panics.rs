@@ -36,7 +36,7 @@ fn the_caller_is_told() {
         let said = "the alphabet repeats a letter";
         panics_here(said, || Alphabet::of(letters));
     }
-    let said = "the letters of the alphabet are not all ASCII";
+    let said = "the alphabet has a non-ASCII character";
     for (place, byte) in (0..62).flat_map(|place| [128, 194, 255].map(|byte| (place, byte))) {
         let mut letters = *support::STANDARD;
         letters[place] = byte;

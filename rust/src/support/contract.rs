@@ -70,7 +70,7 @@ macro_rules! in_place {
 pub(crate) fn assert_ascii(alphabet: &crate::Alphabet) {
     assert!(
         alphabet.is_ascii(),
-        "the letters of the alphabet are not all ASCII"
+        "the alphabet has a non-ASCII character"
     );
 }
 

@@ -6,7 +6,7 @@
 #[path = "../id.rs"]
 mod id;
 
-use id::{Id, new_id};
+use id::{Id, InvalidId, new_id};
 use serde::Deserialize;
 use serde::de::value::{Error, StrDeserializer};
 use serde::de::IntoDeserializer;
@@ -28,12 +28,17 @@ fn read(text: &str) -> Result<Id, String> {
 }
 
 fn main() {
-    for (number, text) in [(0, "0"), (1337, "LZ"), (u128::MAX, "7n42DGM5Tflk9n8mt7Fhc7")] {
+    for (number, text) in [(0, "0"), (1337, "LZ"), (u64::MAX, "LygHa16AHYF")] {
         assert_eq!(Shown(Id(number)).to_string(), text);
-        assert_eq!(read(text).map(|id| id.0), Ok(number));
+        assert_eq!(format!("{:>12}", Id(number)), format!("{text:>12}"));
+        assert_eq!(read(text), Ok(Id(number)));
+        assert_eq!(text.parse(), Ok(Id(number)));
     }
-    let refused = read("LZ-").map(|id| id.0).unwrap_err();
-    assert_eq!(refused, "Encoded input contains the invalid byte b'-' at index 2");
+    // An invalid byte, a leading zero, and 2^64.
+    for text in ["", "LZ-", "0LZ", "LygHa16AHYG"] {
+        assert_eq!(text.parse::<Id>(), Err(InvalidId));
+        assert_eq!(read(text), Err("the string is not an id".into()));
+    }
 
     let ids: HashSet<String> = (0..1000).map(|_| new_id()).collect();
     assert_eq!(ids.len(), 1000);

@@ -17,7 +17,7 @@ from base62 import _columns, _types
 from calls import LETTERS, WIDE, Call
 
 # A call has made its allocations if it succeeds although each of the next ones would fail. No call makes so many.
-NEXT_ALLOCATIONS = 40
+NEXT_ALLOCATIONS = 25
 MAX_ALLOCATIONS = 240
 
 try:

@@ -36,7 +36,7 @@ BY_HAND_LINES = {"append_over": "in_place!(tables, num, buf);"}
 SAME = set("""as assert assert_ascii bool cfg const core crate else enum false fn for if impl in let match mod
     mut pub return self Self static str struct super true use while u8 u16 u32 u64 u128 usize AsRef Bytes Copy
     Debug Display Eq Err Error Formatter InlineText Into MAX None Ok Option PartialEq R RangeInclusive Read
-    Result Sized Some String T W Vec Write _ alloc and_str as_mut_slice as_ref as_slice as_str base62
+    Result Sized Some String T W Vec Write _ alloc and_str append_zeros as_mut_slice as_ref as_slice as_str base62
     checked_add checked_mul clear contract copy_from_slice debug_tuple enumerate eq error escape_ascii
     extend_from_slice feature field fill finish flush fmt format_args from from_be_bytes from_utf8 ilog2
     in_place inline into io is_ascii is_empty iter len line_end map_err memory min new ok ok_or ops pad panic
@@ -61,7 +61,8 @@ BODIES = [(r"\n *(work\.tick\(\)|let work = &mut Work::new\(\)|(letters_are_dist
 RANGES = [(r"\bSome\(\((\w+), ([^;]*)\)\)", r"Some(\1..=\2)")]
 # Where Rattle answers a Result<_, AllocError>, Rust ends the program: the Result goes. What is left of it is refused.
 ALLOCATING = [(r"((\.reserve|\bVec::with_capacity)\([^;?]*\))\?;", r"\1;"),
-              (r"(\.(push_str|extend_from_slice)\([^;]*\))\s*\.unwrap\(\);", r"\1;"),
+              (r"bytes\.extend_from_slice\(&ZEROS\[\.\.len\]\)\.unwrap\(\);", "append_zeros!(bytes, ZEROS, len);"),
+              (r"(\.push_str\([^;]*\))\.unwrap\(\);", r"\1;"),
               (r"\n *Ok\(\(\)\)\s*\}$", "\n}"), (r"\n( *)Ok\((proved!.*)\)(?=\s*\}$)", r"\n\1\2"),
               (r"\?|\b(Ok|Err)\b", "unwritten")]
 REFUSED_MEMORY = [(r"(If the allocation fails, )`buf` is left unchanged\.", r"\1the program aborts.")]

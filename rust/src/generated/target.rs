@@ -182,7 +182,7 @@ fn string_over<T: Into<u128>>(tables: &Tables, num: T) -> String {
     let len = digit_count(n);
     let mut bytes = Vec::with_capacity(len);
     // The capacity is enough now.
-    bytes.extend_from_slice(&ZEROS[..len]);
+    append_zeros!(bytes, ZEROS, len);
     write_text(tables, n, len, bytes.as_mut_slice());
     // SAFETY: the letters are ASCII.
     proved!(String::from_utf8(bytes))

@@ -64,6 +64,55 @@ macro_rules! in_place {
     ($tables:ident, $num:ident, $buf:ident) => {};
 }
 
+/// Appends some of the zeros, which the text overwrites. In the source a copy of varying length appends them, which is a
+/// call. These are a few stores.
+#[cfg(all(feature = "alloc", not(feature = "checked")))]
+macro_rules! append_zeros {
+    ($bytes:ident, $zeros:ident, $len:ident) => {
+        // In the source this index is proved to be in bounds.
+        requires!($len <= $zeros.len());
+        let places = &mut $bytes.spare_capacity_mut()[..$len];
+        crate::support::contract::fill(places, core::mem::MaybeUninit::new(0));
+        // SAFETY: the capacity is enough, and `fill` has written each of these bytes.
+        unsafe { $bytes.set_len($bytes.len() + $len) };
+    };
+}
+
+#[cfg(all(feature = "alloc", feature = "checked"))]
+macro_rules! append_zeros {
+    ($bytes:ident, $zeros:ident, $len:ident) => {
+        $bytes.extend_from_slice(&$zeros[..$len])
+    };
+}
+
+/// Writes a value to 1 to 24 places, by stores of fixed sizes that may overlap. It branches where the encoder does, so
+/// that the processor mispredicts once.
+#[cfg(all(feature = "alloc", not(feature = "checked")))]
+#[inline(always)]
+pub(crate) fn fill<T: Copy>(places: &mut [T], value: T) {
+    let len = places.len();
+    assert!(len <= 24);
+    if len > 9 {
+        *places[(len - 8).min(8)..].first_chunk_mut().unwrap() = [value; 8];
+        fill_ends::<8, T>(places, value);
+    } else if len > 4 {
+        places[len / 2] = value;
+        fill_ends::<4, T>(places, value);
+    } else {
+        for index in [0, len / 4, len / 2, len - 1] {
+            places[index] = value;
+        }
+    }
+}
+
+/// Writes a value to the first `N` places and to the last `N`.
+#[cfg(all(feature = "alloc", not(feature = "checked")))]
+#[inline(always)]
+fn fill_ends<const N: usize, T: Copy>(places: &mut [T], value: T) {
+    *places.first_chunk_mut().unwrap() = [value; N];
+    *places.last_chunk_mut().unwrap() = [value; N];
+}
+
 /// Asserts the precondition of a public call, since its callers in Rust do not prove it.
 #[inline(always)]
 #[track_caller]
@@ -72,6 +121,28 @@ pub(crate) fn assert_ascii(alphabet: &crate::Alphabet) {
         alphabet.is_ascii(),
         "the alphabet has a non-ASCII character"
     );
+}
+
+#[cfg(test)]
+#[cfg(all(feature = "alloc", not(feature = "checked")))]
+mod fill_tests {
+    use super::fill;
+
+    #[test]
+    fn each_place_is_written() {
+        for len in 1..=24 {
+            let mut places = [1; 26];
+            fill(&mut places[1..=len], 0);
+            assert_eq!((places[0], &places[1..=len]), (1, &[0; 24][..len]));
+            assert_eq!(places[len + 1..], [1; 25][len..]);
+        }
+    }
+
+    #[test]
+    #[should_panic(expected = "assertion failed: len <= 24")]
+    fn more_places_panic() {
+        fill(&mut [1; 25], 0);
+    }
 }
 
 // In a release build a false precondition is undefined behaviour.

@@ -139,6 +139,7 @@ static B62_ALWAYS_INLINE uint64_t u64_wrapping_add(uint64_t a, uint64_t b) { ret
 
 /* The index of the highest bit of an integer that is not 0. */
 static B62_ALWAYS_INLINE uint32_t u64_ilog2(uint64_t n) {
+    //@ assert requires: n != 0;
 #ifdef __GNUC__
     return 63 ^ (uint32_t)__builtin_clzll(n);
 #else

@@ -1,164 +1,201 @@
-"""Compares what GCC reads of base62.c and base62.h with what Frama-C reads: each token, after the preprocessor.
-
-Both are the same but for attributes, and for what EXTENSIONS, OF_128_BITS and PRAGMA name. So no other condition of the
-preprocessor gives a compiler other code than the proved one.
-"""
+"""The text of base62.c and base62.h, of which compilers could read other parts than Frama-C: what is not listed here is
+rejected. CONDITIONS has all lines of the preprocessor but defines of constants, each part whole and once. So compilers
+read the same tokens outside of these parts, and within them what stands here: attributes, a pragma, and the bodies of
+four functions. What the tokens say is for tree.ml."""
 
 import re
 import subprocess
 
-COMPILERS = {"64": "gcc", "32": "i686-linux-gnu-gcc"}
-# A compiler with and without integers of 128 bits, one that is not GCC, one without a C library, a shared library.
-SETTINGS = ([], ["-DBASE62_NO_INT128"], ["-D__clang__"], ["-ffreestanding"], ["-DBASE62_BUILD"])
-
-# What compilers may read in place of the body of a function that Frama-C reads, ..
-EXTENSIONS = {
-    "u128_mul_64": "{const base62_u128 product = (base62_u128)a * b;"
-                   " return (u128){(uint64_t)(product >> 64), (uint64_t)product};}",
-    "u64_ilog2": "{return 63 ^ (uint32_t)__builtin_clzll(n);}",
+CONDITIONS = {"base62.h": (r"""
+#ifndef BASE62_H
+#define BASE62_H
+#include <stddef.h>
+#include <stdint.h>
+#ifdef __cplusplus
+extern "C" {
+#endif
+""", r"""
+#ifdef __GNUC__
+#define BASE62_NO_NULL __attribute__((__nonnull__))
+#define BASE62_CHECK_RESULT __attribute__((__nonnull__, __warn_unused_result__))
+#else
+#define BASE62_NO_NULL
+#define BASE62_CHECK_RESULT
+#endif
+#ifdef __has_attribute
+#if __has_attribute(__access__)
+#define BASE62_READS(text, length) __attribute__((__access__(__read_only__, text, length)))
+#define BASE62_WRITES(buffer, size) __attribute__((__access__(__write_only__, buffer, size)))
+#endif
+#endif
+#ifndef BASE62_READS
+#define BASE62_READS(text, length)
+#define BASE62_WRITES(buffer, size)
+#endif
+#if defined _WIN32 && defined BASE62_BUILD
+#define BASE62_API __declspec(dllexport)
+#elif defined _WIN32 && defined BASE62_SHARED
+#define BASE62_API __declspec(dllimport)
+#elif defined __GNUC__ && defined BASE62_BUILD
+#define BASE62_API __attribute__((__visibility__("default")))
+#else
+#define BASE62_API
+#endif
+""", r"""
+#ifdef __SIZEOF_INT128__
+__extension__ typedef unsigned __int128 base62_u128;
+static inline base62_number base62_from_u128(base62_u128 value) {
+    base62_number number;
+    number.high = value >> 64 & 0xFFFFFFFFFFFFFFFFu;
+    number.low = value & 0xFFFFFFFFFFFFFFFFu;
+    return number;
 }
-# .. and besides: of base62.h, if there are integers of 128 bits; and for GCC with a C library.
-OF_128_BITS = """
-    __extension__ typedef unsigned __int128 base62_u128;
-    static inline base62_number base62_from_u128(base62_u128 value) {
-        base62_number number;
-        number.high = value >> 64 & 0xFFFFFFFFFFFFFFFFu;
-        number.low = value & 0xFFFFFFFFFFFFFFFFu;
-        return number;
-    }
-    static inline base62_u128 base62_to_u128(base62_number number) {
-        base62_u128 value = number.high;
-        return value << 64 | number.low;
-    }"""
-PRAGMA = '#pragma GCC optimize ("no-tree-slp-vectorize")'
+static inline base62_u128 base62_to_u128(base62_number number) {
+    base62_u128 value = number.high;
+    return value << 64 | number.low;
+}
+#endif
+""", r"""
+#undef BASE62_API
+#undef BASE62_NO_NULL
+#undef BASE62_CHECK_RESULT
+#undef BASE62_READS
+#undef BASE62_WRITES
+#ifdef __cplusplus
+}
+#endif
+#endif
+"""), "base62.c": (r"""
+#include "base62.h"
+#include <limits.h>
+#include <stdbool.h>
+#include <stddef.h>
+#include <stdint.h>
+#if CHAR_BIT != 8
+#error "base62.c is for bytes of 8 bits"
+#endif
+#if SIZE_MAX < 0xffffffff
+#error "base62.c is for a size_t of 32 bits or more"
+#endif
+#ifdef __GNUC__
+#define B62_ALWAYS_INLINE inline __attribute__((__always_inline__))
+#else
+#define B62_ALWAYS_INLINE inline
+#endif
+#ifdef _MSC_VER
+#define B62_RESTRICT __restrict
+#else
+#define B62_RESTRICT restrict
+#endif
+#if defined __GNUC__ && !defined __clang__ && __STDC_HOSTED__
+#pragma GCC optimize ("no-tree-slp-vectorize")
+#endif
+""", r"""
+static B62_ALWAYS_INLINE u128 u128_mul_64(uint64_t a, uint64_t b) {
+#if defined __SIZEOF_INT128__ && !defined BASE62_NO_INT128
+    const base62_u128 product = (base62_u128)a * b;
+    return (u128){(uint64_t)(product >> 64), (uint64_t)product};
+#else
+    const uint64_t a0 = a & 0xffffffff, a1 = a >> 32, b0 = b & 0xffffffff, b1 = b >> 32;
+    const uint64_t low = a0 * b0, middle = a1 * b0 + (low >> 32), other = a0 * b1 + (middle & 0xffffffff);
+    return (u128){a1 * b1 + (middle >> 32) + (other >> 32), other << 32 | (low & 0xffffffff)};
+#endif
+}
+""", r"""
+static B62_ALWAYS_INLINE uint32_t u64_ilog2(uint64_t n) {
+    //@ assert requires: n != 0;
+#ifdef __GNUC__
+    return 63 ^ (uint32_t)__builtin_clzll(n);
+#else
+    uint32_t bits = 0;
+    for (uint32_t step = 32; step != 0; step /= 2)
+        if (n >> step != 0) {
+            n >>= step;
+            bits += step;
+        }
+    return bits;
+#endif
+}
+""", "\n#define B62_TEXT(text) text, sizeof(text) - 1\n", f'\n#define B62_NO_TEXT {{0, "{76 * " "}"}}\n')}
 
-# What the two files may ask or name of all that C reserves for compilers and libraries, and what else they may ask.
-RESERVED = set("""__GNUC__ __SIZEOF_INT128__ __STDC_HOSTED__ __clang__ __cplusplus __has_attribute _MSC_VER _WIN32
-    __access__ __always_inline__ __attribute__ __builtin_clzll __declspec __extension__ __int128 __nonnull__
-    __read_only__ __restrict __visibility__ __warn_unused_result__ __write_only__""".split())
-ASKED = {"BASE62_BUILD", "BASE62_H", "BASE62_NO_INT128", "BASE62_SHARED", "CHAR_BIT", "SIZE_MAX"}
-DIRECTIVES = {"define", "elif", "else", "endif", "error", "if", "ifdef", "ifndef", "include", "pragma", "undef"}
+# Where all tools are.
+PATH = "/usr/bin:/bin"
+# The headers of C and its macros, besides those in CONDITIONS, and the only other form of a define.
+HEADERS = {"limits.h", "stdbool.h", "stddef.h", "stdint.h"}
+MACROS = {"UINT32_C", "UINT64_C", "bool", "true", "false"}
+DEFINE = re.compile(r'# define B(?:ASE)?62_\w+ (?:\d+|"[^"\\]*"|\( \( (?:uint32_t|size_t) \) \d+ \)|UINT64_C \( \d+ \)|B62_\w+)')
 
-COMMENT = re.compile(r'/\*.*?\*/|//[^\n]*|("(?:\\.|[^"\\])*"|\'(?:\\.|[^\'\\])*\')', re.S)
-TOKEN = re.compile(r'"(?:\\.|[^"\\])*"|\'(?:\\.|[^\'\\])*\'|[A-Za-z_]\w*|\.?\d(?:[eEpP][+-]|[\w.])*'
-                   r"|<<=|>>=|\.\.\.|->|\+\+|--|<<|>>|&&|\|\||##|[-+*/%&|^=<>!]=|\S")
-
-
-def without_comments(text):
-    return COMMENT.sub(lambda found: found[1] or " ", text)
-
-
-def wrong_text(path):
-    """What a file has that this program, or the way it asks, does not see through."""
-    text = without_comments(path.read_text())
-    for form in re.findall(r"\\\n|\?\?[=/'()!<>-]|%:|<:|:>|<%|%>", path.read_text()):
-        yield f"{path.name}: a splice, a trigraph or a digraph: {form!r}"
-    for line in text.split("\n"):
-        code = re.sub(r'"(?:\\.|[^"\\])*"', "", line)
-        word = re.match(r"\s*#\s*(\w*)", code)
-        if "#" in code and (not word or code.count("#") > 1 or word[1] not in DIRECTIVES):
-            yield f"{path.name}: a directive or an operator of the preprocessor: {line.strip()}"
-    for name in sorted(set(re.findall(r"\b_[A-Z_]\w*", text)) - RESERVED):
-        yield f"{path.name}: a name that C reserves: {name}"
+# A header has the comments of every C. An annotation counts as a token: a part without it is another.
+TEXTS = r'|("(?:\\.|[^"\\\n])*"|\'(?:\\.|[^\'\\\n])*\')'
+COMMENT = {"base62.h": re.compile(r"/\*.*?\*/" + TEXTS, re.S), "base62.c": re.compile(r"/\*.*?\*/|//(?!@)[^\n]*" + TEXTS, re.S)}
+TOKEN = re.compile(r'//@.*|"(?:\\.|[^"\\])*"|\'(?:\\.|[^\'\\])*\'|\w+|//|->|\+\+|--|<<=|>>=|<<|>>|&&|\|\||[-+*/%&|^=<>!]=|\S')
+WORD = re.compile(r"""//@.*|[a-z]\w*|[A-Z][a-z]\w*|_\d|B(?:ASE)?62_\w+|UINT(?:32|64)_C|0|[1-9]\d*|0x[0-9a-f]{1,16}
+    |"(?:[ !#-\[\]-~]|\\[tnr\\"'])*"|'(?:[ -&(-\[\]-~]|\\[tnr\\"'])'
+    |->|\+\+|--|<<|>>|&&|\|\||[-+*/<>=!]=|>>=|[-+*/%&|<>=!.,;:?(){}[\]]""", re.X | re.A)
 
 
-def preprocessed(command):
-    """What a preprocessor gives. A condition on an unknown name is an error."""
-    ran = subprocess.run([*command, "-Werror=undef"], capture_output=True, text=True)
-    if ran.returncode:
-        raise SystemExit(ran.stderr)
-    return ran.stdout
-
-
-def wrong_questions(compiler, paths, empty):
-    """The macros of a compiler that the files ask or use, but for those named above. The headers of C are empty here, so
-    that none of their questions is among them."""
-    for header in ("limits.h", "stdbool.h", "stddef.h", "stdint.h"):
-        (empty / header).touch()
-    of_c = ["-nostdinc", f"-I{empty}", "-DCHAR_BIT=8", "-DSIZE_MAX=0xffffffff", f"-I{paths[1].parent}"]
-    given = set(re.findall(r"^#define (\w+)", preprocessed([*compiler, *of_c, "-dM", "-E", "-xc", "/dev/null"]), re.M))
-    for kind, name in re.findall(r"^#(define|undef) (\w+)", preprocessed([*compiler, *of_c, "-E", "-dU", paths[0]]), re.M):
-        if (kind == "undef" or name in given) and name not in ASKED | RESERVED:
-            yield f"the files ask for {name}"
-
-
-def tokens(text, bits, paths=None):
-    """The tokens of a text, or of those files in a preprocessed one. A long number is its value and its width."""
-    lines, here = [], not paths
-    for line in without_comments(text).split("\n"):
-        marker = re.match(r'# \d+ "(.*?)"', line)
-        if marker and paths:
-            here = marker[1] in paths
-        elif here and (not line.startswith("#") or line.startswith("#pragma")):
-            lines.append(line)
-    found = []
-    for token in TOKEN.findall("\n".join(lines)):
-        number = re.fullmatch(r"(0[xX][0-9a-fA-F]+|\d+)[uU]([lL]+)", token)
-        if number:
-            found.append((int(number[1], 0), bits if len(number[2]) == 1 else 64))
-        elif token == ")" and len(found) > 1 and found[-2] == "(" and isinstance(found[-1], tuple):
-            found[-2:] = [found[-1]]  # Frama-C's UINT64_C is in parentheses.
-        else:
-            found.append({"__restrict": "restrict"}.get(token, token))
+def tokens(name, text):
+    """Each token of a file, and its line. A line of the preprocessor ends with a token of its own."""
+    found, line = [], 1
+    for part in COMMENT[name].sub(lambda it: it[1] or " " + "\v" * it[0].count("\n"), text).split("\n"):
+        found += [(token, line) for token in TOKEN.findall(part)]
+        if part.lstrip().startswith("#"):
+            found.append(("\n", line))
+        line += 1 + part.count("\v")
     return found
 
 
-def cut(found, part):
-    """The tokens without these ones, which stand there once or never."""
-    at = [i for i in range(len(found)) if found[i:i + len(part)] == part]
-    return found[:at[0]] + found[at[0] + len(part):] if len(at) == 1 else found
+def is_at(i, part, found):
+    return [token for token, _ in found[i:i + len(part)]] == [token for token, _ in part]
 
 
-def end_of(found, first):
-    """The place behind the parenthesis or brace that closes the one at the first place."""
-    depth = 0
-    for at in range(first, len(found)):
-        depth += {"(": 1, "{": 1, ")": -1, "}": -1}.get(found[at], 0)
-        if not depth:
-            return at + 1
+def macros():
+    """The macros that a compiler has, and that the headers of C define."""
+    asked = "".join(f"#include <{name}>\n" for name in sorted(HEADERS))
+    said = subprocess.run(["gcc", "-std=gnu99", "-dM", "-E", "-"], input=asked, env={"PATH": PATH}, check=True,
+                          capture_output=True, text=True)
+    return set(re.findall(r"^#define (\w+)", said.stdout, re.M)) - MACROS
 
 
-def without_attributes(found):
-    """The tokens without attributes of names in RESERVED."""
-    kept, at = [], 0
-    while at < len(found):
-        end = end_of(found, at + 1) if found[at] == "__attribute__" else at + 1
-        part = found[at:end]
-        if part[0] != "__attribute__" or {it for it in part if re.match(r"[A-Za-z]|_[A-Za-z_]", str(it))} - RESERVED:
-            kept += part
-        at = end
-    return kept
+def is_number(found, i):
+    """Whether a number has one type everywhere: one of int, or one of 64 bits or less that its macro or 0x tells."""
+    before, number = [token for token, _ in found[max(i - 2, 0):i]], found[i][0]
+    bits = {"UINT32_C": 32, "UINT64_C": 64}.get(before[0] if before[1:] == ["("] and found[i + 1][0] == ")" else "", 31)
+    return number.startswith("0x") or int(number) < 2 ** bits
 
 
-def bodies(found):
-    """The tokens without the bodies of EXTENSIONS, and those bodies."""
-    of = {}
-    for name in EXTENSIONS:
-        first = found.index("{", found.index(name))
-        end = end_of(found, first)
-        of[name] = found[first:end]
-        found = found[:first] + found[end:]
-    return found, of
+def wrong(name, text):
+    """What is wrong with the text of a file."""
+    for form in re.findall(r"\\\n|\?\?[=/'()!<>-]|%:|<:|:>|<%|%>", text):
+        yield f"{name}: a splice, a trigraph or a digraph: {form!r}"
+    found, given = tokens(name, text), macros()
+    for part in CONDITIONS[name]:
+        wanted = tokens(name, part)
+        at = [i for i in range(len(found)) if is_at(i, wanted, found)]
+        # What base62.h begins and ends with is about all of it, and base62.c begins with its headers.
+        begins, ends = part == CONDITIONS[name][0], part == CONDITIONS["base62.h"][3]
+        if len(at) != 1 or begins and at != [0] or ends and at != [len(found) - len(wanted)]:
+            yield f"{name}: this has to stand there once, in its place: {part}"
+        else:
+            del found[at[0]:at[0] + len(wanted)]
+    i = 0
+    while i < len(found):
+        token, line = found[i]
+        if token == "#":
+            end = next(j for j in range(i, len(found)) if found[j][0] == "\n")
+            if not DEFINE.fullmatch(" ".join(it for it, _ in found[i:end])):
+                yield f"{name}:{line}: a line of the preprocessor that is not on the list"
+            i = end
+        elif not WORD.fullmatch(token) or token in given:
+            yield f"{name}:{line}: a token that is not on the list: {token}"
+        elif token[0].isdigit() and not is_number(found, i):
+            yield f"{name}:{line}: a number whose type is left to the compiler: {token}"
+        elif token[:4] == "UINT" and not re.fullmatch(r"\( \d\w* \)", " ".join(it for it, _ in found[i + 1:i + 4])):
+            yield f"{name}:{line}: a macro that is not of a number: {token}"
+        i += 1
 
 
-def wrong(paths, read, bits, empty):
-    """What is wrong with base62.c and base62.h at these paths, of which Frama-C's preprocessor gives this text."""
-    yield from (each for path in paths for each in wrong_text(path))
-    names = [str(path) for path in paths]
-    proved, of_proved = bodies(without_attributes(tokens(read, int(bits), names)))
-    for setting in SETTINGS:
-        compiler = [COMPILERS[bits], "-std=gnu99", *setting]
-        yield from wrong_questions(compiler, paths, empty)
-        text = preprocessed([*compiler, f"-I{paths[1].parent}", "-E", paths[0]])
-        compiled = without_attributes(tokens(text, int(bits), names))
-        for part in (PRAGMA, OF_128_BITS):
-            compiled = cut(compiled, tokens(part, int(bits)))
-        compiled, of_compiled = bodies(compiled)
-        for name, body in EXTENSIONS.items():
-            if of_compiled[name] not in (of_proved[name], tokens(body, int(bits))):
-                yield f"another body of {name}: {of_compiled[name]}"
-        if compiled != proved:
-            at = next((i for i, (a, b) in enumerate(zip(compiled, proved)) if a != b), min(len(compiled), len(proved)))
-            yield f"GCC reads {compiled[at - 3:at + 5]} with {setting}, and Frama-C {proved[at - 3:at + 5]}"
-    if "pragma" in proved:
-        yield "a pragma that Frama-C reads too"
+def headers_in(folder):
+    """Files that a compiler may take for headers of C."""
+    yield from (f"a header in the place of that of C: {path.name}" for path in sorted(folder.rglob("*"))
+                if path.name.lower() in HEADERS)

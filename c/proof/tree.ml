@@ -15,137 +15,113 @@ let is_library (place : location) =
   String.starts_with ~prefix:"FRAMAC_SHARE/" (Filepath.Normalized.to_pretty_string (fst place).Filepath.pos_path)
 let at_place place what = Format.asprintf "%a: %s" Cil_printer.pp_location place what
 
-(* -------------------- The small C: what is not on these lists is rejected -------------------- *)
+(* -------------------- The small C: a form that is not listed here is rejected -------------------- *)
 
 module Forms = struct
   open Cabs
-
   let types = Hashtbl.create 50
   let () = List.iter (fun name -> Hashtbl.replace types name ()) [ "uint8_t"; "uint32_t"; "uint64_t"; "size_t" ]
-  (* Calls within expressions, whose order C leaves open: each has to be of a function that writes nothing. *)
+  (* Calls within expressions, in an order that C leaves open. *)
   let nested = ref []
-  let tell_if wrong kind place what = if wrong then tell kind "" (at_place place (what ^ " that is not on the list"))
-  let reject_if wrong = tell_if wrong "form"
-  let reject place = reject_if true place
-
-  let rec expression e = match e.expr_node with
-    | CONSTANT (CONST_INT _ | CONST_CHAR [ _ ]) | VARIABLE _ | EXPR_SIZEOF { expr_node = PAREN { expr_node = VARIABLE _; _ } | VARIABLE _; _ } -> ()
-    | TYPE_SIZEOF (spec, decl) -> typ e.expr_loc [ JUSTBASE ] spec decl
-    | PAREN a | MEMBEROF (a, _) | MEMBEROFPTR (a, _) | UNARY ((NOT | MEMOF | MINUS), a) -> expression a
-    | UNARY (ADDROF, ({ expr_node = VARIABLE _ | MEMBEROF _ | MEMBEROFPTR _ | INDEX _; _ } as a)) -> expression a
-    | BINARY ((ADD | SUB | MUL | DIV | MOD | AND | OR | BAND | BOR | XOR | SHL | SHR | EQ | NE | LT | GT | LE | GE), a, b)
-    | INDEX (a, b) -> expression a; expression b
-    | QUESTION (a, b, c) -> List.iter expression [ a; b; c ]
-    | CAST ((spec, decl), SINGLE_INIT a) -> typ e.expr_loc [ JUSTBASE; PTR ([], JUSTBASE) ] spec decl; expression a
-    | CAST ((spec, JUSTBASE), (COMPOUND_INIT _ as i)) -> typ e.expr_loc [ JUSTBASE ] spec JUSTBASE; initial e.expr_loc i
-    | CALL ({ expr_node = VARIABLE f; _ }, all, []) -> nested := (f, e.expr_loc) :: !nested; List.iter expression all
-    | _ -> reject e.expr_loc "an expression"
-
-  (* What is set or returned may be a call that writes: nothing else is evaluated beside it. *)
-  and value e = match e.expr_node with
-    | CALL ({ expr_node = VARIABLE _; _ }, all, []) -> List.iter expression all
-    | CAST ((spec, JUSTBASE), SINGLE_INIT a) -> typ e.expr_loc [ JUSTBASE ] spec JUSTBASE; value a
-    | PAREN a -> value a
-    | NOTHING -> ()
-    | _ -> expression e
-
-  and initial place = function
-    | SINGLE_INIT { expr_node = CONSTANT (CONST_STRING _); _ } -> ()
-    | SINGLE_INIT e -> expression e
-    | COMPOUND_INIT all ->
-      let name = function INFIELD_INIT (name, NEXT_INIT) -> Some name | _ -> None in
-      let names = List.filter_map (fun (what, _) -> name what) all in
-      let is_listed = names <> [] || List.for_all (fun (what, _) -> what = NEXT_INIT) all in
-      reject_if (not is_listed || names <> [] && List.length (List.sort_uniq compare names) <> List.length all) place "an initializer";
-      List.iter (fun (_, i) -> initial place i) all
-    | NO_INIT -> tell "open" "" (at_place place "a variable that is not initialized where it is declared")
-
-  (* A type of one meaning on all targets, without what says how it is declared, and a declarator. *)
-  and typ place declarators spec decl =
-    let decl = match decl with PARENTYPE ([], decl, []) -> decl | _ -> decl in
-    let named = List.filter (function SpecCV CV_CONST -> false | _ -> true) spec in
-    let is_known = match named with
-      | [ SpecType Tbool ] | [ SpecType Tunsigned; SpecType Tchar ] -> true
-      | [ SpecType (Tnamed name) ] -> Hashtbl.mem types name
-      | [ SpecType Tvoid ] -> decl = JUSTBASE
-      | [ SpecType Tchar ] -> decl <> JUSTBASE
-      | _ -> false in
-    let is_short e = match e.expr_node with CONSTANT (CONST_INT n) -> String.length n < 4 | NOTHING -> true | _ -> false in
-    let is_array = match decl with ARRAY (JUSTBASE, [], n) -> is_short n | _ -> false in
-    tell_if (not is_known) "open" place "a type";
-    reject_if (not (is_array || List.mem decl declarators)) place "a declarator"
-
-  let place_of e = match e.expr_node with
-    | VARIABLE _ | MEMBEROF _ | MEMBEROFPTR _ | INDEX _ | UNARY (MEMOF, _) -> expression e
-    | _ -> reject e.expr_loc "an assignment"
-
-  let computation e = match e.expr_node with
-    | BINARY ((ASSIGN | ADD_ASSIGN | SUB_ASSIGN | MUL_ASSIGN | DIV_ASSIGN | SHL_ASSIGN | SHR_ASSIGN), a, b) -> place_of a; expression b
-    | UNARY ((POSINCR | POSDECR), a) -> place_of a
-    | CALL _ -> value e
-    | CAST (([ SpecType Tvoid ], JUSTBASE), SINGLE_INIT { expr_node = VARIABLE _; _ }) -> ()
-    | _ -> reject e.expr_loc "a statement"
-
+  let tell_if kind wrong place what = if wrong then tell kind "" (at_place place ("not on the list: " ^ what))
+  let reject_if = tell_if "form"
   let is_static = List.mem (SpecStorage STATIC)
-  let without all = List.filter (fun it -> not (List.mem it all))
 
-  let variable is_global place = function
-    | DECDEF (None, (spec, all), _) ->
-      let is_kept = is_global || is_static spec in
-      reject_if (is_kept && not (is_static spec && List.mem (SpecCV CV_CONST) spec)) place "a variable";
-      let spec = without [ SpecStorage STATIC ] spec in
-      List.iter (fun ((_, decl, attributes, _), init) ->
-        typ place (if is_kept then [ JUSTBASE ] else [ JUSTBASE; PTR ([], JUSTBASE) ]) spec decl;
-        reject_if (attributes <> []) place "an attribute";
-        match init with SINGLE_INIT e when not is_kept && decl = JUSTBASE -> value e | _ -> initial place init) all
-    | _ -> reject place "a declaration"
+  (* A type of one meaning on all targets, and a declarator. *)
+  let check_type place spec decl declarators =
+    let decl = match decl with PARENTYPE ([], decl, []) -> decl | _ -> decl in
+    let is_type = function SpecCV CV_CONST | SpecStorage STATIC | SpecInline | SpecAttr _ -> false | _ -> true in
+    tell_if "open" (not (match List.filter is_type spec with
+      | [ SpecType (Tbool | Tstruct ("", Some _, []) | Tenum ("", Some _, [])) ] | [ SpecType Tunsigned; SpecType Tchar ] -> true
+      | [ SpecType (Tnamed name) ] -> Hashtbl.mem types name
+      | [ SpecType (Tvoid | Tint) ] -> decl = JUSTBASE && declarators = []
+      | [ SpecType Tchar ] -> decl <> JUSTBASE
+      | _ -> false)) place "a type";
+    reject_if (not (match decl with
+      | JUSTBASE | ARRAY (JUSTBASE, [], { expr_node = NOTHING; _ }) -> true
+      | ARRAY (JUSTBASE, [], { expr_node = CONSTANT (CONST_INT n); _ }) -> String.length n < 4
+      | _ -> List.mem decl declarators)) place "a declarator"
 
-  let rec statement s =
-    let reject what = function place -> reject place what in
-    match s.stmt_node with
-    | NOP _ | CODE_ANNOT _ | CODE_SPEC _ -> ()
-    | BLOCK ({ blabels = []; battrs = []; bstmts }, _, _) -> List.iter statement bstmts
-    | COMPUTATION (e, _) -> computation e
-    | RETURN (e, _) -> value e
-    | IF (c, a, b, _) -> expression c; statement a; statement b
-    | WHILE (_, c, a, _) -> expression c; statement a
-    | FOR (_, FC_DECL d, c, step, a, place) -> variable false place d; expression c; computation step; statement a
-    | DEFINITION (DECDEF (_, _, place) as d) -> variable false place d
-    | _ -> reject "a statement" (Cabshelper.get_statementloc s)
+  (* What a statement consists of, but for its parts: there an effect stands alone. *)
+  let rec alone e = e :: (match e.expr_node with CAST (_, SINGLE_INIT a) | PAREN a -> alone a | _ -> [])
+  let pointer = PTR ([], JUSTBASE)
 
-  let rec fields place = List.iter (function
-    | FIELD ([ SpecType (Tstruct ("", Some inner, [])) ], [ ((_, JUSTBASE, [], _), None) ]) -> fields place inner
-    | FIELD ([ SpecType (Tenum ("", Some _, [])) ], [ ((_, JUSTBASE, [], _), None) ]) -> ()
-    | FIELD (spec, all) -> List.iter (function
-        | ((_, decl, [], place), None) -> typ place [ JUSTBASE ] spec decl
-        | _ -> reject place "a field") all
-    | _ -> reject place "a field")
+  class walk = object
+    inherit Cabsvisit.nopCabsVisitor
+    val mutable effects = []
+    val mutable is_inside = false
 
-  let head place spec (_, decl, attributes, _) = match decl with
-    | PROTO (JUSTBASE, (_ :: _ as all), [], false) | PTR ([], PROTO (JUSTBASE, (_ :: _ as all), [], false)) ->
-      reject_if (List.mem SpecInline spec && not (is_static spec)) place "a function";
-      let is_more = function SpecStorage STATIC | SpecInline | SpecAttr _ -> false | _ -> true in
-      let spec = List.filter is_more spec in
-      if spec <> [ SpecType Tint ] then typ place [ JUSTBASE ] spec JUSTBASE;
-      List.iter (fun (spec, (_, decl, attributes, place)) ->
-        typ place [ JUSTBASE; PTR ([], JUSTBASE); PTR ([ "restrict", [] ], JUSTBASE) ] spec decl;
-        reject_if (attributes <> []) place "an attribute") all;
-      reject_if (attributes <> []) place "an attribute"
-    | _ -> reject place "a declaration"
+    method! vexpr e =
+      (match e.expr_node with
+        | NOTHING | CONSTANT (CONST_INT _ | CONST_CHAR [ _ ] | CONST_STRING _) | VARIABLE _ | PAREN _ | QUESTION _ | INDEX _
+        | MEMBEROF _ | MEMBEROFPTR _ | EXPR_SIZEOF _ | UNARY ((NOT | MEMOF | MINUS), _)
+        | UNARY (ADDROF, { expr_node = VARIABLE _ | MEMBEROF _ | MEMBEROFPTR _ | INDEX _; _ })
+        | BINARY ((ADD | SUB | MUL | DIV | MOD | AND | OR | BAND | BOR | XOR | SHL | SHR | EQ | NE | LT | GT | LE | GE), _, _) -> ()
+        | BINARY ((ASSIGN | ADD_ASSIGN | SUB_ASSIGN | MUL_ASSIGN | DIV_ASSIGN | SHR_ASSIGN), _, _)
+        | UNARY ((POSINCR | POSDECR), _) when List.memq e effects -> ()
+        | CALL ({ expr_node = VARIABLE f; _ }, _, []) -> if not (List.memq e effects) then nested := (f, e.expr_loc) :: !nested
+        | CAST (([ SpecType Tvoid ], JUSTBASE), SINGLE_INIT { expr_node = VARIABLE _; _ }) when List.memq e effects -> ()
+        | CAST ((spec, decl), _) | TYPE_SIZEOF (spec, decl) -> check_type e.expr_loc spec decl [ pointer ]
+        | _ -> reject_if true e.expr_loc "an expression");
+      Cil.DoChildren
 
-  let definition place = function
-    | FUNDEF (_, (spec, name), { blabels = []; battrs = []; bstmts }, _, _) -> head place spec name; List.iter statement bstmts
-    | DECDEF (_, (spec, [ ((_, (PROTO _ | PTR (_, PROTO _)), _, _) as name, NO_INIT) ]), _) -> head place spec name
-    | DECDEF _ as d -> variable true place d
-    | TYPEDEF ((SpecTypedef :: spec, [ (name, decl, [], _) ]), _) ->
-      (match spec, decl with
-        | [ SpecType (Tstruct (_, Some all, [])) ], JUSTBASE -> fields place all
-        | [ SpecType (Tenum (_, Some _, [])) ], JUSTBASE -> ()
-        | [ SpecType Tchar ], ARRAY _ -> ()
-        | _ -> reject place "a type");
-      Hashtbl.replace types name ()
-    | GLOBANNOT _ -> ()
-    | _ -> reject place "a declaration"
+    method! vstmt s =
+      let place = Cabshelper.get_statementloc s in
+      (match s.stmt_node with
+        | COMPUTATION (e, _) | RETURN (e, _) -> effects <- alone e
+        | FOR (_, FC_DECL _, _, step, _, _) -> effects <- [ step ]
+        | DEFINITION (DECDEF _) | NOP _ | CODE_ANNOT _ | CODE_SPEC _ | BLOCK _ | IF _ | WHILE _ -> ()
+        | _ -> reject_if true place "a statement");
+      Cil.DoChildren
+
+    method! vblock b = reject_if (b.blabels <> [] || b.battrs <> []) Cil_datatype.Location.unknown "a block"; Cil.DoChildren
+
+    method! vinitexpr i =
+      (match i with
+        | COMPOUND_INIT all ->
+          let name = function INFIELD_INIT (name, NEXT_INIT), _ -> [ name ] | NEXT_INIT, _ -> [] | _ -> [ ""; "" ] in
+          let names = List.concat_map name all in
+          reject_if (names <> [] && List.compare_lengths (List.sort_uniq compare names) all <> 0) Cil_datatype.Location.unknown
+            "an initializer"
+        | _ -> ());
+      Cil.DoChildren
+
+    method! vtypespec t =
+      let is_field = function FIELD (_, all) -> List.for_all (fun (_, width) -> width = None) all | _ -> false in
+      reject_if (match t with Tstruct (_, Some all, []) -> not (List.for_all is_field all) | Tunion _ -> true | _ -> false)
+        Cil_datatype.Location.unknown "a union or a bit field";
+      Cil.DoChildren
+
+    (* Those of base62.h stand in the middle of a type. The walk over the tree below knows their names. *)
+    method! vattr _ = Cil.SkipChildren
+
+    method! vname kind spec (name, decl, attributes, place) =
+      reject_if (attributes <> [] || List.mem SpecInline spec && not (is_static spec)) place "an attribute or a function";
+      (match decl with
+        | PROTO (JUSTBASE, _ :: _, [], false) | PTR ([], PROTO (JUSTBASE, _ :: _, [], false)) -> check_type place spec JUSTBASE []
+        | _ when kind = Cabsvisit.NType || name = "" && spec = [ SpecType Tvoid ] -> ()
+        | _ -> check_type place spec decl (match kind with NField -> [] | _ -> [ pointer; PTR ([ "restrict", [] ], JUSTBASE) ]));
+      Cil.DoChildren
+
+    method! vdef d =
+      let is_global = not is_inside and place = Cabshelper.get_definitionloc d in
+      is_inside <- true;
+      (match d with
+        | FUNDEF _ when is_global -> ()
+        | DECDEF (_, (spec, all), _) -> List.iter (fun ((_, decl, _, _), init) -> match decl, init with
+            | (PROTO _ | PTR (_, PROTO _)), NO_INIT when is_global -> ()
+            | _ ->
+              let is_kept = is_global || is_static spec in
+              tell_if "open" (init = NO_INIT) place "a variable that is not initialized where it is declared";
+              (match init with SINGLE_INIT e -> effects <- alone e @ effects | _ -> ());
+              reject_if (is_kept && not (is_static spec && List.mem (SpecCV CV_CONST) spec)) place "a variable that is kept";
+              reject_if (match decl with PTR (all, _) -> all <> [] || is_kept | _ -> false) place "a pointer variable") all
+        | TYPEDEF ((SpecTypedef :: [ SpecType (Tstruct (_, Some _, []) | Tenum (_, Some _, [])) ], [ (name, JUSTBASE, [], _) ]), _)
+          when is_global -> Hashtbl.replace types name ()
+        | TYPEDEF (([ SpecTypedef; SpecType Tchar ], [ (_, ARRAY _, [], _) ]), _) | GLOBANNOT _ -> ()
+        | _ -> reject_if true place "a declaration");
+      Cil.DoChildren
+  end
 end
 
 (* -------------------- Definitions: each ends -------------------- *)
@@ -319,7 +295,7 @@ let read_files () =
     | _ -> () in
   let definition (ghost, d) =
     let place = Cabshelper.get_definitionloc d in
-    if not (is_library place) then Forms.definition place d;
+    if not (is_library place) then ignore (Cabsvisit.visitCabsDefinition (new Forms.walk) d);
     definition (ghost, d) in
   List.iter (fun (_, definitions) -> List.iter definition definitions) (Ast.UntypedFiles.get ())
 

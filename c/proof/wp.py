@@ -21,7 +21,7 @@ CODE = C / "base62.c"
 SPECIFICATION = FOLDER / "base62.acsl"
 # What stands before the bare code: no specification, and nothing that says who reads it.
 BARE = "#include <stddef.h>\n#include <stdint.h>\n#undef __FRAMAC__\n"
-FLAGS = f"-I{C} -D__FC_MACHDEP_X86_{BITS} -DBASE62_NO_INT128 -U__SIZEOF_INT128__ -U__GNUC__"
+FLAGS = f"-D__FC_MACHDEP_X86_{BITS} -DBASE62_NO_INT128 -U__SIZEOF_INT128__ -U__GNUC__"
 LIMIT = int(os.environ.get("LIMIT", "20"))
 CORES = int(os.environ.get("CORES", os.cpu_count()))
 
@@ -32,19 +32,25 @@ HOW = {"with tables", "asserts named same with tables", "without a filter of hyp
 
 @functools.cache
 def tools():
-    """A folder with what Frama-C needs: the walk over its tree, and why3's list of provers."""
-    missing = [tool for tool in ("frama-c", "ocamlfind", "why3", "z3", "cvc4", "cvc5", tokens.COMPILERS[BITS]) if not shutil.which(tool)]
+    """A folder with what Frama-C needs: the walk over its tree, base62.h, and why3's list of provers."""
+    needed = ("frama-c", "ocamlfind", "why3", "z3", "cvc4", "cvc5", "gcc")
+    missing = [tool for tool in needed if not shutil.which(tool, path=tokens.PATH)]
     if missing:
-        raise SystemExit(f"missing: {' '.join(missing)}\n"
+        raise SystemExit(f"missing in {tokens.PATH}: {' '.join(missing)}\n"
                          "Debian 12 has them: make setup-full installs all, as root. Elsewhere take c/proof/Dockerfile.")
     folder = tempfile.TemporaryDirectory()
-    shutil.copy(FOLDER / "tree.ml", folder.name)
-    library = subprocess.run(["frama-c", "-print-lib-path"], check=True, capture_output=True, text=True).stdout
+    for path in FOLDER / "tree.ml", C / "base62.h":
+        shutil.copy(path, folder.name)
+    library = subprocess.run(["frama-c", "-print-lib-path"], env={"PATH": tokens.PATH}, check=True, capture_output=True, text=True).stdout
     for command in (["ocamlfind", "ocamlopt", "-shared", "-I", library.strip(), "-package", "zarith,ocamlgraph",
                      "-o", "tree.cmxs", "tree.ml"], ["why3", "config", "detect"]):
-        environment = {**os.environ, "WHY3CONFIG": f"{folder.name}/why3.conf"}
-        subprocess.run(command, cwd=folder.name, env=environment, check=True, capture_output=True)
+        subprocess.run(command, cwd=folder.name, env=environment(folder.name), check=True, capture_output=True)
     return folder
+
+
+def environment(folder, **more):
+    """All that the tools get of the environment: no folder of plugins, headers, libraries or results but this one."""
+    return {"PATH": tokens.PATH, "HOME": folder, "WHY3CONFIG": f"{folder}/why3.conf", "LC_ALL": "C.UTF-8", **more}
 
 
 def prepared(work, code, specification=None):
@@ -59,12 +65,11 @@ def prepared(work, code, specification=None):
 def frama_c(file, name, options, last=None, **more):
     """What Frama-C says of a file, up to a line that has the last text. The folder of the file keeps it by the name."""
     folder = tools().name
-    flags = f"-I{file.parent} -include {file.parent / SPECIFICATION.name} {FLAGS}"
+    flags = f"-I{file.parent} -I{folder} -include {file.parent / SPECIFICATION.name} {FLAGS}"
     command = ["frama-c", "-load-module", f"{folder}/tree.cmxs", "-machdep", f"base62_{BITS}",
                f"-cpp-extra-args={flags}", file, *options]
-    environment = {**os.environ, "WHY3CONFIG": f"{folder}/why3.conf", **more}
     log = []
-    with subprocess.Popen(command, env=environment, text=True, stdout=subprocess.PIPE, stderr=subprocess.STDOUT,
+    with subprocess.Popen(command, cwd=folder, env=environment(folder, **more), text=True, stdout=subprocess.PIPE, stderr=subprocess.STDOUT,
                           start_new_session=True) as running:
         for line in running.stdout:
             log.append(line)
@@ -83,12 +88,6 @@ def tree(file):
     log = frama_c(file, "tree", [], TREE=str(said))
     found = [tuple(line.split("\t")) for line in said.read_text().splitlines()]
     return found + [("rejected", "", warning) for warning in warnings(log)]
-
-
-def preprocessed(file):
-    """A file as Frama-C reads it, after the preprocessor."""
-    command = frama_c(file, "preprocess", ["-print-cpp-commands"]).strip().split("\n")[-1]
-    return subprocess.run(command.rsplit(" -o ", 1)[0], shell=True, check=True, capture_output=True, text=True).stdout
 
 
 def code(file):
@@ -133,9 +132,9 @@ def checked_code(work, source, *more):
     """The file of base62.c with annotations; and what is said of it, and of what compilers read of base62.c."""
     bare = prepared(work / "bare", source, BARE)
     file = prepared(work, annotate.annotated(source, *more))
-    (work / "empty").mkdir(exist_ok=True)
     said = checked(file, code(bare))
-    said.wrong += tokens.wrong((bare, C / "base62.h"), preprocessed(bare), BITS, work / "empty")
+    said.wrong += [f"rejected: {what}" for kind, _, what in tree(bare) if kind in ("form", "open")]
+    said.wrong += [*tokens.wrong("base62.c", source), *tokens.wrong("base62.h", text_of(C / "base62.h")), *tokens.headers_in(C)]
     return file, said
 
 

@@ -17,7 +17,7 @@ import functools
 import pathlib
 import re
 
-FOLDER = pathlib.Path(__file__).parent
+FOLDER = pathlib.Path(__file__).resolve().parent
 
 # In the order in which they need each other.
 ANNOTATIONS = ("numbers faults powers results digits alphabets tables readers decoder texts canonical ranges fractions"

@@ -1,4 +1,4 @@
-#!/usr/bin/env python3
+#!/usr/bin/python3 -IBS
 """Changes base62.c in one place after the other: c/proof/mutate_code.py [FUNCTIONS..]
 
 Each change has to leave a goal of its function without a proof. OPERATORS says what is exchanged for what in a body;
@@ -6,10 +6,13 @@ besides, each statement is left out, and two arguments next to each other are ex
 constant tables, and the function that reads them. mutate_specification.py tries the changes, and says how.
 """
 
-import re
 import sys
 
-sys.dont_write_bytecode = True
+sys.flags.isolated and sys.flags.no_site or sys.exit("run the file itself, as its first line says")
+sys.pycache_prefix = "/nonexistent"
+sys.path.append(__file__.rpartition("/")[0] or ".")  # Behind Python's own modules.
+
+import re
 import annotate
 import mutate_specification
 import wp

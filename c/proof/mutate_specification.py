@@ -1,4 +1,4 @@
-#!/usr/bin/env python3
+#!/usr/bin/python3 -IBS
 """Changes base62.acsl in one place after the other: c/proof/mutate_specification.py [TEXTS..]
 
 Each change has to leave a law or an example without a proof. OPERATORS says what is exchanged for what, wherever it
@@ -10,13 +10,16 @@ uses all of its time. So it has three times as long as the slowest goal of the f
 seconds more. A change that Frama-C cannot read is not tried.
 """
 
+import sys
+
+sys.flags.isolated and sys.flags.no_site or sys.exit("run the file itself, as its first line says")
+sys.pycache_prefix = "/nonexistent"
+sys.path.append(__file__.rpartition("/")[0] or ".")  # Behind Python's own modules.
+
 import os
 import pathlib
 import re
-import sys
 import tempfile
-
-sys.dont_write_bytecode = True
 import annotate
 import wp
 

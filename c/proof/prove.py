@@ -1,4 +1,4 @@
-#!/usr/bin/env python3
+#!/usr/bin/python3 -IBS
 """Proves base62.c and laws.c by Frama-C's WP: c/proof/prove.py [FUNCTIONS..]
 
 It prints the goals without a proof, how many are proved and how many failed, and the time. It fails if a goal has no
@@ -8,17 +8,20 @@ a requirement that nothing meets. It names each goal that takes over a third of 
 
 Variables: BITS (32 for a machine of 32 bits), CORES (how many functions are proved at once), LIMIT (seconds for a
 goal), WORK (a folder for the annotated code, the logs, and goals.tsv with the time of each goal), CACHE (a folder of
-results of provers, for a proof that is being made).
+results of provers, for a proof that is being made: it fails). Python takes its own modules, and then those of this folder.
 """
+
+import sys
+
+sys.flags.isolated and sys.flags.no_site or sys.exit("run the file itself, as its first line says")
+sys.pycache_prefix = "/nonexistent"
+sys.path.append(__file__.rpartition("/")[0] or ".")  # Behind Python's own modules.
 
 import os
 import pathlib
 import re
-import sys
 import tempfile
 import time
-
-sys.dont_write_bytecode = True
 import annotate
 import wp
 
@@ -45,11 +48,11 @@ def counted(logs, constants):
 
 def main(chosen):
     start = time.monotonic()
-    work = pathlib.Path(os.environ.get("WORK") or tempfile.mkdtemp())
+    work = pathlib.Path(os.environ.get("WORK") or tempfile.mkdtemp()).resolve()
     file, code = wp.checked_code(work, annotate.text_of(wp.CODE))
     laws = wp.prepared(work / "laws", annotate.laws())
     of_laws = wp.checked(laws, calls=code.calls)
-    wrong = code.wrong + of_laws.wrong
+    wrong = code.wrong + of_laws.wrong + ["results are of CACHE"] * ("CACHE" in os.environ)
     wrong += [f"no such function: {name}" for name in sorted({*chosen} - code.to_prove - of_laws.to_prove)]
     if not chosen:
         wrong += [f"nothing meets it: {name}" for each in (file, laws) for name in wp.contradictions(each)]

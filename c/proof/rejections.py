@@ -1,15 +1,18 @@
-#!/usr/bin/env python3
+#!/usr/bin/python3 -IBS
 """Tries changes that would get a false statement accepted, one by one: c/proof/rejections.py [TEXTS..]
 
 prove.py has to reject each, with what stands beside it in its table. It prints those that are not rejected so, and how
 many are. It tries those that have one of the texts, if there are any.
 """
 
-import pathlib
 import sys
-import tempfile
 
-sys.dont_write_bytecode = True
+sys.flags.isolated and sys.flags.no_site or sys.exit("run the file itself, as its first line says")
+sys.pycache_prefix = "/nonexistent"
+sys.path.append(__file__.rpartition("/")[0] or ".")  # Behind Python's own modules.
+
+import pathlib
+import tempfile
 import annotate
 import wp
 

@@ -21,7 +21,7 @@ ENDS, LOOP, ADMIT, READ = "nothing shows that it ends", "a loop without a varian
 KIND, UNPROVED, FORM = "annotation of another kind", "does not prove the axiom", "an axiom of another form"
 CODE, BODY, WARNING, NO_CONTRACT = "the lists change the code", "without a body", "arning", "no contract, or none"
 FALSE, NOT_TRIED = "an axiom of WP that is false", "WP tries no goal"
-RESERVED, ASKS, OTHER, FORMS = "a name that C reserves", "the files ask for", "GCC reads", "a directive or an operator"
+LISTED, ONCE = "not on the list", "has to stand there once"
 NUMBER, CHAR, APART = "a pointer from a number", "a plain char", "Memory model hypotheses"
 
 TOP = "== after #define B62_KEY_LEN B62_MAX_DIGITS\n"
@@ -95,7 +95,7 @@ LISTS = [
     (ghost("/@ loop variant 1 for less; @/ while (1) {}",
            before="/*@ predicate less(integer a, integer b) = \\true; */"), "a variant for a relation"),
     (ghost("double x = 1; /@ loop variant x; @/ while (x > 0) x = x / 2;"), "integer expected"),
-    (ghost("here: goto here;"), "a jump back"),
+    (ghost("here: goto here;"), LISTED),
     (ghost("planted();"), "it calls itself"),
     (ghost("other();", before="/*@ ghost /@ assigns \\nothing; @/ void planted(void);\n"
            "/@ assigns \\nothing; @/ void other(void) { planted(); } */"), "it calls itself"),
@@ -111,7 +111,7 @@ LISTS = [
     (f"{NEXT}i++; /*@ assert last: \\true;", CODE),
     (f"{STEP}ghost return 0;", WARNING),
     (f"{STEP}ghost i = 0;", "rror"),
-    (ghost("__asm__(\"\");"), "assembler"),
+    (ghost("__asm__(\"\");"), LISTED),
     # A contract that is not one.
     ("== contract base62_encode\nrequires size > 100;\nassigns buffer[0 .. size - 1];", "two contracts"),
     ("== contract count_zeros\nrequires \\false;", "syntax error"),
@@ -152,27 +152,37 @@ LISTS = [
 GROWS = "    text->length += part_length;\n"
 SOURCES = [
     # Other code for a compiler than Frama-C reads.
-    (GROWS, f"#ifdef __FRAMAC__\n{GROWS}#else\n#endif\n", RESERVED),
-    (GROWS, f"#ifdef __FC_STDINT\n{GROWS}#endif\n", RESERVED),
-    (GROWS, f" #ifndef __OPTIMIZE__\n{GROWS} #endif\n", RESERVED),
-    (GROWS, f"%:ifndef __OPTIMIZE__\n{GROWS}%:endif\n", "a digraph"),
-    (GROWS, f"#ifndef linux\n{GROWS}#endif\n", ASKS), (GROWS, f"#ifndef NDEBUG\n{GROWS}#endif\n", ASKS),
-    (GROWS, f"#if INT_MAX > 0x7fff\n{GROWS}#endif\n", "INT_MAX"),
-    (GROWS, f"#ifndef __clang__\n{GROWS}#endif\n", OTHER), (GROWS, f"#if __STDC_HOSTED__\n{GROWS}#endif\n", OTHER),
-    (GROWS, f"#ifdef BASE62_NO_INT128\n{GROWS}#endif\n", OTHER),
-    (GROWS, f"/* */ #ifndef BASE62_BUILD\n{GROWS}/* */ #endif\n", OTHER),
-    (GROWS, f"    // Here. \\\n{GROWS}", "a splice"),
-    (GROWS, f"    if (!__builtin_constant_p(part_length))\n{GROWS}", RESERVED),
-    (GROWS, f"    part_length *= _Generic(UINT64_C(1), unsigned long: 0, default: 1);\n{GROWS}", "_Generic is"),
-    (GROWS, f"#line 1 \"other.c\"\n{GROWS}", FORMS), (GROWS, f"# 1 \"other.c\"\n{GROWS}", FORMS),
-    (GROWS, f"#pragma GCC optimize (\"O3\")\n{GROWS}", "a pragma"),
-    ("((uint32_t)3844)", "UINT32_C(3844)", OTHER),
-    ("(base62_u128)a * b;", "(base62_u128)a * b + 1;", "another body of u128_mul_64"),
-    ("__builtin_clzll(n);", "__builtin_clzll(n | 1);", "another body of u64_ilog2"),
-    ("((__always_inline__))", "((__always_inline__, const))", OTHER),
-    ("#define B62_TEXT(", "#define JOIN(a, b) a##b\n#define B62_TEXT(", FORMS),
+    *((GROWS, f"{line}\n{GROWS}#endif\n", LISTED) for line in (
+        "#ifdef __FRAMAC__", "#ifdef __FC_STDINT", " #ifndef __OPTIMIZE__", "#ifndef linux", "#ifndef NDEBUG", "#if INT_MAX > 0x7fff",
+        "#ifndef __clang__", "#if __STDC_HOSTED__", "#ifdef BASE62_NO_INT128", "/* */ #ifndef BASE62_BUILD /* */", "#ifdef _WIN32",
+        "#if __GNUC__ > 12", "#if __has_attribute(__pure__)", "#ifdef BASE62_SHARED", "#ifdef __cplusplus", "#if 1 /*\n*/ - 1")),
+    (GROWS, f"%:ifndef __OPTIMIZE__\n{GROWS}%:endif\n", "a digraph"), (GROWS, f"    // Here. \\\n{GROWS}", "a splice"),
+    *((GROWS, f"{line}\n{GROWS}", LISTED) for line in (
+        "#line 1 \"other.c\"", "# 1 \"other.c\"", "#pragma GCC optimize (\"O3\")", "#include \"min.inc\"", "#include \"../c/base62.h\"",
+        "#include <stdint.h>", "#undef B62_OK", "#define uint8_t uint32_t", "_Pragma(\"GCC optimize\")",
+        "    if (!__builtin_constant_p(part_length))", "    if (part_length > INT_MAX)",
+        # What depends on the system or the compiler.
+        "    const uint_fast32_t fast = 1;", "    const unsigned long size = 1;", "    const uint8_t letter = '\\xff';",
+        "    const uint64_t number = 3000000000;", "    const uint64_t number = 1ul;", "    union { uint8_t a; } u = {0};",
+        "    for (part_length = 0, part = 0;;)", "    for (;;) break;", "    uint8_t *B62_RESTRICT here = text->bytes;",
+        "    const uint8_t many[10000] = {0};", "    uint8_t *const *here = 0;", "    const uint8_t list[2] = {[1] = 1};",
+        "    asm(\"\");", "    static uint8_t kept = 0;", "    if (part_length + part_length++ > 2)", "    part_length = (part_length, 1);")),
+    *((GROWS, f"    {line}\n{GROWS}", by) for line, by in (
+        ("uint32_t unset;", "not initialized where it is declared"), ("*(uint8_t *)part = 1;", "takes const away"),
+        ("if (sizeof(size_t) > 4) part_length = 0;", "sizeof of what"), ("if (part == text->bytes) part_length = 0;", "operator of pointers"),
+        ("if (part) part_length = 0;", "a pointer as a condition"), ("part = text->bytes;", "a pointer that is set anew"),
+        ("((uint64_t *)text->bytes)[0] = 0;", "to a pointer of another type"),
+        ("const u128 pair = u128_of(InlineText_new(text), 1);", "rror"))),
+    ("if (fault.tag == DecodeError_EmptyInput_tag)", "if (fault.tag - 2 < 0)", "operator of an enum"),
+    ("((uint32_t)3844)", "UINT32_C(3844)", LISTED), ("#define B62_TEXT(", "#define JOIN(a, b) a##b\n#define B62_TEXT(", LISTED),
+    *((old, new, ONCE) for old, new in (
+        ("(base62_u128)a * b;", "(base62_u128)a * b + 1;"), ("__builtin_clzll(n);", "__builtin_clzll(n | 1);"),
+        ("((__always_inline__))", "((__always_inline__, const))"), ("    //@ assert requires: n != 0;\n", ""))),
+    ("    return count_filled(answer, width);\n}\n\nsize_t base62_encode_alternative_fixed",
+     "    return count_filled(encode_fixed(joined(number), (uint8_t *)places, width), width);\n}\n\nsize_t base62_encode_alternative_fixed",
+     "a call that may write"),
     # What WP keeps apart, or takes for something else.
-    ("typedef struct InlineText {", "typedef union InlineText {", "a union"),
+    ("typedef struct InlineText {", "typedef union InlineText {", LISTED),
     ("typedef struct pair_u8_u8 { uint8_t _0;", "typedef struct pair_u8_u8 { uint8_t _0 : 6;", "a bit field"),
     ("typedef struct InlineText {", "typedef struct __attribute__((packed)) InlineText {", "an attribute"),
     (GROWS, f"    part_length = (size_t)(char)part_length;\n{GROWS}", CHAR),

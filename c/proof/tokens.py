@@ -125,8 +125,11 @@ HEADERS = {"limits.h", "stdbool.h", "stddef.h", "stdint.h"}
 MACROS = {"UINT32_C", "UINT64_C", "bool", "true", "false"}
 DEFINE = re.compile(r'# define B(?:ASE)?62_\w+ (?:\d+|"[^"\\]*"|\( \( (?:uint32_t|size_t) \) \d+ \)|UINT64_C \( \d+ \)|B62_\w+)')
 
+OTHER = re.compile(r"\s*(?:#|%:|\?\?=)\s*(?!(?:define|undef|if|ifdef|ifndef|elif|else|endif|error|pragma)\b|include \"base62\.(?:h|acsl)\"$"
+                   rf"|include <(?:{'|'.join(HEADERS)})>$)")
+
 # A header has the comments of every C. An annotation counts as a token: a part without it is another.
-TEXTS = r'|("(?:\\.|[^"\\\n])*"|\'(?:\\.|[^\'\\\n])*\')'
+TEXTS = r'|(//@[^\n]*|"(?:\\.|[^"\\\n])*"|\'(?:\\.|[^\'\\\n])*\')'
 COMMENT = {"base62.h": re.compile(r"/\*.*?\*/" + TEXTS, re.S), "base62.c": re.compile(r"/\*.*?\*/|//(?!@)[^\n]*" + TEXTS, re.S)}
 TOKEN = re.compile(r'//@.*|"(?:\\.|[^"\\])*"|\'(?:\\.|[^\'\\])*\'|\w+|//|->|\+\+|--|<<=|>>=|<<|>>|&&|\|\||[-+*/%&|^=<>!]=|\S')
 WORD = re.compile(r"""//@.*|[a-z]\w*|[A-Z][a-z]\w*|_\d|B(?:ASE)?62_\w+|UINT(?:32|64)_C|0|[1-9]\d*|0x[0-9a-f]{1,16}
@@ -189,10 +192,16 @@ def wrong(name, text):
         elif not WORD.fullmatch(token) or token in given:
             yield f"{name}:{line}: a token that is not on the list: {token}"
         elif token[0].isdigit() and not is_number(found, i):
-            yield f"{name}:{line}: a number whose type is left to the compiler: {token}"
+            yield f"{name}:{line}: a number that is not on the list: {token}"
         elif token[:4] == "UINT" and not re.fullmatch(r"\( \d\w* \)", " ".join(it for it, _ in found[i + 1:i + 4])):
-            yield f"{name}:{line}: a macro that is not of a number: {token}"
+            yield f"{name}:{line}: what is not on the list, {token} of no number"
         i += 1
+
+
+def lines_of(text):
+    """Lines of the preprocessor that neither base62.c nor an annotation has, such as one that names another file."""
+    text = COMMENT["base62.c"].sub(lambda it: it[1] or " ", text.replace("\\\n", ""))
+    yield from (f"a line of the preprocessor that is not on the list: {line}" for line in text.split("\n") if OTHER.match(line))
 
 
 def headers_in(folder):

@@ -79,10 +79,10 @@ module Forms = struct
     method! vinitexpr i =
       (match i with
         | COMPOUND_INIT all ->
-          let name = function INFIELD_INIT (name, NEXT_INIT), _ -> [ name ] | NEXT_INIT, _ -> [] | _ -> [ ""; "" ] in
-          let names = List.concat_map name all in
-          reject_if (names <> [] && List.compare_lengths (List.sort_uniq compare names) all <> 0) Cil_datatype.Location.unknown
-            "an initializer"
+          let name = function INFIELD_INIT (name, NEXT_INIT), _ -> name | NEXT_INIT, _ -> "" | _ -> "[" in
+          let names = List.sort_uniq compare (List.map name all) in
+          reject_if (names <> [ "" ] && (List.mem "" names || List.mem "[" names || List.compare_lengths names all <> 0))
+            Cil_datatype.Location.unknown "an initializer"
         | _ -> ());
       Cil.DoChildren
 

@@ -31,11 +31,6 @@ COVERED = {
     ("write_pair", "\\valid(buf + 1)"): "`write_pair` requires `2 ≤ length buf.old`",
 }
 
-# Eva does not know that the bytes of an error message are set up to its length. The contract of `append`, which is in
-# proof/annotations/faults.acsl and is proved, says so, and only these bytes are copied.
-IN_MESSAGES = {("copy_bytes", "\\initialized(from + i)")}
-
-
 def alarms(function, source=SOURCE):
     """What Eva cannot show of base62.c and eva.c, each with its function."""
     with tempfile.TemporaryDirectory() as folder:
@@ -74,7 +69,7 @@ class Eva(unittest.TestCase):
             self.assertIn(("read_up_to_10", "\\initialized(&number)"), alarms("decode", planted))
 
     def check(self, function):
-        self.assertLessEqual(alarms(function), set(COVERED) | (IN_MESSAGES if function == "messages" else set()))
+        self.assertLessEqual(alarms(function), set(COVERED))
 
 
 for name in re.findall(r"^void (\w+)\(void\)", (FOLDER / "eva.c").read_text(), re.M):

@@ -46,7 +46,7 @@ class Freestanding(unittest.TestCase):
             with self.subTest(level=level, library=library):
                 names, _ = compiled(f"-O{level}", *library)
                 self.assertEqual(names["base62_encode"], "T")
-                may_call = {"memcpy", "memset"} if not library or level == 0 and not IS_GCC else set()
+                may_call = {"memcpy", "memmove", "memset"} if not library or level == 0 and not IS_GCC else set()
                 self.assertLessEqual({name for name, kind in names.items() if kind == "U"}, may_call)
 
     @unittest.skipUnless(IS_X86_64 and IS_GCC, "README speaks of GCC on x86-64")

@@ -258,7 +258,8 @@ class Forms(unittest.TestCase):
         dictionary = Requested("U")
         dictionary.schema.dictionary = ctypes.pointer(Requested("u").schema)
         self.assertEqual(consume(small, dictionary), ("u", texts, {}))
-        for wrong in (Requested("+s", n_children=1).capsule, small.__arrow_c_array__()[1], 5):
+        nested = Requested("+s", n_children=1)
+        for wrong in (nested.capsule, small.__arrow_c_array__()[1], 5):
             self.assertRaises(ValueError, small.__arrow_c_array__, wrong)
         self.assertEqual(consume(Exporter(small.__arrow_c_array__(requested_schema=None)))[1], texts)
 

@@ -68,7 +68,7 @@ NAMES = "Global|Model|Number|Work|letters_are_distinct"
 GHOST = [(rf"(?<!\S)ghost [^{{;]*({GROUP})?(; )?|(?<!\S)impl Model for \w+ {GROUP}", ""),
          (r"# (! )?\[ tactic \(.*?\) \] ", ""),
          (r"derive \( Drop \) \] pub struct", "derive ( Clone , Copy , Debug ) ] pub struct"),
-         (r"derive \( Drop \)", "derive ( Clone , Copy )"), (r"(const _ : \( \) = )prove", r"\1assert")]
+         (r"derive \( Drop \)", "derive ( Clone , Copy )"), (r"(const _ : \( \) = )prove ! \( ", r"\1assert ! ( core :: mem :: ")]
 USE = re.compile(r"(?<!\S)(?:pub (?:\( crate \) )?)?use .*? ; |mod work ; ")
 USES = [(rf"\b({NAMES}) , |, ({NAMES}) (?=\}})", ""), (r"\{ (\w+) \}", r"\1"), (rf".*\b({NAMES}|work) ; ", ""),
         ("use (base62 :: DecodeError|crate :: reply :: .*?) ;", r"use crate :: memory :: Bytes ; \g<0>")]

@@ -39,7 +39,7 @@ SAME = set("""as assert assert_ascii bool cfg const core crate else enum false f
     Result Sized Some String T W Vec Write _ alloc and_str append_zeros as_mut_slice as_ref as_slice as_str base62
     checked_add checked_mul clear contract copy_from_slice debug_tuple enumerate eq error escape_ascii
     extend_from_slice feature field fill finish flush fmt format_args from from_be_bytes from_utf8 ilog2
-    in_place inline into io is_ascii is_empty iter len line_end map_err memory min new ok ok_or ops pad panic
+    in_place inline into io is_ascii is_empty iter len line_end map_err mem memory min new ok ok_or ops pad panic
     parse pow proved push_str read requires reserve saturating_add size_of split_at split_at_mut starts_with std
     string strip_prefix support to_be_bytes unwrap unwrap_or vec with_capacity wrapping_add write_all write_str
     writeln '_ 'a 'static""".split())
@@ -226,7 +226,7 @@ class Crate:
         return self.check(text, item) if text and not re.search(rf"\b({GHOST})\b", text) else None
 
     def write_const(self, item):
-        return self.check("".join(item.tokens).replace("= prove!(size_of", "= assert!(size_of"), item)
+        return self.check("".join(item.tokens).replace("= prove!(size_of", "= assert!(core::mem::size_of"), item)
 
     def write_impl(self, item):
         head = plain(item.signature)

@@ -35,7 +35,7 @@ pub struct Alphabet {
     tables: Tables,
 }
 
-const _: () = assert!(size_of::<Alphabet>() == 318);
+const _: () = assert!(core::mem::size_of::<Alphabet>() == 318);
 
 impl Alphabet {
     /// Creates an alphabet from 62 bytes, ASCII or not.

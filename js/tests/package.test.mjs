@@ -48,14 +48,17 @@ test('the examples of the types are programs that print what they say', () => {
 test('each subpath can be imported and required', async () => {
   const require = createRequire(import.meta.url);
   const { exports } = JSON.parse(read('package.json'));
+  const pathOf = (file) => fileURLToPath(new URL(`../${file}`, import.meta.url));
   assert.deepEqual(Object.keys(exports), ['.', './module', './base62.wasm', './package.json']);
-  for (const [subpath, entry] of Object.entries(exports)) {
+  for (const file of ['base62.wasm', 'package.json']) {
+    assert.equal(require.resolve(`base62-proved/${file}`), pathOf(file));
+  }
+  for (const [subpath, file] of [['.', 'index'], ['./module', 'module']]) {
     const name = subpath.replace('.', 'base62-proved');
-    const file = new URL(`../${entry.require?.default ?? entry}`, import.meta.url);
-    assert.equal(require.resolve(name), fileURLToPath(file));
-    if (!entry.import) continue;
-    assert.equal(await import(name), await import(`../${entry.import.default}`));
-    for (const { types } of [entry.import, entry.require]) assert.ok(read(types));
+    assert.equal(require.resolve(name), pathOf(`${file}.cjs`));
+    assert.equal(await import(name), await import(`../${file}.js`));
+    assert.equal(exports[subpath].import.types, `./${file}.d.ts`);
+    assert.equal(exports[subpath].require.types, `./${file}.d.cts`);
   }
 });
 

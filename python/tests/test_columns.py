@@ -442,7 +442,7 @@ class Malformed(unittest.TestCase):
         for view in ((-1, 0, 0), (20, -1, 0), (20, 2, 0), (20, 0, -1), (20, 0, 3), (2**31 - 1, 0, 2**31 - 1)):
             column = Column("vu", [text])
             views = struct.pack("=i4sii", view[0], text[:4], *view[1:])
-            column.set_buffers([None, views, text + b"11", text, struct.pack("=2q", 22, 20)])
+            column.set_buffers([None, views, text + b"11", text, struct.pack("=3q", 22, 20, 99)])
             self.check(column)
         for missing in (2, 4):
             column = Column("vu", [text, text])

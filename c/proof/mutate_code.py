@@ -54,12 +54,8 @@ SAME = {
     "write_up_to_9: if (places > (4 + 1)) {",
     # check_letters gives the error of a bad byte too.
     "range_found: if (!answer.is_ok || answer.err.tag == DecodeError_ArithmeticOverflow_tag) {",
-    # The last byte of a longer array is not read.
-    r"append_escaped: const uint8_t escape[(4 + 1)] = {'\\', 'x', hex_digit((uint8_t)(byte / 16)),"
-    " hex_digit((uint8_t)(byte % 16))};",
-    "append_decimal: uint8_t digits[(20 + 1)] = {0};", "Alphabet_new: uint8_t digits[(256 + 1)];",
     # All bytes are written again.
-    "append_decimal: uint8_t digits[20] = {(0 + 1)};",
+    "append_decimal: uint8_t digits[20] = {(0 + 1)};", "Alphabet_new: uint8_t digits[256] = {(0 + 1)};",
     "encode_key: without fill_bytes(key, 0, 22);", "encode_key: fill_bytes(key,22, 0);",
     "encode_key: fill_bytes(key, (0 + 1), 22);",
 }

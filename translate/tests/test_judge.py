@@ -157,7 +157,7 @@ CHANGES = {
         ("generated/fixed.rs", "    fill_places(alphabet", "    crate::support::contract::assert_ascii(alphabet);\n    fill_places(alphabet"),
         ("generated/target.rs", "    in_place!(tables, num, buf);\n", ""),
         ("generated/target.rs", "    let mut text = Text::new();", "    in_place!(tables, num, buf);\n    let mut text = Text::new();"),
-        ("generated/target.rs", "&ZEROS[..len]", "&ZEROS"),
+        ("generated/target.rs", "(bytes, ZEROS, len)", "(bytes, ZEROS, n)"),
     ],
     "conversions": [
         ("generated/fixed.rs", "decode_over(tables, prefix)", "decode_over(tables, prefix.as_ref())"),

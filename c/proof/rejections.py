@@ -184,7 +184,7 @@ SOURCES = [
     # What WP keeps apart, or takes for something else.
     ("typedef struct InlineText {", "typedef union InlineText {", LISTED),
     ("typedef struct pair_u8_u8 { uint8_t _0;", "typedef struct pair_u8_u8 { uint8_t _0 : 6;", "a bit field"),
-    ("typedef struct InlineText {", "typedef struct __attribute__((packed)) InlineText {", "an attribute"),
+    ("typedef struct InlineText {", "typedef struct __attribute__((packed)) InlineText {", LISTED),
     (GROWS, f"    part_length = (size_t)(char)part_length;\n{GROWS}", CHAR),
     (GROWS, f"    const uintptr_t at = (uintptr_t)text;\n    ((InlineText *)at)->length = 0;\n{GROWS}", NUMBER),
 ]

@@ -50,9 +50,10 @@ static int read_uuids(const struct source *source, int64_t first, struct block *
             if (block->states[i] != ROW_VALID)                                                                         \
                 continue;                                                                                              \
             memcpy(ends, place_of(source, first + i), sizeof ends);                                                    \
-            block->bad = i;                                                                                            \
-            if (ends[0] < 0 || ends[1] < ends[0] || ends[1] > source->size)                                            \
+            if (ends[0] < 0 || ends[1] < ends[0] || ends[1] > source->size) {                                          \
+                block->bad = i;                                                                                        \
                 return -1;                                                                                             \
+            }                                                                                                          \
             block->texts[i] = (struct text){source->characters + ends[0], (size_t)(ends[1] - ends[0])};                \
         }                                                                                                              \
         return 0;                                                                                                      \

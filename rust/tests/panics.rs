@@ -33,7 +33,7 @@ fn the_caller_is_told() {
     for place in 1..62 {
         let mut letters = support::high_letters();
         letters[place] = letters[place - 1];
-        let said = "the alphabet repeats a letter";
+        let said = "the alphabet repeats a character";
         panics_here(said, || Alphabet::of(letters));
     }
     let said = "the alphabet has a non-ASCII character";

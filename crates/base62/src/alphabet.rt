@@ -111,7 +111,7 @@ impl Alphabet {
     {
         match Alphabet::new(letters) {
             Ok(alphabet) => alphabet,
-            Err(_) => unreachable!("the alphabet repeats a letter"),
+            Err(_) => unreachable!("the alphabet repeats a character"),
         }
     }
 

@@ -85,7 +85,7 @@ impl Alphabet {
     pub const fn of(letters: [u8; 62]) -> Alphabet {
         match Alphabet::new(letters) {
             Ok(alphabet) => alphabet,
-            Err(_) => panic!("the alphabet repeats a letter"),
+            Err(_) => panic!("the alphabet repeats a character"),
         }
     }
 

@@ -5,7 +5,7 @@
 
 use crate::fault::ToolFault;
 use crate::memory::Bytes;
-use crate::reply::{append, number_of};
+use crate::reply::append;
 use std::io::Write;
 
 /// The decimal digits of each number below 100.
@@ -55,16 +55,18 @@ pub(crate) fn trim_blanks(mut input: &[u8]) -> &[u8] {
     input
 }
 
-/// The number that decimal digits represent, if it is below 2^128. Products of 64 bits take less time.
+/// The number that decimal digits represent, if it is below 2^128. Products of 64 bits take less time, and nineteen digits
+/// need no more.
 pub(crate) fn parse_decimal(digits: &[u8]) -> Option<u128> {
-    let small = digits.iter().try_fold(0_u64, |number, byte| {
-        let digit = char::from(*byte).to_digit(10)?;
-        number.checked_mul(10)?.checked_add(digit.into())
+    let digit = |byte: &u8| char::from(*byte).to_digit(10);
+    let (first, rest) = digits.split_at(digits.len().min(19));
+    let first = first.iter().try_fold(0_u64, |number, byte| {
+        Some(number * 10 + u64::from(digit(byte)?))
     });
-    match small {
-        Some(number) if !digits.is_empty() => Some(number.into()),
-        _ => number_of(digits),
-    }
+    let number = rest.iter().try_fold(u128::from(first?), |number, byte| {
+        number.checked_mul(10)?.checked_add(digit(byte)?.into())
+    });
+    number.filter(|_| !digits.is_empty())
 }
 
 /// The number that 32 hexadecimal digits represent, with or without hyphens, also in braces or after `urn:uuid:`.

@@ -105,8 +105,12 @@ function createMemory(module) {
 
 // A subclass can override the properties of a Uint8Array, so these are read by the getters that it inherits.
 const typedArray = Object.getPrototypeOf(Uint8Array.prototype);
-const { get: typeOf } = Object.getOwnPropertyDescriptor(typedArray, Symbol.toStringTag);
-const { get: lengthOf } = Object.getOwnPropertyDescriptor(typedArray, 'length');
+const getter = (name) => Object.getOwnPropertyDescriptor(typedArray, name).get;
+const typeOf = getter(Symbol.toStringTag);
+const lengthOf = getter('length');
+const bufferOf = getter('buffer');
+const offsetOf = getter('byteOffset');
+const { set: setBytes } = typedArray;
 
 function isUint8Array(value) {
   return typeOf.call(value) === 'Uint8Array';
@@ -138,11 +142,11 @@ function numberOfUuid(string) {
 
 // A text, which is an encoded string or a prefix, is passed to the library whole if it has at most this length. Of a
 // longer one the library gets such a piece, of more digits than any number has.
-const PIECE = 64;
+const PIECE = 1024;
 
 function textLength(text) {
   if (typeof text === 'string') return text.length;
-  if (!isUint8Array(text)) throw new TypeError('a text is a string or a Uint8Array');
+  if (!isUint8Array(text)) throw new TypeError('an encoded string is a string or a Uint8Array');
   return lengthOf.call(text);
 }
 
@@ -155,13 +159,13 @@ function skipZeros(text, zero) {
   return Math.max(count - 2, 0);
 }
 
-// A piece does not end between the halves of a surrogate pair.
-function pieceOf(string, start) {
-  const end = start + PIECE;
-  return string.slice(start, string.codePointAt(end - 1) > 0xffff ? end + 1 : end);
+function pieceOf(array, start, end) {
+  return new Uint8Array(bufferOf.call(array), offsetOf.call(array) + start, end - start);
 }
 
-function createArguments({ bytes, words, halves }) {
+function createArguments(memory) {
+  const { bytes, words, halves } = memory;
+
   function writeNumber(number) {
     if (typeof number === 'number') {
       if (!isUnsignedSafeInteger(number)) throw outOfRange();
@@ -206,23 +210,17 @@ function createArguments({ bytes, words, halves }) {
 
   // Writes a text, or the piece of a long one that begins at start, and returns the number of its bytes.
   function writeText(text, length, start) {
-    const isLong = length > PIECE;
-    if (typeof text === 'string') return writeUtf8(isLong ? pieceOf(text, start) : text);
-    if (isLong) return writeBytes(text, start, Math.min(length - start, PIECE));
-    // This throws if the buffer of the array is detached.
-    bytes.set(text, TEXT);
-    return length;
+    const end = length > PIECE ? Math.min(length, start + PIECE) : length;
+    if (typeof text === 'string') return writeUtf8(text, start, end);
+    // This throws if the buffer of the array is detached. Called as a method of `bytes` it takes longer.
+    setBytes.call(bytes, length > PIECE ? pieceOf(text, start, end) : text, TEXT);
+    return end - start;
   }
 
-  function writeBytes(array, start, size) {
-    for (let i = 0; i < size; i++) bytes[TEXT + i] = array[start + i];
-    return size;
-  }
-
-  function writeUtf8(string) {
-    const { length } = string;
+  // Writes a code point whole, whose second half may be behind the end.
+  function writeUtf8(string, start, end) {
     let at = TEXT;
-    for (let i = 0; i < length; i++) {
+    for (let i = start; i < end; i++) {
       const unit = string.charCodeAt(i);
       if (unit < 128) {
         bytes[at++] = unit;
@@ -249,7 +247,9 @@ function createArguments({ bytes, words, halves }) {
 
 // Results
 
-function createResults({ bytes, words, halves, enter, leave }) {
+function createResults(memory) {
+  const { bytes, words, halves, enter, leave } = memory;
+
   // A BigInt of 64 bits is created fast, and joining two of them is slow.
   function readBigInt(address) {
     const lower = halves[address / 8 + 1];
@@ -266,17 +266,26 @@ function createResults({ bytes, words, halves, enter, leave }) {
     return number;
   }
 
-  // A string that is joined from parts keeps them, in ten times the memory, so one call creates it from its codes. Most
-  // results have 22 characters, for which separate arguments are the fastest.
+  // A string of more than 12 characters that is joined from parts keeps them, in ten times the memory, so one call creates
+  // it from its codes. Most results have 22 characters, for which separate arguments are the fastest.
   const codes = bytes.subarray(TEXT);
   const arrays = Array.from({ length: MAX_FAULT_TEXT + 1 }, (_, length) => new Array(length).fill(0));
   const uuid = Array.from('00000000-0000-0000-0000-000000000000', (it) => it.charCodeAt(0));
 
   function readText(length) {
+    if (length < 10) return readShort(length);
     if (length === MAX_DIGITS) return readLongest();
     const array = arrays[length];
     for (let i = 0; i < length; i++) array[i] = codes[i];
     return String.fromCharCode(...array);
+  }
+
+  function readShort(length) {
+    let text = '';
+    let i = 0;
+    for (; i + 4 <= length; i += 4) text += String.fromCharCode(codes[i], codes[i + 1], codes[i + 2], codes[i + 3]);
+    for (; i < length; i++) text += String.fromCharCode(codes[i]);
+    return text;
   }
 
   function readLongest() {

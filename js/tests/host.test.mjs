@@ -102,8 +102,9 @@ function callsOf({ Alphabet, ...base62 }) {
     [() => encode(1337, Alphabet.alternative), 'lz'],
     [() => encode(1337, new Alphabet(custom)), 'Pd'],
     [() => decode('7n42DGM5Tflk9n8mt7Fhc7'), 2n ** 128n - 1n],
-    [() => decode('Pd'.padStart(100, '2'), alphabet), 1337n],
+    [() => decode('Pd'.padStart(2000, '2'), alphabet), 1337n],
     [() => decode('LZ-'), "Encoded input contains the invalid byte b'-' at index 2"],
+    [() => decode('LZ\u20ac'), "Encoded input contains the invalid byte b'\\xe2' at index 2"],
     [() => keyRange('5')[0], 5n * 62n ** 21n],
     [() => encodeFixed(1337, 30, alphabet), 'Pd'.padStart(30, '2')],
     [() => encodeUuid('550e8400-e29b-41d4-a716-446655440000'), '2aUyqjCzEIiEcYMKj7TZtw'],
@@ -160,7 +161,7 @@ test('calls go on after the stack has run out in one', () => {
 // The functions of the runtime that calls call. Each may throw because the stack is exhausted.
 const builtins = [
   ...['set', 'slice'].map((name) => [Object.getPrototypeOf(Uint8Array.prototype), name]),
-  ...['charCodeAt', 'codePointAt', 'endsWith', 'padStart', 'slice', 'startsWith'].map((name) => [String.prototype, name]),
+  ...['charCodeAt', 'codePointAt', 'endsWith', 'padStart', 'startsWith'].map((name) => [String.prototype, name]),
   [String.prototype, 'replace'],
   ...['get', 'set'].map((name) => [WeakMap.prototype, name]),
   [BigInt, 'asUintN'],

@@ -37,14 +37,16 @@ const STATUSES = [
 
 const TWO_TO_32 = 2 ** 32;
 const HEXADECIMAL = '0123456789abcdef';
-// Digits with hyphens or without, in braces or after urn:uuid:. It does not check that there are both braces.
+// Digits with hyphens or without, in braces or after urn:uuid:. numberOfUuid checks that there are both braces or none.
 const UUID = /^(?:\{|urn:uuid:)?([\da-f]{8})(-?)([\da-f]{4})\2([\da-f]{4})\2([\da-f]{4})\2([\da-f]{12})\}?$/i;
 
-// The addresses of the arguments and results of a call, above the stack and the data of the WebAssembly.
+// The addresses of the arguments and results of a call, above the stack and the data of the WebAssembly. A number has
+// two halves of 64 bits, the higher first, each little-endian: byte i of a UUID is at i ^ 7. A range is its least and its
+// greatest number. A bad byte is its index, of four bytes, and itself.
 const NUMBER = 0x18000;
 const GREATEST = NUMBER + 16;
-const BAD_BYTE = NUMBER + 32;
-const ALPHABET = NUMBER + 48;
+const BAD_BYTE = GREATEST + 16;
+const ALPHABET = BAD_BYTE + 16;
 const TEXT = ALPHABET + ALPHABET_SIZE;
 
 if (!globalThis.WebAssembly) throw new Error('base62-proved needs WebAssembly, which this runtime does not have');
@@ -85,7 +87,8 @@ function createMemory(module) {
   let isRunning = false;
 
   // A call of the library is between enter and leave. The engine may abort one, as when its own stack is exhausted. An
-  // aborted call has not restored the stack pointer of the WebAssembly, so the next one resets it.
+  // aborted call has not restored the stack pointer of the WebAssembly, so the next one resets it. To reset it in each
+  // call takes longer.
   function enter() {
     if (isRunning) stackPointer.value = stackTop;
     isRunning = true;
@@ -140,27 +143,23 @@ function numberOfUuid(string) {
   return BigInt(`0x${match[1]}${match[3]}${match[4]}${match[5]}${match[6]}`);
 }
 
-// A text, which is an encoded string or a prefix, is passed to the library whole if it has at most this length. Of a
-// longer one the library gets such a piece, of more digits than any number has.
-const PIECE = 1024;
+// A text is an encoded string or a prefix. A longer one than this is passed to the library in pieces of this length,
+// which have more digits than any number.
+const PIECE_LENGTH = 1024;
 
 function textLength(text) {
   if (typeof text === 'string') return text.length;
-  if (!isUint8Array(text)) throw new TypeError('an encoded string is a string or a Uint8Array');
+  if (!isUint8Array(text)) throw new TypeError('an encoded string or a prefix is a string or a Uint8Array');
   return lengthOf.call(text);
 }
 
-// Returns where the first piece of a long text begins: at its last two leading zeros. More do not change the number. If
-// the text has zeros alone, one of the two is its digit, and the other makes it non-canonical.
+// Returns where the first piece of a long text begins: at the last two of its leading zeros. One of them is the digit
+// of a text of zeros, which is non-canonical by the other.
 function skipZeros(text, zero) {
   let count = 0;
   if (typeof text === 'string') while (text.charCodeAt(count) === zero) count++;
   else while (text[count] === zero) count++;
   return Math.max(count - 2, 0);
-}
-
-function pieceOf(array, start, end) {
-  return new Uint8Array(bufferOf.call(array), offsetOf.call(array) + start, end - start);
 }
 
 function createArguments(memory) {
@@ -181,7 +180,7 @@ function createArguments(memory) {
     }
   }
 
-  // Of what is written to a half, it takes the lowest 64 bits.
+  // A half keeps the lowest 64 bits of what is assigned to it.
   function writeBigInt(number) {
     halves[NUMBER / 8] = 0n;
     halves[NUMBER / 8 + 1] = number;
@@ -204,20 +203,26 @@ function createArguments(memory) {
 
   // A string or a Uint8Array is always a UUID.
   function writeNumberOrUuid(value) {
-    if (typeof value === 'string' || (typeof value === 'object' && isUint8Array(value))) writeUuid(value);
+    if (typeof value === 'string' || isUint8Array(value)) writeUuid(value);
     else writeNumber(value);
   }
 
   // Writes a text, or the piece of a long one that begins at start, and returns the number of its bytes.
   function writeText(text, length, start) {
-    const end = length > PIECE ? Math.min(length, start + PIECE) : length;
+    if (length > PIECE_LENGTH) return writePiece(text, start, Math.min(start + PIECE_LENGTH, length));
+    if (typeof text === 'string') return writeUtf8(text, 0, length);
+    // This throws if the buffer of the array is detached. bytes.set(..) takes longer.
+    setBytes.call(bytes, text, TEXT);
+    return length;
+  }
+
+  function writePiece(text, start, end) {
     if (typeof text === 'string') return writeUtf8(text, start, end);
-    // This throws if the buffer of the array is detached. Called as a method of `bytes` it takes longer.
-    setBytes.call(bytes, length > PIECE ? pieceOf(text, start, end) : text, TEXT);
+    bytes.set(new Uint8Array(bufferOf.call(text), offsetOf.call(text) + start, end - start), TEXT);
     return end - start;
   }
 
-  // Writes a code point whole, whose second half may be behind the end.
+  // The last code point is written whole, if its second half is after the end.
   function writeUtf8(string, start, end) {
     let at = TEXT;
     for (let i = start; i < end; i++) {
@@ -257,17 +262,18 @@ function createResults(memory) {
     return (halves[address / 8] << 64n) | lower;
   }
 
-  function readNumber(address, alternative) {
+  function readNumber(address, instead) {
     const at = address / 4;
     const number = words[at + 2] + words[at + 3] * TWO_TO_32;
     if (words[at] || words[at + 1] || number > Number.MAX_SAFE_INTEGER) {
-      throw new Base62Error(`the number is above 2**53 - 1: use ${alternative}`, 'UNSAFE_INTEGER');
+      throw new Base62Error(`the number is above 2**53 - 1: use ${instead}`, 'UNSAFE_INTEGER');
     }
     return number;
   }
 
-  // A string of more than 12 characters that is joined from parts keeps them, in ten times the memory, so one call creates
-  // it from its codes. Most results have 22 characters, for which separate arguments are the fastest.
+  // A string of more than 12 characters that is joined from parts keeps them, in ten times the memory. So one call
+  // creates it from its codes. Joining is faster below 10 characters, and separate arguments are for 22, which most
+  // results have.
   const codes = bytes.subarray(TEXT);
   const arrays = Array.from({ length: MAX_FAULT_TEXT + 1 }, (_, length) => new Array(length).fill(0));
   const uuid = Array.from('00000000-0000-0000-0000-000000000000', (it) => it.charCodeAt(0));
@@ -307,7 +313,8 @@ function createResults(memory) {
     return String.fromCharCode(...uuid);
   }
 
-  // STATUSES[status] is the name of the status, which is the error's code. The index counts from the start of a piece.
+  // STATUSES[status] is the name of the status, which is the error's code. A message with an index ends with it. The
+  // library counts it from the start of the piece.
   function errorOf(status, start) {
     const length = leave(enter().base62_fault_text(status, BAD_BYTE, TEXT, MAX_FAULT_TEXT));
     const message = readText(length);
@@ -329,8 +336,10 @@ function notAnAlphabet(given) {
   return new TypeError(`${wanted}, not ${given}: give map a function such as (n) => encode(n)`);
 }
 
-function createAlphabets({ bytes, enter, leave }, { writeText }, { errorOf }) {
-  // The bytes of each Alphabet, as base62_make_alphabet has written them.
+function createAlphabets(memory, writeText, errorOf) {
+  const { bytes, enter, leave } = memory;
+
+  // The ALPHABET_SIZE bytes of each Alphabet, as base62_make_alphabet has written them.
   const tables = new WeakMap();
   // The one whose bytes are in the memory.
   let current;
@@ -338,15 +347,15 @@ function createAlphabets({ bytes, enter, leave }, { writeText }, { errorOf }) {
   class Alphabet {
     constructor(letters) {
       if (typeof letters !== 'string') throw new TypeError('the characters of an alphabet are a string');
-      const count = ALPHABET_LENGTH;
       // A character outside ASCII has more bytes than code units.
-      if (letters.length !== count || writeText(letters, count, 0) !== count) {
+      if (letters.length !== ALPHABET_LENGTH || writeText(letters, ALPHABET_LENGTH, 0) !== ALPHABET_LENGTH) {
         throw new Base62Error('an alphabet has 62 ASCII characters', 'INVALID_ALPHABET');
       }
-      // It is created behind its characters, so the alphabet of the calls is left unchanged.
-      const status = leave(enter().base62_make_alphabet(TEXT, TEXT + count, BAD_BYTE));
+      // It is created after its characters, so the alphabet of the calls is left unchanged.
+      const address = TEXT + ALPHABET_LENGTH;
+      const status = leave(enter().base62_make_alphabet(TEXT, address, BAD_BYTE));
       if (status !== OK) throw errorOf(status, 0);
-      tables.set(this, bytes.slice(TEXT + count, TEXT + count + ALPHABET_SIZE));
+      tables.set(this, bytes.slice(address, address + ALPHABET_SIZE));
       defineReadOnly(this, 'letters', letters);
     }
 
@@ -385,21 +394,21 @@ function load(module) {
   const { enter, leave } = memory;
   const { writeNumber, writeUuid, writeNumberOrUuid, writeText } = createArguments(memory);
   const { readBigInt, readNumber, readText, readUuid, errorOf } = createResults(memory);
-  const { Alphabet, writeAlphabet, zero } = createAlphabets(memory, { writeText }, { errorOf });
+  const { Alphabet, writeAlphabet, zero } = createAlphabets(memory, writeText, errorOf);
 
-  function encodeMemory(alphabet) {
+  function encodeWritten(alphabet) {
     writeAlphabet(alphabet);
     return readText(leave(enter().base62_encode_with(ALPHABET, NUMBER, TEXT, MAX_DIGITS)));
   }
 
   function encode(number, alphabet) {
     writeNumber(number);
-    return encodeMemory(alphabet);
+    return encodeWritten(alphabet);
   }
 
   function encodeUuid(uuid, alphabet) {
     writeUuid(uuid);
-    return encodeMemory(alphabet);
+    return encodeWritten(alphabet);
   }
 
   function encodeFixed(value, width, alphabet) {
@@ -409,24 +418,21 @@ function load(module) {
     const size = Math.min(width, MAX_DIGITS);
     const length = leave(enter().base62_encode_fixed_with(ALPHABET, NUMBER, TEXT, size));
     if (length === 0) throw new Base62Error('the number needs more characters than the width', 'BUFFER_TOO_SMALL');
-    const text = readText(length);
-    return width === length ? text : text.padStart(width, zero());
+    return readText(length).padStart(width, zero());
   }
 
-  function encodeKey(value) {
-    return encodeFixed(value, KEY_LENGTH);
-  }
+  // A key is a string of this width over the standard alphabet.
+  const encodeKey = (value) => encodeFixed(value, KEY_LENGTH);
 
   function digitCount(number) {
     writeNumber(number);
     return leave(enter().base62_digit_count(NUMBER));
   }
 
-  function startOf(text, length) {
-    return length > PIECE ? skipZeros(text, zero().charCodeAt(0)) : 0;
-  }
+  const startOf = (text, length) => (length > PIECE_LENGTH ? skipZeros(text, zero().charCodeAt(0)) : 0);
 
-  // Returns the address of the number that the text represents.
+  // Returns NUMBER, at which the library writes the number. Of a long text the first piece decides: after its leading
+  // zeros it has too many digits, whatever follows.
   function decodeText(text, alphabet, isCanonical) {
     const length = textLength(text);
     writeAlphabet(alphabet);
@@ -448,7 +454,7 @@ function load(module) {
   const decodeUuid = (text, alphabet) => readUuid(decodeText(text, alphabet, false));
   const decodeUuidCanonical = (text, alphabet) => readUuid(decodeText(text, alphabet, true));
 
-  // Returns the status. A size_t has 32 bits: all greater widths have the same ranges.
+  // Returns the status. A size_t has 32 bits. A greater width has the range of the greatest of these.
   function findRange(width, prefix, length, start) {
     const size = writeText(prefix, length, start);
     const width32 = Math.min(Math.max(width, 0), TWO_TO_32 - 1);
@@ -461,9 +467,9 @@ function load(module) {
     writeAlphabet(alphabet);
     let start = startOf(prefix, length);
     let status = findRange(width - start, prefix, length, start);
-    // With more pieces the prefix is too long for any number, but they may have a bad byte.
-    while (status === NO_KEY && start + PIECE < length) {
-      start += PIECE;
+    // With more pieces the prefix is too long for any number, but they may have a bad byte. No string has the width 0.
+    while (status === NO_KEY && start + PIECE_LENGTH < length) {
+      start += PIECE_LENGTH;
       status = findRange(0, prefix, length, start);
     }
     if (status === NO_KEY) return null;
@@ -471,9 +477,7 @@ function load(module) {
     return [readBigInt(NUMBER), readBigInt(GREATEST)];
   }
 
-  function keyRange(prefix) {
-    return fixedRange(KEY_LENGTH, prefix);
-  }
+  const keyRange = (prefix) => fixedRange(KEY_LENGTH, prefix);
 
   function keyBounds(prefix) {
     const range = keyRange(prefix);

@@ -50,8 +50,10 @@ module Forms = struct
     inherit Cabsvisit.nopCabsVisitor
     val mutable effects = []
     val mutable is_inside = false
+    val mutable here = Cil_datatype.Location.unknown
 
     method! vexpr e =
+      here <- e.expr_loc;
       (match e.expr_node with
         | NOTHING | CONSTANT (CONST_INT _ | CONST_CHAR [ _ ] | CONST_STRING _) | VARIABLE _ | PAREN _ | QUESTION _ | INDEX _
         | MEMBEROF _ | MEMBEROFPTR _ | EXPR_SIZEOF _ | UNARY ((NOT | MEMOF | MINUS), _)
@@ -74,22 +76,20 @@ module Forms = struct
         | _ -> reject_if true place "a statement");
       Cil.DoChildren
 
-    method! vblock b = reject_if (b.blabels <> [] || b.battrs <> []) Cil_datatype.Location.unknown "a block"; Cil.DoChildren
-
     method! vinitexpr i =
       (match i with
         | COMPOUND_INIT all ->
           let name = function INFIELD_INIT (name, NEXT_INIT), _ -> name | NEXT_INIT, _ -> "" | _ -> "[" in
           let names = List.sort_uniq compare (List.map name all) in
-          reject_if (names <> [ "" ] && (List.mem "" names || List.mem "[" names || List.compare_lengths names all <> 0))
-            Cil_datatype.Location.unknown "an initializer"
+          let is_wrong = List.mem "" names || List.mem "[" names || List.compare_lengths names all <> 0 in
+          reject_if (names <> [ "" ] && is_wrong) here "an initializer"
         | _ -> ());
       Cil.DoChildren
 
     method! vtypespec t =
       let is_field = function FIELD (_, all) -> List.for_all (fun (_, width) -> width = None) all | _ -> false in
       reject_if (match t with Tstruct (_, Some all, []) -> not (List.for_all is_field all) | Tunion _ -> true | _ -> false)
-        Cil_datatype.Location.unknown "a union or a bit field";
+        here "a union or a bit field";
       Cil.DoChildren
 
     (* Those of base62.h stand in the middle of a type. The walk over the tree below knows their names. *)
@@ -106,6 +106,7 @@ module Forms = struct
     method! vdef d =
       let is_global = not is_inside and place = Cabshelper.get_definitionloc d in
       is_inside <- true;
+      here <- place;
       (match d with
         | FUNDEF _ when is_global -> ()
         | DECDEF (_, (spec, all), _) -> List.iter (fun ((_, decl, _, _), init) -> match decl, init with
@@ -406,7 +407,7 @@ class walk = object (self)
 
   method! vattr a =
     let name = Cil.attributeName a in
-    if not (List.mem name known_attributes) then tell "rejected" self#name ("an attribute, " ^ name);
+    self#reject_if (not (List.mem name known_attributes)) (Cil.CurrentLoc.get ()) ("an attribute, " ^ name);
     Cil.DoChildren
 
   method! vannotation a =
@@ -478,7 +479,7 @@ class walk = object (self)
   method! vassigns a =
     let is_tried (t, _) = not (List.mem "no_wp" t.it_content.term_name) in
     (match a with Writes all when List.for_all is_tried all -> () | WritesAny -> ()
-      | _ -> self#reject Cil_datatype.Location.unknown not_tried);
+      | _ -> self#reject (Cil.CurrentLoc.get ()) not_tried);
     Cil.SkipChildren
   method! vpredicate p = self#reject_if (List.mem "no_wp" p.pred_name) p.pred_loc not_tried; Cil.DoChildren
   method! vterm t =

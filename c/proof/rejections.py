@@ -85,7 +85,7 @@ LISTS = [
     (ghost("/@ loop variant 1 for less; @/ while (1) {}",
            before="/*@ predicate less(integer a, integer b) = \\true; */"), "a variant for a relation"),
     (ghost("double x = 1; /@ loop variant x; @/ while (x > 0) x = x / 2;"), "integer expected"),
-    (ghost("here: goto here;"), LISTED),
+    (ghost("here: goto here;"), LISTED), (ghost("{ __label__ here; }"), "a block"),
     (ghost("other();", before="/*@ ghost /@ assigns \\nothing; @/ void planted(void);\n"
            "/@ assigns \\nothing; @/ void other(void) { planted(); } */"), "it calls itself"),
     (ghost("(*here)();", before="/*@ ghost void (*here)(void); */"), "function pointer"),

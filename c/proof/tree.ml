@@ -76,6 +76,8 @@ module Forms = struct
         | _ -> reject_if true place "a statement");
       Cil.DoChildren
 
+    method! vblock b = reject_if (b.blabels <> [] || b.battrs <> []) here "a block"; Cil.DoChildren
+
     method! vinitexpr i =
       (match i with
         | COMPOUND_INIT all ->

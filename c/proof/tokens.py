@@ -169,8 +169,8 @@ def is_number(found, i):
 
 def wrong(name, text):
     """What is wrong with the text of a file."""
-    for form in re.findall(r"\\\n|\?\?[=/'()!<>-]|%:|<:|:>|<%|%>", text):
-        yield f"{name}: a splice, a trigraph or a digraph: {form!r}"
+    for form in re.finditer(r"\\\n|\?\?[=/'()!<>-]|%:|<:|:>|<%|%>", text):
+        yield f"{name}:{1 + text[:form.start()].count(chr(10))}: a splice, a trigraph or a digraph: {form.group()!r}"
     found, given = tokens(name, text), macros()
     for part in CONDITIONS[name]:
         wanted = tokens(name, part)
@@ -198,10 +198,11 @@ def wrong(name, text):
         i += 1
 
 
-def lines_of(text):
+def lines_of(file):
     """Lines of the preprocessor that neither base62.c nor an annotation has, such as one that names another file."""
-    text = COMMENT["base62.c"].sub(lambda it: it[1] or " ", text.replace("\\\n", ""))
-    yield from (f"a line of the preprocessor that is not on the list: {line}" for line in text.split("\n") if OTHER.match(line))
+    text = COMMENT["base62.c"].sub(lambda it: it[1] or " ", file.read_text().replace("\\\n", ""))
+    yield from (f"{file.name}: a line of the preprocessor that is not on the list: {line}"
+                for line in text.split("\n") if OTHER.match(line))
 
 
 def headers_in(folder):

@@ -121,6 +121,7 @@ LISTS = [
     (logic("predicate p(integer n) = \\valid((uint8_t *)n);"), NUMBER),
     (logic("predicate p(uint8_t *a) = (uintptr_t)a == 0;"), NUMBER),
     (logic("predicate p{L}(char *a) = *a < 128;"), CHAR),
+    (ghost("return *a < 128;", "requires \\valid_read(a); assigns \\nothing;", head="int planted(char *a)"), CHAR),
     # A struct with an array that is read whole.
     (f"{STEP}assert here: *tables == \\at(*tables, Pre);", READ),
     (logic("predicate p{A, B}(Tables *t) = \\at(t->letters, A) == \\at(t->letters, B);"), READ),

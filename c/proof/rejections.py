@@ -14,6 +14,7 @@ sys.path.append(__file__.rpartition("/")[0] or ".")  # Behind Python's own modul
 import pathlib
 import tempfile
 import annotate
+import tokens
 import wp
 
 # Parts of what prove says.
@@ -137,6 +138,7 @@ SOURCES = [
     (GROWS, f"%:ifndef __OPTIMIZE__\n{GROWS}%:endif\n", "a digraph"), (GROWS, f"    // Here. \\\n{GROWS}", "a splice"),
     *((GROWS, f"{line}\n{GROWS}", LISTED) for line in (
         "# 1 \"other.c\"", "#include \"min.inc\"", "#include <stdint.h>", "#undef B62_OK", "#define uint8_t uint32_t",
+        "    const bool own = text->length > 9 || own;", "    const uint64_t wide = UINT32_C(0xffffffff) + 1;",
         "_Pragma(\"GCC optimize\")", "    if (part_length > unix)",
         # What depends on the system or the compiler.
         "    const uint_fast32_t fast = 1;", "    const unsigned long size = 1;", "    const uint8_t letter = '\\xff';",
@@ -228,6 +230,12 @@ def said_of_code(at, source):
     return said(lambda: wp.checked_code(at, source)[1].wrong)
 
 
+def said_of_folder(at, name):
+    at.mkdir()
+    (at / name).touch()
+    return tokens.others_in(at)
+
+
 def said_of_function(file):
     return wp.warnings(wp.proved(file, "planted"), wp.checked(file).constants)
 
@@ -240,7 +248,8 @@ def once(text, old, new):
 
 def cases(work):
     """Each planted text, what has to be said, and what says it in a folder."""
-    source, specification, laws = *map(annotate.text_of, (wp.CODE, wp.SPECIFICATION)), annotate.laws()
+    source, header, specification = map(annotate.text_of, (wp.CODE, wp.C / "base62.h", wp.SPECIFICATION))
+    laws = annotate.laws()
     bare = wp.code(wp.prepared(work / "bare", source, wp.BARE))
     whole = annotate.annotated(source)
     calls = wp.checked(wp.prepared(work / "code", whole)).calls
@@ -256,6 +265,8 @@ def cases(work):
             wp.prepared(at, of, text), *more)
     for text, by in LAWS:
         yield text, by, lambda at, text=text: said_of(wp.prepared(at, laws + text), None, calls)
+    yield "//*", LISTED, lambda at: tokens.wrong("base62.h", once(header, "#undef BASE62_API", "//*\n#undef NULL\n/* */\n#undef BASE62_API"))
+    yield "stdc-predef.h", LISTED, lambda at: said_of_folder(at, "stdc-predef.h")
     yield PROGRAM, FALSE, lambda at: said_of_function(wp.prepared(at, PROGRAM))
     yield VARIABLE, APART, lambda at: said_of_function(wp.prepared(at, VARIABLE))
     yield NEVER, "planted_wp_smoke", lambda at: wp.contradictions(wp.prepared(at, NEVER))

@@ -51,9 +51,12 @@ module Forms = struct
     val mutable effects = []
     val mutable is_inside = false
     val mutable here = Cil_datatype.Location.unknown
+    (* The variable that is being declared. *)
+    val mutable declared = ""
 
     method! vexpr e =
       here <- e.expr_loc;
+      tell_if "open" (e.expr_node = VARIABLE declared) here "a variable that is initialized with itself";
       (match e.expr_node with
         | NOTHING | CONSTANT (CONST_INT _ | CONST_CHAR [ _ ] | CONST_STRING _) | VARIABLE _ | PAREN _ | QUESTION _ | INDEX _
         | MEMBEROF _ | MEMBEROFPTR _ | EXPR_SIZEOF _ | UNARY ((NOT | MEMOF | MINUS), _)
@@ -76,7 +79,7 @@ module Forms = struct
         | _ -> reject_if true place "a statement");
       Cil.DoChildren
 
-    method! vblock b = reject_if (b.blabels <> [] || b.battrs <> []) here "a block"; Cil.DoChildren
+    method! vblock b = declared <- ""; reject_if (b.blabels <> [] || b.battrs <> []) here "a block"; Cil.DoChildren
 
     method! vinitexpr i =
       (match i with
@@ -90,14 +93,17 @@ module Forms = struct
 
     method! vtypespec t =
       let is_field = function FIELD (_, all) -> List.for_all (fun (_, width) -> width = None) all | _ -> false in
-      reject_if (match t with Tstruct (_, Some all, []) -> not (List.for_all is_field all) | Tunion _ -> true | _ -> false)
-        here "a union or a bit field";
+      let is_small (_, e, _) = match e.expr_node with NOTHING -> true | CONSTANT (CONST_INT n) -> String.length n < 4 | _ -> false in
+      reject_if (match t with
+        | Tstruct (_, Some all, []) -> not (List.for_all is_field all) | Tenum (_, Some all, _) -> not (List.for_all is_small all)
+        | Tunion _ -> true | _ -> false) here "a union, a bit field or an enumerator";
       Cil.DoChildren
 
     (* Those of base62.h stand in the middle of a type. The walk over the tree below knows their names. *)
     method! vattr _ = Cil.SkipChildren
 
     method! vname kind spec (name, decl, attributes, place) =
+      declared <- name;
       reject_if (attributes <> [] || List.mem SpecInline spec && not (is_static spec)) place "an attribute or a function";
       (match decl with
         | PROTO (JUSTBASE, _ :: _, [], false) | PTR ([], PROTO (JUSTBASE, _ :: _, [], false)) -> check_type place spec JUSTBASE []
@@ -123,7 +129,7 @@ module Forms = struct
           when is_global -> Hashtbl.replace types name ()
         | TYPEDEF (([ SpecTypedef; SpecType Tchar ], [ (_, ARRAY _, [], _) ]), _) | GLOBANNOT _ -> ()
         | _ -> reject_if true place "a declaration");
-      Cil.DoChildren
+      Cil.DoChildrenPost (fun d -> declared <- ""; d)
   end
 end
 
@@ -377,6 +383,9 @@ let is_variable = function Var _, _ -> true | _ -> false
 let is_temporary = function Var v, NoOffset -> v.vtemp || v.vname = "__retres" | _ -> false
 let of_bytes = "sizeof of what does not consist of bytes"
 let of_enum = "an operator of an enum"
+(* Compilers call functions of the C library by themselves, and take any other for one that has its name. None of them has
+   an underscore and such parameters. *)
+let is_own name = String.contains name '_' || List.mem name [ "append"; "decode"; "greatest"; "halves"; "joined"; "power" ]
 (* Those that Frama-C itself gives, and what base62.h says of buffers. *)
 let known_attributes = [ "const"; "restrict"; "ghost"; "access"; "arraylen" ]
   @ [ "fc_ghost_formal"; "fc_local_static"; "fc_stdlib" ]
@@ -400,6 +409,7 @@ class walk = object (self)
     (match g with
       | GFun ({ svar = f; _ }, _) | GFunDecl (_, f, _) when Ast.is_def_or_last_decl g ->
         let kf = Globals.Functions.get f in
+        if not (f.vghost || is_own f.vorig_name) then tell "open" f.vname (at_place place "not on the list: a function's name");
         tell (if Kernel_function.is_definition kf then "defined" else "declared") f.vname "";
         if Hashtbl.mem in_header f.vorig_name && f.vstorage <> Static then tell "public" f.vname "";
         List.iter (fun what -> tell "rejected" f.vname (at_place place what)) (contract kf)

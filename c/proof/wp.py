@@ -130,7 +130,7 @@ def checked(file, bare=None, calls=None):
 
 def checked_code(work, source, *more):
     """The file of base62.c with annotations; and what is said of it, and of what compilers read of base62.c."""
-    wrong = [*tokens.wrong("base62.c", source), *tokens.wrong("base62.h", text_of(C / "base62.h")), *tokens.headers_in(C)]
+    wrong = [*tokens.wrong("base62.c", source), *tokens.wrong("base62.h", text_of(C / "base62.h")), *tokens.others_in(C)]
     if wrong:
         raise SystemExit("\n".join(wrong))
     bare = prepared(work / "bare", source, BARE)

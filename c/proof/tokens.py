@@ -173,8 +173,8 @@ def is_number(found, i):
 
 def wrong(name, text):
     """What is wrong with the text of a file."""
-    for form in re.finditer(r"\\\n|\?\?[=/'()!<>-]|%:|<:|:>|<%|%>", text):
-        yield f"{name}:{1 + text[:form.start()].count(chr(10))}: a splice, a trigraph or a digraph: {form.group()!r}"
+    for form in re.finditer(r"\\[ \t]*\n|[^\0-\x7f]|\?\?[=/'()!<>-]|%:|<:|:>|<%|%>", text):
+        yield f"{name}:{1 + text[:form.start()].count(chr(10))}: a splice, a trigraph, a digraph or no ASCII: {form.group()!r}"
     found, given = tokens(name, text), macros()
     for part in CONDITIONS[name]:
         wanted = tokens(name, part)
@@ -190,7 +190,8 @@ def wrong(name, text):
         token, line = found[i]
         if token == "#":
             end = next(j for j in range(i, len(found)) if found[j][0] == "\n")
-            if not DEFINE.fullmatch(" ".join(it for it, _ in found[i:end])):
+            numbers = [j for j in range(i, end) if found[j][0][0].isdigit()]
+            if not (DEFINE.fullmatch(" ".join(it for it, _ in found[i:end])) and all(is_number(found, j) for j in numbers)):
                 yield f"{name}:{line}: a line of the preprocessor that is not on the list"
             i = end
         elif not WORD.fullmatch(token) or token in given:

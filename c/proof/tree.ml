@@ -377,6 +377,8 @@ let is_constant_type typ = Cil.typeHasAttributeMemoryBlock "const" typ || Cil.ty
 let rec is_enum e = match e.enode with
   | CastE (TInt _, a) -> is_enum a
   | _ -> (match Cil.unrollType (Cil.typeOf e) with TEnum _ -> true | _ -> false)
+let is_small e = match Cil.constFoldToInt e with
+  | Some n -> Integer.le Integer.zero n && Integer.lt n (Integer.two_power_of_int 31) | None -> false
 let is_pointer e = Cil.isPointerType (Cil.typeOf e)
 let is_same a b = Cil_datatype.Typ.equal (Cil.typeDeepDropAllAttributes a) (Cil.typeDeepDropAllAttributes b)
 let is_variable = function Var _, _ -> true | _ -> false
@@ -472,6 +474,7 @@ class walk = object (self)
     | BinOp (op, a, b, _) when is_pointer a || is_pointer b ->
       open_if (op <> PlusPI || is_enum b) "an operator of pointers"; Cil.DoChildren
     | BinOp ((Eq | Ne), a, b, _) when is_enum a || is_enum b ->
+      open_if (not (List.for_all (fun e -> is_enum e || is_small e) [ a; b ])) of_enum;
       List.iter (fun a -> ignore (Visitor.visitFramacExpr (self :> Visitor.frama_c_visitor) (Cil.stripCasts a))) [ a; b ];
       Cil.SkipChildren
     | UnOp (_, a, _) -> open_if (is_pointer a || is_enum a) "an operator of a pointer or an enum"; Cil.DoChildren

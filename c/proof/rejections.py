@@ -112,6 +112,7 @@ LISTS = [
      "assigns to[0 .. 9]; */\nstatic void planted(char *restrict to, const char *from) { to[9] = *from; }", "restrict"),
     (f"{TOP}/*@ requires \\valid(to + (0 .. 9)) && \\valid_read(from); assigns to[*from * 0 .. 9]; */\n"
      "static void planted(uint8_t *restrict to, const uint8_t *from) { to[9] = *from; }", "restrict"),
+    (f"{TOP}/*@ assigns \\nothing; */\nstatic size_t memset(size_t n) {{ return n; }}", "a function's name"),
     # Another annotation, and one that Frama-C leaves out with a warning.
     (f"{TOP}/*@ global invariant no: \\false; */", KIND),
     (f"{NEXT}/*@ ensures \\false;", KIND),
@@ -136,6 +137,7 @@ SOURCES = [
     *((GROWS, f"{line}\n{GROWS}#endif\n", LISTED) for line in (
         "#ifdef __FRAMAC__", " #ifndef __OPTIMIZE__", "/* */ #ifndef BASE62_BUILD /* */", "#if 1 /*\n*/ - 1")),
     (GROWS, f"%:ifndef __OPTIMIZE__\n{GROWS}%:endif\n", "a digraph"), (GROWS, f"    // Here. \\\n{GROWS}", "a splice"),
+    (GROWS, f"    // Here. \\ \n{GROWS}", "a splice"), (GROWS, f"    // \u00dcber.\n{GROWS}", "no ASCII"),
     *((GROWS, f"{line}\n{GROWS}", LISTED) for line in (
         "# 1 \"other.c\"", "#include \"min.inc\"", "#include <stdint.h>", "#undef B62_OK", "#define uint8_t uint32_t",
         "    const bool own = text->length > 9 || own;", "    const uint64_t wide = UINT32_C(0xffffffff) + 1;",
@@ -153,6 +155,9 @@ SOURCES = [
         ("((uint64_t *)text->bytes)[0] = 0;", "to a pointer of another type"),
         ("const u128 pair = u128_of(InlineText_new(text), 1);", "rror"))),
     ("if (fault.tag == DecodeError_EmptyInput_tag)", "if (fault.tag - 2 < 0)", "operator of an enum"),
+    ("if (fault.tag == DecodeError_EmptyInput_tag)", "if (fault.tag == 0x80000000)", "operator of an enum"),
+    ("        DecodeError_EmptyInput_tag,\n", "        DecodeError_EmptyInput_tag = 0x80000000,\n", "an enumerator"),
+    ("((uint32_t)3844)", "4294967296", LISTED),
     ("((uint32_t)3844)", "UINT32_C(3844)", LISTED), ("#define B62_TEXT(", "#define JOIN(a, b) a##b\n#define B62_TEXT(", LISTED),
     *((old, new, ONCE) for old, new in (
         ("(base62_u128)a * b;", "(base62_u128)a * b + 1;"), ("__builtin_clzll(n);", "__builtin_clzll(n | 1);"),

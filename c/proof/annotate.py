@@ -10,7 +10,8 @@ Each of these files is a list. A line that begins with "==" says where the lines
 
 The text @end is the last line of the function. A line that begins with "//" says why, and goes in as well. Of
 several lines "==" one directly under the other, each gets the lines after the last. A text <<0..62 by 2: TEXT>> is that
-text for 0, 2, 4 and so on, each in the place of #, and 62^10 is a number.
+text for 0, 2, 4 and so on, each in the place of #, and <<a, b: TEXT>> that for a and b, with ## for A and B. 62^10 and
+2^(64 - 8) are numbers.
 """
 
 import functools
@@ -42,7 +43,10 @@ def expanded(text):
     """A list with its repeated texts and its powers written out."""
     text = re.sub(r"<<(\d+)\.\.(\d+)(?: by (\d+))?: (.*?)>>", lambda found: "".join(
         found[4].replace("#", str(n)) for n in range(int(found[1]), int(found[2]) + 1, int(found[3] or 1))), text)
-    return re.sub(r"\b(\d+)\^(\d+)\b", lambda found: str(int(found[1]) ** int(found[2])), text)
+    text = re.sub(r"<<(\w+(?:, \w+)+):\s(.*?)>>(?! )", lambda found: "".join(
+        found[2].replace("##", it.upper()).replace("#", it) for it in found[1].split(", ")), text, flags=re.S)
+    return re.sub(r"\b(\d+)\^(?:(\d+)\b|\((\d+) - (\d+)\))", lambda found: str(
+        int(found[1]) ** (int(found[2]) if found[2] else int(found[3]) - int(found[4]))), text)
 
 
 @functools.cache

@@ -14,8 +14,7 @@
 void escape(unsigned char byte) {}
 
 /* The least count of decimal digits that is enough, at most 20. */
-/*@ assigns \nothing;
-    ensures result: \result == decimal_length(number) && 1 <= \result <= 20;
+/*@ assigns \nothing; ensures result: \result == decimal_length(number) && 1 <= \result <= 20;
     ensures enough: without_decimals(number, \result) == 0;
     ensures least: \result > 1 ==> without_decimals(number, \result - 1) > 0;
     ensures within: \forall integer k; 0 <= k <= \result ==> 0 <= without_decimals(number, k) <= number;

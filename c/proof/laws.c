@@ -27,8 +27,7 @@
 */
 
 /* The digit of a byte is its index in the letters. annotations/ proves this too, but the laws hold without these. */
-/*@ requires LETTERS_VALID;
-    assigns \nothing;
+/*@ requires LETTERS_VALID; assigns \nothing;
     ensures result: \result == digit(letters, byte) && 0 <= \result <= 62;
     ensures place: \result < 62 ==> letters[\result] == byte;
     ensures zero: \result == 0 <==> byte == letters[0];
@@ -42,8 +41,7 @@ static size_t compute_digit(const unsigned char *letters, unsigned char byte) {
     return i;
 }
 
-/*@ requires LETTERS_VALID && TEXT_VALID(p, n);
-    assigns \nothing;
+/*@ requires LETTERS_VALID && TEXT_VALID(p, n); assigns \nothing;
     ensures result: \result == bad_index(letters, p, n) && 0 <= \result <= n;
     ensures before: are_letters(letters, p, \result);
     ensures bad: \result < n ==> digit(letters, p[\result]) >= 62;
@@ -58,8 +56,7 @@ static size_t compute_bad_index(const unsigned char *letters, const unsigned cha
     return bad;
 }
 
-/*@ requires LETTERS_VALID && TEXT_VALID(p, n);
-    assigns \nothing;
+/*@ requires LETTERS_VALID && TEXT_VALID(p, n); assigns \nothing;
     ensures result: \result == leading_zeros(letters, p, n) && 0 <= \result <= n;
     ensures value: value(letters, p, \result) == 0;
     ensures other: \result < n ==> p[\result] != letters[0];
@@ -77,8 +74,7 @@ static size_t compute_leading_zeros(const unsigned char *letters, const unsigned
 }
 
 /* Zeros behind the digits of two numbers keep their order. */
-/*@ assigns \nothing;
-    ensures \forall integer x, y; x <= y ==> shifted(x, k) <= shifted(y, k);
+/*@ assigns \nothing; ensures \forall integer x, y; x <= y ==> shifted(x, k) <= shifted(y, k);
     ensures strictly: \forall integer x, y; x < y ==> shifted(x, k) < shifted(y, k);
 */
 static void shift_keeps_order(size_t k) {
@@ -88,8 +84,7 @@ static void shift_keeps_order(size_t k) {
     for (size_t i = 0; i < k; i++) {}
 }
 
-/*@ requires j <= k;
-    assigns \nothing;
+/*@ requires j <= k; assigns \nothing;
     ensures 1 <= power_of_62(j) <= power_of_62(k) == shifted(power_of_62(j), k - j);
 */
 static void powers_grow(size_t j, size_t k) {
@@ -102,8 +97,7 @@ static void powers_grow(size_t j, size_t k) {
     for (size_t i = j; i < k; i++) {}
 }
 
-/*@ assigns \nothing;
-    ensures power_of_62(21) < ACSL_2_128 <= power_of_62(22);
+/*@ assigns \nothing; ensures power_of_62(21) < ACSL_2_128 <= power_of_62(22);
     ensures ten: power_of_62(10) == 839299365868340224 && shifted(839299365868340223, 12) >= ACSL_2_128;
 */
 static void power_22(void) {
@@ -114,8 +108,7 @@ static void power_22(void) {
 }
 
 /* A text denotes no less than its first k letters followed by zeros, and less than the next such number. */
-/*@ requires LETTERS_VALID && TEXT_VALID(p, n) && are_letters(letters, p, n) && k <= n;
-    assigns \nothing;
+/*@ requires LETTERS_VALID && TEXT_VALID(p, n) && are_letters(letters, p, n) && k <= n; assigns \nothing;
     ensures least: shifted(value(letters, p, k), n - k) <= value(letters, p, n);
     ensures next: value(letters, p, n) < shifted(value(letters, p, k) + 1, n - k);
 */
@@ -132,8 +125,7 @@ static void begins_with(const unsigned char *letters, const unsigned char *p, si
 }
 
 /* n letters denote a number below 62^n, which is 62^(n - 1) or more exactly if the first is no zero. */
-/*@ requires LETTERS_VALID && TEXT_VALID(p, n) && are_letters(letters, p, n) && n > 0;
-    assigns \nothing;
+/*@ requires LETTERS_VALID && TEXT_VALID(p, n) && are_letters(letters, p, n) && n > 0; assigns \nothing;
     ensures below: 0 <= value(letters, p, n) < power_of_62(n);
     ensures zero: p[0] == letters[0] ==> value(letters, p, n) < power_of_62(n - 1);
     ensures other: p[0] != letters[0] ==> value(letters, p, n) >= power_of_62(n - 1);
@@ -155,8 +147,7 @@ static void value_within(const unsigned char *letters, const unsigned char *p, s
 /* -------------------- One text -------------------- */
 
 /* The text of a number has 1 to 22 letters, and no text of fewer letters denotes it. */
-/*@ assigns \nothing;
-    ensures result: \result == digit_count(number_of(n)) && 1 <= \result <= 22;
+/*@ assigns \nothing; ensures result: \result == digit_count(number_of(n)) && 1 <= \result <= 22;
     ensures enough: number_of(n) < power_of_62(\result);
     ensures least: \result > 1 ==> number_of(n) >= power_of_62(\result - 1);
 */
@@ -174,8 +165,7 @@ size_t compute_count(base62_number n) {
 }
 
 /* No shorter text denotes the number, and a longer one has a leading zero. */
-/*@ requires LETTERS_VALID && TEXT_VALID(p, n);
-    assigns \nothing;
+/*@ requires LETTERS_VALID && TEXT_VALID(p, n); assigns \nothing;
     ensures shortest: denotes(letters, p, n, number_of(number)) ==> digit_count(number_of(number)) <= n;
     ensures leading_zero: denotes(letters, p, n, number_of(number)) && n > 1 ==>
         (p[0] == letters[0] <==> digit_count(number_of(number)) < n);
@@ -193,8 +183,7 @@ void shortest(const unsigned char *letters, const unsigned char *p, size_t n, ba
 /* Two texts of one length have one number exactly if they are the same. If the letters ascend, they sort by bytes as
    their numbers do. */
 /*@ requires LETTERS_VALID && TEXT_VALID(p, n) && TEXT_VALID(q, n);
-    requires are_letters(letters, p, n) && are_letters(letters, q, n);
-    assigns \nothing;
+    requires are_letters(letters, p, n) && are_letters(letters, q, n); assigns \nothing;
     ensures same: are_same(p, q, n) <==> value(letters, p, n) == value(letters, q, n);
     ensures sorts: ascend(letters) ==> (sorts_before(p, q, n) <==> value(letters, p, n) < value(letters, q, n));
 */
@@ -212,8 +201,7 @@ void two_texts(const unsigned char *letters, const unsigned char *p, const unsig
 }
 
 /* Each text of letters that denotes a number below 2^128 is accepted. */
-/*@ requires LETTERS_VALID && TEXT_VALID(p, n);
-    assigns \nothing;
+/*@ requires LETTERS_VALID && TEXT_VALID(p, n); assigns \nothing;
     ensures n > 0 && bad_index(letters, p, n) == n && value(letters, p, n) < ACSL_2_128 ==>
         decoding(letters, p, n) == BASE62_OK;
 */
@@ -419,8 +407,7 @@ int back_again(OVER, form how, int is_strict, base62_number number, char *buffer
 }
 
 /* As memcmp. */
-/*@ requires TEXT_VALID(p, n) && TEXT_VALID(q, n);
-    assigns \nothing;
+/*@ requires TEXT_VALID(p, n) && TEXT_VALID(q, n); assigns \nothing;
     ensures same: \result == 0 <==> are_same(BYTES(p), BYTES(q), n);
     ensures before: \result < 0 <==> sorts_before(BYTES(p), BYTES(q), n);
 */
@@ -433,8 +420,7 @@ static int compare(const char *p, const char *q, size_t n) {
 }
 
 /* Canonical decoding accepts the text that an encoder writes, and no other. */
-/*@ requires ALPHABET && TEXT_VALID(p, n);
-    assigns \nothing;
+/*@ requires ALPHABET && TEXT_VALID(p, n); assigns \nothing;
     ensures \result == 1;
 */
 int one_strict_text(OVER, base62_number number, const char *p, size_t n) {
@@ -477,8 +463,7 @@ int sorts_as_numbers(OVER, form how, base62_number a, char *p, const char *q, si
 /* A text of a number begins with a prefix exactly if the number is in the range of the prefix. If there is no range, no
    text begins with it. */
 /*@ requires LETTERS_VALID && TEXT_VALID(p, n) && TEXT_VALID(prefix, k);
-    requires denotes(letters, p, n, number_of(number));
-    assigns \nothing;
+    requires denotes(letters, p, n, number_of(number)); assigns \nothing;
     ensures range: range_status(letters, prefix, k, n) == BASE62_OK ==> (begins(p, n, prefix, k) <==>
         least_of(letters, prefix, k, n) <= number_of(number) < next_of(letters, prefix, k, n));
     ensures none: range_status(letters, prefix, k, n) != BASE62_OK ==> !begins(p, n, prefix, k);
@@ -500,8 +485,7 @@ void is_in_range(const unsigned char *letters, const unsigned char *p, size_t n,
 }
 
 /* A number that needs more letters than the width is in no range. */
-/*@ requires LETTERS_VALID && TEXT_VALID(prefix, k) && digit_count(number_of(number)) > n;
-    assigns \nothing;
+/*@ requires LETTERS_VALID && TEXT_VALID(prefix, k) && digit_count(number_of(number)) > n; assigns \nothing;
     ensures range_status(letters, prefix, k, n) == BASE62_OK ==> number_of(number) >= next_of(letters, prefix, k, n);
 */
 void is_beyond(const unsigned char *letters, const unsigned char *prefix, size_t k, size_t n, base62_number number) {
@@ -541,8 +525,7 @@ int range_is_exact(OVER, form how, base62_number number, char *places, size_t wi
 /* -------------------- Letters -------------------- */
 
 /* The text of a number below 62 is the letter at this index. */
-/*@ requires ALPHABET && d < 62;
-    assigns \nothing;
+/*@ requires ALPHABET && d < 62; assigns \nothing;
     ensures \result == 1;
 */
 int is_letter(OVER, unsigned d) {
@@ -588,8 +571,7 @@ int half(base62_number number, uint64_t *value) { return base62_to_u64(number, v
 base62_number of_half(uint64_t value) { return base62_from_u64(value); }
 
 /* The number of two halves, below 2^128. */
-/*@ assigns \nothing;
-    ensures number_of(\result) == high * 18446744073709551616 + low;
+/*@ assigns \nothing; ensures number_of(\result) == high * 18446744073709551616 + low;
     ensures ACSL_2_128 == 18446744073709551616 * 18446744073709551616;
 */
 base62_number of_halves(uint64_t high, uint64_t low) { return (base62_number){high, low}; }
@@ -605,15 +587,13 @@ int version(void) { return base62_version_number() == BASE62_VERSION_NUMBER; }
 
 /* The letter of each digit, case by case, since provers split no range of numbers. */
 // == prove letter: with tables
-/*@ requires d < 62;
-    assigns \nothing;
+/*@ requires d < 62; assigns \nothing;
     ensures standard: standard_letters[d] == LETTER(d, 'A', 'a');
     ensures alternative: alternative_letters[d] == LETTER(d, 'a', 'A');
 */
 void letter(unsigned d) { TEN(0) TEN(10) TEN(20) TEN(30) TEN(40) TEN(50) ONE(60) ONE(61) }
 
-/*@ assigns \nothing;
-    ensures standard: is_alphabet(STANDARD_LETTERS) && ascend(STANDARD_LETTERS);
+/*@ assigns \nothing; ensures standard: is_alphabet(STANDARD_LETTERS) && ascend(STANDARD_LETTERS);
     ensures alternative: is_alphabet(ALTERNATIVE_LETTERS) && !ascend(ALTERNATIVE_LETTERS);
     ensures digits: digit(STANDARD_LETTERS, 'z') == 61 && digit(STANDARD_LETTERS, '-') >= 62;
 */
@@ -629,8 +609,7 @@ void letters_by_example(void) {
 }
 
 /* Each row of the table has a text: letters z, and at one index a byte that is no letter. */
-/*@ requires n <= 24;
-    assigns \nothing;
+/*@ requires n <= 24; assigns \nothing;
     ensures empty: n == 0 ==> \result == BASE62_EMPTY_INPUT;
     ensures long_text: n > 22 ==> \result == BASE62_OVERFLOW;
     ensures early: n <= 22 && at < n && at < 10 ==> \result == BASE62_INVALID_BYTE;

@@ -80,7 +80,7 @@ def places(code):
         found += [each for each in mutate_specification.exchanges(body) if not COMMUTATIVE.search(body[:each[0]])]
         yield from ((name, start + first, start + last, new) for first, last, new in sorted(found))
     for table, old, name in TABLES:
-        start = re.search(rf"\b{table}\b[^;(]*= {{", code).end()
+        start = re.search(rf"\b{table}\b[^;(]*?= {{", code).end()
         for each in re.finditer(old, code[start:code.index("};", start)]):
             yield name, start + each.start(), start + each.end(), f"({each.group()} + 1)"
 

@@ -8,22 +8,30 @@ a requirement that nothing meets. It names each goal that takes over a third of 
 
 Variables: BITS (32 for a machine of 32 bits), CORES (how many functions are proved at once), LIMIT (seconds for a
 goal), WORK (a folder for the annotated code, the logs, and goals.tsv with the time of each goal), CACHE (a folder of
-results of provers, for a proof that is being made: it fails). Python takes its own modules, and then those of this folder.
+results of provers, for a proof that is being made: it fails). Of this folder Python takes the four modules alone.
 """
 
-import sys
-
-sys.flags.isolated and sys.flags.no_site or sys.exit("run the file itself, as its first line says")
-sys.pycache_prefix = "/nonexistent"
-sys.path.append(__file__.rpartition("/")[0] or ".")  # Behind Python's own modules.
-
+import importlib.util
 import os
 import pathlib
 import re
+import sys
 import tempfile
 import time
-import annotate
-import wp
+
+sys.flags.isolated and sys.flags.no_site or sys.exit("run the file itself, as its first line says")
+sys.pycache_prefix = "/nonexistent"
+
+
+def module(name):
+    """A module of this folder, by its file: any other file of the folder is never looked for."""
+    spec = importlib.util.spec_from_file_location(name, pathlib.Path(__file__).with_name(f"{name}.py"))
+    sys.modules[name] = importlib.util.module_from_spec(spec)
+    spec.loader.exec_module(sys.modules[name])
+    return sys.modules[name]
+
+
+tokens, bits, annotate, wp = map(module, ("tokens", "bits", "annotate", "wp"))
 
 
 def proved(file, mark, names):

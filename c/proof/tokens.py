@@ -3,6 +3,7 @@ rejected. CONDITIONS has all lines of the preprocessor but defines of constants,
 read the same tokens outside of these parts, and within them what stands here: attributes, a pragma, and the bodies of
 four functions. What the tokens say is for tree.ml."""
 
+import os
 import re
 import subprocess
 
@@ -120,19 +121,22 @@ static B62_ALWAYS_INLINE uint32_t u64_ilog2(uint64_t n) {
 
 # Where all tools are.
 PATH = "/usr/bin:/bin"
-# The headers of C and its macros, besides those in CONDITIONS, and the only other form of a define.
+# What stands beside base62.c. Anything else there, such as bits/wordsize.h, compilers could take for a header of C.
+FILES = {"CMakeLists.txt", "LICENSE", "README.md", "base62.c", "base62.h", "cmake", "proof", "tests"}
+# The headers of C and its macros, besides those in CONDITIONS, and the only other form of a define. The macro UINT32_C of
+# Frama-C has 64 bits.
 HEADERS = {"limits.h", "stdbool.h", "stddef.h", "stdint.h"}
-MACROS = {"UINT32_C", "UINT64_C", "bool", "true", "false"}
+MACROS = {"UINT64_C", "bool", "true", "false"}
 DEFINE = re.compile(r'# define B(?:ASE)?62_\w+ (?:\d+|"[^"\\]*"|\( \( (?:uint32_t|size_t) \) \d+ \)|UINT64_C \( \d+ \)|B62_\w+)')
 
 OTHER = re.compile(r"\s*(?:#|%:|\?\?=)\s*(?!(?:define|undef|if|ifdef|ifndef|elif|else|endif|error|pragma)\b|include \"base62\.(?:h|acsl)\"$"
                    rf"|include <(?:{'|'.join(HEADERS)})>$)")
 
-# A header has the comments of every C. An annotation counts as a token: a part without it is another.
-TEXTS = r'|(//@[^\n]*|"(?:\\.|[^"\\\n])*"|\'(?:\\.|[^\'\\\n])*\')'
+# A header has the comments of every C, in which // is none. An annotation counts as a token: a part without it is another.
+TEXTS = r'|(//@[^\n]*|//|"(?:\\.|[^"\\\n])*"|\'(?:\\.|[^\'\\\n])*\')'
 COMMENT = {"base62.h": re.compile(r"/\*.*?\*/" + TEXTS, re.S), "base62.c": re.compile(r"/\*.*?\*/|//(?!@)[^\n]*" + TEXTS, re.S)}
 TOKEN = re.compile(r'//@.*|"(?:\\.|[^"\\])*"|\'(?:\\.|[^\'\\])*\'|\w+|//|->|\+\+|--|<<=|>>=|<<|>>|&&|\|\||[-+*/%&|^=<>!]=|\S')
-WORD = re.compile(r"""//@.*|[a-z]\w*|[A-Z][a-z]\w*|_\d|B(?:ASE)?62_\w+|UINT(?:32|64)_C|0|[1-9]\d*|0x[0-9a-f]{1,16}
+WORD = re.compile(r"""//@.*|[a-z]\w*|[A-Z][a-z]\w*|_\d|B(?:ASE)?62_\w+|UINT64_C|0|[1-9]\d*|0x[0-9a-f]{1,16}
     |"(?:[ !#-\[\]-~]|\\[tnr\\"'])*"|'(?:[ -&(-\[\]-~]|\\[tnr\\"'])'
     |->|\+\+|--|<<|>>|&&|\|\||[-+*/<>=!]=|>>=|[-+*/%&|<>=!.,;:?(){}[\]]""", re.X | re.A)
 
@@ -162,15 +166,15 @@ def macros():
 
 def is_number(found, i):
     """Whether a number has one type everywhere: one of int, or one of 64 bits or less that its macro or 0x tells."""
-    before, number = [token for token, _ in found[max(i - 2, 0):i]], found[i][0]
-    bits = {"UINT32_C": 32, "UINT64_C": 64}.get(before[0] if before[1:] == ["("] and found[i + 1][0] == ")" else "", 31)
+    around, number = [token for token, _ in found[max(i - 2, 0):i + 2]], found[i][0]
+    bits = 64 if around == ["UINT64_C", "(", number, ")"] else 31
     return number.startswith("0x") or int(number) < 2 ** bits
 
 
 def wrong(name, text):
     """What is wrong with the text of a file."""
-    for form in re.findall(r"\\\n|\?\?[=/'()!<>-]|%:|<:|:>|<%|%>", text):
-        yield f"{name}: a splice, a trigraph or a digraph: {form!r}"
+    for form in re.finditer(r"\\[ \t]*\n|[^\0-\x7f]|\?\?[=/'()!<>-]|%:|<:|:>|<%|%>", text):
+        yield f"{name}:{1 + text[:form.start()].count(chr(10))}: a splice, a trigraph, a digraph or no ASCII: {form.group()!r}"
     found, given = tokens(name, text), macros()
     for part in CONDITIONS[name]:
         wanted = tokens(name, part)
@@ -186,7 +190,8 @@ def wrong(name, text):
         token, line = found[i]
         if token == "#":
             end = next(j for j in range(i, len(found)) if found[j][0] == "\n")
-            if not DEFINE.fullmatch(" ".join(it for it, _ in found[i:end])):
+            numbers = [j for j in range(i, end) if found[j][0][0].isdigit()]
+            if not (DEFINE.fullmatch(" ".join(it for it, _ in found[i:end])) and all(is_number(found, j) for j in numbers)):
                 yield f"{name}:{line}: a line of the preprocessor that is not on the list"
             i = end
         elif not WORD.fullmatch(token) or token in given:
@@ -198,13 +203,13 @@ def wrong(name, text):
         i += 1
 
 
-def lines_of(text):
+def lines_of(file):
     """Lines of the preprocessor that neither base62.c nor an annotation has, such as one that names another file."""
-    text = COMMENT["base62.c"].sub(lambda it: it[1] or " ", text.replace("\\\n", ""))
-    yield from (f"a line of the preprocessor that is not on the list: {line}" for line in text.split("\n") if OTHER.match(line))
+    text = COMMENT["base62.c"].sub(lambda it: it[1] or " ", file.read_text().replace("\\\n", ""))
+    yield from (f"{file.name}: a line of the preprocessor that is not on the list: {line}"
+                for line in text.split("\n") if OTHER.match(line))
 
 
-def headers_in(folder):
-    """Files that a compiler may take for headers of C."""
-    yield from (f"a header in the place of that of C: {path.name}" for path in sorted(folder.rglob("*"))
-                if path.name.lower() in HEADERS)
+def others_in(folder):
+    """What may not stand beside base62.c."""
+    yield from (f"not on the list of what stands beside base62.c: {name}" for name in sorted({*os.listdir(folder)} - FILES))

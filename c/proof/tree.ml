@@ -50,8 +50,13 @@ module Forms = struct
     inherit Cabsvisit.nopCabsVisitor
     val mutable effects = []
     val mutable is_inside = false
+    val mutable here = Cil_datatype.Location.unknown
+    (* The variable that is being declared. *)
+    val mutable declared = ""
 
     method! vexpr e =
+      here <- e.expr_loc;
+      tell_if "open" (e.expr_node = VARIABLE declared) here "a variable that is initialized with itself";
       (match e.expr_node with
         | NOTHING | CONSTANT (CONST_INT _ | CONST_CHAR [ _ ] | CONST_STRING _) | VARIABLE _ | PAREN _ | QUESTION _ | INDEX _
         | MEMBEROF _ | MEMBEROFPTR _ | EXPR_SIZEOF _ | UNARY ((NOT | MEMOF | MINUS), _)
@@ -74,28 +79,31 @@ module Forms = struct
         | _ -> reject_if true place "a statement");
       Cil.DoChildren
 
-    method! vblock b = reject_if (b.blabels <> [] || b.battrs <> []) Cil_datatype.Location.unknown "a block"; Cil.DoChildren
+    method! vblock b = declared <- ""; reject_if (b.blabels <> [] || b.battrs <> []) here "a block"; Cil.DoChildren
 
     method! vinitexpr i =
       (match i with
         | COMPOUND_INIT all ->
           let name = function INFIELD_INIT (name, NEXT_INIT), _ -> name | NEXT_INIT, _ -> "" | _ -> "[" in
           let names = List.sort_uniq compare (List.map name all) in
-          reject_if (names <> [ "" ] && (List.mem "" names || List.mem "[" names || List.compare_lengths names all <> 0))
-            Cil_datatype.Location.unknown "an initializer"
+          let is_wrong = List.mem "" names || List.mem "[" names || List.compare_lengths names all <> 0 in
+          reject_if (names <> [ "" ] && is_wrong) here "an initializer"
         | _ -> ());
       Cil.DoChildren
 
     method! vtypespec t =
       let is_field = function FIELD (_, all) -> List.for_all (fun (_, width) -> width = None) all | _ -> false in
-      reject_if (match t with Tstruct (_, Some all, []) -> not (List.for_all is_field all) | Tunion _ -> true | _ -> false)
-        Cil_datatype.Location.unknown "a union or a bit field";
+      let is_small (_, e, _) = match e.expr_node with NOTHING -> true | CONSTANT (CONST_INT n) -> String.length n < 4 | _ -> false in
+      reject_if (match t with
+        | Tstruct (_, Some all, []) -> not (List.for_all is_field all) | Tenum (_, Some all, _) -> not (List.for_all is_small all)
+        | Tunion _ -> true | _ -> false) here "a union, a bit field or an enumerator";
       Cil.DoChildren
 
     (* Those of base62.h stand in the middle of a type. The walk over the tree below knows their names. *)
     method! vattr _ = Cil.SkipChildren
 
     method! vname kind spec (name, decl, attributes, place) =
+      declared <- name;
       reject_if (attributes <> [] || List.mem SpecInline spec && not (is_static spec)) place "an attribute or a function";
       (match decl with
         | PROTO (JUSTBASE, _ :: _, [], false) | PTR ([], PROTO (JUSTBASE, _ :: _, [], false)) -> check_type place spec JUSTBASE []
@@ -106,6 +114,7 @@ module Forms = struct
     method! vdef d =
       let is_global = not is_inside and place = Cabshelper.get_definitionloc d in
       is_inside <- true;
+      here <- place;
       (match d with
         | FUNDEF _ when is_global -> ()
         | DECDEF (_, (spec, all), _) -> List.iter (fun ((_, decl, _, _), init) -> match decl, init with
@@ -120,7 +129,7 @@ module Forms = struct
           when is_global -> Hashtbl.replace types name ()
         | TYPEDEF (([ SpecTypedef; SpecType Tchar ], [ (_, ARRAY _, [], _) ]), _) | GLOBANNOT _ -> ()
         | _ -> reject_if true place "a declaration");
-      Cil.DoChildren
+      Cil.DoChildrenPost (fun d -> declared <- ""; d)
   end
 end
 
@@ -368,12 +377,17 @@ let is_constant_type typ = Cil.typeHasAttributeMemoryBlock "const" typ || Cil.ty
 let rec is_enum e = match e.enode with
   | CastE (TInt _, a) -> is_enum a
   | _ -> (match Cil.unrollType (Cil.typeOf e) with TEnum _ -> true | _ -> false)
+let is_small e = match Cil.constFoldToInt e with
+  | Some n -> Integer.le Integer.zero n && Integer.lt n (Integer.two_power_of_int 31) | None -> false
 let is_pointer e = Cil.isPointerType (Cil.typeOf e)
 let is_same a b = Cil_datatype.Typ.equal (Cil.typeDeepDropAllAttributes a) (Cil.typeDeepDropAllAttributes b)
 let is_variable = function Var _, _ -> true | _ -> false
 let is_temporary = function Var v, NoOffset -> v.vtemp || v.vname = "__retres" | _ -> false
 let of_bytes = "sizeof of what does not consist of bytes"
 let of_enum = "an operator of an enum"
+(* Compilers call functions of the C library by themselves, and take any other for one that has its name. None of them has
+   an underscore and such parameters. *)
+let is_own name = String.contains name '_' || List.mem name [ "append"; "decode"; "greatest"; "halves"; "joined"; "power" ]
 (* Those that Frama-C itself gives, and what base62.h says of buffers. *)
 let known_attributes = [ "const"; "restrict"; "ghost"; "access"; "arraylen" ]
   @ [ "fc_ghost_formal"; "fc_local_static"; "fc_stdlib" ]
@@ -397,6 +411,7 @@ class walk = object (self)
     (match g with
       | GFun ({ svar = f; _ }, _) | GFunDecl (_, f, _) when Ast.is_def_or_last_decl g ->
         let kf = Globals.Functions.get f in
+        if not (f.vghost || is_own f.vorig_name) then tell "open" f.vname (at_place place "not on the list: a function's name");
         tell (if Kernel_function.is_definition kf then "defined" else "declared") f.vname "";
         if Hashtbl.mem in_header f.vorig_name && f.vstorage <> Static then tell "public" f.vname "";
         List.iter (fun what -> tell "rejected" f.vname (at_place place what)) (contract kf)
@@ -406,7 +421,7 @@ class walk = object (self)
 
   method! vattr a =
     let name = Cil.attributeName a in
-    if not (List.mem name known_attributes) then tell "rejected" self#name ("an attribute, " ^ name);
+    self#reject_if (not (List.mem name known_attributes)) (Cil.CurrentLoc.get ()) ("an attribute, " ^ name);
     Cil.DoChildren
 
   method! vannotation a =
@@ -459,6 +474,7 @@ class walk = object (self)
     | BinOp (op, a, b, _) when is_pointer a || is_pointer b ->
       open_if (op <> PlusPI || is_enum b) "an operator of pointers"; Cil.DoChildren
     | BinOp ((Eq | Ne), a, b, _) when is_enum a || is_enum b ->
+      open_if (not (List.for_all (fun e -> is_enum e || is_small e) [ a; b ])) of_enum;
       List.iter (fun a -> ignore (Visitor.visitFramacExpr (self :> Visitor.frama_c_visitor) (Cil.stripCasts a))) [ a; b ];
       Cil.SkipChildren
     | UnOp (_, a, _) -> open_if (is_pointer a || is_enum a) "an operator of a pointer or an enum"; Cil.DoChildren
@@ -478,7 +494,7 @@ class walk = object (self)
   method! vassigns a =
     let is_tried (t, _) = not (List.mem "no_wp" t.it_content.term_name) in
     (match a with Writes all when List.for_all is_tried all -> () | WritesAny -> ()
-      | _ -> self#reject Cil_datatype.Location.unknown not_tried);
+      | _ -> self#reject (Cil.CurrentLoc.get ()) not_tried);
     Cil.SkipChildren
   method! vpredicate p = self#reject_if (List.mem "no_wp" p.pred_name) p.pred_loc not_tried; Cil.DoChildren
   method! vterm t =

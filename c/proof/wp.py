@@ -121,7 +121,7 @@ def checked(file, bare=None, calls=None):
     wrong = [f"rejected: {name} {what}" for kind, name, what in dict.fromkeys(found)
              if kind in ("rejected", "form") or kind == "open" and bare]
     wrong += [f"no body: {name}" for name in sorted(of["declared"] - (set() if bare else calls or of["public"]))]
-    wrong += [*bits.wrong(found), *tokens.lines_of(file.read_text()), *tokens.lines_of((file.parent / SPECIFICATION.name).read_text())]
+    wrong += [*bits.wrong(found), *tokens.lines_of(file), *tokens.lines_of(file.parent / SPECIFICATION.name)]
     if bare and code(file) != bare:
         wrong.append("the lists change the code")
     lemmas = {LEMMAS} if of["lemma"] else set()
@@ -130,7 +130,7 @@ def checked(file, bare=None, calls=None):
 
 def checked_code(work, source, *more):
     """The file of base62.c with annotations; and what is said of it, and of what compilers read of base62.c."""
-    wrong = [*tokens.wrong("base62.c", source), *tokens.wrong("base62.h", text_of(C / "base62.h")), *tokens.headers_in(C)]
+    wrong = [*tokens.wrong("base62.c", source), *tokens.wrong("base62.h", text_of(C / "base62.h")), *tokens.others_in(C)]
     if wrong:
         raise SystemExit("\n".join(wrong))
     bare = prepared(work / "bare", source, BARE)

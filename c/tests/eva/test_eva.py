@@ -62,11 +62,12 @@ class Eva(unittest.TestCase):
             self.assertIn(f"{function}(", source)
 
     def test_unset(self):
-        """A variable that is read before it is set."""
+        """A read of memory that the caller has not set. The proof allows it."""
         with tempfile.TemporaryDirectory() as folder:
             planted = pathlib.Path(folder) / SOURCE.name
-            planted.write_text(SOURCE.read_text().replace("uint64_t number = 0;", "uint64_t number;"))
-            self.assertIn(("read_up_to_10", "\\initialized(&number)"), alarms("decode", planted))
+            old = "*number = halves(n);"
+            planted.write_text(SOURCE.read_text().replace(old, f"if (number->low == 7) number->low = 0; {old}", 1))
+            self.assertIn(("store_number", "\\initialized(&number->low)"), alarms("decode", planted))
 
     def check(self, function):
         self.assertLessEqual(alarms(function), set(COVERED))

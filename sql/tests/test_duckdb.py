@@ -14,6 +14,7 @@ import subprocess
 import tempfile
 import time
 import unittest
+from pathlib import Path
 from typing import Any
 from urllib.parse import unquote_to_bytes
 from uuid import UUID
@@ -176,6 +177,13 @@ class Arguments(Case):
         header = next(file for file in (HERE.parent / "base62.h", HERE.parents[1] / "c/base62.h") if file.exists())
         version = row("SELECT base62_version() AS version;")["version"]
         self.assertIn(f'#define BASE62_VERSION "{version}"\n', header.read_text())
+        loaded = row("SELECT extension_version AS version FROM duckdb_extensions() WHERE extension_name = 'base62';")
+        self.assertEqual(loaded["version"], "v" + version)
+
+    def test_oldest(self) -> None:
+        """The extension requires no later version of DuckDB than README says."""
+        (oldest,) = re.findall(r" DuckDB (\S+) and later", (HERE.parent / "README.md").read_text())
+        self.assertIn(f"v{oldest}.0\0".encode(), Path(os.environ["BASE62_DUCKDB"]).read_bytes()[-512:])
 
     def test_nulls(self) -> None:
         """Of each overload, with null in each place, in a row between two others."""

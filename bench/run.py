@@ -10,6 +10,7 @@ The numbers are random, below 2^40, 2^64 or 2^128; those of the kind `mixed` hav
 
 import os
 import random
+import shutil
 import subprocess
 import sys
 import tempfile
@@ -24,6 +25,12 @@ COUNT = 500
 PYTHON = "/usr/bin/python3" if os.path.exists("/usr/bin/python3") else sys.executable
 WHEELS = "/usr/share/python-wheels"
 FETCHING_NOTHING = ["--no-index", f"--find-links={WHEELS}"] if os.path.exists(WHEELS) else ["--no-build-isolation"]
+# Runs a command where DuckDB is, in the root of Debian unstable, with a folder as /mnt.
+IN_UNSTABLE = """cd "$0" && . scripts/helpers.bash
+is_installed duckdb || { echo 'duckdb is missing' >&2 && exit 1; }
+within() { local work=$1 && in_unstable "${@:2}"; }
+within "$@"
+"""
 CARGO = """[package]
 name = "bench"
 version = "0.0.0"
@@ -113,12 +120,20 @@ def time_sqlite(work):
     return [PYTHON, BENCH / "sqlite.py", work / "sql/sqlite/base62"]
 
 
+def time_duckdb(work):
+    within, folder = ([], work) if shutil.which("duckdb") else (["bash", "-c", IN_UNSTABLE, TOP, work], Path("/mnt"))
+    copy(work, "c", "sql")
+    run(*within, "make", "-C", folder / "sql", "duckdb")
+    return [PYTHON, BENCH / "duckdb.py", folder / "sql/duckdb/base62.duckdb_extension", *within, "duckdb"]
+
+
 LANGUAGES = {
     "C": time_c,
     "Rust": time_rust,
     "Python": time_python,
     "JavaScript": time_javascript,
     "SQLite": time_sqlite,
+    "DuckDB": time_duckdb,
 }
 
 

@@ -595,23 +595,10 @@ static int import_types(PyObject **objects) {
     return ok;
 }
 
-/* Finds the C function of str.isascii, which text_or_raise calls for each str. */
-static int find_isascii(struct state *state) {
-    PyObject *empty = PyUnicode_FromString("");
-    PyObject *method = empty == NULL ? NULL : PyObject_GetAttrString(empty, "isascii");
-    if (method != NULL && PyCFunction_GetFlags(method) == METH_NOARGS)
-        state->str_isascii = PyCFunction_GetFunction(method);
-    if (state->str_isascii == NULL && PyErr_Occurred() == NULL)
-        PyErr_SetString(PyExc_SystemError, "str.isascii is not what it was");
-    Py_DecRef(method);
-    Py_DecRef(empty);
-    return state->str_isascii != NULL;
-}
-
 static int execute(PyObject *module) {
     struct state *state = state_of(module);
-    int ok = state != NULL && import_types(state->objects) && find_isascii(state) && add_uuid_names(state) &&
-             add_alphabets(module) && add_calls(module);
+    int ok = state != NULL && import_types(state->objects) && find_isascii(&state->str_isascii) &&
+             add_uuid_names(state) && add_alphabets(module) && add_calls(module);
     return ok ? PyModule_AddStringConstant(module, "__version__", BASE62_VERSION) : -1;
 }
 

@@ -7,6 +7,8 @@
 
 #define Py_LIMITED_API 0x030b0000
 #include <Python.h>
+
+#include "_isascii.h"
 #ifdef __GNUC__
 #pragma GCC visibility push(hidden)
 #endif

@@ -304,24 +304,11 @@ static int import_object(struct state *state, int which, const char *module, con
     return state->objects[which] != NULL;
 }
 
-/* Finds the C function of str.isascii, which is called for each str. */
-static int find_isascii(struct state *state) {
-    PyObject *empty = PyUnicode_FromString("");
-    PyObject *method = empty == NULL ? NULL : PyObject_GetAttrString(empty, "isascii");
-    if (method != NULL && PyCFunction_GetFlags(method) == METH_NOARGS)
-        state->str_isascii = PyCFunction_GetFunction(method);
-    if (state->str_isascii == NULL && PyErr_Occurred() == NULL)
-        PyErr_SetString(PyExc_SystemError, "str.isascii is not what it was");
-    Py_DecRef(method);
-    Py_DecRef(empty);
-    return state->str_isascii != NULL;
-}
-
 static int execute(PyObject *module) {
     struct state *state = PyModule_GetState(module);
     if (state == NULL || !import_object(state, TO_INT, "base62._types", "to_int") ||
         !import_object(state, TO_BYTES, "base62._types", "to_bytes") || !import_object(state, UUID, "uuid", "UUID") ||
-        !import_object(state, ALPHABET, "base62._base62", "Alphabet") || !find_isascii(state))
+        !import_object(state, ALPHABET, "base62._base62", "Alphabet") || !find_isascii(&state->str_isascii))
         return -1;
     state->objects[COLUMN] = new_column_type(module);
     return state->objects[COLUMN] == NULL ? -1 : PyModule_AddObjectRef(module, "Column", state->objects[COLUMN]);

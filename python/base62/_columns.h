@@ -12,6 +12,7 @@
 #include <string.h>
 
 #include "_arrow.h"
+#include "_isascii.h"
 /* Nothing but PyInit__columns is seen by other libraries of the process. */
 #ifdef __GNUC__
 #pragma GCC visibility push(hidden)

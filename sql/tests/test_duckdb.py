@@ -9,8 +9,12 @@ import itertools
 import json
 import os
 import re
+import signal
 import subprocess
+import tempfile
+import time
 import unittest
+from pathlib import Path
 from typing import Any
 from urllib.parse import unquote_to_bytes
 from uuid import UUID
@@ -114,11 +118,11 @@ class Values(Case):
         table = [(letters, unquote_to_bytes(field), error) for letters, field, *error in of_ascii("refused")]
         calls = ["NOT base62_is_text(s, letters)", "NOT base62_is_canonical(s, letters)", "TRY(base62_decode(s, letters)) IS NULL"]
         self.check_rows("letters, s", [it[:2] for it in table], calls)
-        # The functions take turns, and rows are left out, since each error takes DuckDB a millisecond.
+        # The functions take turns, since each error takes DuckDB a millisecond.
         names = itertools.cycle(("decode", "decode_uuid", "decode_canonical", "decode_uuid_canonical"))
         self.check_errors({f"base62_{name}({literal(s)}, {literal(letters)})": message(error)
-                           for name, (letters, s, error) in zip(names, table[::3])})
-        ascii = {f"base62_decode({literal(s.decode())})": message(error) for letters, s, error in table[::5]
+                           for name, (letters, s, error) in zip(names, table)})
+        ascii = {f"base62_decode({literal(s.decode())})": message(error) for letters, s, error in table
                  if letters == STANDARD and s.isascii() and b"\0" not in s}
         self.check_errors(ascii)
 
@@ -173,6 +177,13 @@ class Arguments(Case):
         header = next(file for file in (HERE.parent / "base62.h", HERE.parents[1] / "c/base62.h") if file.exists())
         version = row("SELECT base62_version() AS version;")["version"]
         self.assertIn(f'#define BASE62_VERSION "{version}"\n', header.read_text())
+        loaded = row("SELECT extension_version AS version FROM duckdb_extensions() WHERE extension_name = 'base62';")
+        self.assertEqual(loaded["version"], "v" + version)
+
+    def test_oldest(self) -> None:
+        """The extension requires no later version of DuckDB than README says."""
+        (oldest,) = re.findall(r" DuckDB (\S+) and later", (HERE.parent / "README.md").read_text())
+        self.assertIn(f"v{oldest}.0\0".encode(), Path(os.environ["BASE62_DUCKDB"]).read_bytes()[-512:])
 
     def test_nulls(self) -> None:
         """Of each overload, with null in each place, in a row between two others."""
@@ -244,6 +255,28 @@ class Queries(Case):
         ran = shell(made + "SELECT max(base62_decode(s)) FROM t;\nSELECT 1337 AS next;")
         self.assertIn(message(["byte", "45", "1"]), ran.stderr)
         self.assertIn("1337", ran.stdout)
+
+    def test_interrupt(self) -> None:
+        """Ctrl+C ends a query of very many rows, and the next one runs."""
+        script = LOAD + "SELECT 'begun';\nSELECT max(base62_encode_fixed(i, 1000)) FROM range(1000000000000) r(i);\n" \
+            "SELECT base62_encode(1337);"
+        # The shell sets the mode of its history to 0600. It is not /dev/null, since root would lock that for all users.
+        folder = tempfile.TemporaryDirectory()
+        self.addCleanup(folder.cleanup)
+        environment = os.environ | {"DUCKDB_HISTORY": folder.name + "/history"}
+        with subprocess.Popen([*SHELL, "-interactive"], stdin=subprocess.PIPE, stdout=subprocess.PIPE,
+                              stderr=subprocess.STDOUT, text=True, env=environment) as running:
+            assert running.stdin and running.stdout
+            running.stdin.write(script)
+            running.stdin.close()
+            while "begun" not in running.stdout.readline():
+                self.assertIsNone(running.poll())
+            for _ in range(100):
+                if running.poll() is None:
+                    running.send_signal(signal.SIGINT)
+                    time.sleep(0.3)
+            running.kill()
+            self.assertIn('"LZ"', running.stdout.read())
 
     def test_memory(self) -> None:
         """What does not fit is an error of DuckDB, after which the connection goes on."""

@@ -260,7 +260,7 @@ class Queries(Case):
         """Ctrl+C ends a query of very many rows, and the next one runs."""
         script = LOAD + "SELECT 'begun';\nSELECT max(base62_encode_fixed(i, 1000)) FROM range(1000000000000) r(i);\n" \
             "SELECT base62_encode(1337);"
-        # The shell sets the mode of its history to 0600. It is not /dev/null, since root would lock that for all users.
+        # The shell sets the mode of its history to 0600, so that as root it would lock /dev/null for others.
         folder = tempfile.TemporaryDirectory()
         self.addCleanup(folder.cleanup)
         environment = os.environ | {"DUCKDB_HISTORY": folder.name + "/history"}

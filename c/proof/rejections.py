@@ -112,7 +112,7 @@ LISTS = [
      "assigns to[0 .. 9]; */\nstatic void planted(char *restrict to, const char *from) { to[9] = *from; }", "restrict"),
     (f"{TOP}/*@ requires \\valid(to + (0 .. 9)) && \\valid_read(from); assigns to[*from * 0 .. 9]; */\n"
      "static void planted(uint8_t *restrict to, const uint8_t *from) { to[9] = *from; }", "restrict"),
-    (f"{TOP}/*@ assigns \\nothing; */\nstatic size_t memset(size_t n) {{ return n; }}", "a function's name"),
+    (f"{TOP}/*@ assigns \\nothing; */\nstatic size_t memset(size_t n) {{ return n; }}", "a name of a function"),
     # Another annotation, and one that Frama-C leaves out with a warning.
     (f"{TOP}/*@ global invariant no: \\false; */", KIND),
     (f"{NEXT}/*@ ensures \\false;", KIND),

@@ -409,9 +409,12 @@ class walk = object (self)
   method! vglob_aux g =
     let place = Cil_datatype.Global.loc g in
     (match g with
+      | GFun ({ svar = v; _ }, _) | GFunDecl (_, v, _) | GVar (v, _, _) when not (v.vghost || is_own v.vname) ->
+        tell "open" v.vname (at_place place "not on the list: a name of a function or a table")
+      | _ -> ());
+    (match g with
       | GFun ({ svar = f; _ }, _) | GFunDecl (_, f, _) when Ast.is_def_or_last_decl g ->
         let kf = Globals.Functions.get f in
-        if not (f.vghost || is_own f.vorig_name) then tell "open" f.vname (at_place place "not on the list: a function's name");
         tell (if Kernel_function.is_definition kf then "defined" else "declared") f.vname "";
         if Hashtbl.mem in_header f.vorig_name && f.vstorage <> Static then tell "public" f.vname "";
         List.iter (fun what -> tell "rejected" f.vname (at_place place what)) (contract kf)

@@ -79,7 +79,7 @@ def run(page: Path, folder: Path, wanted: list[bool]) -> None:
             printed = PASSED_OVER
         elif fence == "sh":
             print(f"{page}:{number}: runs:\n{text}", end="", flush=True)
-            ran = subprocess.run(["bash", "-euc", text], cwd=folder, stdin=subprocess.DEVNULL, stdout=subprocess.PIPE, text=True)
+            ran = subprocess.run(["sh", "-euc", text], cwd=folder, stdin=subprocess.DEVNULL, stdout=subprocess.PIPE, text=True)
             if ran.returncode:
                 raise SystemExit(f"{page}:{number}: it ended with status {ran.returncode}, and printed:\n{ran.stdout}")
             printed = ran.stdout

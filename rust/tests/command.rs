@@ -260,7 +260,7 @@ fn help() {
         for asked in ["-h", "--help --nope", "-ah"] {
             prints(&format!("base62 {arguments} {asked}"), &text);
         }
-        for asked in ["--help", "-h -a", "help", "help help", "-a help", "help -h"] {
+        for asked in ["-h -w 4", "help", "help help", "-a help", "help -h"] {
             prints(&format!("base62 {asked} {arguments}"), &text);
         }
         assert!(examples(&text) > 0);

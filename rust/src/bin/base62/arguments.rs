@@ -6,10 +6,11 @@
 use crate::conversion::{Notation, Settings};
 use crate::escape::Escaped;
 use crate::help::{CommandOption, OPTIONS, SUBCOMMANDS, Subcommand, VERSION, help};
-use crate::reply::number_of;
+use crate::numbers::parse_decimal;
 use base62::Alphabet;
 
 pub(crate) enum Request {
+    /// Boxed because its alphabet is large.
     Convert(Box<Task>),
     Print(String),
 }
@@ -27,25 +28,17 @@ type Given = (&'static CommandOption, Vec<u8>);
 /// Parses the arguments after the name of the program. An error says what is wrong with them.
 pub(crate) fn parse(mut rest: impl Iterator<Item = Vec<u8>>) -> Result<Request, String> {
     let (mut given, mut operands) = (Vec::new(), Vec::new());
-    while let Some(argument) = rest.next() {
-        match argument.as_slice() {
-            b"--" => operands.extend(rest.by_ref()),
-            [b'-', b'-', ..] => given.push(long_option(&argument, &mut rest)?),
-            [b'-', letters @ ..] if !letters.is_empty() => {
-                short_options(letters, &mut rest, &mut given)?;
-            }
-            _ => operands.push(argument),
-        }
-        let is_given = |name| given.iter().any(|(option, _)| option.name == name);
-        if is_given("version") {
-            return Ok(Request::Print(VERSION.into()));
-        }
-        if is_given("help") {
-            let behind = rest.filter(|argument| !argument.starts_with(b"-"));
-            return help_of(operands.into_iter().chain(behind));
-        }
-    }
+    let parsed = split(&mut rest, &mut given, &mut operands);
     let mut operands = operands.into_iter();
+    let is_given = |name| given.iter().any(|(option, _)| option.name == name);
+    if is_given("version") {
+        return Ok(Request::Print(VERSION.into()));
+    }
+    if is_given("help") {
+        return help_of(operands);
+    }
+    // After --help, an invalid option is ignored.
+    parsed?;
     let name = operands.next().ok_or("no subcommand is given")?;
     if name == b"help" {
         return help_of(operands);
@@ -58,7 +51,20 @@ pub(crate) fn parse(mut rest: impl Iterator<Item = Vec<u8>>) -> Result<Request, 
     })))
 }
 
-/// The help of the first subcommand among the operands, or of the command.
+/// Splits the arguments into options and operands, up to an invalid option.
+fn split(rest: Rest, given: &mut Vec<Given>, operands: &mut Vec<Vec<u8>>) -> Result<(), String> {
+    while let Some(argument) = rest.next() {
+        match argument.as_slice() {
+            b"--" => operands.extend(&mut *rest),
+            [b'-', b'-', ..] => given.push(long_option(&argument, rest)?),
+            [b'-', letters @ ..] if !letters.is_empty() => short_options(letters, rest, given)?,
+            _ => operands.push(argument),
+        }
+    }
+    Ok(())
+}
+
+/// The help of the subcommand that the first operand other than `help` names, or of the command if there is none.
 fn help_of(mut operands: impl Iterator<Item = Vec<u8>>) -> Result<Request, String> {
     let name = operands.find(|name| name != b"help");
     let subcommand = name.map(|name| find_subcommand(&name)).transpose()?;
@@ -74,28 +80,25 @@ type Rest<'a> = &'a mut dyn Iterator<Item = Vec<u8>>;
 
 /// The option of an argument such as `--width` or `--width=11`.
 fn long_option(argument: &[u8], rest: Rest) -> Result<Given, String> {
-    let mut parts = argument.splitn(2, |byte| *byte == b'=');
-    let name = parts.next().unwrap_or_default();
+    let equals = argument.iter().position(|byte| *byte == b'=');
+    let name = &argument[..equals.unwrap_or(argument.len())];
     let option = find_option(name, |it| it.name.as_bytes() == &name[2..])?;
-    let value = parts.next().map(<[u8]>::to_vec);
-    if value.is_some() && option.value.is_empty() {
+    let value = equals.map(|index| argument[index + 1..].to_vec());
+    if value.is_some() && option.value_name.is_none() {
         return Err(format!("{} takes no value", Escaped(name)));
     }
     Ok((option, value_of(name, option, value, rest)?))
 }
 
-/// The options of an argument such as `-suw11`, without the hyphen.
-fn short_options(letters: &[u8], rest: Rest, given: &mut Vec<Given>) -> Result<(), String> {
-    for (index, letter) in letters.iter().enumerate() {
+/// The options of an argument such as `-auw11`, without the hyphen.
+fn short_options(mut letters: &[u8], rest: Rest, given: &mut Vec<Given>) -> Result<(), String> {
+    while let [letter, after @ ..] = letters {
         let name = [b'-', *letter];
         let option = find_option(&name, |it| it.letter == *letter)?;
-        let behind = &letters[index + 1..];
-        let has_value = !option.value.is_empty() && !behind.is_empty();
-        let value = has_value.then(|| behind.to_vec());
+        let is_value = option.value_name.is_some() && !after.is_empty();
+        let value = is_value.then(|| after.to_vec());
         given.push((option, value_of(&name, option, value, rest)?));
-        if has_value {
-            break;
-        }
+        letters = if is_value { &[] } else { after };
     }
     Ok(())
 }
@@ -107,7 +110,7 @@ fn value_of(
     value: Option<Vec<u8>>,
     rest: Rest,
 ) -> Result<Vec<u8>, String> {
-    if option.value.is_empty() {
+    if option.value_name.is_none() {
         return Ok(Vec::new());
     }
     let value = value.or_else(|| rest.next());
@@ -132,19 +135,15 @@ fn settings_of(subcommand: &Subcommand, given: &[Given]) -> Result<Settings, Str
         keeps_empty: false,
     };
     for (option, value) in given {
-        if !subcommand.options.contains(&option.letter) {
-            let (name, option) = (subcommand.name, option.name);
-            return Err(format!("{name} has no option --{option}"));
-        }
-        match option.name {
-            "alternative" => settings.alphabet = Alphabet::alternative(),
-            "letters" => settings.alphabet = parse_alphabet(value)?,
-            "width" => settings.width = Some(parse_width(value)?),
-            "strict" => settings.is_strict = true,
-            "uuid" => settings.notation = Notation::Uuid,
-            "hex" => settings.notation = Notation::Hexadecimal,
-            "keep-empty" => settings.keeps_empty = true,
-            _ => unreachable!("no subcommand has it"),
+        match (option.name, subcommand.options.contains(&option.letter)) {
+            ("alternative", true) => settings.alphabet = Alphabet::alternative(),
+            ("letters", true) => settings.alphabet = parse_alphabet(value)?,
+            ("width", true) => settings.width = Some(parse_width(value)?),
+            ("strict", true) => settings.is_strict = true,
+            ("uuid", true) => settings.notation = Notation::Uuid,
+            ("hex", true) => settings.notation = Notation::Hexadecimal,
+            ("keep-empty", true) => settings.keeps_empty = true,
+            (name, _) => return Err(format!("{} has no option --{name}", subcommand.name)),
         }
     }
     Ok(settings)
@@ -152,8 +151,8 @@ fn settings_of(subcommand: &Subcommand, given: &[Given]) -> Result<Settings, Str
 
 fn parse_width(value: &[u8]) -> Result<usize, String> {
     if value.iter().all(u8::is_ascii_digit) && value.iter().any(|digit| *digit != b'0') {
-        // A width above `usize::MAX` becomes it: no memory holds such a string, and a prefix has the same range.
-        let width = number_of(value).and_then(|it| it.try_into().ok());
+        // A greater width is cut to `usize::MAX`: no string of it fits in memory, and `range` prints the same for both.
+        let width = parse_decimal(value).and_then(|it| it.try_into().ok());
         return Ok(width.unwrap_or(usize::MAX));
     }
     let value = Escaped(value);

@@ -22,8 +22,8 @@ pub(crate) struct Subcommand {
 pub(crate) struct CommandOption {
     pub(crate) letter: u8,
     pub(crate) name: &'static str,
-    /// Nothing if the option has no value.
-    pub(crate) value: &'static str,
+    /// None if it takes no value.
+    pub(crate) value_name: Option<&'static str>,
     purpose: &'static str,
 }
 
@@ -71,55 +71,55 @@ pub(crate) static OPTIONS: [CommandOption; 9] = [
     CommandOption {
         letter: b'a',
         name: "alternative",
-        value: "",
+        value_name: None,
         purpose: "use the alphabet 0 to 9, a to z, A to Z",
     },
     CommandOption {
         letter: b'l',
         name: "letters",
-        value: "LETTERS",
+        value_name: Some("LETTERS"),
         purpose: "use these 62 printable ASCII characters, the zero first",
     },
     CommandOption {
         letter: b'w',
         name: "width",
-        value: "N",
+        value_name: Some("N"),
         purpose: "strings have exactly N characters, with leading zeros",
     },
     CommandOption {
         letter: b's',
         name: "strict",
-        value: "",
+        value_name: None,
         purpose: "reject strings with leading zeros",
     },
     CommandOption {
         letter: b'u',
         name: "uuid",
-        value: "",
+        value_name: None,
         purpose: "numbers are UUIDs",
     },
     CommandOption {
         letter: b'x',
         name: "hex",
-        value: "",
+        value_name: None,
         purpose: "numbers are hexadecimal",
     },
     CommandOption {
         letter: b'e',
         name: "keep-empty",
-        value: "",
+        value_name: None,
         purpose: "an empty input gives an empty line, and is no error",
     },
     CommandOption {
         letter: b'h',
         name: "help",
-        value: "",
+        value_name: None,
         purpose: HELP,
     },
     CommandOption {
         letter: b'V',
         name: "version",
-        value: "",
+        value_name: None,
         purpose: "print the version",
     },
 ];
@@ -165,7 +165,8 @@ pub(crate) fn help(subcommand: Option<&Subcommand>) -> String {
 fn rows_of_options(letters: &[u8]) -> String {
     let options = OPTIONS.iter().filter(|it| letters.contains(&it.letter));
     let rows = options.map(|it| {
-        let names = format!("-{}, --{} {}", char::from(it.letter), it.name, it.value);
+        let (letter, value_name) = (char::from(it.letter), it.value_name.unwrap_or_default());
+        let names = format!("-{letter}, --{} {value_name}", it.name);
         row(names.trim_end(), it.purpose)
     });
     rows.collect()

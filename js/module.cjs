@@ -41,8 +41,9 @@ const HEXADECIMAL = '0123456789abcdef';
 const UUID = /^(?:\{|urn:uuid:)?([\da-f]{8})(-?)([\da-f]{4})\2([\da-f]{4})\2([\da-f]{4})\2([\da-f]{12})\}?$/i;
 
 // The addresses of the arguments and results of a call, above the stack and the data of the WebAssembly. A number has
-// two halves of 64 bits, the higher first, each little-endian: byte i of a UUID is at i ^ 7. A range is its least and its
-// greatest number. A bad byte is its index, of four bytes, and itself.
+// two halves of 64 bits, the higher first, each little-endian: byte i of a UUID is at i ^ 7. A range is its least and
+// its greatest number. At BAD_BYTE are an index, of four bytes, and then the byte. An alphabet has ALPHABET_LENGTH
+// characters, and the library's form of it has ALPHABET_SIZE bytes.
 const NUMBER = 0x18000;
 const GREATEST = NUMBER + 16;
 const BAD_BYTE = GREATEST + 16;
@@ -69,7 +70,7 @@ function defineReadOnly(object, name, value) {
   Object.defineProperty(object, name, { value, enumerable: true });
 }
 
-// Memory
+// The WebAssembly
 
 function isLibrary(module) {
   try {
@@ -79,7 +80,7 @@ function isLibrary(module) {
   }
 }
 
-function createMemory(module) {
+function instantiate(module) {
   const { exports: library } = new WebAssembly.Instance(module);
   const { buffer } = library.memory;
   const stackPointer = library.__stack_pointer;
@@ -143,8 +144,8 @@ function numberOfUuid(string) {
   return BigInt(`0x${match[1]}${match[3]}${match[4]}${match[5]}${match[6]}`);
 }
 
-// A text is an encoded string or a prefix. A longer one than this is passed to the library in pieces of this length,
-// which have more digits than any number.
+// A text is an encoded string or a prefix. One that is longer than PIECE_LENGTH is passed to the library in pieces of
+// that length, which have more digits than any number.
 const PIECE_LENGTH = 1024;
 
 function textLength(text) {
@@ -153,8 +154,8 @@ function textLength(text) {
   return lengthOf.call(text);
 }
 
-// Returns where the first piece of a long text begins: at the last two of its leading zeros. One of them is the digit
-// of a text of zeros, which is non-canonical by the other.
+// Returns where the first piece of a long text begins. The last two leading zeros stay: in a text of zeros, one is the
+// digit, and the other makes the text non-canonical.
 function skipZeros(text, zero) {
   let count = 0;
   if (typeof text === 'string') while (text.charCodeAt(count) === zero) count++;
@@ -180,7 +181,7 @@ function createArguments(memory) {
     }
   }
 
-  // A half keeps the lowest 64 bits of what is assigned to it.
+  // A half keeps the lowest 64 bits of what is assigned to it, so of a number out of range it differs from `higher`.
   function writeBigInt(number) {
     halves[NUMBER / 8] = 0n;
     halves[NUMBER / 8 + 1] = number;
@@ -211,7 +212,7 @@ function createArguments(memory) {
   function writeText(text, length, start) {
     if (length > PIECE_LENGTH) return writePiece(text, start, Math.min(start + PIECE_LENGTH, length));
     if (typeof text === 'string') return writeUtf8(text, 0, length);
-    // This throws if the buffer of the array is detached. bytes.set(..) takes longer.
+    // Faster than bytes.set(..). An array with a detached buffer has the length 0, but this throws for it.
     setBytes.call(bytes, text, TEXT);
     return length;
   }
@@ -222,7 +223,7 @@ function createArguments(memory) {
     return end - start;
   }
 
-  // The last code point is written whole, if its second half is after the end.
+  // A surrogate pair that crosses the end is written whole.
   function writeUtf8(string, start, end) {
     let at = TEXT;
     for (let i = start; i < end; i++) {
@@ -238,8 +239,8 @@ function createArguments(memory) {
     return at - TEXT;
   }
 
-  // The lead byte of a multibyte sequence starts with as many 1 bits as the sequence has bytes. A lone surrogate becomes
-  // its own three bytes.
+  // The lead byte of a multibyte sequence starts with as many 1 bits as the sequence has bytes. A lone surrogate
+  // becomes its own three bytes.
   function writeCodePoint(at, point) {
     let remaining = point < 0x800 ? 1 : point < 0x10000 ? 2 : 3;
     bytes[at++] = (-128 >> remaining) | (point >> (6 * remaining));
@@ -272,11 +273,11 @@ function createResults(memory) {
   }
 
   // A string of more than 12 characters that is joined from parts keeps them, in ten times the memory. So one call
-  // creates it from its codes. Joining is faster below 10 characters, and separate arguments are for 22, which most
-  // results have.
+  // creates it from its codes. Below 10 characters joining is faster; for 22, as in keys, separate arguments are faster
+  // than a spread. These are reused: an array for each length, up to the longest error message, and one for a UUID.
   const codes = bytes.subarray(TEXT);
   const arrays = Array.from({ length: MAX_FAULT_TEXT + 1 }, (_, length) => new Array(length).fill(0));
-  const uuid = Array.from('00000000-0000-0000-0000-000000000000', (it) => it.charCodeAt(0));
+  const uuidCodes = Array.from('00000000-0000-0000-0000-000000000000', (it) => it.charCodeAt(0));
 
   function readText(length) {
     if (length < 10) return readShort(length);
@@ -307,10 +308,10 @@ function createResults(memory) {
     for (let i = 0; i < UUID_LENGTH; i++) {
       if (i === 4 || i === 6 || i === 8 || i === 10) at++;
       const byte = bytes[address + (i ^ 7)];
-      uuid[at++] = HEXADECIMAL.charCodeAt(byte >> 4);
-      uuid[at++] = HEXADECIMAL.charCodeAt(byte & 15);
+      uuidCodes[at++] = HEXADECIMAL.charCodeAt(byte >> 4);
+      uuidCodes[at++] = HEXADECIMAL.charCodeAt(byte & 15);
     }
-    return String.fromCharCode(...uuid);
+    return String.fromCharCode(...uuidCodes);
   }
 
   // STATUSES[status] is the name of the status, which is the error's code. A message with an index ends with it. The
@@ -328,11 +329,11 @@ function createResults(memory) {
 
 // Alphabets
 
-// Methods such as map pass an index as the second argument.
 function notAnAlphabet(given) {
   const wanted = 'an alphabet is an Alphabet';
   if (typeof given === 'string') return new TypeError(`${wanted}, not a string: create one with new Alphabet(..)`);
   if (typeof given !== 'number') return new TypeError(`${wanted} of this module`);
+  // Methods such as map pass an index as the second argument.
   return new TypeError(`${wanted}, not ${given}: give map a function such as (n) => encode(n)`);
 }
 
@@ -351,7 +352,7 @@ function createAlphabets(memory, writeText, errorOf) {
       if (letters.length !== ALPHABET_LENGTH || writeText(letters, ALPHABET_LENGTH, 0) !== ALPHABET_LENGTH) {
         throw new Base62Error('an alphabet has 62 ASCII characters', 'INVALID_ALPHABET');
       }
-      // It is created after its characters, so the alphabet of the calls is left unchanged.
+      // It is written behind its characters: at ALPHABET it would replace the current one.
       const address = TEXT + ALPHABET_LENGTH;
       const status = leave(enter().base62_make_alphabet(TEXT, address, BAD_BYTE));
       if (status !== OK) throw errorOf(status, 0);
@@ -390,7 +391,7 @@ function createAlphabets(memory, writeText, errorOf) {
 function load(module) {
   if (!isLibrary(module)) throw new TypeError('load takes the WebAssembly.Module of base62.wasm');
 
-  const memory = createMemory(module);
+  const memory = instantiate(module);
   const { enter, leave } = memory;
   const { writeNumber, writeUuid, writeNumberOrUuid, writeText } = createArguments(memory);
   const { readBigInt, readNumber, readText, readUuid, errorOf } = createResults(memory);
@@ -431,8 +432,8 @@ function load(module) {
 
   const startOf = (text, length) => (length > PIECE_LENGTH ? skipZeros(text, zero().charCodeAt(0)) : 0);
 
-  // Returns NUMBER, at which the library writes the number. Of a long text the first piece decides: after its leading
-  // zeros it has too many digits, whatever follows.
+  // Returns NUMBER, at which the library writes the number. The first piece of a long text decides: if more follows,
+  // this piece alone has too many digits.
   function decodeText(text, alphabet, isCanonical) {
     const length = textLength(text);
     writeAlphabet(alphabet);
@@ -454,7 +455,7 @@ function load(module) {
   const decodeUuid = (text, alphabet) => readUuid(decodeText(text, alphabet, false));
   const decodeUuidCanonical = (text, alphabet) => readUuid(decodeText(text, alphabet, true));
 
-  // Returns the status. A size_t has 32 bits. A greater width has the range of the greatest of these.
+  // Returns the status. A size_t has 32 bits: a greater width has the same range as 2**32 - 1. One below 0 is like 0.
   function findRange(width, prefix, length, start) {
     const size = writeText(prefix, length, start);
     const width32 = Math.min(Math.max(width, 0), TWO_TO_32 - 1);
@@ -467,11 +468,13 @@ function load(module) {
     writeAlphabet(alphabet);
     let start = startOf(prefix, length);
     let status = findRange(width - start, prefix, length, start);
-    // With more pieces the prefix is too long for any number, but they may have a bad byte. No string has the width 0.
+    // If more pieces follow, the prefix is too long for any number. They are only searched for a bad byte: without one,
+    // the width 0 gives NO_KEY.
     while (status === NO_KEY && start + PIECE_LENGTH < length) {
       start += PIECE_LENGTH;
       status = findRange(0, prefix, length, start);
     }
+    // No string of the width begins with the prefix.
     if (status === NO_KEY) return null;
     if (status !== OK) throw errorOf(status, start);
     return [readBigInt(NUMBER), readBigInt(GREATEST)];

@@ -9,7 +9,7 @@ use crate::help::{CommandOption, OPTIONS, SUBCOMMANDS, Subcommand, VERSION, help
 use crate::numbers::parse_decimal;
 use base62::Alphabet;
 
-pub(crate) enum Request {
+pub(crate) enum Action {
     /// Boxed because its alphabet is large.
     Convert(Box<Task>),
     Print(String),
@@ -25,26 +25,28 @@ pub(crate) struct Task {
 /// An option and its value, which is empty if it has none.
 type Given = (&'static CommandOption, Vec<u8>);
 
+type Rest<'a> = &'a mut dyn Iterator<Item = Vec<u8>>;
+
 /// Parses the arguments after the name of the program. An error says what is wrong with them.
-pub(crate) fn parse(mut rest: impl Iterator<Item = Vec<u8>>) -> Result<Request, String> {
+pub(crate) fn parse(mut rest: impl Iterator<Item = Vec<u8>>) -> Result<Action, String> {
     let (mut given, mut operands) = (Vec::new(), Vec::new());
     let parsed = split(&mut rest, &mut given, &mut operands);
     let mut operands = operands.into_iter();
     let is_given = |name| given.iter().any(|(option, _)| option.name == name);
     if is_given("version") {
-        return Ok(Request::Print(VERSION.into()));
+        return Ok(Action::Print(VERSION.into()));
     }
     if is_given("help") {
         return help_of(operands);
     }
-    // After --help, an invalid option is ignored.
+    // After --help or --version, an invalid option is ignored.
     parsed?;
     let name = operands.next().ok_or("no subcommand is given")?;
     if name == b"help" {
         return help_of(operands);
     }
     let subcommand = find_subcommand(&name)?;
-    Ok(Request::Convert(Box::new(Task {
+    Ok(Action::Convert(Box::new(Task {
         subcommand,
         settings: settings_of(subcommand, &given)?,
         operands: operands.collect(),
@@ -64,19 +66,17 @@ fn split(rest: Rest, given: &mut Vec<Given>, operands: &mut Vec<Vec<u8>>) -> Res
     Ok(())
 }
 
-/// The help of the subcommand that the first operand other than `help` names, or of the command if there is none.
-fn help_of(mut operands: impl Iterator<Item = Vec<u8>>) -> Result<Request, String> {
+/// The help of the subcommand that the first operand names, skipping `help`, or of the command without one.
+fn help_of(mut operands: impl Iterator<Item = Vec<u8>>) -> Result<Action, String> {
     let name = operands.find(|name| name != b"help");
     let subcommand = name.map(|name| find_subcommand(&name)).transpose()?;
-    Ok(Request::Print(help(subcommand)))
+    Ok(Action::Print(help(subcommand)))
 }
 
 fn find_subcommand(name: &[u8]) -> Result<&'static Subcommand, String> {
     let found = SUBCOMMANDS.iter().find(|it| it.name.as_bytes() == name);
     found.ok_or_else(|| format!("there is no subcommand {}", Escaped(name)))
 }
-
-type Rest<'a> = &'a mut dyn Iterator<Item = Vec<u8>>;
 
 /// The option of an argument such as `--width` or `--width=11`.
 fn long_option(argument: &[u8], rest: Rest) -> Result<Given, String> {
@@ -163,9 +163,9 @@ fn parse_alphabet(value: &[u8]) -> Result<Alphabet, String> {
     if !value.iter().all(|byte| matches!(byte, b' '..=b'~')) {
         return Err("an alphabet has 62 printable ASCII characters".into());
     }
-    let letters = value.try_into().map_err(|_| match value.len() {
+    let letters: &[u8; 62] = value.try_into().map_err(|_| match value.len() {
         1 => "the alphabet has 1 character, not 62".into(),
         count => format!("the alphabet has {count} characters, not 62"),
     })?;
-    Alphabet::new(letters).map_err(|error| error.to_string())
+    Alphabet::new(*letters).map_err(|error| error.to_string())
 }

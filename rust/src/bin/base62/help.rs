@@ -18,11 +18,11 @@ pub(crate) struct Subcommand {
     example: [&'static str; 2],
 }
 
-/// An option, such as `-w` or `--width`, whose value the help names `N`.
+/// An option, such as `-w` or `--width`.
 pub(crate) struct CommandOption {
     pub(crate) letter: u8,
     pub(crate) name: &'static str,
-    /// None if it takes no value.
+    /// What the help calls its value, such as `N`. None if it takes no value.
     pub(crate) value_name: Option<&'static str>,
     purpose: &'static str,
 }

@@ -26,7 +26,7 @@ mod generated {
 }
 use generated::*;
 
-use arguments::Request;
+use arguments::Action;
 use std::process::ExitCode;
 use std::{env, ffi::OsString};
 use streams::{print, report, status_of};
@@ -37,8 +37,8 @@ fn main() -> ExitCode {
         return status_of(no_arguments::reply());
     }
     match arguments::parse(arguments.map(OsString::into_encoded_bytes)) {
-        Ok(Request::Convert(task)) => status_of(printer::print_all(&task)),
-        Ok(Request::Print(text)) => status_of(print(text.as_bytes()).map(|()| ExitCode::SUCCESS)),
+        Ok(Action::Convert(task)) => status_of(printer::print_all(&task)),
+        Ok(Action::Print(text)) => status_of(print(text.as_bytes()).map(|()| ExitCode::SUCCESS)),
         Err(error) => {
             report(format_args!("{error}: try base62 --help"));
             ExitCode::from(2)

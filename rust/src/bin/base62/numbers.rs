@@ -55,8 +55,8 @@ pub(crate) fn trim_blanks(mut input: &[u8]) -> &[u8] {
     input
 }
 
-/// The number that decimal digits represent, if it is below 2^128. Products of 64 bits take less time, and nineteen digits
-/// need no more.
+/// The number that decimal digits represent, if it is below 2^128. Products of 64 bits take less time, and nineteen
+/// digits need no more.
 pub(crate) fn parse_decimal(digits: &[u8]) -> Option<u128> {
     let digit = |byte: &u8| char::from(*byte).to_digit(10);
     let (first, rest) = digits.split_at(digits.len().min(19));

@@ -101,8 +101,8 @@ function instantiate(module) {
     return result;
   }
 
-  const bytes = new Uint8Array(buffer);
-  return { enter, leave, bytes, words: new Uint32Array(buffer), halves: new BigUint64Array(buffer) };
+  const views = { bytes: new Uint8Array(buffer), words: new Uint32Array(buffer), halves: new BigUint64Array(buffer) };
+  return { enter, leave, ...views };
 }
 
 // Arguments
@@ -144,8 +144,9 @@ function numberOfUuid(string) {
   return BigInt(`0x${match[1]}${match[3]}${match[4]}${match[5]}${match[6]}`);
 }
 
-// A text is an encoded string or a prefix. One that is longer than PIECE_LENGTH is passed to the library in pieces of
-// that length, which have more digits than any number.
+// A text is an encoded string or a prefix. A text of more than PIECE_LENGTH characters or bytes is long. The library
+// gets it without most of its leading zeros, in pieces of this length, of which the last may be shorter. A full piece
+// has more digits than any number.
 const PIECE_LENGTH = 1024;
 
 function textLength(text) {
@@ -163,8 +164,8 @@ function skipZeros(text, zero) {
   return Math.max(count - 2, 0);
 }
 
-function createArguments(memory) {
-  const { bytes, words, halves } = memory;
+function createArguments(instance) {
+  const { bytes, words, halves } = instance;
 
   function writeNumber(number) {
     if (typeof number === 'number') {
@@ -181,7 +182,8 @@ function createArguments(memory) {
     }
   }
 
-  // A half keeps the lowest 64 bits of what is assigned to it, so of a number out of range it differs from `higher`.
+  // A half keeps the lowest 64 bits of what is assigned to it. So if the number is out of range, the higher half
+  // differs from what was assigned.
   function writeBigInt(number) {
     halves[NUMBER / 8] = 0n;
     halves[NUMBER / 8 + 1] = number;
@@ -212,7 +214,7 @@ function createArguments(memory) {
   function writeText(text, length, start) {
     if (length > PIECE_LENGTH) return writePiece(text, start, Math.min(start + PIECE_LENGTH, length));
     if (typeof text === 'string') return writeUtf8(text, 0, length);
-    // Faster than bytes.set(..). An array with a detached buffer has the length 0, but this throws for it.
+    // Faster than bytes.set(..). Both throw for an array with a detached buffer, though its length is 0.
     setBytes.call(bytes, text, TEXT);
     return length;
   }
@@ -253,8 +255,8 @@ function createArguments(memory) {
 
 // Results
 
-function createResults(memory) {
-  const { bytes, words, halves, enter, leave } = memory;
+function createResults(instance) {
+  const { bytes, words, halves, enter, leave } = instance;
 
   // A BigInt of 64 bits is created fast, and joining two of them is slow.
   function readBigInt(address) {
@@ -272,9 +274,9 @@ function createResults(memory) {
     return number;
   }
 
-  // A string of more than 12 characters that is joined from parts keeps them, in ten times the memory. So one call
-  // creates it from its codes. Below 10 characters joining is faster; for 22, as in keys, separate arguments are faster
-  // than a spread. These are reused: an array for each length, up to the longest error message, and one for a UUID.
+  // V8 keeps the parts of a joined string of more than 12 characters, which takes ten times the memory. So one call
+  // creates such a string from its codes. Of 22 codes, as a key has, separate arguments are faster than a spread. The
+  // arrays to spread are reused: one for each length up to the longest error message, and one for a UUID.
   const codes = bytes.subarray(TEXT);
   const arrays = Array.from({ length: MAX_FAULT_TEXT + 1 }, (_, length) => new Array(length).fill(0));
   const uuidCodes = Array.from('00000000-0000-0000-0000-000000000000', (it) => it.charCodeAt(0));
@@ -337,8 +339,8 @@ function notAnAlphabet(given) {
   return new TypeError(`${wanted}, not ${given}: give map a function such as (n) => encode(n)`);
 }
 
-function createAlphabets(memory, writeText, errorOf) {
-  const { bytes, enter, leave } = memory;
+function createAlphabets(instance, writeText, errorOf) {
+  const { bytes, enter, leave } = instance;
 
   // The ALPHABET_SIZE bytes of each Alphabet, as base62_make_alphabet has written them.
   const tables = new WeakMap();
@@ -352,7 +354,7 @@ function createAlphabets(memory, writeText, errorOf) {
       if (letters.length !== ALPHABET_LENGTH || writeText(letters, ALPHABET_LENGTH, 0) !== ALPHABET_LENGTH) {
         throw new Base62Error('an alphabet has 62 ASCII characters', 'INVALID_ALPHABET');
       }
-      // It is written behind its characters: at ALPHABET it would replace the current one.
+      // The library's form is written behind the characters: at ALPHABET it would replace that of the current alphabet.
       const address = TEXT + ALPHABET_LENGTH;
       const status = leave(enter().base62_make_alphabet(TEXT, address, BAD_BYTE));
       if (status !== OK) throw errorOf(status, 0);
@@ -391,11 +393,11 @@ function createAlphabets(memory, writeText, errorOf) {
 function load(module) {
   if (!isLibrary(module)) throw new TypeError('load takes the WebAssembly.Module of base62.wasm');
 
-  const memory = instantiate(module);
-  const { enter, leave } = memory;
-  const { writeNumber, writeUuid, writeNumberOrUuid, writeText } = createArguments(memory);
-  const { readBigInt, readNumber, readText, readUuid, errorOf } = createResults(memory);
-  const { Alphabet, writeAlphabet, zero } = createAlphabets(memory, writeText, errorOf);
+  const instance = instantiate(module);
+  const { enter, leave } = instance;
+  const { writeNumber, writeUuid, writeNumberOrUuid, writeText } = createArguments(instance);
+  const { readBigInt, readNumber, readText, readUuid, errorOf } = createResults(instance);
+  const { Alphabet, writeAlphabet, zero } = createAlphabets(instance, writeText, errorOf);
 
   function encodeWritten(alphabet) {
     writeAlphabet(alphabet);
@@ -422,7 +424,7 @@ function load(module) {
     return readText(length).padStart(width, zero());
   }
 
-  // A key is a string of this width over the standard alphabet.
+  // A key is a string of KEY_LENGTH characters over the standard alphabet.
   const encodeKey = (value) => encodeFixed(value, KEY_LENGTH);
 
   function digitCount(number) {
@@ -455,7 +457,8 @@ function load(module) {
   const decodeUuid = (text, alphabet) => readUuid(decodeText(text, alphabet, false));
   const decodeUuidCanonical = (text, alphabet) => readUuid(decodeText(text, alphabet, true));
 
-  // Returns the status. A size_t has 32 bits: a greater width has the same range as 2**32 - 1. One below 0 is like 0.
+  // Returns the status. A size_t has 32 bits: a width above 2**32 - 1 has the same range as that one. A negative width,
+  // from a prefix with more zeros than the width, counts as 0.
   function findRange(width, prefix, length, start) {
     const size = writeText(prefix, length, start);
     const width32 = Math.min(Math.max(width, 0), TWO_TO_32 - 1);
@@ -466,15 +469,15 @@ function load(module) {
     checkWidth(width);
     const length = textLength(prefix);
     writeAlphabet(alphabet);
+    // Dropping as many zeros from the width as from the prefix keeps the range.
     let start = startOf(prefix, length);
     let status = findRange(width - start, prefix, length, start);
-    // If more pieces follow, the prefix is too long for any number. They are only searched for a bad byte: without one,
-    // the width 0 gives NO_KEY.
+    // NO_KEY: no string of the width begins with the prefix. If more pieces follow, the prefix is too long for any
+    // number. They are only searched for a bad byte: without one, the width 0 gives NO_KEY.
     while (status === NO_KEY && start + PIECE_LENGTH < length) {
       start += PIECE_LENGTH;
       status = findRange(0, prefix, length, start);
     }
-    // No string of the width begins with the prefix.
     if (status === NO_KEY) return null;
     if (status !== OK) throw errorOf(status, start);
     return [readBigInt(NUMBER), readBigInt(GREATEST)];

@@ -30,6 +30,7 @@ type Rest<'a> = &'a mut dyn Iterator<Item = Vec<u8>>;
 /// Parses the arguments after the name of the program. An error says what is wrong with them.
 pub(crate) fn parse(mut rest: impl Iterator<Item = Vec<u8>>) -> Result<Action, String> {
     let (mut given, mut operands) = (Vec::new(), Vec::new());
+    // After --help or --version an invalid option is no error, so the result is checked after them.
     let parsed = split(&mut rest, &mut given, &mut operands);
     let mut operands = operands.into_iter();
     let is_given = |name| given.iter().any(|(option, _)| option.name == name);
@@ -39,7 +40,6 @@ pub(crate) fn parse(mut rest: impl Iterator<Item = Vec<u8>>) -> Result<Action, S
     if is_given("help") {
         return help_of(operands);
     }
-    // After --help or --version, an invalid option is ignored.
     parsed?;
     let name = operands.next().ok_or("no subcommand is given")?;
     if name == b"help" {
@@ -66,7 +66,8 @@ fn split(rest: Rest, given: &mut Vec<Given>, operands: &mut Vec<Vec<u8>>) -> Res
     Ok(())
 }
 
-/// The help of the subcommand that the first operand names, skipping `help`, or of the command without one.
+/// The help of the subcommand that the first operand other than `help` names. Without such an operand, that of the
+/// command.
 fn help_of(mut operands: impl Iterator<Item = Vec<u8>>) -> Result<Action, String> {
     let name = operands.find(|name| name != b"help");
     let subcommand = name.map(|name| find_subcommand(&name)).transpose()?;
@@ -95,10 +96,10 @@ fn short_options(mut letters: &[u8], rest: Rest, given: &mut Vec<Given>) -> Resu
     while let [letter, after @ ..] = letters {
         let name = [b'-', *letter];
         let option = find_option(&name, |it| it.letter == *letter)?;
-        let is_value = option.value_name.is_some() && !after.is_empty();
-        let value = is_value.then(|| after.to_vec());
+        let after_is_value = option.value_name.is_some() && !after.is_empty();
+        let value = after_is_value.then(|| after.to_vec());
         given.push((option, value_of(&name, option, value, rest)?));
-        letters = if is_value { &[] } else { after };
+        letters = if after_is_value { &[] } else { after };
     }
     Ok(())
 }
@@ -125,7 +126,7 @@ fn find_option(
     found.ok_or_else(|| format!("there is no option {}", Escaped(name)))
 }
 
-/// What the options of a subcommand set. The last one of a kind applies.
+/// The settings that the options of a subcommand make. The last one of a kind applies.
 fn settings_of(subcommand: &Subcommand, given: &[Given]) -> Result<Settings, String> {
     let mut settings = Settings {
         alphabet: Alphabet::standard(),
@@ -151,7 +152,8 @@ fn settings_of(subcommand: &Subcommand, given: &[Given]) -> Result<Settings, Str
 
 fn parse_width(value: &[u8]) -> Result<usize, String> {
     if value.iter().all(u8::is_ascii_digit) && value.iter().any(|digit| *digit != b'0') {
-        // A greater width is cut to `usize::MAX`: no string of it fits in memory, and `range` prints the same for both.
+        // A width above `usize::MAX` is cut to it: no string of either fits in memory, and `range` prints the same for
+        // either.
         let width = parse_decimal(value).and_then(|it| it.try_into().ok());
         return Ok(width.unwrap_or(usize::MAX));
     }

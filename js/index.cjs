@@ -85,19 +85,18 @@ function instantiate(module) {
   const { buffer } = library.memory;
   const stackPointer = library.__stack_pointer;
   const stackTop = stackPointer.value;
-  let isRunning = false;
+  let hasNotReturned = false;
 
   // A call of the library is between enter and leave. The engine may abort one, as when its own stack is exhausted. An
-  // aborted call has not restored the stack pointer of the WebAssembly, so the next one resets it. To reset it in each
-  // call takes longer.
+  // aborted call has not restored the stack pointer of the WebAssembly, so the next one resets it.
   function enter() {
-    if (isRunning) stackPointer.value = stackTop;
-    isRunning = true;
+    if (hasNotReturned) stackPointer.value = stackTop;
+    hasNotReturned = true;
     return library;
   }
 
   function leave(result) {
-    isRunning = false;
+    hasNotReturned = false;
     return result;
   }
 
@@ -144,24 +143,14 @@ function numberOfUuid(string) {
   return BigInt(`0x${match[1]}${match[3]}${match[4]}${match[5]}${match[6]}`);
 }
 
-// A text is an encoded string or a prefix. A text of more than PIECE_LENGTH characters or bytes is long. The library
-// gets it without most of its leading zeros, in pieces of this length, of which the last may be shorter. A full piece
-// has more digits than any number.
+// A text is an encoded string or a prefix. A long one, of more than PIECE_LENGTH characters or bytes, goes to the
+// library in pieces of at most this length, without its leading zeros but two.
 const PIECE_LENGTH = 1024;
 
 function textLength(text) {
   if (typeof text === 'string') return text.length;
   if (!isUint8Array(text)) throw new TypeError('an encoded string or a prefix is a string or a Uint8Array');
   return lengthOf.call(text);
-}
-
-// Returns where the first piece of a long text begins. The last two leading zeros stay: in a text of zeros, one is the
-// digit, and the other makes the text non-canonical.
-function skipZeros(text, zero) {
-  let count = 0;
-  if (typeof text === 'string') while (text.charCodeAt(count) === zero) count++;
-  else while (text[count] === zero) count++;
-  return Math.max(count - 2, 0);
 }
 
 function createArguments(instance) {
@@ -214,7 +203,7 @@ function createArguments(instance) {
   function writeText(text, length, start) {
     if (length > PIECE_LENGTH) return writePiece(text, start, Math.min(start + PIECE_LENGTH, length));
     if (typeof text === 'string') return writeUtf8(text, 0, length);
-    // Faster than bytes.set(..). Both throw for an array with a detached buffer, though its length is 0.
+    // Faster than bytes.set(..). Throws if the buffer of the text is detached.
     setBytes.call(bytes, text, TEXT);
     return length;
   }
@@ -225,7 +214,7 @@ function createArguments(instance) {
     return end - start;
   }
 
-  // A surrogate pair that crosses the end is written whole.
+  // A surrogate pair that crosses the end is written whole. It is invalid, so no further piece is read.
   function writeUtf8(string, start, end) {
     let at = TEXT;
     for (let i = start; i < end; i++) {
@@ -275,15 +264,16 @@ function createResults(instance) {
   }
 
   // V8 keeps the parts of a joined string of more than 12 characters, which takes ten times the memory. So one call
-  // creates such a string from its codes. Of 22 codes, as a key has, separate arguments are faster than a spread. The
-  // arrays to spread are reused: one for each length up to the longest error message, and one for a UUID.
+  // creates a string of 10 codes or more, which is also faster. Of 22 codes, as a key has, separate arguments are
+  // faster than a spread. The arrays to spread are reused: one for each length up to the longest error message, and one
+  // for a UUID.
   const codes = bytes.subarray(TEXT);
   const arrays = Array.from({ length: MAX_FAULT_TEXT + 1 }, (_, length) => new Array(length).fill(0));
   const uuidCodes = Array.from('00000000-0000-0000-0000-000000000000', (it) => it.charCodeAt(0));
 
   function readText(length) {
     if (length < 10) return readShort(length);
-    if (length === MAX_DIGITS) return readLongest();
+    if (length === MAX_DIGITS) return read22();
     const array = arrays[length];
     for (let i = 0; i < length; i++) array[i] = codes[i];
     return String.fromCharCode(...array);
@@ -297,7 +287,7 @@ function createResults(instance) {
     return text;
   }
 
-  function readLongest() {
+  function read22() {
     return String.fromCharCode(
       codes[0], codes[1], codes[2], codes[3], codes[4], codes[5], codes[6], codes[7], codes[8], codes[9], codes[10],
       codes[11], codes[12], codes[13], codes[14], codes[15], codes[16], codes[17], codes[18], codes[19], codes[20],
@@ -432,10 +422,19 @@ function load(module) {
     return leave(enter().base62_digit_count(NUMBER));
   }
 
-  const startOf = (text, length) => (length > PIECE_LENGTH ? skipZeros(text, zero().charCodeAt(0)) : 0);
+  // Returns where the first piece of a text begins. Of a long one the last two leading zeros stay: in a text of zeros,
+  // one is the digit, and the other makes the text non-canonical.
+  function startOf(text, length) {
+    if (length <= PIECE_LENGTH) return 0;
+    const code = zero().charCodeAt(0);
+    let count = 0;
+    if (typeof text === 'string') while (text.charCodeAt(count) === code) count++;
+    else while (text[count] === code) count++;
+    return Math.max(count - 2, 0);
+  }
 
   // Returns NUMBER, at which the library writes the number. The first piece of a long text decides: if more follows,
-  // this piece alone has too many digits.
+  // this piece alone overflows, which precedes INVALID_BYTE.
   function decodeText(text, alphabet, isCanonical) {
     const length = textLength(text);
     writeAlphabet(alphabet);
@@ -457,8 +456,8 @@ function load(module) {
   const decodeUuid = (text, alphabet) => readUuid(decodeText(text, alphabet, false));
   const decodeUuidCanonical = (text, alphabet) => readUuid(decodeText(text, alphabet, true));
 
-  // Returns the status. A size_t has 32 bits: a width above 2**32 - 1 has the same range as that one. A negative width,
-  // from a prefix with more zeros than the width, counts as 0.
+  // Returns the status. A size_t has 32 bits: a greater width gives the same range as 2**32 - 1, since both are far
+  // above the length of a piece. A negative width, from a prefix with more zeros than the width, counts as 0.
   function findRange(width, prefix, length, start) {
     const size = writeText(prefix, length, start);
     const width32 = Math.min(Math.max(width, 0), TWO_TO_32 - 1);
@@ -473,7 +472,7 @@ function load(module) {
     let start = startOf(prefix, length);
     let status = findRange(width - start, prefix, length, start);
     // NO_KEY: no string of the width begins with the prefix. If more pieces follow, the prefix is too long for any
-    // number. They are only searched for a bad byte: without one, the width 0 gives NO_KEY.
+    // number. These are searched for a bad byte: with the width 0 the status is INVALID_BYTE or NO_KEY.
     while (status === NO_KEY && start + PIECE_LENGTH < length) {
       start += PIECE_LENGTH;
       status = findRange(0, prefix, length, start);

@@ -30,7 +30,7 @@ type Rest<'a> = &'a mut dyn Iterator<Item = Vec<u8>>;
 /// Parses the arguments after the name of the program. An error says what is wrong with them.
 pub(crate) fn parse(mut rest: impl Iterator<Item = Vec<u8>>) -> Result<Action, String> {
     let (mut given, mut operands) = (Vec::new(), Vec::new());
-    // After --help or --version an invalid option is no error, so the result is checked after them.
+    // An invalid option after --help or --version is no error, so `parsed?` comes below.
     let parsed = split(&mut rest, &mut given, &mut operands);
     let mut operands = operands.into_iter();
     let is_given = |name| given.iter().any(|(option, _)| option.name == name);
@@ -66,8 +66,8 @@ fn split(rest: Rest, given: &mut Vec<Given>, operands: &mut Vec<Vec<u8>>) -> Res
     Ok(())
 }
 
-/// The help of the subcommand that the first operand other than `help` names. Without such an operand, that of the
-/// command.
+/// The help of the subcommand that the first operand names, or of the command. `help --help` leaves `help` in the
+/// operands.
 fn help_of(mut operands: impl Iterator<Item = Vec<u8>>) -> Result<Action, String> {
     let name = operands.find(|name| name != b"help");
     let subcommand = name.map(|name| find_subcommand(&name)).transpose()?;
@@ -104,7 +104,7 @@ fn short_options(mut letters: &[u8], rest: Rest, given: &mut Vec<Given>) -> Resu
     Ok(())
 }
 
-/// The value in the same argument, or the next argument if the option needs it.
+/// The value of the option: `value`, or else the next argument. It is empty if the option takes none.
 fn value_of(
     name: &[u8],
     option: &CommandOption,

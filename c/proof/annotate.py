@@ -18,7 +18,8 @@ import functools
 import pathlib
 import re
 
-FOLDER = pathlib.Path(__file__).resolve().parent
+# Not where a link leads: there another base62.c may stand.
+FOLDER = pathlib.Path(__file__).absolute().parent
 
 # In the order in which they need each other.
 ANNOTATIONS = ("numbers faults powers results digits alphabets tables readers decoder texts canonical ranges fractions"

@@ -113,6 +113,8 @@ LISTS = [
     (f"{TOP}/*@ requires \\valid(to + (0 .. 9)) && \\valid_read(from); assigns to[*from * 0 .. 9]; */\n"
      "static void planted(uint8_t *restrict to, const uint8_t *from) { to[9] = *from; }", "restrict"),
     (f"{TOP}/*@ assigns \\nothing; */\nstatic size_t memset(size_t n) {{ return n; }}", "a name of a function"),
+    (f"{TOP}/*@ assigns \\nothing; */\nint fputs_unlocked(const char *s, size_t n) {{ return 0; }}", "neither static"),
+    (f"{TOP}/*@ assigns \\nothing; */\nstatic size_t planted(uint8_t (max_align_t)) {{ return 0; }}", "a declarator"),
     # Another annotation, and one that Frama-C leaves out with a warning.
     (f"{TOP}/*@ global invariant no: \\false; */", KIND),
     (f"{NEXT}/*@ ensures \\false;", KIND),
@@ -140,7 +142,8 @@ SOURCES = [
     (GROWS, f"    // Here. \\ \n{GROWS}", "a splice"), (GROWS, f"    // \u00dcber.\n{GROWS}", "no ASCII"),
     *((GROWS, f"{line}\n{GROWS}", LISTED) for line in (
         "# 1 \"other.c\"", "#include \"min.inc\"", "#include <stdint.h>", "#undef B62_OK", "#define uint8_t uint32_t",
-        "    const bool own = text->length > 9 || own;", "    const uint64_t wide = UINT32_C(0xffffffff) + 1;",
+        "    const bool own = text->length > 9 || own;", "    const struct { uint8_t own; } all = {0};",
+        "    const size_t errno = 0;", "    const uint64_t wide = UINT32_C(0xffffffff) + 1;",
         "_Pragma(\"GCC optimize\")", "    if (part_length > unix)",
         # What depends on the system or the compiler.
         "    const uint_fast32_t fast = 1;", "    const unsigned long size = 1;", "    const uint8_t letter = '\\xff';",
@@ -150,6 +153,8 @@ SOURCES = [
         "    asm(\"\");", "    static uint8_t kept = 0;", "    if (part_length + part_length++ > 2)", "    part_length = (part_length, 1);")),
     *((GROWS, f"    {line}\n{GROWS}", by) for line, by in (
         ("uint32_t unset;", "not initialized where it is declared"), ("*(uint8_t *)part = 1;", "takes const away"),
+        ("part_length = (size_t)(base62_status)part_length;", "an enum of what is no constant"),
+        ("if ((base62_status)part_length == 300) part_length = 0;", "operator of an enum"),
         ("if (sizeof(size_t) > 4) part_length = 0;", "sizeof of what"), ("if (part == text->bytes) part_length = 0;", "operator of pointers"),
         ("if (part) part_length = 0;", "a pointer as a condition"), ("part = text->bytes;", "a pointer that is set anew"),
         ("((uint64_t *)text->bytes)[0] = 0;", "to a pointer of another type"),
@@ -165,6 +170,8 @@ SOURCES = [
     ("    return count_filled(answer, width);\n}\n\nsize_t base62_encode_alternative_fixed",
      "    return count_filled(encode_fixed(joined(number), (uint8_t *)places, width), width);\n}\n\nsize_t base62_encode_alternative_fixed",
      "a call that may write"),
+    ("const uint8_t *B62_RESTRICT from, size_t length) {\n",
+     "const uint8_t *B62_RESTRICT from, size_t length) {\n    if (*to == 0) length = 0;\n", "need not have set"),
     # What WP keeps apart, or takes for something else.
     ("typedef struct InlineText {", "typedef union InlineText {", LISTED),
     ("typedef struct pair_u8_u8 { uint8_t _0;", "typedef struct pair_u8_u8 { uint8_t _0 : 6;", "a bit field"),

@@ -127,6 +127,8 @@ FILES = {"CMakeLists.txt", "LICENSE", "README.md", "base62.c", "base62.h", "cmak
 # Frama-C has 64 bits.
 HEADERS = {"limits.h", "stdbool.h", "stddef.h", "stdint.h"}
 MACROS = {"UINT64_C", "bool", "true", "false"}
+# Macros of the headers of other systems, and of other machines.
+OTHERS = {"errno", "i386", "sun", "sparc", "mips", "arm", "vax", "near", "far"}
 DEFINE = re.compile(r'# define B(?:ASE)?62_\w+ (?:\d+|"[^"\\]*"|\( \( (?:uint32_t|size_t) \) \d+ \)|UINT64_C \( \d+ \)|B62_\w+)')
 
 OTHER = re.compile(r"\s*(?:#|%:|\?\?=)\s*(?!(?:define|undef|if|ifdef|ifndef|elif|else|endif|error|pragma)\b|include \"base62\.(?:h|acsl)\"$"
@@ -161,7 +163,7 @@ def macros():
     asked = "".join(f"#include <{name}>\n" for name in sorted(HEADERS))
     said = subprocess.run(["gcc", "-std=gnu99", "-dM", "-E", "-"], input=asked, env={"PATH": PATH}, check=True,
                           capture_output=True, text=True)
-    return set(re.findall(r"^#define (\w+)", said.stdout, re.M)) - MACROS
+    return set(re.findall(r"^#define (\w+)", said.stdout, re.M)) - MACROS | OTHERS
 
 
 def is_number(found, i):
@@ -213,3 +215,5 @@ def lines_of(file):
 def others_in(folder):
     """What may not stand beside base62.c."""
     yield from (f"not on the list of what stands beside base62.c: {name}" for name in sorted({*os.listdir(folder)} - FILES))
+    # A link such as /proc/self/cwd/base62.c leads each program to another file.
+    yield from (f"a link: {name}" for name in sorted(os.listdir(folder)) if os.path.islink(os.path.join(folder, name)))

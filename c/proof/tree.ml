@@ -28,11 +28,13 @@ module Forms = struct
   let is_static = List.mem (SpecStorage STATIC)
 
   (* A type of one meaning on all targets, and a declarator. *)
-  let check_type place spec decl declarators =
+  let check_type ?(is_field = false) place spec decl declarators =
     let decl = match decl with PARENTYPE ([], decl, []) -> decl | _ -> decl in
     let is_type = function SpecCV CV_CONST | SpecStorage STATIC | SpecInline | SpecAttr _ -> false | _ -> true in
     tell_if "open" (not (match List.filter is_type spec with
-      | [ SpecType (Tbool | Tstruct ("", Some _, []) | Tenum ("", Some _, [])) ] | [ SpecType Tunsigned; SpecType Tchar ] -> true
+      | [ SpecType Tbool ] | [ SpecType Tunsigned; SpecType Tchar ] -> true
+      (* Elsewhere its enumerators would have another scope in Frama-C, C90 or C++. *)
+      | [ SpecType (Tstruct ("", Some _, []) | Tenum ("", Some _, [])) ] -> is_field
       | [ SpecType (Tnamed name) ] -> Hashtbl.mem types name
       | [ SpecType (Tvoid | Tint) ] -> decl = JUSTBASE && declarators = []
       | [ SpecType Tchar ] -> decl <> JUSTBASE
@@ -105,10 +107,16 @@ module Forms = struct
     method! vname kind spec (name, decl, attributes, place) =
       declared <- name;
       reject_if (attributes <> [] || List.mem SpecInline spec && not (is_static spec)) place "an attribute or a function";
+      (* uint8_t (max_align_t) is a parameter in C99, and a parameter of type function in C11. *)
+      (match decl with
+        | PROTO (_, all, _, _) | PTR (_, PROTO (_, all, _, _)) ->
+          reject_if (List.exists (function _, (_, PARENTYPE _, _, _) -> true | _ -> false) all) place "a declarator"
+        | _ -> ());
       (match decl with
         | PROTO (JUSTBASE, _ :: _, [], false) | PTR ([], PROTO (JUSTBASE, _ :: _, [], false)) -> check_type place spec JUSTBASE []
         | _ when kind = Cabsvisit.NType || name = "" && spec = [ SpecType Tvoid ] -> ()
-        | _ -> check_type place spec decl (match kind with NField -> [] | _ -> [ pointer; PTR ([ "restrict", [] ], JUSTBASE) ]));
+        | _ -> check_type ~is_field:(kind = Cabsvisit.NField) place spec decl
+          (match kind with NField -> [] | _ -> [ pointer; PTR ([ "restrict", [] ], JUSTBASE) ]));
       Cil.DoChildren
 
     method! vdef d =
@@ -373,20 +381,35 @@ let rec is_of_bytes typ = match Cil.unrollType typ with
   | _ -> false
 let is_constant_type typ = Cil.typeHasAttributeMemoryBlock "const" typ || Cil.typeHasQualifier "const" typ
 
-(* The kind of an enum is up to the compiler, and so is what an operator makes of it. *)
+(* The kind of an enum is up to the compiler, at least of 8 bits, and so is what an operator makes of it. *)
 let rec is_enum e = match e.enode with
   | CastE (TInt _, a) -> is_enum a
   | _ -> (match Cil.unrollType (Cil.typeOf e) with TEnum _ -> true | _ -> false)
+let is_enum_type typ = match Cil.unrollType typ with TEnum _ -> true | _ -> false
+(* An enum, and the enum that it is cast from. *)
+let rec enums e = match e.enode with CastE (to_, a) when is_enum_type to_ -> e :: enums a | _ -> []
+let to_enum = "an enum of what is no constant, but is not returned to a caller of base62.h either"
 let is_small e = match Cil.constFoldToInt e with
-  | Some n -> Integer.le Integer.zero n && Integer.lt n (Integer.two_power_of_int 31) | None -> false
+  | Some n -> Integer.le Integer.zero n && Integer.lt n (Integer.two_power_of_int 7) | None -> false
 let is_pointer e = Cil.isPointerType (Cil.typeOf e)
 let is_same a b = Cil_datatype.Typ.equal (Cil.typeDeepDropAllAttributes a) (Cil.typeDeepDropAllAttributes b)
+(* What a pointer that is not const points to may be a caller's memory, which is not set: reading it is undefined. A struct
+   that is none of base62.h, and to which no pointer is cast, is a local of base62.c, and set. *)
+let is_set p = match Cil.unrollType (Cil.typeOf_pointed (Cil.unrollType (Cil.typeOf p))) with
+  | TComp (c, _) as typ when not (String.starts_with ~prefix:"base62_" c.corig_name || is_of_bytes typ) -> true
+  | typ -> is_constant_type typ
+let rec is_of_local e = match e.enode with
+  | StartOf (Var _, _) | AddrOf (Var _, _) -> true
+  | StartOf (Mem p, _) | AddrOf (Mem p, _) -> is_set p
+  | BinOp (PlusPI, p, _, _) | CastE (_, p) -> is_of_local p
+  | _ -> false
+let read_unset = "a read of memory that a caller need not have set"
 let is_variable = function Var _, _ -> true | _ -> false
 let is_temporary = function Var v, NoOffset -> v.vtemp || v.vname = "__retres" | _ -> false
 let of_bytes = "sizeof of what does not consist of bytes"
 let of_enum = "an operator of an enum"
-(* Compilers call functions of the C library by themselves, and take any other for one that has its name. None of them has
-   an underscore and such parameters. *)
+(* Compilers call functions of the C library by themselves, such as memset, and would take a function or a table of this
+   file that has the name. The names of these have no underscore. *)
 let is_own name = String.contains name '_' || List.mem name [ "append"; "decode"; "greatest"; "halves"; "joined"; "power" ]
 (* Those that Frama-C itself gives, and what base62.h says of buffers. *)
 let known_attributes = [ "const"; "restrict"; "ghost"; "access"; "arraylen" ]
@@ -398,6 +421,8 @@ let calls = Hashtbl.create 1000
 
 class walk = object (self)
   inherit Visitor.frama_c_inplace
+  (* What a function of base62.h returns. *)
+  val mutable returned = []
   method private name = match self#current_kf with Some kf -> Kernel_function.get_name kf | None -> ""
   method private reject place what = tell "rejected" self#name (at_place place what)
   method private reject_if wrong place what = if wrong then self#reject place what
@@ -409,8 +434,16 @@ class walk = object (self)
   method! vglob_aux g =
     let place = Cil_datatype.Global.loc g in
     (match g with
+      | GFun ({ svar = v; slocals; _ }, _)
+        when not v.vghost && List.fold_left (fun n v -> n + Cil.bytesSizeOf v.vtype) 0 slocals > 10000 ->
+        tell "open" v.vname (at_place place "locals that a stack may have no room for")
+      | _ -> ());
+    (match g with
       | GFun ({ svar = v; _ }, _) | GFunDecl (_, v, _) | GVar (v, _, _) when not (v.vghost || is_own v.vname) ->
         tell "open" v.vname (at_place place "not on the list: a name of a function or a table")
+      | GFun ({ svar = f; _ }, _) | GFunDecl (_, f, _)
+        when not (f.vghost || f.vstorage = Static || Hashtbl.mem in_header f.vorig_name || is_library place) ->
+        tell "open" f.vname (at_place place "a function that is neither static nor one of base62.h")
       | _ -> ());
     (match g with
       | GFun ({ svar = f; _ }, _) | GFunDecl (_, f, _) when Ast.is_def_or_last_decl g ->
@@ -460,16 +493,31 @@ class walk = object (self)
     (match s.skind with
       | Loop _ -> self#reject_if (Annotations.code_annot ~filter:is_variant s = []) place "a loop without a variant"
       | If (e, _, _, _) -> self#open_if (is_pointer e) place "a pointer as a condition"
+      | Return (Some e, _) | Instr (Set ((Var { vname = "__retres"; _ }, NoOffset), e, _)) when Hashtbl.mem in_header self#name ->
+        returned <- enums e @ returned
+      | Instr (Call (Some to_, { enode = Lval (Var f, NoOffset); _ }, _, _)) ->
+        self#open_if (is_enum_type (Cil.typeOfLval to_) && not (is_enum_type (Cil.getReturnType f.vtype))) place to_enum;
+        Hashtbl.add calls self#name f.vname
+      | Instr (Local_init (v, ConsInit (f, _, _), _)) ->
+        self#open_if (is_enum_type v.vtype && not (is_enum_type (Cil.getReturnType f.vtype))) place to_enum;
+        Hashtbl.add calls self#name f.vname
       | Instr (Set (to_, { enode = Lval (Mem _, _); _ }, _)) when Cil.isStructOrUnionType (Cil.typeOfLval to_) && not (is_variable to_) ->
         self#open_if true place "a struct that is copied from place to place"
       | Instr (Set (to_, _, _)) -> self#open_if (Cil.isPointerType (Cil.typeOfLval to_) && not (is_temporary to_)) place "a pointer that is set anew"
-      | Instr (Call (_, { enode = Lval (Var f, NoOffset); _ }, _, _))
-      | Instr (Local_init (_, ConsInit (f, _, _), _)) -> Hashtbl.add calls self#name f.vname
+      | Instr (Call (None, { enode = Lval (Var f, NoOffset); _ }, _, _)) -> Hashtbl.add calls self#name f.vname
       | _ -> ());
     Cil.DoChildren
 
   method! vexpr e =
     let open_if wrong = self#open_if wrong e.eloc in
+    (* Ghost code, which reads too, is not in the bare code. *)
+    let bare_if wrong what = if wrong then tell "bare" self#name (at_place e.eloc what) in
+    let points_to_constant e = is_constant_type (Cil.typeOf_pointed (Cil.unrollType (Cil.typeOf e))) in
+    (match e.enode with
+      | Lval (Mem p, _) -> bare_if (not (is_set p)) read_unset
+      | CastE (_, a) when is_pointer e && is_pointer a && points_to_constant e && not (points_to_constant a) ->
+        bare_if (not (is_of_local a)) read_unset
+      | _ -> ());
     match e.enode with
     | SizeOf t -> open_if (not (is_of_bytes t)) of_bytes; Cil.SkipChildren
     | SizeOfE a -> open_if (not (is_of_bytes (Cil.typeOf a))) of_bytes; Cil.SkipChildren
@@ -483,6 +531,8 @@ class walk = object (self)
     | UnOp (_, a, _) -> open_if (is_pointer a || is_enum a) "an operator of a pointer or an enum"; Cil.DoChildren
     | BinOp (_, a, b, _) -> open_if (is_enum a || is_enum b) of_enum; Cil.DoChildren
     | CastE (TInt _, a) when is_enum a -> open_if true of_enum; Cil.DoChildren
+    | CastE (to_, a) when is_enum_type to_ && not (is_small a || List.memq e returned) -> open_if true to_enum; Cil.DoChildren
+    | CastE (to_, a) when is_enum a && not (is_enum_type to_ || is_of_kind IUInt to_) -> open_if true of_enum; Cil.DoChildren
     | CastE (to_, a) when Cil.isPointerType to_ && is_pointer a ->
       let to_, from = Cil.typeOf_pointed (Cil.unrollType to_), Cil.typeOf_pointed (Cil.unrollType (Cil.typeOf a)) in
       open_if (is_constant_type from && not (is_constant_type to_)) "a cast that takes const away";

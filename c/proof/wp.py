@@ -32,15 +32,14 @@ HOW = {"with tables", "asserts named same with tables", "without a filter of hyp
 
 @functools.cache
 def tools():
-    """A folder with what Frama-C needs: the walk over its tree, base62.h, and why3's list of provers."""
+    """A folder with what Frama-C needs: the walk over its tree, and why3's list of provers."""
     needed = ("frama-c", "ocamlfind", "why3", "z3", "cvc4", "cvc5", "gcc")
     missing = [tool for tool in needed if not shutil.which(tool, path=tokens.PATH)]
     if missing:
         raise SystemExit(f"missing in {tokens.PATH}: {' '.join(missing)}\n"
                          "Debian 12 has them: make setup-full installs all, as root. Elsewhere take c/proof/Dockerfile.")
     folder = tempfile.TemporaryDirectory()
-    for path in FOLDER / "tree.ml", C / "base62.h":
-        shutil.copy(path, folder.name)
+    shutil.copy(FOLDER / "tree.ml", folder.name)
     library = subprocess.run(["frama-c", "-print-lib-path"], env={"PATH": tokens.PATH}, check=True, capture_output=True, text=True).stdout
     for command in (["ocamlfind", "ocamlopt", "-shared", "-I", library.strip(), "-package", "zarith,ocamlgraph",
                      "-o", "tree.cmxs", "tree.ml"], ["why3", "config", "detect"]):
@@ -53,19 +52,28 @@ def environment(folder, **more):
     return {"PATH": tokens.PATH, "HOME": folder, "WHY3CONFIG": f"{folder}/why3.conf", "LC_ALL": "C.UTF-8", **more}
 
 
+@functools.cache
+def header():
+    """The text of base62.h: what is checked is what is proved."""
+    return text_of(C / "base62.h")
+
+
 def prepared(work, code, specification=None):
-    """A file of this code, in a folder of its own with the specification."""
+    """A file of this code, in a folder of its own with the specification and base62.h."""
+    if not re.fullmatch(r"[\w./-]+", str(work)):
+        raise SystemExit(f"a path that a shell would read otherwise: {work}")
     work.mkdir(parents=True, exist_ok=True)
-    (work / SPECIFICATION.name).write_text(specification or text_of(SPECIFICATION))
     file = work / "base62.c"
-    file.write_text(code)
+    for path, text in (work / SPECIFICATION.name, specification or text_of(SPECIFICATION)), (work / "base62.h", header()), (file, code):
+        path.unlink(missing_ok=True)
+        path.write_text(text)
     return file
 
 
 def frama_c(file, name, options, last=None, **more):
     """What Frama-C says of a file, up to a line that has the last text. The folder of the file keeps it by the name."""
     folder = tools().name
-    flags = f"-I{file.parent} -I{folder} -include {file.parent / SPECIFICATION.name} {FLAGS}"
+    flags = f"-include {file.parent / SPECIFICATION.name} {FLAGS}"
     command = ["frama-c", "-load-module", f"{folder}/tree.cmxs", "-machdep", f"base62_{BITS}",
                f"-cpp-extra-args={flags}", file, *options]
     log = []
@@ -130,13 +138,13 @@ def checked(file, bare=None, calls=None):
 
 def checked_code(work, source, *more):
     """The file of base62.c with annotations; and what is said of it, and of what compilers read of base62.c."""
-    wrong = [*tokens.wrong("base62.c", source), *tokens.wrong("base62.h", text_of(C / "base62.h")), *tokens.others_in(C)]
+    wrong = [*tokens.wrong("base62.c", source), *tokens.wrong("base62.h", header()), *tokens.others_in(C)]
     if wrong:
         raise SystemExit("\n".join(wrong))
     bare = prepared(work / "bare", source, BARE)
     file = prepared(work, annotate.annotated(source, *more))
     said = checked(file, code(bare))
-    said.wrong += [f"rejected: {what}" for kind, _, what in tree(bare) if kind in ("form", "open")]
+    said.wrong += [f"rejected: {what}" for kind, _, what in tree(bare) if kind in ("form", "open", "bare")]
     return file, said
 
 

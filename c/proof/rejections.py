@@ -155,6 +155,7 @@ SOURCES = [
         ("uint32_t unset;", "not initialized where it is declared"), ("*(uint8_t *)part = 1;", "takes const away"),
         ("part_length = (size_t)(base62_status)part_length;", "an enum of what is no constant"),
         ("if ((base62_status)part_length == 300) part_length = 0;", "operator of an enum"),
+        ("const InlineText many[999] = {0};", "a stack may have no room"),
         ("if (sizeof(size_t) > 4) part_length = 0;", "sizeof of what"), ("if (part == text->bytes) part_length = 0;", "operator of pointers"),
         ("if (part) part_length = 0;", "a pointer as a condition"), ("part = text->bytes;", "a pointer that is set anew"),
         ("((uint64_t *)text->bytes)[0] = 0;", "to a pointer of another type"),
@@ -242,9 +243,9 @@ def said_of_code(at, source):
     return said(lambda: wp.checked_code(at, source)[1].wrong)
 
 
-def said_of_folder(at, name):
+def said_of_folder(at, name, make):
     at.mkdir()
-    (at / name).touch()
+    make(at / name)
     return tokens.others_in(at)
 
 
@@ -278,7 +279,8 @@ def cases(work):
     for text, by in LAWS:
         yield text, by, lambda at, text=text: said_of(wp.prepared(at, laws + text), None, calls)
     yield "//*", LISTED, lambda at: tokens.wrong("base62.h", once(header, "#undef BASE62_API", "//*\n#undef NULL\n/* */\n#undef BASE62_API"))
-    yield "stdc-predef.h", LISTED, lambda at: said_of_folder(at, "stdc-predef.h")
+    yield "stdc-predef.h", LISTED, lambda at: said_of_folder(at, "stdc-predef.h", pathlib.Path.touch)
+    yield "a link to base62.c", "a link", lambda at: said_of_folder(at, "base62.c", lambda it: it.symlink_to("other.c"))
     yield PROGRAM, FALSE, lambda at: said_of_function(wp.prepared(at, PROGRAM))
     yield VARIABLE, APART, lambda at: said_of_function(wp.prepared(at, VARIABLE))
     yield NEVER, "planted_wp_smoke", lambda at: wp.contradictions(wp.prepared(at, NEVER))

@@ -6,16 +6,8 @@ import sys
 
 from to_c.file import written
 
-ROOT = pathlib.Path(__file__).resolve().parent.parent
-
-
-def main(args):
-    if args:
-        sys.exit(__doc__)
-    target = ROOT / "c" / "base62.c"
-    target.with_suffix(".new").write_bytes(written(ROOT).encode())
-    os.replace(target.with_suffix(".new"), target)
-
-
-if __name__ == "__main__":
-    main(sys.argv[1:])
+if sys.argv[1:]:
+    sys.exit(__doc__)
+root = pathlib.Path(__file__).resolve().parent.parent
+(root / "c/base62.new").write_bytes(written(root).encode())
+os.replace(root / "c/base62.new", root / "c/base62.c")

@@ -1,13 +1,10 @@
 #!/usr/bin/env python3
 """Judges rust/src by the sources in crates/. It shares no code with translate/rust.py, which writes rust/src.
 
-It prints each fault, and fails if there is any. It shows: each file of a folder `generated` has a path that asks for
-one source, which its head names; the others are hand-written. The tokens of such a file are those of the source, in
-order, after these steps and no others: ghost parts go (GHOST, USES, CALLS), a call gets the body of its counted twin,
-forms of Rattle become forms of Rust where they stand (the other tables), and a function gets what it asks for:
-attributes, `as_ref` of its last parameter, and first in its body assertions of what it requires. lib.rs has ROOT, OWN,
-and the modules and names of the source's lib.rt. A hand-written file has the attributes and macros that are listed, no
-`extern`, no `unsafe` but the UNSAFE of contract.rs, and nothing public but what OWN names. Cargo.toml has MANIFEST.
+It prints each fault, and fails if there is any. README.md says what it shows. The tokens of a file of a folder
+`generated` are those of its source, in order, after these steps and no others: ghost parts go (GHOST, USES, CALLS), a
+call gets the body of its counted twin, forms of Rattle become forms of Rust where they stand (the other tables), and a
+function gets what it asks for: attributes, `as_ref` of its last parameter, and assertions of what it requires.
 
 It does not show that a token means in Rust what it means in Rattle, nor that a comment or a hand-written file is right.
 """

@@ -19,6 +19,7 @@ TOKEN = re.compile(r"""
     | (?P<ghost>.)
     """, re.X | re.S | re.A)
 OPENS, CLOSES = ("(", "[", "{"), (")", "]", "}")
+LISTS = ("&[u8]", "&mut [u8]", "&str")  # The types of parameters whose lengths a clause may compare.
 ONE_LINE = ("use", "mod", "const", "static", "ghost")
 WITH_BODY = ("fn", "struct", "enum", "trait", "impl")
 
@@ -29,12 +30,9 @@ class Token(str):
     comments = ()  # Those that stand before it, where `code_of` left them out.
 
 
-class Refusal(SystemExit):
-    """Ends a writer with status 1, before it has written anything."""
-
-
 def refuse(token, why):
-    raise Refusal(f"{token.file}:{token.line}: {why}: {token}")
+    """Ends a writer with status 1, before it has written anything."""
+    raise SystemExit(f"{token.file}:{token.line}: {why}: {token}")
 
 
 @contextlib.contextmanager
@@ -128,46 +126,38 @@ def split_list(tokens):
     return [part for part in parts if plain(part)]
 
 
-def decided(least, greatest, comparison):
-    """Whether all numbers between these ends compare so, or none (False), or some (None). An end has both sides."""
-    strict = comparison == "<"
-    if comparison == "≡":
-        return True if least == greatest and least[0] == least[1] else (
-            False if greatest[0] < least[1] or greatest[1] < least[0] else None)
-    if greatest[0] + strict <= least[1]:
-        return True
-    return False if least[0] + strict > greatest[1] else None
+def greatest(name, types, bits):
+    """The greatest value of a number or of the length of a parameter, where a usize has so many bits, or else a "?"."""
+    kind = types.get(name.removeprefix("length "), "")
+    if name.startswith("length "):
+        kind = "usize" if kind in LISTS else ""
+    return str(2 ** int(kind.replace("size", str(bits))[1:]) - 1) if re.fullmatch(r"usize|u\d+", kind) else "?"
 
 
 class Clause:
-    """A clause of a contract: `requires` or `ensures`, its name if it has one, and what it states."""
+    """A clause of a contract: `requires` or `ensures`, and what it states. It may have a name."""
     def __init__(self, tokens):
         words = code_of(tokens)
-        self.kind, self.name = words[0], words[1] if words[1] != "{" else None
-        self.stated = words[2 if self.name is None else 3:-1]
+        self.kind, self.stated = words[0], words[2 if words[1] == "{" else 3:-1]
 
-    def holds(self, ends):
-        """Whether a comparison of sums and products of whole numbers always holds. None: it depends, or is not known.
+    def holds(self, types):
+        """Whether it compares sums and products of integers, and always holds: for a usize of 32 bits, and of 64.
 
-        `ends` tells the least and the greatest value of a name or a length, for a usize of 32 bits or of 64. What never
-        holds for one of these is refused.
-        """
+        `types` has those of parameters, as they are written. A clause that never holds for one of these is refused."""
         text, always = re.sub(r" ?\. ?(now|old)", "", " ".join(self.stated)), []
+        text = re.sub(r"(\d+) \^ (\d+)", lambda power: str(int(power[1]) ** int(power[2])), text)
         for bits in (32, 64):
-            def value(term, end):
-                if term[2]:
-                    return str(int(term[2]) ** int(term[3]))
-                return str((ends(term[0], bits) or "??")[end])
-
-            said = [re.sub(r"(length )?\b[A-Za-z_]\w*|(\d+) \^ (\d+)", lambda term: value(term, end), text)
-                    for end in (0, 1)]
-            if not all(re.fullmatch(r"[\d ()+*]+ [<≤≡] [\d ()+*]+", it) for it in said):
-                return None
-            sides = [[eval(side) for side in re.split("[<≤≡]", it)] for it in said]
-            always.append(decided(*sides, re.search("[<≤≡]", text)[0]))
-        if False in always:
-            refuse(self.kind, "a clause that never holds")
-        return all(always) or None
+            name = r"(length )?\b[A-Za-z_]\w*"
+            ends = [re.sub(name, "0", text), re.sub(name, lambda it: greatest(it[0], types, bits), text)]
+            if not re.fullmatch(r"[\d ()+*]+ [<≤≡] [\d ()+*]+", ends[1]):
+                return False
+            # The left side is from a to b, the right one from c to d.
+            (a, c), (b, d) = ([eval(side) for side in re.split("[<≤≡]", it)] for it in ends)
+            sign = re.search("[<≤≡]", text)[0]
+            always.append({"<": b < c, "≤": b <= c, "≡": a == b == c == d}[sign])
+            if {"<": d <= a, "≤": d < a, "≡": b < c or d < a}[sign]:
+                refuse(self.kind, "a clause that never holds")
+        return all(always)
 
 
 class Item:
@@ -242,6 +232,11 @@ def parts_of(item):
         end = after(item.signature, at)
         parameters = [plain(part) for part in split_list(item.signature[at + 1:end - 1])]
         return plain(item.signature[:at]), parameters, plain(item.signature[end:])
+
+
+def types_of(item):
+    """The types of a function's parameters by their names, as they are written. A receiver has none."""
+    return dict(re.findall(r"^(?:mut )?(\w+): (.*)", "\n".join(parts_of(item)[1]), re.M))
 
 
 def is_counted(item):

@@ -8,7 +8,8 @@ import re
 import sys
 from pathlib import Path
 
-from reader import is_counted, items_of, parts_of, plain, refuse, refusing, text_of, tokens_of, twin_of
+from reader import (LISTS, is_counted, items_of, parts_of, plain, refuse, refusing, text_of, tokens_of, twin_of,
+                    types_of)
 
 HEAD = """// SPDX-License-Identifier: MIT
 // Copyright (c) 2026 the maintainers of base62 for Rattle
@@ -74,8 +75,7 @@ EXAMPLES = [(r"println!\(rt; (.*)\)\?;", r"println!(\1);"), (r"\((rt; |rt\.alloc
             # Rust has constants of alphabets.
             (r"(?s)let letters = ([^;]*;)(.*)let alphabet = (\w+::Alphabet)(::of)\(letters\);(.*)&alphabet\b",
              r"const LETTERS: [u8; 62] = \1\2const OWN: \3 = \3\4(LETTERS);\5&OWN")]
-# The types of parameters whose lengths a clause may compare, and the numbers in it.
-TEXTS, POWER = ("&[u8]", "&mut [u8]", "&str"), re.compile(r"\b(\d+)(?: \^ (\d+))?")
+POWER = re.compile(r"\b(\d+)(?: \^ (\d+))?")  # A number of a clause.
 
 
 def edit(text, rules):
@@ -98,22 +98,15 @@ class Function:
     def __init__(self, item):
         self.front, parameters, self.back = parts_of(item)
         self.kept = [part for part in parameters if part not in GHOST_PARAMETERS]
-        self.types = dict(re.findall(r"^(?:mut )?(\w+): (.*)", "\n".join(self.kept), re.M))
-
-    def ends(self, name, bits):
-        """The least and the greatest value of a number or a length, where a usize has so many bits."""
-        kind = self.types.get(name.removeprefix("length "), "")
-        if name.startswith("length "):
-            return (0, 2 ** bits - 1) if kind in TEXTS else None
-        return (0, 2 ** int(kind.replace("size", str(bits))[1:]) - 1) if re.fullmatch(r"usize|u\d+", kind) else None
+        self.types = {name: of for name, of in types_of(item).items() if f"{name}: {of}" not in GHOST_PARAMETERS}
 
     def fact(self, clause):
         """What a clause says of numbers and lengths, in Rust. Nothing if it speaks of other things."""
         numbers = [name for name, kind in self.types.items() if re.fullmatch(r"usize|u\d+", kind)]
-        texts = [name for name, kind in self.types.items() if kind in TEXTS]
+        texts = [name for name, kind in self.types.items() if kind in LISTS]
         side = "|".join([r"\d+|\d+ \^ \d+|MAX_DIGITS", *numbers, *(rf"length {name} \. (?:old|now)" for name in texts)])
         stated = " ".join(clause.stated)
-        if clause.holds(self.ends) or not re.fullmatch(rf"({side}) [<≤≡] ({side})", stated):
+        if clause.holds(self.types) or not re.fullmatch(rf"({side}) [<≤≡] ({side})", stated):
             return ""
         kinds = {self.types[word] for word in clause.stated if word in numbers}
         kinds |= {"usize"} if {"length", "MAX_DIGITS"} & set(clause.stated) else set()

@@ -19,10 +19,9 @@ PLANTED = [
     ("js/wasm.js", b"do not edit.\n", b"do not edit.\r"),
     ("js/constants.js", b"STANDARD_LETTERS = '01", b"STANDARD_LETTERS = '10"),
     ("js/module.cjs", b"? library.base62_decode_canonical_with(", b"? library.base62_decode_with("),
-    ("js/index.cjs", b"// Arguments", b"// Argument"),
-    ("js/module.js", b"// Arguments\n", b"// Arguments\r"),
+    ("js/index.cjs", b"// A text", b"// A tex"),
+    ("js/module.js", b"each. Of a\n", b"each. Of a\r"),
     ("js/index.js", b"  decode,\n", b""),
-    ("js/compile.js", b"// Compiles", b"// Compiles\xe2\x80\xa8"),
     ("c/base62.h", b"BASE62_NO_KEY = 5,", b"BASE62_NO_KEY = 8,"),
     ("c/base62.c", b"6893020016967578278", b"6893020016967578279"),
 ]

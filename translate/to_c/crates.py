@@ -38,8 +38,6 @@ class Module:
     def add(self, item):
         name = str(item.name)
         if unknown := [it for it in item.attributes if not ATTRIBUTE.fullmatch(it)]:
-            if unknown == ["#[cfg(test)]"]:
-                return
             refuse(item.first, f"an attribute that is not known, {unknown[0]}, of")
         if name in self.definitions and item.kind not in ("use", "mod", "impl", "ghost", ""):
             refuse(item.name, "a second item of this name")

@@ -23,9 +23,8 @@ class Constant(Values):
         if of == USIZE and self.library.number(value, self.definition) >> BITS["usize"]:
             refuse(self.definition.token, "a number that 32 bits do not hold, of")
         if of[0] in INTS and of != U128:
-            for part in value.walk():
-                if part.kind not in ("number", "path", "cast", "binary", "name"):
-                    refuse(part.token, "no static value")
+            if value.kind not in ("number", "path"):
+                refuse(value.token, "no static value")
             text = self.text(value, of, POSTFIX)
             text = FORMS[of[0]] % value.number if value.kind == "number" else text
             return self.emit(f"#define {name} {text}")
@@ -46,7 +45,7 @@ class Constant(Values):
         if node.kind == "number" and of == U128:
             high, low = divmod(node.number, 1 << 64)
             return f"{{{high:#x}, {low:#x}}}" if high else f"{{0, {f'UINT64_C({low})' if low >> 31 else low}}}"
-        if node.kind in ("number", "bool") or node.kind in ("cast", "path") and of[0] in INTS and of != U128:
+        if node.kind == "number" or node.kind in ("cast", "path") and of[0] in INTS and of != U128:
             return self.text(node, of)
         refuse(node.token, "no static value")
 
@@ -129,18 +128,14 @@ class File:
             return
         self.done.add(definition)
         with refusing(definition.token):
-            self.add_lines(definition)
-
-    def add_lines(self, definition):
-        notes = documentation(definition.comments)
-        if definition.kind in ("struct", "enum"):
-            for of in self.library.parts(definition).values():
-                self.add_type(of)
-            self.out += ["", *notes]
-            self.struct(definition) if definition.kind == "struct" else self.enum(definition)
-            return
-        is_together = definition.kind == "const" and self.out[-1].startswith("#define") and not notes
-        self.out += [""] * (not is_together) + notes + self.writers[definition].lines
+            notes = documentation(definition.comments)
+            if definition.kind in ("struct", "enum"):
+                for of in self.library.parts(definition).values():
+                    self.add_type(of)
+                self.out += ["", *notes]
+                return self.struct(definition) if definition.kind == "struct" else self.enum(definition)
+            is_together = definition.kind == "const" and self.out[-1].startswith("#define") and not notes
+            self.out += [""] * (not is_together) + notes + self.writers[definition].lines
 
     def add_type(self, of):
         """Writes the types that are not written yet."""

@@ -1,13 +1,11 @@
 """All that is written: what the source says of it, and the names and types that it has in C."""
-import operator
 import re
 
 from reader import plain, refuse, split_list, token_at
 from .crates import Definition
 from .syntax import Parser
-from .types import BOOL, GHOST, INLINE_TEXT, INTS, STR, U8, U128, UNIT, WORK
+from .types import GHOST, INLINE_TEXT, INTS, STR, U8, U128, UNIT, WORK
 
-WHOLE = {"+": operator.add, "-": operator.sub, "*": operator.mul, "/": operator.floordiv, "%": operator.mod}
 # Words that are no names in C, or that its headers have defined, and functions that its headers declare.
 WORDS_OF_C = set("""auto bool break case char const continue default do double else enum extern false float for goto if
     inline int long register restrict return short signed sizeof static struct switch true typedef union unsigned void
@@ -16,6 +14,13 @@ WORDS_OF_C = set("""auto bool break case char const continue default do double e
 FUNCTIONS_OF_C = set("""bcmp bcopy bzero ffs ffsl ffsll index main memccpy memchr memcmp memmem memmove mempcpy rindex
     strcasecmp strcat strchr strcmp strcoll strcpy strcspn strdup strerror strlen strncasecmp strncat strncmp strncpy
     strndup strnlen strpbrk strrchr strsep strsignal strspn strstr strtok strxfrm""".split())
+
+# Where C has types: as a parameter, a result, a field, the value of an `Ok`, another part of an answer, an element, or
+# what a reference points to, that of a parameter (lent) or any other (target).
+PLACES = {"array": ("parameter", "result", "field", "lent", "target"), "slice": ("lent",), "str": ("lent",),
+          "()": ("result", "ok"), "ghost": ("parameter",), "InlineText": ("parameter", "result", "lent")}
+PLACES |= dict.fromkeys((*INTS, "bool", "defined", "Result", "Option", "tuple"), (
+    "parameter", "result", "field", "ok", "part", "element", "lent", "target"))
 
 
 class Local:
@@ -147,33 +152,23 @@ class Library:
         refuse(node.token, "a type that is not known")
 
     def check(self, of, at, place):
-        """Refuses a type that C does not have in a place: a parameter, a result, a field, the value of an `Ok`, another
-        part of an answer, an element, or what a reference points to, that of a parameter (lent) or any other."""
-        kind, parts, inner = of[0], [], []
-        if kind in ("Result", "Option", "tuple"):
-            fits, parts, inner = True, of[1:], ["ok" if kind == "Result" else "part", "part"]
-        elif kind in ("array", "slice", "str"):
-            fits = place == "lent" or kind == "array" and place in ("parameter", "result", "field", "target")
-            parts, inner = of[1:2], ["element"]
-        elif kind == "ref" and of != WORK:
-            fits = place in ("parameter", "result") or place in ("ok", "part") and not of[2]
-            parts, inner = [of[1]], ["lent" if place == "parameter" else "target"]
-        else:
-            places = {UNIT: ("result", "ok"), GHOST: ("parameter",), WORK: ("parameter",),
-                      INLINE_TEXT: ("parameter", "result", "lent")}
-            fits = place in places.get(of, (place,)) and (
-                of in places or kind in (*INTS, "defined") or of == BOOL)
-        if not fits:
+        """Refuses a type that C does not have in a place."""
+        kind, places = of[0], PLACES.get(of[0], ())
+        if kind == "ref" and of != WORK:
+            places = ("parameter", "result") if of[2] else ("parameter", "result", "ok", "part")
+            self.check(of[1], at, "lent" if place == "parameter" else "target")
+        elif kind in ("array", "slice"):
+            self.check(of[1], at, "element")
+        elif kind in ("Result", "Option", "tuple"):
+            for i, part in enumerate(of[1:]):
+                self.check(part, at, "ok" if kind == "Result" and i == 0 else "part")
+        if place not in (("parameter",) if of == WORK else places):
             refuse(at, f"a type that C does not have there ({kind}), of")
-        for at_, part in enumerate(parts):
-            self.check(part, at, inner[min(at_, len(inner) - 1)])
 
     def number(self, node, by):
         """The value of a constant."""
         if node.kind == "number":
             return node.number
-        if node.kind == "binary" and node.op in WHOLE:
-            return WHOLE[node.op](self.number(node.left, by), self.number(node.right, by))
         found = by.module.find(node.path) if node.kind in ("path", "name") else None
         if isinstance(found, Definition) and found.kind == "const":
             return self.number(self.constant(found)[1], found)
@@ -300,12 +295,9 @@ class Library:
     def answer(self, name):
         """The definition of such a struct."""
         of = self.answers[name]
-        if of[0] == "tuple":
-            parts = [self.declared(part, f"_{i}") for i, part in enumerate(of[1:])]
-        else:
-            flag = "is_ok" if of[0] == "Result" else "is_some"
-            named = [(of[1], flag[3:])] + [(part, "err") for part in of[2:]]
-            parts = [f"bool {flag}"] + [self.declared(part, field) for part, field in named if part != UNIT]
+        fields = {"Result": ["ok", "err"], "Option": ["some"]}.get(of[0]) or [f"_{i}" for i in range(len(of) - 1)]
+        parts = [self.declared(part, field) for field, part in zip(fields, of[1:]) if part != UNIT]
+        parts[:0] = [f"bool is_{fields[0]}"] * (of[0] != "tuple")
         return f"typedef struct {name} {{ {'; '.join(parts)}; }} {name};"
 
     def makers(self, name):

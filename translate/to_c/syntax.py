@@ -181,8 +181,6 @@ class Parser:
             block = self.block()
             return block.tail if block.tail and not block.statements else refuse(token, "not one value")
         if self.accept("return"):
-            if self.peek() in (";", "}", ","):
-                return Node("return", token, value=Node("tuple", token, items=[]))
             return Node("return", token, value=self.expression(0, structs))
         names = self.path()
         if structs and self.peek() == "{" and names[-1][0].isupper():
@@ -285,9 +283,8 @@ class Parser:
 
     def let(self, token):
         pattern = self.pattern()
-        written = self.type() if self.accept(":") else None
         self.expect("=")
         value = self.expression()
         other = self.block() if self.accept("else") else None
         self.expect(";")
-        return Node("let", token, pattern=pattern, written=written, value=value, other=other)
+        return Node("let", token, pattern=pattern, value=value, other=other)

@@ -16,7 +16,9 @@ from .types import (BITS, BOOL, BYTES, HELD, INLINE_TEXT, INTS, STANDARD, STR, T
 LEVEL = {"||": 4, "&&": 5, "|": 6, "^": 7, "&": 8, "==": 9, "!=": 9, "<": 10, ">": 10, "<=": 10, ">=": 10, "<<": 11,
          ">>": 11, "+": 12, "-": 12, "*": 13, "/": 13, "%": 13}
 UNARY, POSTFIX = 14, 15
-U128_CALLS = {"+": "add", "-": "sub", "*": "mul", "|": "or", "&": "and", "<": "less", "==": "equal"}
+WIDE = {"+": "u128_add({}, {})", "-": "u128_sub({}, {})", "*": "u128_mul({}, {})", "|": "u128_or({}, {})",
+        "&": "u128_and({}, {})", "==": "u128_equal({}, {})", "!=": "!u128_equal({}, {})", "<": "u128_less({}, {})",
+        ">": "u128_less({1}, {0})", ">=": "!u128_less({}, {})", "<=": "!u128_less({1}, {0})"}
 CHANGING = ("fill", "copy_from_slice")
 WITHOUT_RECEIVER = ("u128_from_be_bytes", "InlineText_new")
 
@@ -137,7 +139,7 @@ class Values:
         is_call = node.kind in ("call", "method")
         self.place = to if is_call else None
         text = self.text(node, of)
-        if of[1] != U8 or self.place:
+        if of[:2] != ("array", U8) or self.place:
             refuse(node.token, "an array that is not known")
         self.emit(f"{text};" if is_call else f"copy_bytes({to}, {text}, {of[2]});")
 
@@ -166,9 +168,6 @@ class Values:
 
     def address(self, place):
         return place[1:] if place[0] == "*" else f"&{place}"
-
-    def member(self, place, name):
-        return f"{place[1:]}->{name}" if place[0] == "*" else f"{place}.{name}"
 
     def written(self, call, texts, place, wanted):
         """Writes a call that gives a text: where the one is that it gets, or else at a place that is wanted or new."""
@@ -228,9 +227,6 @@ class Values:
         text = f"{node.number:#x}" if node.token.startswith("0x") else str(node.number)
         text = f"UINT{64 if BITS[of[0]] > 32 else 32}_C({text})" if node.number >> 31 else text
         return Value(f"u128_of({text})" if of == U128 else text, of)
-
-    def value_bool(self, node, want):
-        return Value(str(node.token), BOOL)
 
     def value_string(self, node, want):
         if node.token[0] == "b":
@@ -320,17 +316,16 @@ class Values:
         return Value(f"{found.closed(POSTFIX)}{'->' if found.type[0] == 'ref' else '.'}{node.name}", part)
 
     def value_index(self, node, want):
-        return self.range(node) if node.index.kind == "range" else self.element(node.value, node.index)
-
-    def element(self, node, index):
-        found = self.value(node)
+        if node.index.kind == "range":
+            return self.range(node)
+        found, index = self.value(node.value), node.index
         of = self.element_type(node, found)
         # An index of C has any type of integers, and is proved to be below the length.
         is_cast = index.kind == "cast" and self.library.read(index.to, self.definition) == USIZE
         value = self.value(index.value if is_cast else index, None if is_cast else USIZE)
         if value.type not in (U8, U32, U64, USIZE):
             refuse(index.token, "an index that is not known, of")
-        self.in_any_order([node, index])
+        self.in_any_order([node.value, index])
         return Value(f"{found.closed(POSTFIX)}[{value.text}]", of)
 
     def range(self, node):
@@ -351,12 +346,16 @@ class Values:
         """The length of a slice or an array."""
         return value.count or str(behind(value.type)[2])
 
-    def value_array(self, node, want):
-        if not want and all(item.kind == "number" and not item.suffix for item in node.items):
+    def byte_texts(self, node, items, want=None):
+        """The bytes of an array. If nothing is wanted, one of them has a type."""
+        if not want and all(item.kind == "number" and not item.suffix for item in items):
             refuse(node.token, "an array of numbers of no type that is known")
-        items = ", ".join(self.text(item, U8) for item in node.items)
-        self.in_any_order(node.items)
-        name = self.fresh("bytes")
+        texts = [self.text(item, U8) for item in items]
+        self.in_any_order(items)
+        return texts
+
+    def value_array(self, node, want):
+        items, name = ", ".join(self.byte_texts(node, node.items, want)), self.fresh("bytes")
         self.emit(f"const uint8_t {name}[{len(node.items)}] = {{{items}}};")
         return Value(name, ("array", U8, len(node.items)))
 
@@ -366,10 +365,7 @@ class Values:
             refuse(node.token, "no struct that is known")
         of, fields = ("defined", found), self.library.parts(found)
         if any(part[0] == "array" or part[0] == "defined" and not part[1].is_declared for part in fields.values()):
-            name = self.fresh("made")
-            self.emit(f"{self.library.declared(of, name)} = {{0}};")
-            self.fill(name + ".", node, fields)
-            return Value(name, of)
+            refuse(node.token, "a struct that has an array, as a value")
         values = ", ".join(f".{field.name} = {self.text(field.value, fields[field.name])}" for field in node.fields)
         self.in_any_order([field.value for field in node.fields])
         return Value(f"({self.use(found)}){{{values}}}", of)
@@ -380,10 +376,8 @@ class Values:
             of, to = fields[field.name], place + field.name
             if field.value.kind == "struct":
                 self.fill(to + ".", field.value, self.library.parts(of[1]))
-            elif of[0] == "array":
-                self.copy(to, field.value, of)
             else:
-                self.emit(f"{to} = {self.text(field.value, of)};")
+                self.copy(to, field.value, of)
 
     # Operators. C computes below `int` in `int`, which holds each value of a u8, so those are cast back.
 
@@ -415,25 +409,15 @@ class Values:
         return Value(f"(uint8_t)({text})", U8, UNARY) if of == U8 else Value(text, of, level)
 
     def wide(self, op, left, right, of, node):
-        """An operator of u128."""
-        if op in (">", "<="):
-            op, left, right = {">": "<", "<=": ">="}[op], right, left
-        if op in (">=", "!="):
-            return Value(f"!u128_{'less' if op == '>=' else 'equal'}({left}, {right})", of, UNARY)
-        if op in ("<<", ">>"):
-            return Value(self.wide_shift(op, left, node.right), of)
-        if op not in U128_CALLS:
-            refuse(node.token, "an operator of u128 that is not known")
-        return Value(f"u128_{U128_CALLS[op]}({left}, {right})", of)
-
-    def wide_shift(self, op, left, by):
-        """A shift of u128, by a literal that the prelude serves."""
-        bits, to = by.number if by.kind == "number" else 0, "left" if op == "<<" else "right"
-        if bits == 64:
-            return f"u128_shift_{to}_64({left})"
-        if to == "left" or not 0 < bits < 64:
-            refuse(by.token, "a shift of u128 that the prelude does not serve")
-        return f"u128_shift_right_1_to_63({left}, {bits})"
+        """An operator of u128, such as a shift by a literal that the prelude serves."""
+        bits = node.right.number if node.right.kind == "number" else 0
+        if op in WIDE:
+            return Value(WIDE[op].format(left, right), of, UNARY if WIDE[op][0] == "!" else POSTFIX)
+        if op in ("<<", ">>") and bits == 64:
+            return Value(f"u128_shift_{'left' if op == '<<' else 'right'}_64({left})", of)
+        if op == ">>" and 0 < bits < 64:
+            return Value(f"u128_shift_right_1_to_63({left}, {bits})", of)
+        refuse(node.token, "an operator of u128, or a shift, that the prelude does not serve")
 
     def value_cast(self, node, want):
         return self.converted(node.value, self.library.read(node.to, self.definition))
@@ -441,9 +425,7 @@ class Values:
     def converted(self, node, to):
         found = self.value(node)
         of = found.type
-        if to == of and (node.kind != "number" or to == U128):  # A number is an int in C.
-            return found
-        if to[0] not in INTS or of[0] not in (*INTS, "bool") or to == USIZE and of not in (U8, U32, BOOL, USIZE):
+        if to == of or to[0] not in INTS or of[0] not in (*INTS, "bool") or to == USIZE and of not in (U8, U32, BOOL):
             refuse(node.token, "a cast that is not known, of")
         if to == U128:
             return Value(f"u128_of({found.text})", to)
@@ -504,7 +486,8 @@ class Values:
             refuse(node.token, "a receiver behind a reference")
         if name == "as_str" and of == INLINE_TEXT:
             self.borrowed.add(node.value.local)
-            return Value(self.member(receiver.text, "bytes"), TEXT, POSTFIX, self.member(receiver.text, "length"))
+            text = receiver.text[1:] + "->" if receiver.text[0] == "*" else receiver.text + "."
+            return Value(f"{text}bytes", TEXT, POSTFIX, f"{text}length")
         if name == "unwrap_or" and of[0] == "Result":
             place, other = self.named(receiver, node.value, "answer"), self.alone(node.args[0], of[1])
             self.without_effect(*node.args)
@@ -591,9 +574,6 @@ class Values:
             found = found._replace(type=("ref", found.type, True))
             if found.type[1][0] != "array":
                 found = found._replace(text=f"&{place.closed(UNARY)}", level=UNARY)
-        elif want[0] != "ref" and found.type[0] == "ref":
-            found = Value(f"*{found.closed(UNARY)}", found.type[1], UNARY) if want[0] != "array" else found._replace(
-                type=found.type[1])
         return found if fits(found.type, want) else refuse(node.token, "a receiver that is not known")
 
     def without_alias(self, node, args):

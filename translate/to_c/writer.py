@@ -1,11 +1,10 @@
 """Writes a function in C: its head, its statements and its patterns."""
 import re
 
-from reader import refuse, refusing, twin_of
+from reader import refuse, refusing, twin_of, types_of
 from .crates import Definition
 from .layout import WIDTH, comment_of
-from .library import Local
-from .types import HELD, INLINE_TEXT, INTS, STR, U8, U32, U64, U128, UNIT, USIZE, WORK, behind, is_slice, parts_of
+from .types import HELD, INLINE_TEXT, INTS, U8, U32, U64, U128, UNIT, USIZE, WORK, is_slice, parts_of
 from .values import LEVEL, UNARY, Values
 
 STORAGE = {"#[inline]": "inline ", "#[inline(always)]": "B62_ALWAYS_INLINE "}
@@ -57,7 +56,7 @@ class Writer(Values):
         So is one that always holds, and one that subtracts: ACSL has numbers below 0."""
         said = []
         for clause in self.definition.item.requires:
-            if clause.holds(self.ends):
+            if clause.holds(types_of(self.definition.item)):
                 continue
             text = WORD.sub(self.term, " ".join(clause.stated).replace(" . ", "."))
             text = text.replace("≤", "<=").replace("≡", "==")
@@ -83,14 +82,6 @@ class Writer(Values):
             return "?"
         return str(self.library.number(self.library.constant(constants[0])[1], constants[0]))
 
-    def ends(self, name, bits):
-        """The least and the greatest value of a number or a length, where a usize has so many bits."""
-        local = self.scopes[0].get(name.removeprefix("length "))
-        if local and name.startswith("length "):
-            return (0, 2 ** bits - 1) if is_slice(local.type) else None
-        widths = {U8: 8, U32: 32, U64: 64, U128: 128, USIZE: bits}
-        return (0, 2 ** widths[local.type] - 1) if local and local.type in widths else None
-
     def leave_out(self):
         """Leaves out what nothing reads: lengths and starts of parts of slices."""
         for lines, name in reversed(self.optional):
@@ -103,7 +94,7 @@ class Writer(Values):
         parts = [part for local in self.function.parameters for part in self.parameter(local)]
         if result[0] == "array":
             self.returned = self.returned_bytes()
-            self.out_name = self.fresh(self.returned.name if self.returned else "result")
+            self.out_name = self.fresh(self.returned.name)
             parts.append(library.declared(result, self.out_name))
         if result == INLINE_TEXT:
             self.text_place = self.function.moved[0].c if self.function.moved else "*" + self.fresh("result")
@@ -117,11 +108,11 @@ class Writer(Values):
                 refuse(self.definition.token, f"an attribute that is not known, {known}, of")
             storage += STORAGE.get(known, "")
         head = f"{library.name(self.definition)}({', '.join(parts) or 'void'})"
-        return storage + library.declared(UNIT if self.out_name or self.text_place else result, head)
+        return storage + library.declared(UNIT if self.returned or self.text_place else result, head)
 
     def returned_bytes(self):
-        """The variable of bytes that the function returns, if nothing else is returned and no parameter is a pointer. So
-        its place can be that of the result."""
+        """The variable of bytes that the function returns. Nothing else is returned and no parameter is a pointer, so its
+        place is that of the result."""
         body = self.body()
         name = body.tail.path if body.tail and body.tail.kind == "path" else None
         lets = [node for node in body.walk() if node.kind == "let" and node.pattern.kind == "binding"
@@ -129,7 +120,9 @@ class Writer(Values):
         types = [of[0] for local in self.function.parameters for of in parts_of(local.type)]
         is_only = len(lets) == 1 and lets[0] in body.statements and lets[0].value.kind == "repeat"
         others = {"ref", "array"} & {*types} or {"return", "try"} & {node.kind for node in body.walk()}
-        return lets[0].pattern if is_only and not others else None
+        if not is_only or others:
+            refuse(self.definition.token, "an array that is not known, of")
+        return lets[0].pattern
 
     def parameter(self, local):
         of, library, self.scopes[0][local.name] = local.type, self.library, local
@@ -139,7 +132,7 @@ class Writer(Values):
         if is_slice(of):
             local.count = self.fresh(local.c + "_length")
             is_read = (self.definition, local.name) in library.lengths
-            return [library.c_type(of) + "B62_RESTRICT " * of[2] + local.c] + [f"size_t {local.count}"] * is_read
+            return [library.c_type(of) + local.c] + [f"size_t {local.count}"] * is_read
         return ["const " * (of[0] == "array") + library.declared(of, local.c)]
 
     def exported_head(self):
@@ -206,19 +199,15 @@ class Writer(Values):
 
     def write_return(self, node, into):
         self.put(node.value, "return")
-        if self.out_name or self.text_place or self.function.result == UNIT:
-            self.emit("return;")
+        if self.returned or self.text_place or self.function.result == UNIT:
+            refuse(node.token, "a return before the end, of what C does not return,")
 
     def write_value(self, node, into):
         result = self.function.result
         if node.kind == "method" and self.is_ghost(node.value):
             node.args and refuse(node.token, "an argument that no run has")
-        elif node.kind == "tuple" and not node.items:
-            pass
         elif into == "return" and self.returned:
             pass  # It is in its place.
-        elif into == "return" and self.out_name:
-            self.copy(self.out_name, node, result)
         elif into == "return" and self.text_place:
             if self.moved(node, None if self.function.moved else self.text_place) != self.text_place:
                 refuse(node.token, "another text than the one that is lent")
@@ -276,27 +265,19 @@ class Writer(Values):
             over = over.value
         if [(p.kind, getattr(p, "is_mutable", True)) for p in names] != [("binding", False)] * (2 - is_range):
             refuse(node.token, "a loop that is not known")
-        of, start, count = self.list_of(over)
+        found = self.value(over)
+        of, count = self.element_type(over, found), self.count(found)
+        if over.kind != "path":  # The names and numbers of a variable's start and length change nowhere.
+            refuse(over.token, "a loop over what is no variable")
         self.enter(0)
         index = self.bind(names[0].name, USIZE)
         self.emit(f"for (size_t {index.c} = 0; {index.c} < {count}; {index.c}++) {{")
         if not is_range:
             item = self.bind(names[1].name, ("ref", of, False))
-            self.emit(f"    {self.library.declared(item.type, item.c)} = {start} + {index.c};")
+            self.emit(f"    {self.library.declared(item.type, item.c)} = {found.text} + {index.c};")
         self.repeated(node.body)
         self.emit("}")
         self.leave(0)
-
-    def list_of(self, node):
-        """The type of the elements of a list, its start and its length: names and numbers, which nothing changes."""
-        found = self.value(node)
-        of = self.element_type(node, found) if behind(found.type) != STR else U8
-        self.without_effect(node)
-        if node.kind == "path":
-            return of, found.text, self.count(found)
-        local = Local("part", ("ref", ("slice", of), False), self.fresh("part"))
-        self.part(local, found.text, self.count(found))
-        return of, local.c, local.count
 
     def write_assign(self, node, into):
         place, local = node.place, self.local(str(node.place.path[0])) if node.place.kind == "path" else None
@@ -337,7 +318,7 @@ class Writer(Values):
         if self.is_ghost(value):
             self.bind(pattern.name, WORK)
         elif pattern.kind == "binding" and not node.other:
-            self.variable(node, pattern, value)
+            self.variable(pattern, value)
         elif pattern.kind == "tuple" and value.kind == "method" and value.name in ("split_at", "split_at_mut"):
             self.split(pattern, value)
         else:
@@ -346,8 +327,7 @@ class Writer(Values):
     def taken_apart(self, node, pattern, value):
         """The variables of a pattern."""
         names = "_".join(p.name for p in pattern.items if p.kind == "binding")
-        want = self.written_type(node)
-        found = self.value(value, want)
+        found = self.value(value)
         name = self.named(found, value, names or "answer", bool(node.other))
         conditions, bound = self.fit(pattern, name, found.type)
         if not node.other and not conditions:
@@ -359,21 +339,13 @@ class Writer(Values):
         self.emit("}")
         self.bind(bound[0][0].name, bound[0][2], bound[0][1])
 
-    def written_type(self, node):
-        """The type that a `let` writes, if it does."""
-        of = self.library.read(node.written, self.definition) if node.written else None
-        if of:
-            self.library.check(of, node.token, "parameter")
-        return of
-
-    def variable(self, node, pattern, value):
-        want = self.written_type(node)
+    def variable(self, pattern, value):
         if value.kind == "try" and not pattern.is_mutable:
-            found = self.value_try(value, want, pattern.name)
+            found = self.value_try(value, None, pattern.name)
             self.bind(pattern.name, found.type, found.text)
         elif value.kind in ("array", "repeat"):
-            self.bytes(pattern, value, want)
-        elif value.kind == "number" and not value.suffix and not want:
+            self.bytes(pattern, value)
+        elif value.kind == "number" and not value.suffix:
             # Its type is learned from what is done with it.
             of = getattr(pattern, "learned", None)
             self.library.unknown += [] if of else [value.token]
@@ -381,30 +353,26 @@ class Writer(Values):
             local.pattern = pattern
             self.emit(f"{self.library.declared(of or USIZE, local.c)} = {self.text(value, of or USIZE)};")
         else:
-            found = self.value(value, want)
+            found = self.value(value)
             if found.type == INLINE_TEXT:
                 self.move(value)
-            if found.type == INLINE_TEXT or value.kind == "struct" and self.library.has_array(found.type):
                 return self.bind(pattern.name, found.type, found.text)
-            local = self.bind(pattern.name, found.type)
             if is_slice(found.type):
-                self.part(local, found.text, self.count(found), False)
-            elif pattern.is_mutable and found.type[0] not in ("()", "array", "slice"):
+                refuse(value.token, "a slice as a variable")
+            local = self.bind(pattern.name, found.type)
+            if pattern.is_mutable and found.type[0] not in ("()", "array", "slice"):
                 self.emit(f"{self.library.declared(found.type, local.c)} = {found.text};")
             else:
                 self.constant(found.type, local.c, found.text)
 
-    def bytes(self, pattern, value, want):
+    def bytes(self, pattern, value):
         """Bytes that are written out, or the same byte everywhere."""
         items = value.items if value.kind == "array" else [value.value]
-        if not want and all(item.kind == "number" and not item.suffix for item in items):
-            refuse(value.token, "an array of numbers of no type that is written")
-        texts = [self.text(item, U8) for item in items]
-        self.in_any_order(items)
+        texts = self.byte_texts(value, items)
         count = len(items) if value.kind == "array" else self.library.number(value.count, self.definition)
         of = ("array", U8, count)
         local = self.bind(pattern.name, of, self.out_name if pattern is self.returned else None)
-        if want not in (None, of) or pattern is self.returned and of != self.function.result:
+        if pattern is self.returned and of != self.function.result:
             refuse(value.token, "an array of another type")
         if value.kind == "array":
             const = "const " * (not pattern.is_mutable)
@@ -419,7 +387,7 @@ class Writer(Values):
             self.emit(f"fill_bytes({local.c}, {byte}, sizeof {local.c});")
 
     def split(self, pattern, value):
-        """The parts of a slice."""
+        """The parts of a slice. Their starts and lengths are left out if nothing reads them."""
         found = self.value(value.value)
         end, start = self.alone(value.args[0], USIZE), self.alone(value.args[0], USIZE, UNARY)
         self.without_effect(value.value, *value.args)
@@ -427,19 +395,15 @@ class Writer(Values):
         of = ("ref", ("slice", self.element_type(value, found)), value.name == "split_at_mut")
         for part, (begin, length) in zip(pattern.items, ends):
             if part.kind == "binding":
-                self.part(self.bind(part.name, of), begin, length)
+                local = self.bind(part.name, of)
+                local.count = self.fresh(local.c + "_length")
+                for name, line in ((local.c, f"{self.library.declared(of, local.c)} = {begin};"),
+                                   (local.count, f"const size_t {local.count} = {length};")):
+                    before = len(self.lines)
+                    self.emit(line)
+                    self.optional.append((self.lines[before:], name))
             elif part.kind != "wild":
                 refuse(part.token, "a pattern that is not known")
-
-    def part(self, local, begin, length, is_optional=True):
-        """Declares the start and the length of a slice. They are left out if nothing reads them."""
-        local.count = self.fresh(local.c + "_length")
-        before = len(self.lines)
-        self.emit(f"{self.library.declared(local.type, local.c)} = {begin};")
-        self.optional += [(self.lines[before:], local.c)] * is_optional
-        before = len(self.lines)
-        self.emit(f"const size_t {local.count} = {length};")
-        self.optional.append((self.lines[before:], local.count))
 
     # Match. Each arm returns, so that what follows an arm is its else.
 
@@ -447,7 +411,7 @@ class Writer(Values):
         found = self.value(node.value)
         name, arms = self.named(found, node.value, "answer"), node.arms
         self.places[name] = found.lent
-        if into != "return" or self.function.result == UNIT or self.out_name:
+        if into != "return" or self.function.result == UNIT or self.returned:
             refuse(node.token, "a match that does not return")
         before, spent = set(self.spent), set()
         for arm in arms:
@@ -508,9 +472,8 @@ class Writer(Values):
         return conditions, bound
 
     def compared(self, text, op, other, of, node):
-        if of == U128:
-            return self.wide(op, text, other, of, node).text
-        return f"{text} {op} {other}" if of[0] in (*INTS, "bool") else refuse(node.token, "a pattern that is not known")
+        is_known = of[0] in INTS and of != U128
+        return f"{text} {op} {other}" if is_known else refuse(node.token, "a pattern that is not known")
 
     def fit_variant(self, pattern, text, dot, of):
         """What has to hold for a variant or a constant, and the places and types of what it holds."""

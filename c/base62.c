@@ -918,37 +918,31 @@ typedef struct pair_u64_u64 { uint64_t _0; uint64_t _1; } pair_u64_u64;
 
 typedef struct pair_u32_u64_u64 { uint32_t _0; uint64_t _1; uint64_t _2; } pair_u32_u64_u64;
 
-static B62_ALWAYS_INLINE void write_text(const Tables *tables, u128 n, size_t count, uint8_t *B62_RESTRICT buf);
-static void write_narrow(const Tables *tables, uint64_t n, size_t count, uint8_t *B62_RESTRICT buf);
-static void write_wide(const Tables *tables, u128 n, size_t count, uint8_t *B62_RESTRICT buf);
+static B62_ALWAYS_INLINE void write_text(const Tables *tables, u128 n, size_t count, uint8_t *buf);
+static void write_narrow(const Tables *tables, uint64_t n, size_t count, uint8_t *buf);
+static void write_wide(const Tables *tables, u128 n, size_t count, uint8_t *buf);
 static B62_ALWAYS_INLINE pair_u32_u64_u64 divide_by_62_20(u128 n);
 static B62_ALWAYS_INLINE uint64_t last_10(u128 n);
 static B62_ALWAYS_INLINE u128 scaled_by_20(u128 n);
 static B62_ALWAYS_INLINE pair_u64_u64 divide_by_62_10(u128 n);
 static B62_ALWAYS_INLINE pair_u64_u64 fraction_of(uint64_t n);
 static B62_ALWAYS_INLINE pair_u64_u64 divide_narrow_by_62_10(uint64_t n);
-static B62_ALWAYS_INLINE void write_up_to_9(const Tables *tables, uint64_t n, size_t places,
-    uint8_t *B62_RESTRICT buf);
-static B62_ALWAYS_INLINE void write_up_to_5(const Tables *tables, uint32_t n, size_t places,
-    uint8_t *B62_RESTRICT buf);
-static B62_ALWAYS_INLINE void write_1_or_2(const Tables *tables, uint32_t x, size_t places,
-    uint8_t *B62_RESTRICT buf);
-static B62_ALWAYS_INLINE void write_2(const Tables *tables, uint32_t x, uint8_t *B62_RESTRICT buf);
-static B62_ALWAYS_INLINE void write_4(const Tables *tables, uint32_t x, uint8_t *B62_RESTRICT buf);
-static B62_ALWAYS_INLINE void write_20(const Tables *tables, uint64_t high, uint64_t low,
-    uint8_t *B62_RESTRICT buf);
-static B62_ALWAYS_INLINE void write_10(const Tables *tables, uint64_t fraction, uint8_t *B62_RESTRICT buf);
-static B62_ALWAYS_INLINE void write_5(const Tables *tables, uint64_t fraction, uint8_t *B62_RESTRICT buf);
-static B62_ALWAYS_INLINE void write_pair(const Tables *tables, uint64_t first, uint64_t second,
-    uint8_t *B62_RESTRICT buf);
+static B62_ALWAYS_INLINE void write_up_to_9(const Tables *tables, uint64_t n, size_t places, uint8_t *buf);
+static B62_ALWAYS_INLINE void write_up_to_5(const Tables *tables, uint32_t n, size_t places, uint8_t *buf);
+static B62_ALWAYS_INLINE void write_1_or_2(const Tables *tables, uint32_t x, size_t places, uint8_t *buf);
+static B62_ALWAYS_INLINE void write_2(const Tables *tables, uint32_t x, uint8_t *buf);
+static B62_ALWAYS_INLINE void write_4(const Tables *tables, uint32_t x, uint8_t *buf);
+static B62_ALWAYS_INLINE void write_20(const Tables *tables, uint64_t high, uint64_t low, uint8_t *buf);
+static B62_ALWAYS_INLINE void write_10(const Tables *tables, uint64_t fraction, uint8_t *buf);
+static B62_ALWAYS_INLINE void write_5(const Tables *tables, uint64_t fraction, uint8_t *buf);
+static B62_ALWAYS_INLINE void write_pair(const Tables *tables, uint64_t first, uint64_t second, uint8_t *buf);
 static B62_ALWAYS_INLINE pair_u64_u64 next_digit(uint64_t fraction);
 static B62_ALWAYS_INLINE uint64_t first_digit(uint64_t fraction);
 static B62_ALWAYS_INLINE uint64_t after_5(uint64_t fraction);
 static B62_ALWAYS_INLINE pair_u64_u64 whole_and_fraction(u128 n);
 
 // Encodes over the alphabet of the tables.
-static B62_ALWAYS_INLINE result_usize encode_over(const Tables *tables, u128 n, uint8_t *B62_RESTRICT buf,
-    size_t buf_length) {
+static B62_ALWAYS_INLINE result_usize encode_over(const Tables *tables, u128 n, uint8_t *buf, size_t buf_length) {
     const size_t count = digit_count(n);
     if (buf_length < count) {
         return err_usize(EncodeError_BufferTooSmall());
@@ -958,7 +952,7 @@ static B62_ALWAYS_INLINE result_usize encode_over(const Tables *tables, u128 n, 
 }
 
 // Writes the text of a number, whose count of letters is given.
-static B62_ALWAYS_INLINE void write_text(const Tables *tables, u128 n, size_t count, uint8_t *B62_RESTRICT buf) {
+static B62_ALWAYS_INLINE void write_text(const Tables *tables, u128 n, size_t count, uint8_t *buf) {
     if (!u128_less(u128_of(UINT64_C(0xffffffffffffffff)), n)) {
         write_narrow(tables, u128_low(n), count, buf);
     } else {
@@ -967,7 +961,7 @@ static B62_ALWAYS_INLINE void write_text(const Tables *tables, u128 n, size_t co
 }
 
 // Writes the text of a number below 2^64.
-static void write_narrow(const Tables *tables, uint64_t n, size_t count, uint8_t *B62_RESTRICT buf) {
+static void write_narrow(const Tables *tables, uint64_t n, size_t count, uint8_t *buf) {
     //@ assert requires: 1 <= count && count <= 11;
     if (count < 10) {
         write_up_to_9(tables, n, count, buf);
@@ -981,7 +975,7 @@ static void write_narrow(const Tables *tables, uint64_t n, size_t count, uint8_t
 }
 
 // Writes the text of a number of 2^64 or more.
-static void write_wide(const Tables *tables, u128 n, size_t count, uint8_t *B62_RESTRICT buf) {
+static void write_wide(const Tables *tables, u128 n, size_t count, uint8_t *buf) {
     //@ assert requires: 11 <= count && count <= 22;
     if (count > 20) {
         const pair_u32_u64_u64 top_high_low = divide_by_62_20(n);
@@ -1075,8 +1069,7 @@ static B62_ALWAYS_INLINE pair_u64_u64 divide_narrow_by_62_10(uint64_t n) {
 }
 
 // Writes one to nine letters. If there are more than four, it writes the last four first.
-static B62_ALWAYS_INLINE void write_up_to_9(const Tables *tables, uint64_t n, size_t places,
-    uint8_t *B62_RESTRICT buf) {
+static B62_ALWAYS_INLINE void write_up_to_9(const Tables *tables, uint64_t n, size_t places, uint8_t *buf) {
     //@ assert requires: 1 <= places && places <= 9;
     if (places > 4) {
         const uint64_t quotient = n / (uint64_t)B62_POWER_4;
@@ -1089,8 +1082,7 @@ static B62_ALWAYS_INLINE void write_up_to_9(const Tables *tables, uint64_t n, si
 }
 
 // Writes one to five letters, from the last to the first.
-static B62_ALWAYS_INLINE void write_up_to_5(const Tables *tables, uint32_t n, size_t places,
-    uint8_t *B62_RESTRICT buf) {
+static B62_ALWAYS_INLINE void write_up_to_5(const Tables *tables, uint32_t n, size_t places, uint8_t *buf) {
     //@ assert requires: 1 <= places && places <= 5;
     if (places > 4) {
         const uint32_t quotient = n / B62_POWER_4;
@@ -1107,8 +1099,7 @@ static B62_ALWAYS_INLINE void write_up_to_5(const Tables *tables, uint32_t n, si
 
 // Writes one or two letters, as a pair. If there is one place, the second letter overwrites the
 // first, which is a zero.
-static B62_ALWAYS_INLINE void write_1_or_2(const Tables *tables, uint32_t x, size_t places,
-    uint8_t *B62_RESTRICT buf) {
+static B62_ALWAYS_INLINE void write_1_or_2(const Tables *tables, uint32_t x, size_t places, uint8_t *buf) {
     //@ assert requires: 1 <= places && places <= 2;
     const pair_u8_u8 first_second = Tables_pair(tables, x);
     const uint8_t first = first_second._0, second = first_second._1;
@@ -1117,13 +1108,13 @@ static B62_ALWAYS_INLINE void write_1_or_2(const Tables *tables, uint32_t x, siz
 }
 
 // Writes two letters.
-static B62_ALWAYS_INLINE void write_2(const Tables *tables, uint32_t x, uint8_t *B62_RESTRICT buf) {
+static B62_ALWAYS_INLINE void write_2(const Tables *tables, uint32_t x, uint8_t *buf) {
     //@ assert requires: x < 3844;
     write_1_or_2(tables, x, 2, buf);
 }
 
 // Writes four letters.
-static B62_ALWAYS_INLINE void write_4(const Tables *tables, uint32_t x, uint8_t *B62_RESTRICT buf) {
+static B62_ALWAYS_INLINE void write_4(const Tables *tables, uint32_t x, uint8_t *buf) {
     //@ assert requires: x < 14776336;
     const uint32_t quotient = x / B62_POWER_2;
     write_2(tables, x - quotient * B62_POWER_2, buf + 2);
@@ -1132,20 +1123,19 @@ static B62_ALWAYS_INLINE void write_4(const Tables *tables, uint32_t x, uint8_t 
 
 // Writes twenty letters of two fractions, the last ten first, since their fraction is computed
 // first.
-static B62_ALWAYS_INLINE void write_20(const Tables *tables, uint64_t high, uint64_t low,
-    uint8_t *B62_RESTRICT buf) {
+static B62_ALWAYS_INLINE void write_20(const Tables *tables, uint64_t high, uint64_t low, uint8_t *buf) {
     write_10(tables, low, buf + 10);
     write_10(tables, high, buf);
 }
 
 // Writes ten letters of a fraction. The last five are computed independently of the first five.
-static B62_ALWAYS_INLINE void write_10(const Tables *tables, uint64_t fraction, uint8_t *B62_RESTRICT buf) {
+static B62_ALWAYS_INLINE void write_10(const Tables *tables, uint64_t fraction, uint8_t *buf) {
     write_5(tables, fraction, buf);
     write_5(tables, after_5(fraction), buf + 5);
 }
 
 // Writes the first five letters of a fraction.
-static B62_ALWAYS_INLINE void write_5(const Tables *tables, uint64_t fraction, uint8_t *B62_RESTRICT buf) {
+static B62_ALWAYS_INLINE void write_5(const Tables *tables, uint64_t fraction, uint8_t *buf) {
     const pair_u64_u64 first_after_1 = next_digit(fraction);
     const uint64_t first = first_after_1._0, after_1 = first_after_1._1;
     buf[0] = Tables_letter(tables, first);
@@ -1160,8 +1150,7 @@ static B62_ALWAYS_INLINE void write_5(const Tables *tables, uint64_t fraction, u
 }
 
 // Writes the letters of two digits.
-static B62_ALWAYS_INLINE void write_pair(const Tables *tables, uint64_t first, uint64_t second,
-    uint8_t *B62_RESTRICT buf) {
+static B62_ALWAYS_INLINE void write_pair(const Tables *tables, uint64_t first, uint64_t second, uint8_t *buf) {
     //@ assert requires: first < 62 && second < 62;
     const pair_u8_u8 first_letter_second_letter = Tables_pair_of_digits(tables, first, second);
     const uint8_t first_letter = first_letter_second_letter._0, second_letter = first_letter_second_letter._1;
@@ -1219,7 +1208,7 @@ static inline u128 bytes_16_number(const uint8_t self[16]) {
 //
 // Returns `BufferTooSmall` if `buf` is shorter than the encoded string, so never for 22 bytes or
 // more. `buf` is then left unchanged.
-static result_usize encode_bytes(u128 num, uint8_t *B62_RESTRICT buf, size_t buf_length) {
+static result_usize encode_bytes(u128 num, uint8_t *buf, size_t buf_length) {
     return encode_over(standard_tables(), u128_number(num), buf, buf_length);
 }
 
@@ -1228,7 +1217,7 @@ static result_usize encode_bytes(u128 num, uint8_t *B62_RESTRICT buf, size_t buf
 // # Errors
 //
 // Returns the errors of `encode_bytes`.
-static result_usize encode_alternative_bytes(u128 num, uint8_t *B62_RESTRICT buf, size_t buf_length) {
+static result_usize encode_alternative_bytes(u128 num, uint8_t *buf, size_t buf_length) {
     return encode_over(alternative_tables(), u128_number(num), buf, buf_length);
 }
 
@@ -1239,8 +1228,7 @@ static result_usize encode_alternative_bytes(u128 num, uint8_t *B62_RESTRICT buf
 // # Errors
 //
 // Returns the errors of `encode_bytes`.
-static result_usize encode_bytes_with(const Alphabet *alphabet, u128 num, uint8_t *B62_RESTRICT buf,
-    size_t buf_length) {
+static result_usize encode_bytes_with(const Alphabet *alphabet, u128 num, uint8_t *buf, size_t buf_length) {
     return encode_over(Alphabet_as_tables(alphabet), u128_number(num), buf, buf_length);
 }
 
@@ -1338,10 +1326,9 @@ static B62_ALWAYS_INLINE result_unit_DecodeError err_unit_DecodeError(DecodeErro
     return (result_unit_DecodeError){.is_ok = false, .err = err};
 }
 
-static B62_ALWAYS_INLINE result_unit fill_places(const Tables *tables, u128 n, uint8_t *B62_RESTRICT places,
+static B62_ALWAYS_INLINE result_unit fill_places(const Tables *tables, u128 n, uint8_t *places,
     size_t places_length);
-static void write_padded(const Tables *tables, u128 n, size_t count, uint8_t *B62_RESTRICT places,
-    size_t places_length);
+static void write_padded(const Tables *tables, u128 n, size_t count, uint8_t *places, size_t places_length);
 static result_option_pair_u128_u128 range_over(const Tables *tables, size_t width, const uint8_t *prefix,
     size_t prefix_length);
 static result_option_pair_u128_u128 range_found(const Tables *tables, size_t width, const uint8_t *prefix,
@@ -1358,7 +1345,7 @@ static result_unit_DecodeError check_letters(const Tables *tables, const uint8_t
 //
 // Returns `BufferTooSmall` if `places` is shorter than the encoded string, so always if it is
 // empty, and never for 22 bytes or more. `places` is then left unchanged.
-static result_unit encode_fixed(u128 num, uint8_t *B62_RESTRICT places, size_t places_length) {
+static result_unit encode_fixed(u128 num, uint8_t *places, size_t places_length) {
     return fill_places(standard_tables(), u128_number(num), places, places_length);
 }
 
@@ -1369,7 +1356,7 @@ static result_unit encode_fixed(u128 num, uint8_t *B62_RESTRICT places, size_t p
 // # Errors
 //
 // Returns the errors of `encode_fixed`.
-static result_unit encode_alternative_fixed(u128 num, uint8_t *B62_RESTRICT places, size_t places_length) {
+static result_unit encode_alternative_fixed(u128 num, uint8_t *places, size_t places_length) {
     return fill_places(alternative_tables(), u128_number(num), places, places_length);
 }
 
@@ -1380,13 +1367,12 @@ static result_unit encode_alternative_fixed(u128 num, uint8_t *B62_RESTRICT plac
 // # Errors
 //
 // Returns the errors of `encode_fixed`.
-static result_unit encode_fixed_with(const Alphabet *alphabet, u128 num, uint8_t *B62_RESTRICT places,
-    size_t places_length) {
+static result_unit encode_fixed_with(const Alphabet *alphabet, u128 num, uint8_t *places, size_t places_length) {
     return fill_places(Alphabet_as_tables(alphabet), u128_number(num), places, places_length);
 }
 
 // Writes the text of as many letters as there are places, over the alphabet of the tables.
-static B62_ALWAYS_INLINE result_unit fill_places(const Tables *tables, u128 n, uint8_t *B62_RESTRICT places,
+static B62_ALWAYS_INLINE result_unit fill_places(const Tables *tables, u128 n, uint8_t *places,
     size_t places_length) {
     const size_t count = digit_count(n);
     if (places_length < count) {
@@ -1397,8 +1383,7 @@ static B62_ALWAYS_INLINE result_unit fill_places(const Tables *tables, u128 n, u
 }
 
 // Writes the text of a number, whose count of letters is given, with leading zeros.
-static void write_padded(const Tables *tables, u128 n, size_t count, uint8_t *B62_RESTRICT places,
-    size_t places_length) {
+static void write_padded(const Tables *tables, u128 n, size_t count, uint8_t *places, size_t places_length) {
     //@ assert requires: count <= places_length;
     uint8_t *zeros = places;
     const size_t zeros_length = places_length - count;
@@ -1618,7 +1603,7 @@ static uint32_t store_repeat(AlphabetError fault, base62_bad_byte *bad) {
     return B62_REPEATED_LETTER;
 }
 
-static size_t copy_text(const uint8_t *text, size_t text_length, uint8_t *B62_RESTRICT buf, size_t buf_length) {
+static size_t copy_text(const uint8_t *text, size_t text_length, uint8_t *buf, size_t buf_length) {
     // An empty text is not copied, since `buf` may then be empty too.
     if (text_length == 0 || buf_length < text_length) {
         return 0;

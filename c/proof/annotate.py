@@ -29,9 +29,9 @@ ANNOTATIONS = ("numbers faults powers results digits alphabets tables readers de
 def text_of(path):
     """A file of lines of printable characters. Others, as a carriage return, compilers and this program may read
     otherwise."""
-    text = path.read_bytes().decode()
+    text = path.read_bytes().decode() if path.is_file() else "\0"
     if not text.replace("\n", "").isprintable():
-        raise SystemExit(f"a character that is not printable: {path}")
+        raise SystemExit(f"no file, or a character that is not printable: {path}")
     return text
 
 
@@ -148,7 +148,13 @@ def annotated(source, *more):
     lines = source.split("\n")
     functions = definitions(lines)
     before = {}
-    for head, body in (section for text in [*lists(), *more] for section in sections(text)):
+    texts = [*lists(), *more]
+    # Only a definition has several lines for the preprocessor.
+    others = re.sub(r"^(?:#define ACSL_\w+(?:.*\\\n)*|==).*", "", "\n".join(texts), flags=re.M)
+    wrong = re.findall(r"^.*(?:#|%:|\?\?|\\$).*", others, re.M)
+    if wrong:
+        raise SystemExit("a line for the preprocessor: " + wrong[0])
+    for head, body in (section for text in texts for section in sections(text)):
         at, form = place(head, lines, functions)
         before.setdefault(at, []).extend(form(body))
     return "\n".join(new for i, line in enumerate(lines) for new in [*before.get(i, []), line])

@@ -52,6 +52,8 @@ SAME = {
     "fraction_of: return (pair_u64_u64){(uint64_t)(fraction <= upper), fraction};",
     "divide_narrow_by_62_10: u128_of(UINT64_C(12669882045338564947))), 59), u128_of((1 + 1))));",
     "write_up_to_9: if (places > (4 + 1)) {",
+    # Five bytes are read by either function.
+    "read_up_to_10: if (part_length > 5) {",
     # check_letters gives the error of a bad byte too.
     "range_found: if (!answer.is_ok || answer.err.tag == DecodeError_ArithmeticOverflow_tag) {",
     # All bytes are written again.

@@ -7,8 +7,9 @@ if the code without annotations and ghosts is not that of base62.c. Without name
 a requirement that nothing meets. It names each goal that takes over a third of its limit.
 
 Variables: BITS (32 for a machine of 32 bits), CORES (how many functions are proved at once), LIMIT (seconds for a
-goal), WORK (a folder for the annotated code, the logs, and goals.tsv with the time of each goal), CACHE (a folder of
-results of provers, for a proof that is being made: it fails). Of this folder Python takes the four modules alone.
+goal), WORK (an empty folder for the annotated code, the logs, and goals.tsv with the time of each goal), CACHE (a
+folder of results of provers, for a proof that is being made: it fails). Of this folder Python takes the four modules
+alone.
 """
 
 import importlib.util
@@ -57,6 +58,8 @@ def counted(logs, constants):
 def main(chosen):
     start = time.monotonic()
     work = pathlib.Path(os.environ.get("WORK") or tempfile.mkdtemp()).resolve()
+    if work.exists() and [*work.iterdir()]:
+        sys.exit(f"not an empty folder: {work}")
     file, code = wp.checked_code(work, annotate.text_of(wp.CODE))
     laws = wp.prepared(work / "laws", annotate.laws())
     of_laws = wp.checked(laws, calls=code.calls)

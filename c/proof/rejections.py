@@ -63,17 +63,17 @@ LISTS = [
     # An axiom.
     (logic("axiomatic A { axiom no: \\false; }"), FORM),
     (logic("admit lemma no: \\false;"), FORM),
-    (f"{TOP}#define JOIN(a, b) a##b\n/*@ axiomatic A {{ JOIN(axi, om) no: \\false; }} */", FORM),
+    (f"{TOP}#define ACSL_JOIN(a, b) a##b\n/*@ axiomatic A {{ ACSL_JOIN(axi, om) no: \\false; }} */", FORM),
     (logic("axiomatic A { axiom no: \\forall integer x; 0 <= x < 256 ==> (x & 127) == x; }"), UNPROVED),
     (logic("axiomatic A { axiom no: \\forall integer x; 0 <= x ==> (uint64_t)x == x % 0x10000000000000000; }"), FORM),
     (logic(f"axiomatic A {{ axiom no: \\forall integer x; 0 <= x < 9 ==> x + 0x1{48 * '0'} == x; }}"), FORM),
     (logic("axiomatic A { axiom no: \\forall integer x; 1 <= x < 9 ==> x << 192 == 0; }"), FORM),
     (logic(f"axiomatic A {{ axiom no: \\forall integer x; 0 <= x < 9 ==> x >= 0x8{47 * '0'}; }}"), FORM),
     (logic("axiomatic A { axiom no: \\forall integer x; 0 <= x < 1 ==> 5 / x == -1; }"), FORM),
-    (f"{TOP}#undef ACSL_2_32\n#define ACSL_2_32 0x100000001\n/*@ axiomatic A {{ axiom no:"
+    (f"{TOP}#define ACSL_2_32 0x100000001\n/*@ axiomatic A {{ axiom no:"
      " \\forall integer x; 0 <= x < 0x10000000000000000 ==> (x & 0xffffffff) == x % ACSL_2_32; } */", UNPROVED),
     # What is admitted.
-    (ghost("int i = 0; /@ JOIN(ad, mit) no: \\false; @/ i = 1;", before="#define JOIN(a, b) a##b"), ADMIT),
+    (ghost("int i = 0; /@ ACSL_JOIN(ad, mit) no: \\false; @/ i = 1;", before="#define ACSL_JOIN(a, b) a##b"), ADMIT),
     (ghost("", "assigns \\nothing; admit ensures no: \\false;"), ADMIT),
     (ghost("int i = 0; /@ admit loop invariant \\false; loop variant 9 - i; @/ while (i < 9) i++;"), ADMIT),
     # What is not tried.
@@ -93,7 +93,11 @@ LISTS = [
     (ghost("while (1) {}", "terminates \\false; assigns \\nothing; ensures \\false;"), "a clause terminates"),
     (ghost("planted();", "decreases 0; assigns \\nothing; ensures \\false;"), "a clause decreases"),
     (ghost("", "assigns \\nothing; exits \\true; ensures \\false;"), "a clause of another end"),
-    (ghost("exit(0);", before="#include <stdlib.h>"), "Call to non-ghost function"),
+    (ghost("other();", before="/*@ assigns \\nothing; */ void other(void);"), "Call to non-ghost function"),
+    # A line of the preprocessor, and an assertion that is none.
+    *((f"{NEXT}{line}\n/*@ assert last: \\true;", "a line for the preprocessor") for line in (
+        "\n#if 0\n#endif", "/* */ #define n 1", "\n#line 1 \"other.c\"", "\n%:define n 1", "// Here. \\\n")),
+    ("== in u64_ilog2 before assert requires\nghost int before = 0;", "without assert"),
     (f"{TOP}/*@ ghost /@ assigns \\nothing; ensures \\false; @/ void planted(void); */", "no body: planted"),
     # A change of the code.
     (f"{NEXT}i++; /*@ assert last: \\true;", CODE),
@@ -108,11 +112,7 @@ LISTS = [
     (ghost("", "assigns \\nothing; allocates \\nothing;"), "a clause of another kind"),
     (ghost("", "assigns \\nothing; ensures all == 1;", before="//@ ghost int all = 1;", head="void main(void)"),
      "before main"),
-    (f"{TOP}/*@ requires \\valid(to + (0 .. 9)) && \\valid_read(from) && \\separated(to + (0 .. 8), from);\n"
-     "assigns to[0 .. 9]; */\nstatic void planted(char *restrict to, const char *from) { to[9] = *from; }", "restrict"),
-    (f"{TOP}/*@ requires \\valid(to + (0 .. 9)) && \\valid_read(from); assigns to[*from * 0 .. 9]; */\n"
-     "static void planted(uint8_t *restrict to, const uint8_t *from) { to[9] = *from; }", "restrict"),
-    (f"{TOP}/*@ assigns \\nothing; */\nstatic size_t memset(size_t n) {{ return n; }}", "a name of a function"),
+    (f"{TOP}/*@ assigns \\nothing; */\nstatic size_t memset_(size_t n) {{ return n; }}", "a name of a function"),
     (f"{TOP}/*@ assigns \\nothing; */\nint fputs_unlocked(const char *s, size_t n) {{ return 0; }}", "neither static"),
     (f"{TOP}/*@ assigns \\nothing; */\nstatic size_t planted(uint8_t (max_align_t)) {{ return 0; }}", "a declarator"),
     # Another annotation, and one that Frama-C leaves out with a warning.
@@ -143,7 +143,7 @@ SOURCES = [
     *((GROWS, f"{line}\n{GROWS}", LISTED) for line in (
         "# 1 \"other.c\"", "#include \"min.inc\"", "#include <stdint.h>", "#undef B62_OK", "#define uint8_t uint32_t",
         "    const bool own = text->length > 9 || own;", "    const struct { uint8_t own; } all = {0};",
-        "    const size_t errno = 0;", "    const uint64_t wide = UINT32_C(0xffffffff) + 1;",
+        "    const size_t errno = 0;", "    const size_t bitand = 0;", "    const uint64_t wide = UINT32_C(0xffffffff) + 1;",
         "_Pragma(\"GCC optimize\")", "    if (part_length > unix)",
         # What depends on the system or the compiler.
         "    const uint_fast32_t fast = 1;", "    const unsigned long size = 1;", "    const uint8_t letter = '\\xff';",
@@ -159,7 +159,13 @@ SOURCES = [
         ("if (sizeof(size_t) > 4) part_length = 0;", "sizeof of what"), ("if (part == text->bytes) part_length = 0;", "operator of pointers"),
         ("if (part) part_length = 0;", "a pointer as a condition"), ("part = text->bytes;", "a pointer that is set anew"),
         ("((uint64_t *)text->bytes)[0] = 0;", "to a pointer of another type"),
-        ("const u128 pair = u128_of(InlineText_new(text), 1);", "rror"))),
+        ("const u128 pair = u128_of(InlineText_new(text), 1);", "rror"), ("const size_t *at = &text->length;", "may go to another"),
+        ("part_length = (size_t)(5 % (1 - part[0]));", "a remainder"), ("const uint8_t *none = 0;", NUMBER),
+        ("if (*(part + (0 - 1)) == 0) part_length = 0;", "operator of pointers"), ("/*@ lemma a: \\true; */", "an annotation"))),
+    ("copy_bytes(made->tables.letters, letters, 62);", "copy_bytes(made->tables.letters, letters, 63);", "may go to another"),
+    ("typedef struct InlineText {", "typedef struct Inline {", "another name"), ("typedef struct InlineText {", "typedef struct none {} none;\n"
+     "typedef struct InlineText {", LISTED), ("typedef struct pair_u8_u8 { uint8_t", "typedef struct pair_u8_u8 { const uint8_t", LISTED),
+    ("#define B62_TEXT(", "#define B62_APART B62_RESTRICT\n#define B62_TEXT(", LISTED),
     ("if (fault.tag == DecodeError_EmptyInput_tag)", "if (fault.tag - 2 < 0)", "operator of an enum"),
     ("if (fault.tag == DecodeError_EmptyInput_tag)", "if (fault.tag == 0x80000000)", "operator of an enum"),
     ("        DecodeError_EmptyInput_tag,\n", "        DecodeError_EmptyInput_tag = 0x80000000,\n", "an enumerator"),
@@ -171,8 +177,11 @@ SOURCES = [
     ("    return count_filled(answer, width);\n}\n\nsize_t base62_encode_alternative_fixed",
      "    return count_filled(encode_fixed(joined(number), (uint8_t *)places, width), width);\n}\n\nsize_t base62_encode_alternative_fixed",
      "a call that may write"),
-    ("const uint8_t *B62_RESTRICT from, size_t length) {\n",
-     "const uint8_t *B62_RESTRICT from, size_t length) {\n    if (*to == 0) length = 0;\n", "need not have set"),
+    ("uint8_t byte, size_t length) {\n", "uint8_t byte, size_t length) {\n    if (*to == 0) length = 0;\n", "need not have set"),
+    ("return (pair_u8_u8){first, second};", "return *(const pair_u8_u8 *)self->letters;", "whole through a pointer"),
+    ("    write_1_or_2(tables, x, 2, buf);\n", "    *(pair_u8_u8 *)buf = (pair_u8_u8){0};\n", "whole through a pointer"),
+    ("to[i] = from[i];", "to[i] = from[length - i];", ONCE),
+    ("const uint8_t *text, size_t text_length, uint8_t *buf,", "const uint8_t *text, size_t text_length, uint8_t *restrict buf,", LISTED),
     # What WP keeps apart, or takes for something else.
     ("typedef struct InlineText {", "typedef union InlineText {", LISTED),
     ("typedef struct pair_u8_u8 { uint8_t _0;", "typedef struct pair_u8_u8 { uint8_t _0 : 6;", "a bit field"),
@@ -270,8 +279,9 @@ def cases(work):
     for old, new, by in SOURCES:
         yield new, by, lambda at, text=once(source, old, new): said_of_code(at, text)
     for text, by in LISTS:
-        code = annotate.annotated(source, text)
-        yield text, by, lambda at, code=code: said_of(wp.prepared(at, code), bare)
+        yield text, by, lambda at, text=text: said(lambda: wp.checked(wp.prepared(at, annotate.annotated(source, text)), bare).wrong)
+    yield "copy_bytes", "restrict", lambda at: said_of(wp.prepared(
+        at, once(whole, "separated(to + (0 .. length - 1)", "separated(to + (0 .. 0)")), bare)
     for old, new, by in SPECIFICATIONS:
         of, more = (whole, [bare]) if by == CODE else (laws, [])
         yield new, by, lambda at, text=once(specification, old, new), of=of, more=more: said_of(

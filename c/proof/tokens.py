@@ -1,7 +1,7 @@
 """The text of base62.c and base62.h, of which compilers could read other parts than Frama-C: what is not listed here is
 rejected. CONDITIONS has all lines of the preprocessor but defines of constants, each part whole and once. So compilers
-read the same tokens outside of these parts, and within them what stands here: attributes, a pragma, and the bodies of
-four functions. What the tokens say is for tree.ml."""
+read the same tokens outside of these parts, and within them what stands here: attributes, a pragma, the bodies of
+four functions, and restrict, which stands in copy_bytes alone. What the tokens say is for tree.ml."""
 
 import os
 import re
@@ -92,6 +92,10 @@ static inline base62_u128 base62_to_u128(base62_number number) {
 #pragma GCC optimize ("no-tree-slp-vectorize")
 #endif
 """, r"""
+static inline void copy_bytes(uint8_t *B62_RESTRICT to, const uint8_t *B62_RESTRICT from, size_t length) {
+    for (size_t i = 0; i < length; i++) to[i] = from[i];
+}
+""", r"""
 static B62_ALWAYS_INLINE u128 u128_mul_64(uint64_t a, uint64_t b) {
 #if defined __SIZEOF_INT128__ && !defined BASE62_NO_INT128
     const base62_u128 product = (base62_u128)a * b;
@@ -128,7 +132,7 @@ FILES = {"CMakeLists.txt", "LICENSE", "README.md", "base62.c", "base62.h", "cmak
 HEADERS = {"limits.h", "stdbool.h", "stddef.h", "stdint.h"}
 MACROS = {"UINT64_C", "bool", "true", "false"}
 # Macros of the headers of other systems, and of other machines.
-OTHERS = {"errno", "i386", "sun", "sparc", "mips", "arm", "vax", "near", "far"}
+OTHERS = {"errno", "i386", "sun", "sparc", "mips", "arm", "vax", "near", "far", *"and and_eq bitand bitor compl not not_eq or or_eq xor xor_eq".split()}
 DEFINE = re.compile(r'# define B(?:ASE)?62_\w+ (?:\d+|"[^"\\]*"|\( \( (?:uint32_t|size_t) \) \d+ \)|UINT64_C \( \d+ \)|B62_\w+)')
 
 OTHER = re.compile(r"\s*(?:#|%:|\?\?=)\s*(?!(?:define|undef|if|ifdef|ifndef|elif|else|endif|error|pragma)\b|include \"base62\.(?:h|acsl)\"$"
@@ -175,9 +179,9 @@ def is_number(found, i):
 
 def wrong(name, text):
     """What is wrong with the text of a file."""
-    for form in re.finditer(r"\\[ \t]*\n|[^\0-\x7f]|\?\?[=/'()!<>-]|%:|<:|:>|<%|%>", text):
-        yield f"{name}:{1 + text[:form.start()].count(chr(10))}: a splice, a trigraph, a digraph or no ASCII: {form.group()!r}"
-    found, given = tokens(name, text), macros()
+    for form in re.finditer(r"\\[ \t]*\n|[^\0-\x7f]|\?\?[=/'()!<>-]|%:|<:|:>|<%|%>|/\*@", text):
+        yield f"{name}:{1 + text[:form.start()].count(chr(10))}: a splice, a trigraph, a digraph, no ASCII or an annotation: {form.group()!r}"
+    found, given = tokens(name, text), macros() | {"B62_RESTRICT", "restrict"}
     for part in CONDITIONS[name]:
         wanted = tokens(name, part)
         at = [i for i in range(len(found)) if is_at(i, wanted, found)]
@@ -193,10 +197,11 @@ def wrong(name, text):
         if token == "#":
             end = next(j for j in range(i, len(found)) if found[j][0] == "\n")
             numbers = [j for j in range(i, end) if found[j][0][0].isdigit()]
-            if not (DEFINE.fullmatch(" ".join(it for it, _ in found[i:end])) and all(is_number(found, j) for j in numbers)):
+            if not (DEFINE.fullmatch(" ".join(it for it, _ in found[i:end])) and all(is_number(found, j) for j in numbers)
+                    and given.isdisjoint(it for it, _ in found[i:end])):
                 yield f"{name}:{line}: a line of the preprocessor that is not on the list"
             i = end
-        elif not WORD.fullmatch(token) or token in given:
+        elif not WORD.fullmatch(token) or token in given or name == "base62.h" and token.startswith("//"):
             yield f"{name}:{line}: a token that is not on the list: {token}"
         elif token[0].isdigit() and not is_number(found, i):
             yield f"{name}:{line}: a number that is not on the list: {token}"
@@ -216,4 +221,6 @@ def others_in(folder):
     """What may not stand beside base62.c."""
     yield from (f"not on the list of what stands beside base62.c: {name}" for name in sorted({*os.listdir(folder)} - FILES))
     # A link such as /proc/self/cwd/base62.c leads each program to another file.
-    yield from (f"a link: {name}" for name in sorted(os.listdir(folder)) if os.path.islink(os.path.join(folder, name)))
+    for path in (os.path.join(folder, name) for name in sorted(os.listdir(folder))):
+        if os.path.islink(path) or not (os.path.isfile(path) or os.path.isdir(path)):
+            yield f"a link, or no file: {path}"

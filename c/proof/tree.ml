@@ -30,18 +30,19 @@ module Forms = struct
   (* A type of one meaning on all targets, and a declarator. *)
   let check_type ?(is_field = false) place spec decl declarators =
     let decl = match decl with PARENTYPE ([], decl, []) -> decl | _ -> decl in
+    reject_if (is_field && List.mem (SpecCV CV_CONST) spec) place "a field that is const";
     let is_type = function SpecCV CV_CONST | SpecStorage STATIC | SpecInline | SpecAttr _ -> false | _ -> true in
     tell_if "open" (not (match List.filter is_type spec with
       | [ SpecType Tbool ] | [ SpecType Tunsigned; SpecType Tchar ] -> true
       (* Elsewhere its enumerators would have another scope in Frama-C, C90 or C++. *)
-      | [ SpecType (Tstruct ("", Some _, []) | Tenum ("", Some _, [])) ] -> is_field
+      | [ SpecType (Tstruct ("", Some _, []) | Tenum ("", Some _, [])) ] -> is_field && file_of place <> "base62.h"
       | [ SpecType (Tnamed name) ] -> Hashtbl.mem types name
       | [ SpecType (Tvoid | Tint) ] -> decl = JUSTBASE && declarators = []
       | [ SpecType Tchar ] -> decl <> JUSTBASE
       | _ -> false)) place "a type";
     reject_if (not (match decl with
       | JUSTBASE | ARRAY (JUSTBASE, [], { expr_node = NOTHING; _ }) -> true
-      | ARRAY (JUSTBASE, [], { expr_node = CONSTANT (CONST_INT n); _ }) -> String.length n < 4
+      | ARRAY (JUSTBASE, [], { expr_node = CONSTANT (CONST_INT n); _ }) -> String.length n < 4 && n <> "0"
       | _ -> List.mem decl declarators)) place "a declarator"
 
   (* What a statement consists of, but for its parts: there an effect stands alone. *)
@@ -97,8 +98,8 @@ module Forms = struct
       let is_field = function FIELD (_, all) -> List.for_all (fun (_, width) -> width = None) all | _ -> false in
       let is_small (_, e, _) = match e.expr_node with NOTHING -> true | CONSTANT (CONST_INT n) -> String.length n < 4 | _ -> false in
       reject_if (match t with
-        | Tstruct (_, Some all, []) -> not (List.for_all is_field all) | Tenum (_, Some all, _) -> not (List.for_all is_small all)
-        | Tunion _ -> true | _ -> false) here "a union, a bit field or an enumerator";
+        | Tstruct (_, Some all, []) -> all = [] || not (List.for_all is_field all) | Tenum (_, Some all, _) -> not (List.for_all is_small all)
+        | Tunion _ -> true | _ -> false) here "an empty struct, a union, a bit field or an enumerator";
       Cil.DoChildren
 
     (* Those of base62.h stand in the middle of a type. The walk over the tree below knows their names. *)
@@ -133,8 +134,9 @@ module Forms = struct
               (match init with SINGLE_INIT e -> effects <- alone e @ effects | _ -> ());
               reject_if (is_kept && not (is_static spec && List.mem (SpecCV CV_CONST) spec)) place "a variable that is kept";
               reject_if (match decl with PTR (all, _) -> all <> [] || is_kept | _ -> false) place "a pointer variable") all
-        | TYPEDEF ((SpecTypedef :: [ SpecType (Tstruct (_, Some _, []) | Tenum (_, Some _, [])) ], [ (name, JUSTBASE, [], _) ]), _)
-          when is_global -> Hashtbl.replace types name ()
+        (* In C++ a tag is a type too. *)
+        | TYPEDEF ((SpecTypedef :: [ SpecType (Tstruct (tag, Some _, []) | Tenum (tag, Some _, [])) ], [ (name, JUSTBASE, [], _) ]), _)
+          when is_global -> tell_if "open" (tag <> name) place "another name of a struct or an enum"; Hashtbl.replace types name ()
         | TYPEDEF (([ SpecTypedef; SpecType Tchar ], [ (_, ARRAY _, [], _) ]), _) | GLOBANNOT _ -> ()
         | _ -> reject_if true place "a declaration");
       Cil.DoChildrenPost (fun d -> declared <- ""; d)
@@ -308,6 +310,7 @@ let read_files () =
     if file = "base62.h" then Hashtbl.replace in_header name () in
   let definition (_, d) = match d with
     | Cabs.FUNDEF (spec, (_, (name, _, _, _)), _, place, _) -> seen name spec place
+    | Cabs.TYPEDEF ((_, names), place) -> List.iter (fun (name, _, _, _) -> seen name None place) names
     | Cabs.DECDEF (spec, (_, names), place) -> List.iter (fun ((name, _, _, _), _) -> seen name spec place) names
     | _ -> () in
   let definition (ghost, d) =
@@ -316,39 +319,21 @@ let read_files () =
     definition (ghost, d) in
   List.iter (fun (_, definitions) -> List.iter definition definitions) (Ast.UntypedFiles.get ())
 
-(* The parameter that an address is counted from. *)
-let rec base t = match t.term_node with
-  | TLval (TVar v, TNoOffset) -> v.lv_origin
-  | TBinOp ((PlusPI | MinusPI), p, _) | TCastE (_, p) -> base p
-  | _ -> None
-
-(* A function with a parameter that is restrict writes only what its contract separates from each other pointer. *)
-let is_apart behavior formals =
-  let rec separated p = match p.pred_content with
-    | Pand (p, q) -> separated p @ separated q | Pseparated terms -> [ terms ] | _ -> [] in
-  let groups = List.concat_map (fun p -> separated p.ip_content.tp_statement) behavior.b_requires in
-  let is_of q t = match base t with Some v -> v == q | None -> false in
-  let from written q = is_of q written || List.exists (fun terms ->
-    List.exists (Logic_utils.is_same_term written) terms && List.exists (is_of q) terms) groups in
-  let pointers = List.filter (fun v -> Cil.isPointerType v.vtype) formals in
-  match behavior.b_assigns with
-  | WritesAny -> false
-  | Writes all -> List.for_all (fun (target, _) -> match target.it_content.term_node with
-    | TLval (TMem written, TNoOffset) -> List.for_all (from written) pointers | _ -> false) all
-
-let is_restrict v = Cil.typeHasAttribute "restrict" v.vtype
+(* In copy_bytes, whose parameters are restrict. *)
+let all_apart = "\\separated(to + (0 .. length - 1), from + (0 .. length - 1))"
+let is_apart p = Format.asprintf "%a" Cil_printer.pp_predicate p.ip_content.tp_statement = all_apart
 
 (* What is wrong with the contract of a function. *)
 let contract kf =
-  let f = Kernel_function.get_vi kf and formals = Kernel_function.get_formals kf in
+  let f = Kernel_function.get_vi kf in
   let spec = Annotations.funspec ~populate:false kf in
   let files = Hashtbl.find_all contracts f.vorig_name in
   let is_public = Hashtbl.mem in_header f.vorig_name in
   (match Cil.find_default_behavior spec with
     | None | Some { b_assigns = WritesAny; _ } -> [ "no contract, or none with assigns" ]
     | Some b -> (if f.vghost && b.b_assigns <> Writes [] then [ "a ghost function that assigns" ] else [])
-      @ if List.exists is_restrict formals && not (is_apart b formals)
-        then [ "restrict, but the contract separates not all that is written from each other pointer" ] else [])
+      @ if List.exists (fun v -> Cil.typeHasAttribute "restrict" v.vtype) (Kernel_function.get_formals kf)
+           && not (f.vname = "copy_bytes" && List.exists is_apart b.b_requires) then [ "restrict, without " ^ all_apart ] else [])
   @ (if f.vname = "main" then [ "WP takes it that no function is called before main" ] else [])
   @ (if List.length files > 1 then [ "two contracts" ] else [])
   @ (if is_public && files <> [ "base62.acsl" ] then [ "its contract does not stand in base62.acsl" ] else [])
@@ -358,6 +343,16 @@ let contract kf =
       (if List.exists (fun (kind, _) -> kind <> Normal) b.b_post_cond then [ "a clause of another end" ] else [])
       @ if b.b_extended <> [] || b.b_allocation <> FreeAllocAny then [ "a clause of another kind" ] else [])
     spec.spec_behavior
+
+(* Compilers have no result for 0. *)
+let some = "requires: n ≢ 0"
+let begins_with_assertion kf =
+  let is_it a = match a.annot_content with
+    | AAssert ([], { tp_kind = Assert; tp_statement = p }) -> Format.asprintf "%a" Cil_printer.pp_predicate p = some
+    | _ -> false in
+  match (Kernel_function.get_definition kf).sbody.bstmts with
+  | first :: _ -> List.exists is_it (Annotations.code_annot first)
+  | [] -> false
 
 (* -------------------- The walk -------------------- *)
 
@@ -379,7 +374,7 @@ let rec is_of_bytes typ = match Cil.unrollType typ with
   | TArray (t, Some _, _) -> is_of_bytes t
   | TComp (c, _) -> List.for_all (fun f -> is_of_bytes f.ftype) (Option.value c.cfields ~default:[])
   | _ -> false
-let is_constant_type typ = Cil.typeHasAttributeMemoryBlock "const" typ || Cil.typeHasQualifier "const" typ
+let is_constant_type typ = Cil.typeHasQualifier "const" typ
 
 (* The kind of an enum is up to the compiler, at least of 8 bits, and so is what an operator makes of it. *)
 let rec is_enum e = match e.enode with
@@ -396,21 +391,44 @@ let is_same a b = Cil_datatype.Typ.equal (Cil.typeDeepDropAllAttributes a) (Cil.
 (* What a pointer that is not const points to may be a caller's memory, which is not set: reading it is undefined. A struct
    that is none of base62.h, and to which no pointer is cast, is a local of base62.c, and set. *)
 let is_set p = match Cil.unrollType (Cil.typeOf_pointed (Cil.unrollType (Cil.typeOf p))) with
-  | TComp (c, _) as typ when not (String.starts_with ~prefix:"base62_" c.corig_name || is_of_bytes typ) -> true
+  | TComp (c, _) as typ when not (Hashtbl.mem in_header c.corig_name || is_of_bytes typ) -> true
   | typ -> is_constant_type typ
 let rec is_of_local e = match e.enode with
   | StartOf (Var _, _) | AddrOf (Var _, _) -> true
   | StartOf (Mem p, _) | AddrOf (Mem p, _) -> is_set p
   | BinOp (PlusPI, p, _, _) | CastE (_, p) -> is_of_local p
   | _ -> false
+(* The memory may be declared as another type, since pointers to bytes change theirs. *)
+let is_bytes_at_pointer = function
+  | Mem _, _ as lval -> Cil.isStructOrUnionType (Cil.typeOfLval lval) && is_of_bytes (Cil.typeOfLval lval)
+  | _ -> false
+let through_bytes = "a struct of bytes that is read or written whole through a pointer"
+(* WP counts a struct in fields, without padding, and lets a pointer go from one to the next. *)
+let rec is_beside = function
+  | Field (f, rest) -> f != List.nth (Option.get f.fcomp.cfields) (List.length (Option.get f.fcomp.cfields) - 1) || is_beside rest
+  | Index (_, rest) -> is_beside rest
+  | NoOffset -> false
+let rec is_scalar_field = function
+  | Field (f, NoOffset) -> Cil.isArithmeticOrPointerType f.ftype
+  | Field (_, rest) | Index (_, rest) -> is_scalar_field rest
+  | NoOffset -> false
+let beside = "a pointer to a field that may go to another one"
+let is_count e = not (is_enum e) && (Cil.isUnsignedInteger (Cil.typeOf e) || is_small e)
+(* Of copy_bytes the argument that is a whole array. *)
+let whole_array f arguments = match f.vname, arguments with
+  | "copy_bytes", [ { enode = StartOf lval; _ } as a; _; length ] ->
+    (match Cil.unrollType (Cil.typeOfLval lval), Cil.constFoldToInt length with
+      | TArray (_, Some size, _), Some n when Cil.constFoldToInt size = Some n -> [ a ] | _ -> [])
+  | _ -> []
 let read_unset = "a read of memory that a caller need not have set"
 let is_variable = function Var _, _ -> true | _ -> false
 let is_temporary = function Var v, NoOffset -> v.vtemp || v.vname = "__retres" | _ -> false
 let of_bytes = "sizeof of what does not consist of bytes"
 let of_enum = "an operator of an enum"
 (* Compilers call functions of the C library by themselves, such as memset, and would take a function or a table of this
-   file that has the name. The names of these have no underscore. *)
-let is_own name = String.contains name '_' || List.mem name [ "append"; "decode"; "greatest"; "halves"; "joined"; "power" ]
+   file that has the name. None of these names has an underscore, but memset_pattern4, 8 and 16 of macOS. *)
+let is_own name = String.contains name '_' && not (String.starts_with ~prefix:"mem" name)
+  || List.mem name [ "append"; "decode"; "greatest"; "halves"; "joined"; "power" ]
 (* Those that Frama-C itself gives, and what base62.h says of buffers. *)
 let known_attributes = [ "const"; "restrict"; "ghost"; "access"; "arraylen" ]
   @ [ "fc_ghost_formal"; "fc_local_static"; "fc_stdlib" ]
@@ -418,11 +436,15 @@ let known_attributes = [ "const"; "restrict"; "ghost"; "access"; "arraylen" ]
 let read_whole = "a struct with an array is read whole, and WP 25 has a false axiom for it"
 let not_tried = "WP tries no goal that is named no_wp"
 let calls = Hashtbl.create 1000
+(* The bytes of the variables of all functions: no call has more. *)
+let stack = ref 0
 
 class walk = object (self)
   inherit Visitor.frama_c_inplace
   (* What a function of base62.h returns. *)
   val mutable returned = []
+  (* Arrays that copy_bytes copies whole. *)
+  val mutable whole = []
   method private name = match self#current_kf with Some kf -> Kernel_function.get_name kf | None -> ""
   method private reject place what = tell "rejected" self#name (at_place place what)
   method private reject_if wrong place what = if wrong then self#reject place what
@@ -434,9 +456,10 @@ class walk = object (self)
   method! vglob_aux g =
     let place = Cil_datatype.Global.loc g in
     (match g with
-      | GFun ({ svar = v; slocals; _ }, _)
-        when not v.vghost && List.fold_left (fun n v -> n + Cil.bytesSizeOf v.vtype) 0 slocals > 10000 ->
-        tell "open" v.vname (at_place place "locals that a stack may have no room for")
+      | GFun ({ svar = v; slocals; sformals; _ }, _) when not v.vghost ->
+        let size n typ = n + if Cil.isVoidType typ then 0 else Cil.bytesSizeOf typ in
+        stack := List.fold_left size !stack (Cil.getReturnType v.vtype :: List.map (fun v -> v.vtype) (sformals @ slocals));
+        if !stack > 50000 then tell "open" v.vname (at_place place "variables that a stack may have no room for")
       | _ -> ());
     (match g with
       | GFun ({ svar = v; _ }, _) | GFunDecl (_, v, _) | GVar (v, _, _) when not (v.vghost || is_own v.vname) ->
@@ -450,7 +473,8 @@ class walk = object (self)
         let kf = Globals.Functions.get f in
         tell (if Kernel_function.is_definition kf then "defined" else "declared") f.vname "";
         if Hashtbl.mem in_header f.vorig_name && f.vstorage <> Static then tell "public" f.vname "";
-        List.iter (fun what -> tell "rejected" f.vname (at_place place what)) (contract kf)
+        List.iter (fun what -> tell "rejected" f.vname (at_place place what)) (contract kf);
+        if f.vname = "u64_ilog2" && not (begins_with_assertion kf) then tell "rejected" f.vname (at_place place ("without assert " ^ some))
       | GVar (v, _, _) -> if v.vstorage = Static && is_constant_type v.vtype && file_of place = "base62.c" then tell "constant" v.vname ""
       | _ -> ());
     Cil.DoChildren
@@ -492,6 +516,7 @@ class walk = object (self)
     let is_variant a = match a.annot_content with AVariant _ -> true | _ -> false in
     (match s.skind with
       | Loop _ -> self#reject_if (Annotations.code_annot ~filter:is_variant s = []) place "a loop without a variant"
+      | Instr (Set (to_, _, _) | Call (Some to_, _, _, _)) when is_bytes_at_pointer to_ -> self#open_if true place through_bytes
       | If (e, _, _, _) -> self#open_if (is_pointer e) place "a pointer as a condition"
       | Return (Some e, _) | Instr (Set ((Var { vname = "__retres"; _ }, NoOffset), e, _)) when Hashtbl.mem in_header self#name ->
         returned <- enums e @ returned
@@ -504,7 +529,9 @@ class walk = object (self)
       | Instr (Set (to_, { enode = Lval (Mem _, _); _ }, _)) when Cil.isStructOrUnionType (Cil.typeOfLval to_) && not (is_variable to_) ->
         self#open_if true place "a struct that is copied from place to place"
       | Instr (Set (to_, _, _)) -> self#open_if (Cil.isPointerType (Cil.typeOfLval to_) && not (is_temporary to_)) place "a pointer that is set anew"
-      | Instr (Call (None, { enode = Lval (Var f, NoOffset); _ }, _, _)) -> Hashtbl.add calls self#name f.vname
+      | Instr (Call (None, { enode = Lval (Var f, NoOffset); _ }, arguments, _)) ->
+        whole <- whole_array f arguments @ whole;
+        Hashtbl.add calls self#name f.vname
       | _ -> ());
     Cil.DoChildren
 
@@ -523,7 +550,11 @@ class walk = object (self)
     | SizeOfE a -> open_if (not (is_of_bytes (Cil.typeOf a))) of_bytes; Cil.SkipChildren
     | Const (CStr _ | CWStr _) -> open_if true "a string that is no initializer"; Cil.SkipChildren
     | BinOp (op, a, b, _) when is_pointer a || is_pointer b ->
-      open_if (op <> PlusPI || is_enum b) "an operator of pointers"; Cil.DoChildren
+      open_if (op <> PlusPI || not (is_count b)) "an operator of pointers"; Cil.DoChildren
+    | BinOp (Mod, _, b, _) when Cil.isSignedInteger (Cil.typeOf e) && not (is_small b && not (Cil.isZero b)) ->
+      open_if true "a remainder of numbers with a sign"; Cil.DoChildren
+    | AddrOf (_, offset) -> bare_if (is_beside offset || is_scalar_field offset) beside; Cil.DoChildren
+    | StartOf (_, offset) -> bare_if (is_beside offset && not (List.memq e whole)) beside; Cil.DoChildren
     | BinOp ((Eq | Ne), a, b, _) when is_enum a || is_enum b ->
       open_if (not (List.for_all (fun e -> is_enum e || is_small e) [ a; b ])) of_enum;
       List.iter (fun a -> ignore (Visitor.visitFramacExpr (self :> Visitor.frama_c_visitor) (Cil.stripCasts a))) [ a; b ];
@@ -537,10 +568,11 @@ class walk = object (self)
       let to_, from = Cil.typeOf_pointed (Cil.unrollType to_), Cil.typeOf_pointed (Cil.unrollType (Cil.typeOf a)) in
       open_if (is_constant_type from && not (is_constant_type to_)) "a cast that takes const away";
       open_if (not (is_of_bytes to_ && is_of_bytes from || is_same to_ from)) "a cast to a pointer of another type"; Cil.DoChildren
-    | CastE (to_, a) when is_through_a_number to_ (Cil.typeOf a) && not (Cil.isZero a) ->
-      self#reject e.eloc through_a_number; Cil.DoChildren
+    | CastE (to_, a) when is_through_a_number to_ (Cil.typeOf a) ->
+      if Cil.isZero a then open_if true through_a_number else self#reject e.eloc through_a_number; Cil.DoChildren
     | Lval _ | CastE _ when is_of_kind IChar (Cil.typeOf e) -> tell "open" self#name (at_place e.eloc plain_char); Cil.DoChildren
     | Lval lval when has_array (Cil.typeOfLval lval) -> self#reject e.eloc read_whole; Cil.DoChildren
+    | Lval lval -> open_if (is_bytes_at_pointer lval) through_bytes; Cil.DoChildren
     | _ -> Cil.DoChildren
 
   (* Where a clause names what is assigned, nothing is read. *)

@@ -39,6 +39,7 @@ def tools():
         raise SystemExit(f"missing in {tokens.PATH}: {' '.join(missing)}\n"
                          "Debian 12 has them: make setup-full installs all, as root. Elsewhere take c/proof/Dockerfile.")
     folder = tempfile.TemporaryDirectory()
+    check_path(folder.name)
     shutil.copy(FOLDER / "tree.ml", folder.name)
     library = subprocess.run(["frama-c", "-print-lib-path"], env={"PATH": tokens.PATH}, check=True, capture_output=True, text=True).stdout
     for command in (["ocamlfind", "ocamlopt", "-shared", "-I", library.strip(), "-package", "zarith,ocamlgraph",
@@ -58,14 +59,17 @@ def header():
     return text_of(C / "base62.h")
 
 
+def check_path(path):
+    if not re.fullmatch(r"[\w./-]+", str(path)):
+        raise SystemExit(f"a path that a shell or Frama-C would read otherwise: {path}")
+
+
 def prepared(work, code, specification=None):
     """A file of this code, in a folder of its own with the specification and base62.h."""
-    if not re.fullmatch(r"[\w./-]+", str(work)):
-        raise SystemExit(f"a path that a shell would read otherwise: {work}")
+    check_path(work)
     work.mkdir(parents=True, exist_ok=True)
     file = work / "base62.c"
     for path, text in (work / SPECIFICATION.name, specification or text_of(SPECIFICATION)), (work / "base62.h", header()), (file, code):
-        path.unlink(missing_ok=True)
         path.write_text(text)
     return file
 

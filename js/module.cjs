@@ -32,13 +32,15 @@ const STATUSES = [
   'NOT_CANONICAL',
 ];
 
-// The public functions, over a compiled base62.wasm. They check types, and copy values to the memory of the WebAssembly
-// and back. The rules of encoding are in c/base62.c, from which it is compiled.
+// Hand-written. The public functions, over a compiled base62.wasm: they check types, and copy values to the memory of
+// the WebAssembly and back. The rules of encoding are in c/base62.c, from which it is compiled.
 
 const TWO_TO_32 = 2 ** 32;
+const TWO_TO_64 = 2n ** 64n;
+const TWO_TO_128 = 2n ** 128n;
 const HEXADECIMAL = '0123456789abcdef';
-// Digits with hyphens or without, in braces or after urn:uuid:. numberOfUuid checks that there are both braces or none.
-const UUID = /^(?:\{|urn:uuid:)?([\da-f]{8})(-?)([\da-f]{4})\2([\da-f]{4})\2([\da-f]{4})\2([\da-f]{12})\}?$/i;
+// Digits with hyphens or without, in braces or after urn:uuid:. That there are both braces or none is checked apart.
+const UUID = /^(?:\{|urn:uuid:)?[\da-f]{8}(-?)[\da-f]{4}\1[\da-f]{4}\1[\da-f]{4}\1[\da-f]{12}\}?$/i;
 
 // The addresses of the arguments and results of a call, above the stack and the data of the WebAssembly. A number has
 // two halves of 64 bits, the higher first, each little-endian: byte i of a UUID is at i ^ 7. A range is its least and
@@ -51,6 +53,8 @@ const ALPHABET = BAD_BYTE + 16;
 const TEXT = ALPHABET + ALPHABET_SIZE;
 
 if (!globalThis.WebAssembly) throw new Error('base62-proved needs WebAssembly, which this runtime does not have');
+
+const defineReadOnly = (object, name, value) => Object.defineProperty(object, name, { value, enumerable: true });
 
 class Base62Error extends RangeError {
   constructor(message, code, byte, index) {
@@ -66,11 +70,57 @@ class Base62Error extends RangeError {
   }
 }
 
-function defineReadOnly(object, name, value) {
-  Object.defineProperty(object, name, { value, enumerable: true });
+// A subclass can override the properties of a Uint8Array, so these are read by the getters that it inherits.
+const typedArray = Object.getPrototypeOf(Uint8Array.prototype);
+const getter = (name) => Object.getOwnPropertyDescriptor(typedArray, name).get;
+const typeOf = getter(Symbol.toStringTag);
+const lengthOf = getter('length');
+const bufferOf = getter('buffer');
+const offsetOf = getter('byteOffset');
+const { set: setBytes } = typedArray;
+
+const isUint8Array = (value) => typeOf.call(value) === 'Uint8Array';
+const isUnsignedSafeInteger = (number) => Number.isSafeInteger(number) && number >= 0;
+
+function checkWidth(width) {
+  if (typeof width !== 'number') throw new TypeError('a width is a Number');
+  if (!isUnsignedSafeInteger(width)) throw new Base62Error('a width is an integer from 0 to 2**53 - 1', 'OUT_OF_RANGE');
 }
 
-// The WebAssembly
+function outOfRange() {
+  return new Base62Error('a number is an integer from 0 to 2**128 - 1, or to 2**53 - 1 as a Number', 'OUT_OF_RANGE');
+}
+
+function invalidUuid() {
+  const forms = 'with hyphens or without, in braces or after urn:uuid:';
+  return new Base62Error(`a UUID is 32 hexadecimal digits, ${forms}, or 16 bytes`, 'INVALID_UUID');
+}
+
+function notAnAlphabet(given) {
+  const wanted = 'an alphabet is an Alphabet';
+  if (typeof given === 'string') return new TypeError(`${wanted}, not a string: create one with new Alphabet(..)`);
+  if (typeof given !== 'number') return new TypeError(`${wanted} of this module`);
+  // Methods such as map pass an index as the second argument.
+  return new TypeError(`${wanted}, not ${given}: give map a function such as (n) => encode(n)`);
+}
+
+// A text is an encoded string or a prefix. The memory has room for 10,000 code units, of at most three bytes each. Of a
+// longer text the library gets pieces of this length: for decoding only one, for a range all.
+const PIECE_LENGTH = 10_000;
+
+function textLength(text) {
+  if (typeof text === 'string') return text.length;
+  if (!isUint8Array(text)) throw new TypeError('an encoded string or a prefix is a string or a Uint8Array');
+  return lengthOf.call(text);
+}
+
+// Returns the piece of a long text that begins at start. A surrogate pair at its end stays whole, so that an error
+// reports the first of its four bytes. The pair is invalid, so no piece follows.
+function pieceOf(text, length, start) {
+  const end = Math.min(start + PIECE_LENGTH, length);
+  if (typeof text === 'string') return text.slice(start, text.codePointAt(end - 1) > 0xffff ? end + 1 : end);
+  return new Uint8Array(bufferOf.call(text), offsetOf.call(text) + start, end - start);
+}
 
 function isLibrary(module) {
   try {
@@ -81,6 +131,7 @@ function isLibrary(module) {
 }
 
 function instantiate(module) {
+  if (!isLibrary(module)) throw new TypeError('load takes the WebAssembly.Module of base62.wasm');
   const { exports: library } = new WebAssembly.Instance(module);
   const { buffer } = library.memory;
   const stackPointer = library.__stack_pointer;
@@ -104,120 +155,56 @@ function instantiate(module) {
   return { enter, leave, ...views };
 }
 
-// Arguments
-
-// A subclass can override the properties of a Uint8Array, so these are read by the getters that it inherits.
-const typedArray = Object.getPrototypeOf(Uint8Array.prototype);
-const getter = (name) => Object.getOwnPropertyDescriptor(typedArray, name).get;
-const typeOf = getter(Symbol.toStringTag);
-const lengthOf = getter('length');
-const bufferOf = getter('buffer');
-const offsetOf = getter('byteOffset');
-const { set: setBytes } = typedArray;
-
-function isUint8Array(value) {
-  return typeOf.call(value) === 'Uint8Array';
-}
-
-function isUnsignedSafeInteger(number) {
-  return Number.isSafeInteger(number) && number >= 0;
-}
-
-function checkWidth(width) {
-  if (typeof width !== 'number') throw new TypeError('a width is a Number');
-  if (!isUnsignedSafeInteger(width)) throw new Base62Error('a width is an integer from 0 to 2**53 - 1', 'OUT_OF_RANGE');
-}
-
-function outOfRange() {
-  return new Base62Error('a number is an integer from 0 to 2**128 - 1, or to 2**53 - 1 as a Number', 'OUT_OF_RANGE');
-}
-
-function invalidUuid() {
-  const forms = 'with hyphens or without, in braces or after urn:uuid:';
-  return new Base62Error(`a UUID is 32 hexadecimal digits, ${forms}, or 16 bytes`, 'INVALID_UUID');
-}
-
-function numberOfUuid(string) {
-  const match = UUID.exec(string);
-  if (!match || string.startsWith('{') !== string.endsWith('}')) throw invalidUuid();
-  return BigInt(`0x${match[1]}${match[3]}${match[4]}${match[5]}${match[6]}`);
-}
-
-// A text is an encoded string or a prefix. A long one, of more than PIECE_LENGTH characters or bytes, goes to the
-// library in pieces of at most this length, without its leading zeros but two.
-const PIECE_LENGTH = 1024;
-
-function textLength(text) {
-  if (typeof text === 'string') return text.length;
-  if (!isUint8Array(text)) throw new TypeError('an encoded string or a prefix is a string or a Uint8Array');
-  return lengthOf.call(text);
-}
-
-function createArguments(instance) {
-  const { bytes, words, halves } = instance;
-
+function createArguments({ bytes, words, halves }) {
   function writeNumber(number) {
-    if (typeof number === 'number') {
-      if (!isUnsignedSafeInteger(number)) throw outOfRange();
-      halves[NUMBER / 8] = 0n;
-      words[NUMBER / 4 + 2] = number;
-      words[NUMBER / 4 + 3] = number / TWO_TO_32;
-    } else if (typeof number === 'bigint') {
-      writeBigInt(number);
-    } else if (typeof number === 'boolean') {
-      writeBigInt(BigInt(number));
-    } else {
-      throw new TypeError('a number is a Number, a BigInt or a boolean');
-    }
+    if (typeof number === 'bigint') return writeBigInt(number);
+    if (typeof number === 'boolean') return writeBigInt(BigInt(number));
+    if (typeof number !== 'number') throw new TypeError('a number is a Number, a BigInt or a boolean');
+    if (!isUnsignedSafeInteger(number)) throw outOfRange();
+    halves[NUMBER / 8] = 0n;
+    words[NUMBER / 4 + 2] = number;
+    words[NUMBER / 4 + 3] = number / TWO_TO_32;
   }
 
-  // A half keeps the lowest 64 bits of what is assigned to it. So if the number is out of range, the higher half
-  // differs from what was assigned.
+  // A half keeps the lowest 64 bits of what is assigned to it. The shift is slow, and most numbers need none.
   function writeBigInt(number) {
-    halves[NUMBER / 8] = 0n;
+    if (number < 0n || number >= TWO_TO_128) throw outOfRange();
+    halves[NUMBER / 8] = number < TWO_TO_64 ? 0n : number >> 64n;
     halves[NUMBER / 8 + 1] = number;
-    if (BigInt.asUintN(64, number) === number) return;
-    const higher = number >> 64n;
-    halves[NUMBER / 8] = higher;
-    if (halves[NUMBER / 8] !== higher) throw outOfRange();
   }
 
   function writeUuid(uuid) {
-    if (typeof uuid === 'string') {
-      writeBigInt(numberOfUuid(uuid));
-    } else if (isUint8Array(uuid)) {
-      if (lengthOf.call(uuid) !== UUID_LENGTH) throw invalidUuid();
-      for (let i = 0; i < UUID_LENGTH; i++) bytes[NUMBER + (i ^ 7)] = uuid[i];
-    } else {
-      throw new TypeError('a UUID is a string or a Uint8Array');
+    if (typeof uuid === 'string') return writeUuidString(uuid);
+    if (!isUint8Array(uuid)) throw new TypeError('a UUID is a string or a Uint8Array');
+    if (lengthOf.call(uuid) !== UUID_LENGTH) throw invalidUuid();
+    for (let i = 0; i < UUID_LENGTH; i++) bytes[NUMBER + (i ^ 7)] = uuid[i];
+  }
+
+  // Two digits replace a byte: each moves it up by 4 bits. A digit is the lower half of its code, plus 9 for a letter.
+  function writeUuidString(string) {
+    const hasBrace = string[0] === '{';
+    if (!UUID.test(string) || hasBrace !== (string[string.length - 1] === '}')) throw invalidUuid();
+    let count = 0;
+    // Digits and hyphens take at most 36 characters.
+    for (let i = hasBrace ? 1 : string.length > 36 ? 'urn:uuid:'.length : 0; count < 2 * UUID_LENGTH; i++) {
+      if (string[i] === '-') continue;
+      const code = string.charCodeAt(i);
+      const at = NUMBER + ((count++ >> 1) ^ 7);
+      bytes[at] = (bytes[at] << 4) | ((code & 15) + (code < 65 ? 0 : 9));
     }
   }
 
-  // A string or a Uint8Array is always a UUID.
-  function writeNumberOrUuid(value) {
-    if (typeof value === 'string' || isUint8Array(value)) writeUuid(value);
-    else writeNumber(value);
-  }
-
-  // Writes a text, or the piece of a long one that begins at start, and returns the number of its bytes.
+  // Writes a text, or the piece of a long one that begins at start. Returns the number of bytes.
   function writeText(text, length, start) {
-    if (length > PIECE_LENGTH) return writePiece(text, start, Math.min(start + PIECE_LENGTH, length));
-    if (typeof text === 'string') return writeUtf8(text, 0, length);
-    // Faster than bytes.set(..). Throws if the buffer of the text is detached.
-    setBytes.call(bytes, text, TEXT);
-    return length;
+    const piece = length > PIECE_LENGTH ? pieceOf(text, length, start) : text;
+    if (typeof piece === 'string') return writeUtf8(piece);
+    setBytes.call(bytes, piece, TEXT);
+    return lengthOf.call(piece);
   }
 
-  function writePiece(text, start, end) {
-    if (typeof text === 'string') return writeUtf8(text, start, end);
-    bytes.set(new Uint8Array(bufferOf.call(text), offsetOf.call(text) + start, end - start), TEXT);
-    return end - start;
-  }
-
-  // A surrogate pair that crosses the end is written whole. It is invalid, so no further piece is read.
-  function writeUtf8(string, start, end) {
+  function writeUtf8(string) {
     let at = TEXT;
-    for (let i = start; i < end; i++) {
+    for (let i = 0; i < string.length; i++) {
       const unit = string.charCodeAt(i);
       if (unit < 128) {
         bytes[at++] = unit;
@@ -230,8 +217,8 @@ function createArguments(instance) {
     return at - TEXT;
   }
 
-  // The lead byte of a multibyte sequence starts with as many 1 bits as the sequence has bytes. A lone surrogate
-  // becomes its own three bytes.
+  // The lead byte starts with as many 1 bits as there are bytes. As a byte, -128 >> n starts with n + 1. A lone
+  // surrogate becomes its own three bytes.
   function writeCodePoint(at, point) {
     let remaining = point < 0x800 ? 1 : point < 0x10000 ? 2 : 3;
     bytes[at++] = (-128 >> remaining) | (point >> (6 * remaining));
@@ -239,15 +226,11 @@ function createArguments(instance) {
     return at;
   }
 
-  return { writeNumber, writeUuid, writeNumberOrUuid, writeText };
+  return { writeNumber, writeUuid, writeText };
 }
 
-// Results
-
-function createResults(instance) {
-  const { bytes, words, halves, enter, leave } = instance;
-
-  // A BigInt of 64 bits is created fast, and joining two of them is slow.
+function createResults({ enter, leave, bytes, words, halves }) {
+  // If the upper half is 0, as its words show, no BigInt is created for it.
   function readBigInt(address) {
     const lower = halves[address / 8 + 1];
     if ((words[address / 4] | words[address / 4 + 1]) === 0) return lower;
@@ -263,36 +246,15 @@ function createResults(instance) {
     return number;
   }
 
-  // V8 keeps the parts of a joined string of more than 12 characters, which takes ten times the memory. So one call
-  // creates a string of 10 codes or more, which is also faster. Of 22 codes, as a key has, separate arguments are
-  // faster than a spread. The arrays to spread are reused: one for each length up to the longest error message, and one
-  // for a UUID.
-  const codes = bytes.subarray(TEXT);
+  // One call creates a string from an array of codes: V8 would keep the parts that += joins, in ten times the memory.
+  // The arrays are reused: one for each length up to the longest message, and one for a UUID.
   const arrays = Array.from({ length: MAX_FAULT_TEXT + 1 }, (_, length) => new Array(length).fill(0));
   const uuidCodes = Array.from('00000000-0000-0000-0000-000000000000', (it) => it.charCodeAt(0));
 
   function readText(length) {
-    if (length < 10) return readShort(length);
-    if (length === MAX_DIGITS) return read22();
-    const array = arrays[length];
-    for (let i = 0; i < length; i++) array[i] = codes[i];
-    return String.fromCharCode(...array);
-  }
-
-  function readShort(length) {
-    let text = '';
-    let i = 0;
-    for (; i + 4 <= length; i += 4) text += String.fromCharCode(codes[i], codes[i + 1], codes[i + 2], codes[i + 3]);
-    for (; i < length; i++) text += String.fromCharCode(codes[i]);
-    return text;
-  }
-
-  function read22() {
-    return String.fromCharCode(
-      codes[0], codes[1], codes[2], codes[3], codes[4], codes[5], codes[6], codes[7], codes[8], codes[9], codes[10],
-      codes[11], codes[12], codes[13], codes[14], codes[15], codes[16], codes[17], codes[18], codes[19], codes[20],
-      codes[21],
-    );
+    const codes = arrays[length];
+    for (let i = 0; i < codes.length; i++) codes[i] = bytes[TEXT + i];
+    return String.fromCharCode(...codes);
   }
 
   function readUuid(address) {
@@ -306,8 +268,8 @@ function createResults(instance) {
     return String.fromCharCode(...uuidCodes);
   }
 
-  // STATUSES[status] is the name of the status, which is the error's code. A message with an index ends with it. The
-  // library counts it from the start of the piece.
+  // STATUSES[status] is the name of the status, which is the error's code. The library counts an index from the start
+  // of the piece. A message that has an index ends with it.
   function errorOf(status, start) {
     const length = leave(enter().base62_fault_text(status, BAD_BYTE, TEXT, MAX_FAULT_TEXT));
     const message = readText(length);
@@ -319,22 +281,9 @@ function createResults(instance) {
   return { readBigInt, readNumber, readText, readUuid, errorOf };
 }
 
-// Alphabets
-
-function notAnAlphabet(given) {
-  const wanted = 'an alphabet is an Alphabet';
-  if (typeof given === 'string') return new TypeError(`${wanted}, not a string: create one with new Alphabet(..)`);
-  if (typeof given !== 'number') return new TypeError(`${wanted} of this module`);
-  // Methods such as map pass an index as the second argument.
-  return new TypeError(`${wanted}, not ${given}: give map a function such as (n) => encode(n)`);
-}
-
-function createAlphabets(instance, writeText, errorOf) {
-  const { bytes, enter, leave } = instance;
-
-  // The ALPHABET_SIZE bytes of each Alphabet, as base62_make_alphabet has written them.
+function createAlphabets({ bytes, enter, leave }, writeText, errorOf) {
+  // The bytes of each Alphabet, as base62_make_alphabet has written them, and the one whose bytes are in the memory.
   const tables = new WeakMap();
-  // The one whose bytes are in the memory.
   let current;
 
   class Alphabet {
@@ -351,18 +300,11 @@ function createAlphabets(instance, writeText, errorOf) {
       tables.set(this, bytes.slice(address, address + ALPHABET_SIZE));
       defineReadOnly(this, 'letters', letters);
     }
-
-    static get standard() {
-      return standard;
-    }
-
-    static get alternative() {
-      return alternative;
-    }
   }
 
-  const standard = new Alphabet(STANDARD_LETTERS);
-  const alternative = new Alphabet(ALTERNATIVE_LETTERS);
+  defineReadOnly(Alphabet, 'standard', new Alphabet(STANDARD_LETTERS));
+  defineReadOnly(Alphabet, 'alternative', new Alphabet(ALTERNATIVE_LETTERS));
+  const { standard } = Alphabet;
 
   function writeAlphabet(alphabet = standard) {
     if (current === alphabet) return;
@@ -378,14 +320,10 @@ function createAlphabets(instance, writeText, errorOf) {
   return { Alphabet, writeAlphabet, zero };
 }
 
-// Calls
-
 function load(module) {
-  if (!isLibrary(module)) throw new TypeError('load takes the WebAssembly.Module of base62.wasm');
-
   const instance = instantiate(module);
   const { enter, leave } = instance;
-  const { writeNumber, writeUuid, writeNumberOrUuid, writeText } = createArguments(instance);
+  const { writeNumber, writeUuid, writeText } = createArguments(instance);
   const { readBigInt, readNumber, readText, readUuid, errorOf } = createResults(instance);
   const { Alphabet, writeAlphabet, zero } = createAlphabets(instance, writeText, errorOf);
 
@@ -406,10 +344,11 @@ function load(module) {
 
   function encodeFixed(value, width, alphabet) {
     checkWidth(width);
-    writeNumberOrUuid(value);
+    // A string or a Uint8Array is always a UUID.
+    if (typeof value === 'string' || isUint8Array(value)) writeUuid(value);
+    else writeNumber(value);
     writeAlphabet(alphabet);
-    const size = Math.min(width, MAX_DIGITS);
-    const length = leave(enter().base62_encode_fixed_with(ALPHABET, NUMBER, TEXT, size));
+    const length = leave(enter().base62_encode_fixed_with(ALPHABET, NUMBER, TEXT, Math.min(width, MAX_DIGITS)));
     if (length === 0) throw new Base62Error('the number needs more characters than the width', 'BUFFER_TOO_SMALL');
     return readText(length).padStart(width, zero());
   }
@@ -422,10 +361,9 @@ function load(module) {
     return leave(enter().base62_digit_count(NUMBER));
   }
 
-  // Returns where the first piece of a text begins. Of a long one the last two leading zeros stay: in a text of zeros,
-  // one is the digit, and the other makes the text non-canonical.
-  function startOf(text, length) {
-    if (length <= PIECE_LENGTH) return 0;
+  // Returns where the first piece of a long text begins: at the last two of its leading zeros, if it has more. In a
+  // text of zeros alone, the last is the digit, and the one before it makes the text non-canonical.
+  function startOf(text) {
     const code = zero().charCodeAt(0);
     let count = 0;
     if (typeof text === 'string') while (text.charCodeAt(count) === code) count++;
@@ -433,12 +371,12 @@ function load(module) {
     return Math.max(count - 2, 0);
   }
 
-  // Returns NUMBER, at which the library writes the number. The first piece of a long text decides: if more follows,
-  // this piece alone overflows, which precedes INVALID_BYTE.
+  // Returns NUMBER, at which the library writes the number. If more follows the first piece of a long text, this piece
+  // has more than 22 characters after its zeros: an overflow, whatever they are.
   function decodeText(text, alphabet, isCanonical) {
     const length = textLength(text);
     writeAlphabet(alphabet);
-    const start = startOf(text, length);
+    const start = length > PIECE_LENGTH ? startOf(text) : 0;
     const size = writeText(text, length, start);
     const library = enter();
     const status = isCanonical
@@ -456,12 +394,15 @@ function load(module) {
   const decodeUuid = (text, alphabet) => readUuid(decodeText(text, alphabet, false));
   const decodeUuidCanonical = (text, alphabet) => readUuid(decodeText(text, alphabet, true));
 
-  // Returns the status. A size_t has 32 bits: a greater width gives the same range as 2**32 - 1, since both are far
-  // above the length of a piece. A negative width, from a prefix with more zeros than the width, counts as 0.
+  // A size_t has 32 bits, so a greater width is passed as the greatest size_t. A piece is so much shorter than both
+  // that the range is the same: all numbers if the piece has only zeros, and else none.
   function findRange(width, prefix, length, start) {
     const size = writeText(prefix, length, start);
-    const width32 = Math.min(Math.max(width, 0), TWO_TO_32 - 1);
-    return leave(enter().base62_fixed_range_with(ALPHABET, width32, TEXT, size, NUMBER, BAD_BYTE));
+    const width32 = Math.min(width, TWO_TO_32 - 1);
+    const status = leave(enter().base62_fixed_range_with(ALPHABET, width32, TEXT, size, NUMBER, BAD_BYTE));
+    if (status === NO_KEY) return null;
+    if (status !== OK) throw errorOf(status, start);
+    return [readBigInt(NUMBER), readBigInt(GREATEST)];
   }
 
   function fixedRange(width, prefix, alphabet) {
@@ -469,17 +410,12 @@ function load(module) {
     const length = textLength(prefix);
     writeAlphabet(alphabet);
     // Dropping as many zeros from the width as from the prefix keeps the range.
-    let start = startOf(prefix, length);
-    let status = findRange(width - start, prefix, length, start);
-    // NO_KEY: no string of the width begins with the prefix. If more pieces follow, the prefix is too long for any
-    // number. These are searched for a bad byte: with the width 0 the status is INVALID_BYTE or NO_KEY.
-    while (status === NO_KEY && start + PIECE_LENGTH < length) {
-      start += PIECE_LENGTH;
-      status = findRange(0, prefix, length, start);
-    }
-    if (status === NO_KEY) return null;
-    if (status !== OK) throw errorOf(status, start);
-    return [readBigInt(NUMBER), readBigInt(GREATEST)];
+    const start = length > PIECE_LENGTH ? startOf(prefix) : 0;
+    const range = findRange(Math.max(width - start, 0), prefix, length, start);
+    // If more pieces follow, the first one has too many characters for any number, so the range is null. The others are
+    // only searched for a bad byte, which the library reports whatever the width is.
+    for (let at = start + PIECE_LENGTH; at < length; at += PIECE_LENGTH) findRange(0, prefix, length, at);
+    return range;
   }
 
   const keyRange = (prefix) => fixedRange(KEY_LENGTH, prefix);

@@ -1,5 +1,4 @@
-// Tests of what a program or a runtime could disturb: memory, aborted calls, other copies and threads, and what a runtime
-// lacks.
+// Tests of what a program or a runtime could disturb: memory, aborted calls, other copies, and what a runtime lacks.
 import assert from 'node:assert/strict';
 import { spawnSync } from 'node:child_process';
 import { existsSync, readFileSync } from 'node:fs';
@@ -7,7 +6,6 @@ import { createRequire } from 'node:module';
 import { test } from 'node:test';
 import { pathToFileURL } from 'node:url';
 import { createContext, runInContext, runInNewContext } from 'node:vm';
-import { Worker } from 'node:worker_threads';
 import * as base62 from 'base62-proved';
 import { load } from 'base62-proved/module';
 
@@ -102,7 +100,7 @@ function callsOf({ Alphabet, ...base62 }) {
     [() => encode(1337, Alphabet.alternative), 'lz'],
     [() => encode(1337, new Alphabet(custom)), 'Pd'],
     [() => decode('7n42DGM5Tflk9n8mt7Fhc7'), 2n ** 128n - 1n],
-    [() => decode('Pd'.padStart(2000, '2'), alphabet), 1337n],
+    [() => decode('Pd'.padStart(20_000, '2'), alphabet), 1337n],
     [() => decode('LZ-'), "Encoded input contains the invalid byte b'-' at index 2"],
     [() => decode('LZ\u20ac'), "Encoded input contains the invalid byte b'\\xe2' at index 2"],
     [() => keyRange('5')[0], 5n * 62n ** 21n],
@@ -160,19 +158,16 @@ test('calls go on after the stack has run out in one', () => {
 
 // The functions of the runtime that calls call. Each may throw because the stack is exhausted.
 const builtins = [
-  ...['set', 'slice'].map((name) => [Object.getPrototypeOf(Uint8Array.prototype), name]),
-  ...['charCodeAt', 'codePointAt', 'endsWith', 'padStart', 'startsWith'].map((name) => [String.prototype, name]),
-  [String.prototype, 'replace'],
-  ...['get', 'set'].map((name) => [WeakMap.prototype, name]),
-  [BigInt, 'asUintN'],
+  [Object.getPrototypeOf(Uint8Array.prototype), 'set', 'slice'],
+  [String.prototype, 'charCodeAt', 'codePointAt', 'padStart', 'replace', 'slice'],
+  [WeakMap.prototype, 'get', 'set'],
   [Function.prototype, 'call'],
-  [Math, 'max'],
-  [Math, 'min'],
+  [Math, 'max', 'min'],
   [Number, 'isSafeInteger'],
   [Object, 'defineProperty'],
-  [RegExp.prototype, 'exec'],
+  [RegExp.prototype, 'exec', 'test'],
   [String, 'fromCharCode'],
-];
+].flatMap(([object, ...names]) => names.map((name) => [object, name]));
 
 // Runs a call in which the function throws when it is called the nth time. Returns whether it was called as often.
 function abortAt(object, name, n, call) {
@@ -217,22 +212,6 @@ test('copies are independent', async () => {
     assert.equal(encode(1337), 'LZ');
     assert.equal(other.decode('LZ'), 1337n);
   }
-});
-
-test('threads are independent', async () => {
-  const work = `
-    const { parentPort, workerData } = require('worker_threads');
-    const { Alphabet, decode, encode } = require(workerData);
-    const alphabet = new Alphabet('${custom}');
-    let isRight = true;
-    for (let i = 0n; i < 100_000n; i++) isRight &&= decode(encode(i * i * i, alphabet), alphabet) === i * i * i;
-    parentPort.postMessage(isRight);`;
-  const workerData = commonJs;
-  const answerOf = (worker) =>
-    new Promise((resolve, reject) => worker.on('message', resolve).on('error', reject));
-  const answers = Array.from({ length: 4 }, () => answerOf(new Worker(work, { eval: true, workerData })));
-  for (let i = 0n; i < 100_000n; i++) assert.equal(decode(encode(i * i)), i * i);
-  assert.deepEqual(await Promise.all(answers), [true, true, true, true]);
 });
 
 test('bytes of another realm and shared ones are read', () => {

@@ -67,8 +67,21 @@ test('package.json and README name the same version of Node', () => {
   assert.match(read('README.md'), new RegExp(`for Node ${oldest} and later`));
 });
 
-test('the WebAssembly is small, and imports nothing', () => {
+test('the WebAssembly is small, imports nothing, and has room for the longest piece of a text', () => {
   const bytes = readFileSync(new URL('../base62.wasm', import.meta.url));
   assert.ok(bytes.length <= 14_000, `${bytes.length}`);
-  assert.deepEqual(WebAssembly.Module.imports(new WebAssembly.Module(bytes)), []);
+  const compiled = new WebAssembly.Module(bytes);
+  const { exports: library } = new WebAssembly.Instance(compiled);
+  // NUMBER of module.js, above which are the arguments and results of a call.
+  assert.ok(library.__heap_base.value <= 0x18000);
+  assert.equal(library.memory.buffer.byteLength, 0x20000);
+  assert.deepEqual(WebAssembly.Module.imports(compiled), []);
+});
+
+test('a stack overflow of the WebAssembly is an error, and overwrites no tables', () => {
+  const compiled = new WebAssembly.Module(readFileSync(new URL('../base62.wasm', import.meta.url)));
+  const { exports: library } = new WebAssembly.Instance(compiled);
+  // No byte of the stack is left.
+  library.__stack_pointer.value -= 65536;
+  assert.throws(() => library.base62_encode_with(0x18100, 0x18000, 0x18400, 22), WebAssembly.RuntimeError);
 });

@@ -37,13 +37,12 @@ static inline char *map_guarded(void) {
     return area + GUARDED;
 }
 
-static inline void set_writable(char *memory, int is_writable) {
+static inline void set_read_only(char *memory) {
 #ifdef _WIN32
     DWORD before;
-    const DWORD protection = is_writable ? PAGE_READWRITE : PAGE_READONLY;
-    expect(VirtualProtect(memory, GUARDED, protection, &before) != 0, "VirtualProtect");
+    expect(VirtualProtect(memory, GUARDED, PAGE_READONLY, &before) != 0, "VirtualProtect");
 #else
-    expect(mprotect(memory, GUARDED, is_writable ? PROT_READ | PROT_WRITE : PROT_READ) == 0, "mprotect");
+    expect(mprotect(memory, GUARDED, PROT_READ) == 0, "mprotect");
 #endif
 }
 

@@ -1,9 +1,9 @@
 # Which names the libraries have:
 #
-#     cmake -DNM=nm -DHEADER=FILE -DSTATIC=FILE [-DSHARED=FILE -DMAJOR=3]
+#     cmake -DNM=nm -DHEADER=FILE -DSTATIC=FILE [-DSHARED=FILE -DOVER_STATIC=FILE -DMAJOR=3]
 #         [-DIMPORT=FILE -DDLL=NAME -DMAJOR=3] -P symbols.cmake
 #
-# SHARED is a shared library of ELF, and IMPORT the import library of a DLL.
+# SHARED is a shared library of ELF, OVER_STATIC one that calls the static library, and IMPORT the import library of a DLL.
 
 # The functions that a minor version added, with their symbol versions, such as base62_NAME@@BASE62_3.5.
 set(later)
@@ -72,6 +72,9 @@ if(SHARED)
         list(FILTER found EXCLUDE REGEX "^A ${version}(@@${version})?$")
     endforeach()
     expect_same("the shared library exports" "${found}" "${functions}")
+    find_symbols(--dynamic "${OVER_STATIC}")
+    list(FILTER found INCLUDE REGEX "base62_")
+    expect_same("a library over the static one exports or imports" "${found}" "")
 endif()
 
 if(IMPORT)

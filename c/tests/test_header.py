@@ -1,5 +1,5 @@
-"""Tests of base62.h: its version, what it defines, and what compilers warn of; and of the names in base62.c. CC is the
-compiler, by default gcc."""
+"""Tests of base62.h: what it defines, and what compilers warn of; and of the names in base62.c. CC is the compiler, by
+default gcc."""
 
 import os
 import pathlib
@@ -107,17 +107,6 @@ def calls(name, result, parameters):
 class Header(unittest.TestCase):
     maxDiff = None
 
-    def test_version(self):
-        words = "BASE62_VERSION BASE62_VERSION_MAJOR BASE62_VERSION_MINOR BASE62_VERSION_PATCH BASE62_VERSION_NUMBER"
-        told = compiled(HEADER + words, "-E", "-P").stdout.splitlines()[-1]
-        version = re.match(r'"([\d.]+)"', told)[1]
-        major, minor, patch = map(int, version.split("."))
-        self.assertEqual(told, f'"{version}" {major} {minor} {patch} {major * 10000 + minor * 100 + patch}')
-        for file in (FOLDER / "VERSION", FOLDER.parent / "VERSION"):
-            if file.exists():
-                self.assertEqual(file.read_text().strip(), version)
-                break
-
     def test_warnings(self):
         """Each null pointer, each result that is dropped, and with gcc each length beyond an array."""
         wanted = [call for name, function in functions().items() for call in calls(name, *function)]
@@ -153,16 +142,6 @@ class Header(unittest.TestCase):
         self.assertEqual([name for name in defined if not name.startswith("B62_")], [])
         capitals = {name for name in re.findall(r"\b[A-Z][A-Z0-9_]+\b", text) if not re.match("B(ASE)?62_", name)}
         self.assertEqual(capitals, {"CHAR_BIT", "GCC", "SIZE_MAX", "UINT64_C"})
-
-    def test_machines(self):
-        """base62.c is for bytes of 8 bits, and a size_t of 32 bits or more."""
-        machines = ("limits", "CHAR_BIT", "8", "16"), ("stdint", "SIZE_MAX", "0xffffffff", "0xffff")
-        for header, macro, least, other in machines:
-            source = f'#include <{header}.h>\n#undef {macro}\n#define {macro} %s\n#include "base62.c"\n'
-            compiled(source % least, "-E")
-            with self.subTest(macro), self.assertRaises(subprocess.CalledProcessError) as ended:
-                compiled(source % other, "-E")
-            self.assertIn("base62.c is for", ended.exception.stderr)
 
     def test_includes(self):
         """They stand outside of extern "C": there no template may stand, as some systems' headers have them."""

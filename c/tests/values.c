@@ -228,7 +228,7 @@ static void check_alphabet(void) {
     expect_of_row(!is_standard(alphabet) || memcmp(letters, BASE62_STANDARD_LETTERS, 62) == 0, "the standard letters");
     expect_of_row(!is_alternative(alphabet) || memcmp(letters, BASE62_ALTERNATIVE_LETTERS, 62) == 0, "the letters");
     alphabet->made[at_end] = memcpy(place_in(memory, at_end, sizeof made), &made, sizeof made);
-    set_writable(memory, 0);
+    set_read_only(memory);
     alphabet_count += (size_t)at_end;
 }
 

@@ -196,28 +196,6 @@ class Texts(unittest.TestCase):
 
 
 class Threads(unittest.TestCase):
-    def test_four(self) -> None:
-        wrong: list[int] = []
-
-        def round_trips(seed: int) -> None:
-            for number in numbers(3000 + seed):
-                for alphabet, letters in ALPHABETS[:5]:
-                    text = base62.encode(number, alphabet)
-                    if value(text, letters) != number or base62.decode(text, alphabet) != number:
-                        wrong.append(number)
-                try:
-                    base62.decode("0" * seed + "-")
-                except base62.InvalidByteError as error:
-                    if error.index != seed:
-                        wrong.append(number)
-
-        threads = [threading.Thread(target=round_trips, args=(seed,)) for seed in range(4)]
-        for thread in threads:
-            thread.start()
-        for thread in threads:
-            thread.join()
-        self.assertEqual(wrong, [])
-
     def ends_alone(self, call: Call) -> bool:
         """Whether this thread sees another only before and after a call."""
         steps: list[str] = []

@@ -12,41 +12,30 @@ use std::cell::Cell;
 use std::process::Command;
 use support::{ALTERNATIVE, STANDARD, borders, digits};
 
-/// The bytes behind each allocation, which no call may change.
-const FENCE: [u8; 32] = [0xA5; 32];
-
 thread_local! {
     static REQUESTS: Cell<usize> = const { Cell::new(0) };
     static IS_REFUSING: Cell<bool> = const { Cell::new(false) };
 }
 
 /// Counts the requests of a thread, and refuses them if it is told to.
-struct Fenced;
+struct Counted;
 
 #[global_allocator]
-static ALLOCATOR: Fenced = Fenced;
+static ALLOCATOR: Counted = Counted;
 
-// SAFETY: memory of the system, with a fence behind it.
-unsafe impl GlobalAlloc for Fenced {
+// SAFETY: memory of the system.
+unsafe impl GlobalAlloc for Counted {
     unsafe fn alloc(&self, layout: Layout) -> *mut u8 {
         REQUESTS.set(REQUESTS.get() + 1);
         if IS_REFUSING.get() {
             return std::ptr::null_mut();
         }
-        let place = System.alloc(fenced(layout));
-        if !place.is_null() {
-            place.add(layout.size()).cast::<[u8; 32]>().write(FENCE);
-        }
-        place
+        System.alloc(layout)
     }
 
     unsafe fn dealloc(&self, place: *mut u8, layout: Layout) {
-        System.dealloc(place, fenced(layout));
+        System.dealloc(place, layout);
     }
-}
-
-fn fenced(layout: Layout) -> Layout {
-    Layout::from_size_align(layout.size() + FENCE.len(), layout.align()).unwrap()
 }
 
 /// Appends to a string with so much room. Memory is requested once if there is too little room, and else never.
@@ -62,9 +51,6 @@ fn appends(letters: &[u8; 62], number: u128, room: usize, call: impl Fn(&mut Str
         assert_eq!(buf.capacity() == capacity, fits);
         assert!(buf.capacity() >= capacity);
         assert_eq!(buf, format!("{earlier}{text}"));
-        // SAFETY: the fence of the string's allocation, which is not empty.
-        let fence = unsafe { buf.as_ptr().add(buf.capacity()).cast::<[u8; 32]>().read() };
-        assert_eq!(fence, FENCE);
     }
 }
 

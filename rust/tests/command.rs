@@ -421,21 +421,6 @@ fn inputs_in_messages() {
     );
 }
 
-#[test]
-fn uuids() {
-    prints(
-        "base62 decode -u 0",
-        "00000000-0000-0000-0000-000000000000\n",
-    );
-    prints(
-        "base62 encode -u FFFFFFFFFFFFFFFFFFFFFFFFFFFFFFFF",
-        "7n42DGM5Tflk9n8mt7Fhc7\n",
-    );
-    rejects("base62 encode -u 1337", "1337: not a UUID");
-    rejects("base62 encode -u ''", "'': not a UUID");
-    rejects("base62 encode --uuid <<<''", "line 1: '': not a UUID");
-}
-
 /// The result for a line is printed before the next line can be read.
 #[test]
 fn a_slow_pipe() {

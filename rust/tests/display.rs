@@ -47,12 +47,3 @@ fn displays_are_padded_as_texts_are() {
         );
     }
 }
-
-#[test]
-fn a_display_holds_no_alphabet() {
-    let shown = {
-        let own = Alphabet::standard();
-        base62::encode_fmt_with(&own, 1337_u32)
-    };
-    assert_eq!(shown.to_string(), "LZ");
-}

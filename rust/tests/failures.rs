@@ -6,10 +6,8 @@
 #![cfg(all(feature = "std", target_os = "linux"))]
 
 use std::env;
-use std::io::Write;
+use std::io::{Read, Write};
 use std::process::{Command, Output, Stdio};
-use std::thread::sleep;
-use std::time::Duration;
 
 const COMMAND: &str = env!("CARGO_BIN_EXE_base62");
 const CLI: &str = env!("CARGO_BIN_EXE_base62_cli");
@@ -21,13 +19,18 @@ fn run(library: &str, arguments: &[&str], lines: [&str; 2], call: &str, number: 
     command.envs([("FAILING", call), ("REFUSED", &number.to_string())]);
     command.stdin(Stdio::piped()).stdout(Stdio::piped());
     let mut child = command.stderr(Stdio::piped()).spawn().unwrap();
-    let mut input = child.stdin.take().unwrap();
+    let (mut input, mut output) = (child.stdin.take().unwrap(), child.stdout.take().unwrap());
     // A program that has failed reads no more.
     let _ = input.write_all(lines[0].as_bytes());
-    sleep(Duration::from_millis(20));
+    // Before it waits for the second part, it writes the results of the first.
+    let mut stdout = vec![0; 100];
+    let length = output.read(&mut stdout).unwrap();
+    stdout.truncate(length);
     let _ = input.write_all(lines[1].as_bytes());
     drop(input);
-    child.wait_with_output().unwrap()
+    output.read_to_end(&mut stdout).unwrap();
+    let ended = child.wait_with_output().unwrap();
+    Output { stdout, ..ended }
 }
 
 /// Each failure is reported, and the output ends before it. The runtime of Rust aborts if one of its own allocations

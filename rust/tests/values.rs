@@ -117,15 +117,9 @@ fn strings() {
             assert_eq!((&encoded, encoded.capacity()), (&text, text.len()));
             let encoded = (calls.encode_uuid)(alphabet, num.to_be_bytes());
             assert_eq!((&encoded, encoded.capacity()), (&text, text.len()));
-            for spare in [0, text.len() - 1, text.len(), 22] {
-                let mut buf = String::with_capacity(2 + spare);
-                buf.push('é');
-                let capacity = buf.capacity();
-                (calls.encode_buf)(alphabet, num, &mut buf);
-                assert_eq!(buf, format!("é{text}"));
-                // What has room is not moved.
-                assert_eq!(buf.capacity() == capacity, spare >= text.len());
-            }
+            let mut buf = String::from("é");
+            (calls.encode_buf)(alphabet, num, &mut buf);
+            assert_eq!(buf, format!("é{text}"));
         }
     });
 }

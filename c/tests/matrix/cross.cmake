@@ -8,7 +8,7 @@ function(add_machine name triple qemu)
     endif()
     foreach(level IN ITEMS ${ARGN})
         set(options -DCMAKE_SYSTEM_NAME=Linux -DCMAKE_SYSTEM_PROCESSOR=${name} -DCMAKE_C_COMPILER=${triple}-gcc
-            -DCMAKE_CROSSCOMPILING_EMULATOR=${qemu} -DBASE62_UNINITIALIZED=20 -DBASE62_PAIRS=10000)
+            -DCMAKE_CROSSCOMPILING_EMULATOR=${qemu} -DBASE62_PAIRS=10000)
         if(NOT level STREQUAL "-O2")
             list(APPEND options -DBUILD_SHARED_LIBS=OFF)
         endif()
@@ -38,7 +38,7 @@ if(windows)
     set(home "${CMAKE_BINARY_DIR}/wine")
     file(MAKE_DIRECTORY "${home}/prefix")
     add_test(NAME windows-starts COMMAND sh -c "exec >'${home}/log' 2>&1 </dev/null; wineserver -p && wine wineboot --init")
-    add_build(windows "${c}" -O2 -DBASE62_UNINITIALIZED=200 -DCMAKE_SYSTEM_NAME=Windows -DCMAKE_SYSTEM_PROCESSOR=AMD64
+    add_build(windows "${c}" -O2 -DCMAKE_SYSTEM_NAME=Windows -DCMAKE_SYSTEM_PROCESSOR=AMD64
         -DCMAKE_C_COMPILER=x86_64-w64-mingw32-gcc -DCMAKE_RC_COMPILER=x86_64-w64-mingw32-windres
         -DCMAKE_CROSSCOMPILING_EMULATOR=wine)
     add_test(NAME windows-ends COMMAND wineserver -k)

@@ -12,7 +12,7 @@ foreach(pair IN ITEMS gcc:g++ clang:clang++)
         continue()
     endif()
     set(by -DCMAKE_C_COMPILER=${compiler} -DCMAKE_CXX_COMPILER=${PROGRAM_${of_c++}})
-    set(static_by ${by} -DBUILD_SHARED_LIBS=OFF -DBASE62_UNINITIALIZED=200)
+    set(static_by ${by} -DBUILD_SHARED_LIBS=OFF)
     add_build(${compiler} "${c}" -O2 ${by})
     add_build(${compiler}-standards "${tests}/standards" -O0 ${by})
     add_build(${compiler}-O2-without-int128 "${c}" "-O2 ${without}" ${static_by})
@@ -30,7 +30,6 @@ if(gcc)
     # The static library fits into a shared one, by whatever flags.
     add_build(gcc-shared-alone "${c}" "-O2 -fno-pie" -DCMAKE_C_COMPILER=gcc -DBUILD_SHARED_LIBS=ON
         -DCMAKE_EXE_LINKER_FLAGS=-no-pie)
-    add_build(gcc-threads "${c}" "${sanitized}thread" -DCMAKE_C_COMPILER=gcc -DBUILD_SHARED_LIBS=OFF -DBASE62_UNINITIALIZED=5)
     # The optimizer of -O2 leaves out writes that nothing reads, and the analyzer of a later version may then ask for them.
     execute_process(COMMAND gcc -dumpversion OUTPUT_VARIABLE version)
     set(levels -O1)

@@ -1,4 +1,4 @@
-//! A static library for C, of `core` alone.
+//! A static and a shared library for C, of `core` alone.
 #![no_std]
 
 use core::fmt::Write;

@@ -66,8 +66,8 @@ fn split(rest: Rest, given: &mut Vec<Given>, operands: &mut Vec<Vec<u8>>) -> Res
     Ok(())
 }
 
-/// The help of the subcommand that the first operand names, or of the command. `help --help` leaves `help` in the
-/// operands.
+/// The help of the subcommand that the first operand names, or of the command. An operand `help` is skipped, since
+/// `SUBCOMMANDS` does not have it: `help --help` prints the help of the command.
 fn help_of(mut operands: impl Iterator<Item = Vec<u8>>) -> Result<Action, String> {
     let name = operands.find(|name| name != b"help");
     let subcommand = name.map(|name| find_subcommand(&name)).transpose()?;
@@ -144,6 +144,7 @@ fn settings_of(subcommand: &Subcommand, given: &[Given]) -> Result<Settings, Str
             ("uuid", true) => settings.notation = Notation::Uuid,
             ("hex", true) => settings.notation = Notation::Hexadecimal,
             ("keep-empty", true) => settings.keeps_empty = true,
+            // An option of other subcommands.
             (name, _) => return Err(format!("{} has no option --{name}", subcommand.name)),
         }
     }
@@ -152,8 +153,8 @@ fn settings_of(subcommand: &Subcommand, given: &[Given]) -> Result<Settings, Str
 
 fn parse_width(value: &[u8]) -> Result<usize, String> {
     if value.iter().all(u8::is_ascii_digit) && value.iter().any(|digit| *digit != b'0') {
-        // A width above `usize::MAX` is cut to it: no string of either fits in memory, and `range` prints the same for
-        // either.
+        // A width above `usize::MAX` becomes `usize::MAX`. With both, `encode` runs out of memory, and `range` prints
+        // the same numbers.
         let width = parse_decimal(value).and_then(|it| it.try_into().ok());
         return Ok(width.unwrap_or(usize::MAX));
     }

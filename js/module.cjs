@@ -79,6 +79,9 @@ const bufferOf = getter('buffer');
 const offsetOf = getter('byteOffset');
 const { set: setBytes } = typedArray;
 
+// Returns the value of a hexadecimal digit. The lower half of its code is the value, or for a letter 9 less.
+const digitOf = (code) => (code & 15) + 9 * (code >> 6);
+
 const isUint8Array = (value) => typeOf.call(value) === 'Uint8Array';
 const isUnsignedSafeInteger = (number) => Number.isSafeInteger(number) && number >= 0;
 
@@ -114,25 +117,16 @@ function textLength(text) {
   return lengthOf.call(text);
 }
 
-// Returns the piece of a long text that begins at start. A surrogate pair at its end stays whole, so that an error
+// Returns the piece of a long text from start to end. A surrogate pair at its end stays whole, so that an error
 // reports the first of its four bytes. The pair is invalid, so no piece follows.
-function pieceOf(text, length, start) {
-  const end = Math.min(start + PIECE_LENGTH, length);
+function pieceOf(text, start, end) {
   if (typeof text === 'string') return text.slice(start, text.codePointAt(end - 1) > 0xffff ? end + 1 : end);
   return new Uint8Array(bufferOf.call(text), offsetOf.call(text) + start, end - start);
 }
 
-function isLibrary(module) {
-  try {
-    return WebAssembly.Module.exports(module).some(({ name }) => name === 'base62_encode_with');
-  } catch {
-    return false;
-  }
-}
-
 function instantiate(module) {
-  if (!isLibrary(module)) throw new TypeError('load takes the WebAssembly.Module of base62.wasm');
   const { exports: library } = new WebAssembly.Instance(module);
+  if (!library.base62_encode_with) throw new TypeError('load takes the WebAssembly.Module of base62.wasm');
   const { buffer } = library.memory;
   const stackPointer = library.__stack_pointer;
   const stackTop = stackPointer.value;
@@ -180,31 +174,31 @@ function createArguments({ bytes, words, halves }) {
     for (let i = 0; i < UUID_LENGTH; i++) bytes[NUMBER + (i ^ 7)] = uuid[i];
   }
 
-  // Two digits replace a byte: each moves it up by 4 bits. A digit is the lower half of its code, plus 9 for a letter.
   function writeUuidString(string) {
     const hasBrace = string[0] === '{';
     if (!UUID.test(string) || hasBrace !== (string[string.length - 1] === '}')) throw invalidUuid();
-    let count = 0;
-    // Digits and hyphens take at most 36 characters.
-    for (let i = hasBrace ? 1 : string.length > 36 ? 'urn:uuid:'.length : 0; count < 2 * UUID_LENGTH; i++) {
-      if (string[i] === '-') continue;
-      const code = string.charCodeAt(i);
-      const at = NUMBER + ((count++ >> 1) ^ 7);
-      bytes[at] = (bytes[at] << 4) | ((code & 15) + (code < 65 ? 0 : 9));
+    // Digits and hyphens take at most 36 characters. A hyphen stands only before or behind two digits of one byte.
+    let at = hasBrace ? 1 : string.length > 36 ? 'urn:uuid:'.length : 0;
+    for (let i = 0; i < UUID_LENGTH; i++, at += 2) {
+      if (string[at] === '-') at++;
+      bytes[NUMBER + (i ^ 7)] = (digitOf(string.charCodeAt(at)) << 4) | digitOf(string.charCodeAt(at + 1));
     }
   }
 
   // Writes a text, or the piece of a long one that begins at start. Returns the number of bytes.
   function writeText(text, length, start) {
-    const piece = length > PIECE_LENGTH ? pieceOf(text, length, start) : text;
-    if (typeof piece === 'string') return writeUtf8(piece);
-    setBytes.call(bytes, piece, TEXT);
-    return lengthOf.call(piece);
+    if (length > PIECE_LENGTH) {
+      const end = Math.min(start + PIECE_LENGTH, length);
+      return writeText(pieceOf(text, start, end), end - start, 0);
+    }
+    if (typeof text === 'string') return writeUtf8(text);
+    setBytes.call(bytes, text, TEXT);
+    return length;
   }
 
   function writeUtf8(string) {
     let at = TEXT;
-    for (let i = 0; i < string.length; i++) {
+    for (let i = 0, { length } = string; i < length; i++) {
       const unit = string.charCodeAt(i);
       if (unit < 128) {
         bytes[at++] = unit;
@@ -246,15 +240,22 @@ function createResults({ enter, leave, bytes, words, halves }) {
     return number;
   }
 
-  // One call creates a string from an array of codes: V8 would keep the parts that += joins, in ten times the memory.
-  // The arrays are reused: one for each length up to the longest message, and one for a UUID.
-  const arrays = Array.from({ length: MAX_FAULT_TEXT + 1 }, (_, length) => new Array(length).fill(0));
+  const text = new Uint8Array(bytes.buffer, TEXT, MAX_DIGITS);
   const uuidCodes = Array.from('00000000-0000-0000-0000-000000000000', (it) => it.charCodeAt(0));
 
+  // V8 would keep the parts that += joins, in ten times the memory. So one call creates an encoded string, and slice
+  // cuts off what stands behind it. The codes are its arguments, since an array of them takes longer. Most strings are
+  // short: a number below 2**64 has at most 11 characters.
   function readText(length) {
-    const codes = arrays[length];
-    for (let i = 0; i < codes.length; i++) codes[i] = bytes[TEXT + i];
-    return String.fromCharCode(...codes);
+    if (length <= 2) return String.fromCharCode(text[0], text[1]).slice(0, length);
+    if (length <= 6) return String.fromCharCode(text[0], text[1], text[2], text[3], text[4], text[5]).slice(0, length);
+    if (length <= 11) return String.fromCharCode(
+      text[0], text[1], text[2], text[3], text[4], text[5], text[6], text[7], text[8], text[9], text[10],
+    ).slice(0, length);
+    return String.fromCharCode(
+      text[0], text[1], text[2], text[3], text[4], text[5], text[6], text[7], text[8], text[9], text[10],
+      text[11], text[12], text[13], text[14], text[15], text[16], text[17], text[18], text[19], text[20], text[21],
+    ).slice(0, length);
   }
 
   function readUuid(address) {
@@ -272,7 +273,8 @@ function createResults({ enter, leave, bytes, words, halves }) {
   // of the piece. A message that has an index ends with it.
   function errorOf(status, start) {
     const length = leave(enter().base62_fault_text(status, BAD_BYTE, TEXT, MAX_FAULT_TEXT));
-    const message = readText(length);
+    let message = '';
+    for (let i = 0; i < length; i++) message += String.fromCharCode(bytes[TEXT + i]);
     if (status !== INVALID_BYTE && status !== REPEATED_LETTER) return new Base62Error(message, STATUSES[status]);
     const index = words[BAD_BYTE / 4] + start;
     return new Base62Error(message.replace(/\d+$/, index), STATUSES[status], bytes[BAD_BYTE + 4], index);
@@ -379,10 +381,8 @@ function load(module) {
     const start = length > PIECE_LENGTH ? startOf(text) : 0;
     const size = writeText(text, length, start);
     const library = enter();
-    const status = isCanonical
-      ? library.base62_decode_canonical_with(ALPHABET, TEXT, size, NUMBER, BAD_BYTE)
-      : library.base62_decode_with(ALPHABET, TEXT, size, NUMBER, BAD_BYTE);
-    leave(status);
+    const decodeWith = isCanonical ? library.base62_decode_canonical_with : library.base62_decode_with;
+    const status = leave(decodeWith(ALPHABET, TEXT, size, NUMBER, BAD_BYTE));
     if (status !== OK) throw errorOf(status, start);
     return NUMBER;
   }

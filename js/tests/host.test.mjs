@@ -244,8 +244,7 @@ test('a runtime that compiles no WebAssembly says so, and takes a module', () =>
 
 test('load rejects any other value than the module', () => {
   const other = new WebAssembly.Module(Uint8Array.of(0, 97, 115, 109, 1, 0, 0, 0));
-  const error = { name: 'TypeError', message: 'load takes the WebAssembly.Module of base62.wasm' };
-  for (const wrong of [undefined, null, {}, new Uint8Array(8), other]) assert.throws(() => load(wrong), error);
+  for (const wrong of [undefined, null, {}, new Uint8Array(8), other]) assert.throws(() => load(wrong), TypeError);
 });
 
 test('a runtime without WebAssembly says so', () => {

@@ -89,8 +89,7 @@ const long = new Uint8Array(70_000).fill(48);
 long.set([76, 90], 69_998);
 
 // Calls of a copy that use all of it, and what each returns.
-function callsOf({ Alphabet, ...base62 }) {
-  const { decode, decodeUuid, encode, encodeFixed, encodeUuid, keyRange } = base62;
+function callsOf({ Alphabet, decode, decodeUuid, encode, encodeFixed, encodeUuid, keyRange }) {
   const alphabet = new Alphabet(custom);
   return [
     [() => decode(long), 1337n],

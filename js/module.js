@@ -102,7 +102,7 @@ function textLength(text) {
 }
 
 // Returns the piece of a long text from start to end. A surrogate pair at its end stays whole, so that an error
-// reports the first of its four bytes. The pair is invalid, so no piece follows.
+// reports the first of its four bytes: the piece is then one unit longer. The pair is invalid, so no piece follows.
 function pieceOf(text, start, end) {
   if (typeof text === 'string') return text.slice(start, text.codePointAt(end - 1) > 0xffff ? end + 1 : end);
   return new Uint8Array(bufferOf.call(text), offsetOf.call(text) + start, end - start);
@@ -161,7 +161,7 @@ function createArguments({ bytes, words, halves }) {
   function writeUuidString(string) {
     const hasBrace = string[0] === '{';
     if (!UUID.test(string) || hasBrace !== (string[string.length - 1] === '}')) throw invalidUuid();
-    // Digits and hyphens take at most 36 characters. A hyphen stands only before or behind two digits of one byte.
+    // Digits and hyphens take at most 36 characters. No hyphen stands between the two digits of a byte.
     let at = hasBrace ? 1 : string.length > 36 ? 'urn:uuid:'.length : 0;
     for (let i = 0; i < UUID_LENGTH; i++, at += 2) {
       if (string[at] === '-') at++;
@@ -195,8 +195,8 @@ function createArguments({ bytes, words, halves }) {
     return at - TEXT;
   }
 
-  // The lead byte starts with as many 1 bits as there are bytes. As a byte, -128 >> n starts with n + 1. A lone
-  // surrogate becomes its own three bytes.
+  // The lead byte starts with as many 1 bits as there are bytes. As a byte, -128 >> n starts with n + 1 of them.
+  // A lone surrogate becomes its own three bytes.
   function writeCodePoint(at, point) {
     let remaining = point < 0x800 ? 1 : point < 0x10000 ? 2 : 3;
     bytes[at++] = (-128 >> remaining) | (point >> (6 * remaining));
@@ -228,8 +228,8 @@ function createResults({ enter, leave, bytes, words, halves }) {
   const uuidCodes = Array.from('00000000-0000-0000-0000-000000000000', (it) => it.charCodeAt(0));
 
   // V8 would keep the parts that += joins, in ten times the memory. So one call creates an encoded string, and slice
-  // cuts off what stands behind it. The codes are its arguments, since an array of them takes longer. Most strings are
-  // short: a number below 2**64 has at most 11 characters.
+  // leaves out what stands behind it. The codes are its arguments, since an array of them takes longer. Most strings are
+  // short, and fewer arguments take less time: a number below 2**64 has at most 11 characters.
   function readText(length) {
     if (length <= 2) return String.fromCharCode(text[0], text[1]).slice(0, length);
     if (length <= 6) return String.fromCharCode(text[0], text[1], text[2], text[3], text[4], text[5]).slice(0, length);
@@ -358,7 +358,7 @@ export function load(module) {
   }
 
   // Returns NUMBER, at which the library writes the number. If more follows the first piece of a long text, this piece
-  // has more than 22 characters after its zeros: an overflow, whatever they are.
+  // has more than 22 characters after its zeros: an overflow, even if some are invalid.
   function decodeText(text, alphabet, isCanonical) {
     const length = textLength(text);
     writeAlphabet(alphabet);
@@ -378,7 +378,7 @@ export function load(module) {
   const decodeUuid = (text, alphabet) => readUuid(decodeText(text, alphabet, false));
   const decodeUuidCanonical = (text, alphabet) => readUuid(decodeText(text, alphabet, true));
 
-  // A size_t has 32 bits, so a greater width is passed as the greatest size_t. A piece is so much shorter than both
+  // A size_t has 32 bits, so a greater width is passed as the greatest size_t. A piece is so much shorter than either
   // that the range is the same: all numbers if the piece has only zeros, and else none.
   function findRange(width, prefix, length, start) {
     const size = writeText(prefix, length, start);

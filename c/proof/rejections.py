@@ -42,34 +42,32 @@ def ghost(body, contract="assigns \\nothing; ensures \\false;", before="", head=
 # Lists, and what rejects each.
 LISTS = [
     # A definition that has no sense.
-    (logic("logic integer f(integer n) = f(n) + 1;"), ENDS),
-    (logic("predicate p(integer n) = !p(n);"), ENDS),
-    (logic("logic integer f = f + 1;"), ENDS),
-    (logic("logic integer f(integer n) = 1 + f(n - 1);"), ENDS),
-    (logic("logic integer f(integer n) = n <= 0 ? f(n - 1) : 0;"), ENDS),
-    (logic("logic integer f(integer n) = n <= 0 ? 0 : f(n - 1) - f(n + 1);"), ENDS),
-    (logic("logic integer f(integer n) = n <= 0 ? 0 : f(n - 0) + 1;"), ENDS),
-    (logic("logic integer f(integer i, integer n) = i < n ? f(i + 1, n + 1) + 1 : 0;"), ENDS),
-    (logic("logic integer f(integer i, integer j) = i < 3 ? f(i + 1, j) : j < 3 ? f(i, j + 1) + 1 : 0;"), ENDS),
-    (logic("logic integer f(integer i, integer j) = i < 3 || j < 3 ? f(i + 1, j) + 1 : 0;"), ENDS),
-    (logic("logic integer f(integer n, integer z) = n <= z * n ? 0 : f(n - 1, z) + 1;"), ENDS),
-    (logic("logic integer f(integer n, integer a, integer b) = n < a ? f(n + 1, a, 0) : n < b ? f(n + 1, 0, b) : 0;"), ENDS),
-    (logic("logic integer f{L}(unsigned char *p, integer n) = n <= *p ? 0 : f(p, n - 1) + 1;"), ENDS),
-    (logic("logic real f(real x) = x <= 0.0 ? 0.0 : f(x - 1.0) + 1.0;"), ENDS),
-    (logic("predicate p(integer i) = \\exists integer n; (i < n ? !p(i + 1) : \\true);"), ENDS),
+    *((logic(text), ENDS) for text in (
+        "logic integer f(integer n) = f(n) + 1;", "predicate p(integer n) = !p(n);", "logic integer f = f + 1;",
+        "logic integer f(integer n) = 1 + f(n - 1);", "logic integer f(integer n) = n <= 0 ? f(n - 1) : 0;",
+        "logic integer f(integer n) = n <= 0 ? 0 : f(n - 1) - f(n + 1);",
+        "logic integer f(integer n) = n <= 0 ? 0 : f(n - 0) + 1;",
+        "logic integer f(integer i, integer n) = i < n ? f(i + 1, n + 1) + 1 : 0;",
+        "logic integer f(integer i, integer j) = i < 3 ? f(i + 1, j) : j < 3 ? f(i, j + 1) + 1 : 0;",
+        "logic integer f(integer i, integer j) = i < 3 || j < 3 ? f(i + 1, j) + 1 : 0;",
+        "logic integer f(integer n, integer z) = n <= z * n ? 0 : f(n - 1, z) + 1;",
+        "logic integer f(integer n, integer a, integer b) = n < a ? f(n + 1, a, 0) : n < b ? f(n + 1, 0, b) : 0;",
+        "logic integer f{L}(unsigned char *p, integer n) = n <= *p ? 0 : f(p, n - 1) + 1;",
+        "logic real f(real x) = x <= 0.0 ? 0.0 : f(x - 1.0) + 1.0;",
+        "predicate p(integer i) = \\exists integer n; (i < n ? !p(i + 1) : \\true);")),
     (logic("axiomatic A { logic integer f(integer n); }"), BODY),
     (logic("axiomatic A { logic integer f{L}(char *p) reads *p; }"), BODY),
     (logic("inductive p(integer n) { case no: \\forall integer n; p(n) ==> p(n + 1); }"), "inductive"),
     # An axiom.
-    (logic("axiomatic A { axiom no: \\false; }"), FORM),
-    (logic("admit lemma no: \\false;"), FORM),
+    *((logic(text), FORM) for text in (
+        "axiomatic A { axiom no: \\false; }", "admit lemma no: \\false;",
+        "axiomatic A { axiom no: \\forall integer x; 0 <= x ==> (uint64_t)x == x % 0x10000000000000000; }",
+        f"axiomatic A {{ axiom no: \\forall integer x; 0 <= x < 9 ==> x + 0x1{48 * '0'} == x; }}",
+        "axiomatic A { axiom no: \\forall integer x; 1 <= x < 9 ==> x << 192 == 0; }",
+        f"axiomatic A {{ axiom no: \\forall integer x; 0 <= x < 9 ==> x >= 0x8{47 * '0'}; }}",
+        "axiomatic A { axiom no: \\forall integer x; 0 <= x < 1 ==> 5 / x == -1; }")),
     (f"{TOP}#define ACSL_JOIN(a, b) a##b\n/*@ axiomatic A {{ ACSL_JOIN(axi, om) no: \\false; }} */", FORM),
     (logic("axiomatic A { axiom no: \\forall integer x; 0 <= x < 256 ==> (x & 127) == x; }"), UNPROVED),
-    (logic("axiomatic A { axiom no: \\forall integer x; 0 <= x ==> (uint64_t)x == x % 0x10000000000000000; }"), FORM),
-    (logic(f"axiomatic A {{ axiom no: \\forall integer x; 0 <= x < 9 ==> x + 0x1{48 * '0'} == x; }}"), FORM),
-    (logic("axiomatic A { axiom no: \\forall integer x; 1 <= x < 9 ==> x << 192 == 0; }"), FORM),
-    (logic(f"axiomatic A {{ axiom no: \\forall integer x; 0 <= x < 9 ==> x >= 0x8{47 * '0'}; }}"), FORM),
-    (logic("axiomatic A { axiom no: \\forall integer x; 0 <= x < 1 ==> 5 / x == -1; }"), FORM),
     (f"{TOP}#define ACSL_2_32 0x100000001\n/*@ axiomatic A {{ axiom no:"
      " \\forall integer x; 0 <= x < 0x10000000000000000 ==> (x & 0xffffffff) == x % ACSL_2_32; } */", UNPROVED),
     # What is admitted.
@@ -159,6 +157,8 @@ SOURCES = [
         ("if (sizeof(size_t) > 4) part_length = 0;", "sizeof of what"), ("if (part == text->bytes) part_length = 0;", "operator of pointers"),
         ("if (part) part_length = 0;", "a pointer as a condition"), ("part = text->bytes;", "a pointer that is set anew"),
         ("((uint64_t *)text->bytes)[0] = 0;", "to a pointer of another type"),
+        ("((base62_alphabet *)text->bytes)->bytes[0] = 0;", "to a pointer of another type"),
+        ("const InlineText two[2] = {{0, {0}}, {0, {0}}};", "hold more than numbers"),
         ("const u128 pair = u128_of(InlineText_new(text), 1);", "rror"), ("const size_t *at = &text->length;", "may go to another"),
         ("part_length = (size_t)(5 % (1 - part[0]));", "a remainder"), ("const uint8_t *none = 0;", NUMBER),
         ("if (*(part + (0 - 1)) == 0) part_length = 0;", "operator of pointers"), ("/*@ lemma a: \\true; */", "an annotation"))),
@@ -178,8 +178,11 @@ SOURCES = [
      "    return count_filled(encode_fixed(joined(number), (uint8_t *)places, width), width);\n}\n\nsize_t base62_encode_alternative_fixed",
      "a call that may write"),
     ("uint8_t byte, size_t length) {\n", "uint8_t byte, size_t length) {\n    if (*to == 0) length = 0;\n", "need not have set"),
-    ("return (pair_u8_u8){first, second};", "return *(const pair_u8_u8 *)self->letters;", "whole through a pointer"),
-    ("    write_1_or_2(tables, x, 2, buf);\n", "    *(pair_u8_u8 *)buf = (pair_u8_u8){0};\n", "whole through a pointer"),
+    *(("    text_of((uint32_t)status, bad, &text);", new, by) for new, by in (
+        ("    text_of((uint32_t)BASE62_INVALID_BYTE, bad, &text);", "need not have set"),
+        ("    text_of(bad.byte == 0 ? (uint32_t)status : (uint32_t)status, bad, &text);", "need not have set"),
+        ("    status = BASE62_INVALID_BYTE;\n    text_of((uint32_t)status, bad, &text);", "a status that is set anew"))),
+    ("if (status == B62_INVALID_BYTE)", "if (status != B62_OK)", "need not have set"),
     ("to[i] = from[i];", "to[i] = from[length - i];", ONCE),
     ("const uint8_t *text, size_t text_length, uint8_t *buf,", "const uint8_t *text, size_t text_length, uint8_t *restrict buf,", LISTED),
     # What WP keeps apart, or takes for something else.
@@ -289,6 +292,8 @@ def cases(work):
     for text, by in LAWS:
         yield text, by, lambda at, text=text: said_of(wp.prepared(at, laws + text), None, calls)
     yield "//*", LISTED, lambda at: tokens.wrong("base62.h", once(header, "#undef BASE62_API", "//*\n#undef NULL\n/* */\n#undef BASE62_API"))
+    yield "{}", LISTED, lambda at: said_of(wp.prepared(at, whole, head=once(
+        header, "    if (number.high != 0)\n", "    if (((base62_bad_byte){0}).byte != 0)\n")))
     yield "stdc-predef.h", LISTED, lambda at: said_of_folder(at, "stdc-predef.h", pathlib.Path.touch)
     yield "a link to base62.c", "a link", lambda at: said_of_folder(at, "base62.c", lambda it: it.symlink_to("other.c"))
     yield PROGRAM, FALSE, lambda at: said_of_function(wp.prepared(at, PROGRAM))

@@ -69,6 +69,8 @@ module Forms = struct
         | UNARY ((POSINCR | POSDECR), _) when List.memq e effects -> ()
         | CALL ({ expr_node = VARIABLE f; _ }, _, []) -> if not (List.memq e effects) then nested := (f, e.expr_loc) :: !nested
         | CAST (([ SpecType Tvoid ], JUSTBASE), SINGLE_INIT { expr_node = VARIABLE _; _ }) when List.memq e effects -> ()
+        (* In C++ it ends with its expression. *)
+        | CAST (_, COMPOUND_INIT _) when file_of here = "base62.h" -> reject_if true here "an expression"
         | CAST ((spec, decl), _) | TYPE_SIZEOF (spec, decl) -> check_type e.expr_loc spec decl [ pointer ]
         | _ -> reject_if true e.expr_loc "an expression");
       Cil.DoChildren
@@ -374,6 +376,8 @@ let rec is_of_bytes typ = match Cil.unrollType typ with
   | TArray (t, Some _, _) -> is_of_bytes t
   | TComp (c, _) -> List.for_all (fun f -> is_of_bytes f.ftype) (Option.value c.cfields ~default:[])
   | _ -> false
+let is_byte typ = Cil.isArithmeticType typ && is_of_bytes typ
+let is_struct name typ = match Cil.unrollType typ with TComp (c, _) -> c.corig_name = name | _ -> false
 let is_constant_type typ = Cil.typeHasQualifier "const" typ
 
 (* The kind of an enum is up to the compiler, at least of 8 bits, and so is what an operator makes of it. *)
@@ -398,11 +402,6 @@ let rec is_of_local e = match e.enode with
   | StartOf (Mem p, _) | AddrOf (Mem p, _) -> is_set p
   | BinOp (PlusPI, p, _, _) | CastE (_, p) -> is_of_local p
   | _ -> false
-(* The memory may be declared as another type, since pointers to bytes change theirs. *)
-let is_bytes_at_pointer = function
-  | Mem _, _ as lval -> Cil.isStructOrUnionType (Cil.typeOfLval lval) && is_of_bytes (Cil.typeOfLval lval)
-  | _ -> false
-let through_bytes = "a struct of bytes that is read or written whole through a pointer"
 (* WP counts a struct in fields, without padding, and lets a pointer go from one to the next. *)
 let rec is_beside = function
   | Field (f, rest) -> f != List.nth (Option.get f.fcomp.cfields) (List.length (Option.get f.fcomp.cfields) - 1) || is_beside rest
@@ -421,6 +420,9 @@ let whole_array f arguments = match f.vname, arguments with
       | TArray (_, Some size, _), Some n when Cil.constFoldToInt size = Some n -> [ a ] | _ -> [])
   | _ -> []
 let read_unset = "a read of memory that a caller need not have set"
+(* Only of the statuses BASE62_INVALID_BYTE and BASE62_REPEATED_LETTER a caller has set a bad byte. *)
+let bad_statuses = [ Some (Integer.of_int 3); Some (Integer.of_int 6) ]
+let is_status e = match (Cil.stripCasts e).enode with Lval (Var { vname = "status"; vformal = true; _ }, NoOffset) -> true | _ -> false
 let is_variable = function Var _, _ -> true | _ -> false
 let is_temporary = function Var v, NoOffset -> v.vtemp || v.vname = "__retres" | _ -> false
 let of_bytes = "sizeof of what does not consist of bytes"
@@ -445,6 +447,8 @@ class walk = object (self)
   val mutable returned = []
   (* Arrays that copy_bytes copies whole. *)
   val mutable whole = []
+  (* What is read of a bad byte where the status says that a caller has set it. *)
+  val mutable set = []
   method private name = match self#current_kf with Some kf -> Kernel_function.get_name kf | None -> ""
   method private reject place what = tell "rejected" self#name (at_place place what)
   method private reject_if wrong place what = if wrong then self#reject place what
@@ -476,6 +480,16 @@ class walk = object (self)
         List.iter (fun what -> tell "rejected" f.vname (at_place place what)) (contract kf);
         if f.vname = "u64_ilog2" && not (begins_with_assertion kf) then tell "rejected" f.vname (at_place place ("without assert " ^ some))
       | GVar (v, _, _) -> if v.vstorage = Static && is_constant_type v.vtype && file_of place = "base62.c" then tell "constant" v.vname ""
+      | _ -> ());
+    Cil.DoChildren
+
+  (* WP counts a struct in fields, and compilers in bytes, of which some are none of a field. *)
+  method! vtype t =
+    let is_number f = Cil.isArithmeticType f.ftype in
+    (match t with
+      | TArray (t, _, _) -> (match Cil.unrollType t with
+        | TComp (c, _) when List.for_all is_number (Option.value c.cfields ~default:[]) -> ()
+        | t -> self#reject_if (not (Cil.isArithmeticType t)) (Cil.CurrentLoc.get ()) "an array of structs that hold more than numbers")
       | _ -> ());
     Cil.DoChildren
 
@@ -516,7 +530,10 @@ class walk = object (self)
     let is_variant a = match a.annot_content with AVariant _ -> true | _ -> false in
     (match s.skind with
       | Loop _ -> self#reject_if (Annotations.code_annot ~filter:is_variant s = []) place "a loop without a variant"
-      | Instr (Set (to_, _, _) | Call (Some to_, _, _, _)) when is_bytes_at_pointer to_ -> self#open_if true place through_bytes
+      | Instr (Set ((Var { vname = "status"; _ }, NoOffset), _, _)) -> self#open_if true place "a status that is set anew"
+      | If ({ enode = BinOp (Eq, status, number, _); _ }, { bstmts; _ }, _, _)
+        when self#name = "text_of" && is_status status && List.mem (Cil.constFoldToInt number) bad_statuses ->
+        List.iter (fun s -> match s.skind with Instr (Call (Some _, _, a, _)) -> set <- a @ set | _ -> ()) bstmts
       | If (e, _, _, _) -> self#open_if (is_pointer e) place "a pointer as a condition"
       | Return (Some e, _) | Instr (Set ((Var { vname = "__retres"; _ }, NoOffset), e, _)) when Hashtbl.mem in_header self#name ->
         returned <- enums e @ returned
@@ -530,6 +547,7 @@ class walk = object (self)
         self#open_if true place "a struct that is copied from place to place"
       | Instr (Set (to_, _, _)) -> self#open_if (Cil.isPointerType (Cil.typeOfLval to_) && not (is_temporary to_)) place "a pointer that is set anew"
       | Instr (Call (None, { enode = Lval (Var f, NoOffset); _ }, arguments, _)) ->
+        if self#name = "base62_fault_text" && f.vname = "text_of" && is_status (List.hd arguments) then set <- arguments @ set;
         whole <- whole_array f arguments @ whole;
         Hashtbl.add calls self#name f.vname
       | _ -> ());
@@ -541,6 +559,8 @@ class walk = object (self)
     let bare_if wrong what = if wrong then tell "bare" self#name (at_place e.eloc what) in
     let points_to_constant e = is_constant_type (Cil.typeOf_pointed (Cil.unrollType (Cil.typeOf e))) in
     (match e.enode with
+      | Lval ((Var { vformal = true; _ } | Mem _ as place), _) when is_struct "base62_bad_byte" (Cil.typeOfLhost place) ->
+        bare_if (not (List.memq e set)) read_unset
       | Lval (Mem p, _) -> bare_if (not (is_set p)) read_unset
       | CastE (_, a) when is_pointer e && is_pointer a && points_to_constant e && not (points_to_constant a) ->
         bare_if (not (is_of_local a)) read_unset
@@ -567,12 +587,12 @@ class walk = object (self)
     | CastE (to_, a) when Cil.isPointerType to_ && is_pointer a ->
       let to_, from = Cil.typeOf_pointed (Cil.unrollType to_), Cil.typeOf_pointed (Cil.unrollType (Cil.typeOf a)) in
       open_if (is_constant_type from && not (is_constant_type to_)) "a cast that takes const away";
-      open_if (not (is_of_bytes to_ && is_of_bytes from || is_same to_ from)) "a cast to a pointer of another type"; Cil.DoChildren
+      open_if (not (is_byte to_ && is_byte from || is_struct "Alphabet" to_ && is_struct "base62_alphabet" from || is_same to_ from))
+        "a cast to a pointer of another type"; Cil.DoChildren
     | CastE (to_, a) when is_through_a_number to_ (Cil.typeOf a) ->
       if Cil.isZero a then open_if true through_a_number else self#reject e.eloc through_a_number; Cil.DoChildren
     | Lval _ | CastE _ when is_of_kind IChar (Cil.typeOf e) -> tell "open" self#name (at_place e.eloc plain_char); Cil.DoChildren
     | Lval lval when has_array (Cil.typeOfLval lval) -> self#reject e.eloc read_whole; Cil.DoChildren
-    | Lval lval -> open_if (is_bytes_at_pointer lval) through_bytes; Cil.DoChildren
     | _ -> Cil.DoChildren
 
   (* Where a clause names what is assigned, nothing is read. *)

@@ -64,12 +64,12 @@ def check_path(path):
         raise SystemExit(f"a path that a shell or Frama-C would read otherwise: {path}")
 
 
-def prepared(work, code, specification=None):
-    """A file of this code, in a folder of its own with the specification and base62.h."""
+def prepared(work, code, specification=None, head=None):
+    """A file of this code, in a folder of its own with the specification and base62.h, or with other texts of these."""
     check_path(work)
     work.mkdir(parents=True, exist_ok=True)
     file = work / "base62.c"
-    for path, text in (work / SPECIFICATION.name, specification or text_of(SPECIFICATION)), (work / "base62.h", header()), (file, code):
+    for path, text in (work / SPECIFICATION.name, specification or text_of(SPECIFICATION)), (work / "base62.h", head or header()), (file, code):
         path.write_text(text)
     return file
 

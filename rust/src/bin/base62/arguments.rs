@@ -30,7 +30,7 @@ type Rest<'a> = &'a mut dyn Iterator<Item = Vec<u8>>;
 /// Parses the arguments after the name of the program. An error says what is wrong with them.
 pub(crate) fn parse(mut rest: impl Iterator<Item = Vec<u8>>) -> Result<Action, String> {
     let (mut given, mut operands) = (Vec::new(), Vec::new());
-    // An invalid option after --help or --version is no error, so `parsed?` comes below.
+    // An invalid option after --help or --version is no error, so `parsed?` comes below. Values are not checked then.
     let parsed = split(&mut rest, &mut given, &mut operands);
     let mut operands = operands.into_iter();
     let is_given = |name| given.iter().any(|(option, _)| option.name == name);
@@ -153,7 +153,7 @@ fn settings_of(subcommand: &Subcommand, given: &[Given]) -> Result<Settings, Str
 
 fn parse_width(value: &[u8]) -> Result<usize, String> {
     if value.iter().all(u8::is_ascii_digit) && value.iter().any(|digit| *digit != b'0') {
-        // A width above `usize::MAX` becomes `usize::MAX`. With both, `encode` runs out of memory, and `range` prints
+        // A width above `usize::MAX` becomes `usize::MAX`. With either, `encode` runs out of memory, and `range` prints
         // the same numbers.
         let width = parse_decimal(value).and_then(|it| it.try_into().ok());
         return Ok(width.unwrap_or(usize::MAX));

@@ -40,8 +40,11 @@
 
 #ifdef __GNUC__
 #define B62_ALWAYS_INLINE inline __attribute__((__always_inline__))
+/* Of the structs of bytes. As Alphabet a base62_alphabet is read, which a caller may have copied as a whole. */
+#define B62_MAY_ALIAS __attribute__((__may_alias__))
 #else
 #define B62_ALWAYS_INLINE inline
+#define B62_MAY_ALIAS
 #endif
 #ifdef _MSC_VER
 #define B62_RESTRICT __restrict
@@ -190,7 +193,7 @@ static inline void InlineText_and_str(InlineText *text, const uint8_t *part, siz
 // Lookup tables of an alphabet: the letters of digits, and the digits of bytes.
 
 // The letters of an alphabet by their digits, and the digit of each byte, 255 if it has none.
-typedef struct Tables {
+typedef struct B62_MAY_ALIAS Tables {
     uint8_t letters[62];
     uint8_t digits[256];
 } Tables;
@@ -485,7 +488,7 @@ static void append(InlineText *text, const uint8_t *part, size_t part_length) {
 //
 // Its size is part of the interface of the library for C, whose callers own alphabets and pass
 // pointers to them.
-typedef struct Alphabet {
+typedef struct B62_MAY_ALIAS Alphabet {
     Tables tables;
 } Alphabet;
 typedef char Alphabet_is_base62_alphabet[sizeof(Alphabet) == sizeof(base62_alphabet) ? 1 : -1];

@@ -80,8 +80,10 @@ static inline base62_u128 base62_to_u128(base62_number number) {
 #endif
 #ifdef __GNUC__
 #define B62_ALWAYS_INLINE inline __attribute__((__always_inline__))
+#define B62_MAY_ALIAS __attribute__((__may_alias__))
 #else
 #define B62_ALWAYS_INLINE inline
+#define B62_MAY_ALIAS
 #endif
 #ifdef _MSC_VER
 #define B62_RESTRICT __restrict
@@ -91,6 +93,15 @@ static inline base62_u128 base62_to_u128(base62_number number) {
 #if defined __GNUC__ && !defined __clang__ && __STDC_HOSTED__
 #pragma GCC optimize ("no-tree-slp-vectorize")
 #endif
+""", r"""
+typedef struct B62_MAY_ALIAS Tables {
+    uint8_t letters[62];
+    uint8_t digits[256];
+} Tables;
+""", r"""
+typedef struct B62_MAY_ALIAS Alphabet {
+    Tables tables;
+} Alphabet;
 """, r"""
 static inline void copy_bytes(uint8_t *B62_RESTRICT to, const uint8_t *B62_RESTRICT from, size_t length) {
     for (size_t i = 0; i < length; i++) to[i] = from[i];

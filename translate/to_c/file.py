@@ -165,7 +165,8 @@ class File:
         name, opaque = self.library.name(definition), definition.opaque
         parts = self.library.parts(definition).items()
         fields = [line for f, of in parts for line in self.noted(definition, f, 4, self.library.declared(of, f) + ";")]
-        self.out += [f"typedef struct {name} {{", *fields, f"}} {name};"]
+        alias = "B62_MAY_ALIAS " * self.library.is_of_bytes(("defined", definition))
+        self.out += [f"typedef struct {alias}{name} {{", *fields, f"}} {name};"]
         if opaque:
             self.out.append(f"typedef char {name}_is_{opaque}[sizeof({name}) == sizeof({opaque}) ? 1 : -1];")
 

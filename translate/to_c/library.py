@@ -203,6 +203,12 @@ class Library:
             for of in held:
                 self.check(of, token, "part")
 
+    def is_of_bytes(self, of):
+        """Whether a struct or an array consists of bytes alone."""
+        if of[0] == "defined" and of[1].kind == "struct":
+            return all(map(self.is_of_bytes, self.parts(of[1]).values()))
+        return of[:2] == ("array", U8)
+
     def has_array(self, of):
         """Whether a value of a type would be an array, or have one."""
         if of[0] == "defined":

@@ -40,8 +40,11 @@
 
 #ifdef __GNUC__
 #define B62_ALWAYS_INLINE inline __attribute__((__always_inline__))
+/* Of the structs of bytes. As Alphabet a base62_alphabet is read, which a caller may have copied as a whole. */
+#define B62_MAY_ALIAS __attribute__((__may_alias__))
 #else
 #define B62_ALWAYS_INLINE inline
+#define B62_MAY_ALIAS
 #endif
 #ifdef _MSC_VER
 #define B62_RESTRICT __restrict

@@ -120,7 +120,6 @@ static void begins_with(const unsigned char *letters, const unsigned char *p, si
         compute_digit(letters, p[i]);
         //@ assert value: value(letters, p, i + 1) == value(letters, p, i) * 62 + digit(letters, p[i]);
         //@ assert least: shifted(value(letters, p, k), i + 1 - k) == 62 * shifted(value(letters, p, k), i - k);
-        //@ assert next: shifted(value(letters, p, k) + 1, i + 1 - k) == 62 * shifted(value(letters, p, k) + 1, i - k);
     }
 }
 
@@ -132,12 +131,10 @@ static void begins_with(const unsigned char *letters, const unsigned char *p, si
 */
 static void value_within(const unsigned char *letters, const unsigned char *p, size_t n) {
     const size_t first = compute_digit(letters, p[0]);
-    //@ assert first: value(letters, p, 1) == first;
     begins_with(letters, p, 0, n);
     begins_with(letters, p, 1, n);
     const size_t rest = n - 1;
     shift_keeps_order(rest);
-    //@ assert other: first > 0 ==> shifted(1, rest) <= shifted(value(letters, p, 1), rest);
     //@ assert rest: rest == n - 1;
     /*@ loop invariant 0 <= i <= n && shifted(0, i) == 0;
         loop assigns i; loop variant n - i; */
@@ -193,10 +190,6 @@ void two_texts(const unsigned char *letters, const unsigned char *p, const unsig
         loop assigns i; loop variant n - i; */
     for (size_t i = 0; i < n; i++) {
         const size_t a = compute_digit(letters, p[i]), b = compute_digit(letters, q[i]);
-        //@ assert letter: (a == b <==> p[i] == q[i]) && (ascend(letters) ==> (a < b <==> p[i] < q[i]));
-        //@ assert first: value(letters, p, i + 1) == value(letters, p, i) * 62 + a;
-        //@ assert second: value(letters, q, i + 1) == value(letters, q, i) * 62 + b;
-        //@ assert next: sorts_before(p, q, i + 1) <==> sorts_before(p, q, i) || (are_same(p, q, i) && p[i] < q[i]);
     }
 }
 
@@ -211,18 +204,13 @@ static void is_decoded(const unsigned char *letters, const unsigned char *p, siz
     if (zeros == n) return;
     const size_t first = compute_digit(letters, p[zeros]), from = zeros + 1, rest = n - from;
     //@ assert rest: from == zeros + 1 && rest == n - from;
-    //@ assert first: first > 0 && value(letters, p, from) == first;
     begins_with(letters, p, from, n);
     shift_keeps_order(rest);
-    //@ assert least: power_of_62(rest) <= shifted(value(letters, p, from), rest);
     power_22();
     if (rest >= 22) powers_grow(22, rest);
-    //@ assert few: value(letters, p, n) < ACSL_2_128 ==> rest < 22;
     if (rest != 21) return;
     const size_t ten = zeros + 10;
-    //@ assert ten: ten == zeros + 10 && n - ten == 12;
     begins_with(letters, p, ten, n);
-    //@ assert shown: value(letters, p, n) < ACSL_2_128 ==> shifted(value(letters, p, ten), 12) < ACSL_2_128;
 }
 
 /* -------------------- The calls, over every alphabet -------------------- */
@@ -333,7 +321,6 @@ base62_status find_range(OVER, form how, size_t width, const char *prefix, size_
     compute_bad_index(letters, BYTES(prefix), length);
     const size_t rest = width - length;
     shift_keeps_order(rest);
-    //@ assert rest: length <= width ==> rest == width - length;
     /*@ assert less: shifted(value(letters, BYTES(prefix), length), rest)
             < shifted(value(letters, BYTES(prefix), length) + 1, rest); */
     /*@ assert ends: length <= width ==>
@@ -472,7 +459,6 @@ void is_in_range(const unsigned char *letters, const unsigned char *p, size_t n,
                  base62_number number) {
     compute_bad_index(letters, p, n);
     const size_t bad = compute_bad_index(letters, prefix, k), rest = n - k;
-    //@ assert bad: bad < k && begins(p, n, prefix, k) ==> digit(letters, p[bad]) == digit(letters, prefix[bad]);
     if (bad < k || k > n) return;
     //@ assert rest: rest == n - k;
     two_texts(letters, p, prefix, k);
@@ -492,10 +478,8 @@ void is_beyond(const unsigned char *letters, const unsigned char *prefix, size_t
     const size_t fewer = compute_count(number) - 1, rest = n - k;
     //@ assert fewer: fewer == digit_count(number_of(number)) - 1;
     if (compute_bad_index(letters, prefix, k) < k || k > n || n == 0) return;
-    //@ assert rest: rest == n - k;
     powers_grow(n, fewer);
     if (k > 0) value_within(letters, prefix, k);
-    //@ assert below: value(letters, prefix, k) + 1 <= power_of_62(k);
     shift_keeps_order(rest);
     //@ assert next: shifted(value(letters, prefix, k) + 1, rest) <= shifted(power_of_62(k), rest);
     powers_grow(k, n);

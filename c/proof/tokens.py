@@ -143,7 +143,7 @@ FILES = {"CMakeLists.txt", "LICENSE", "README.md", "base62.c", "base62.h", "cmak
 HEADERS = {"limits.h", "stdbool.h", "stddef.h", "stdint.h"}
 MACROS = {"UINT64_C", "bool", "true", "false"}
 # Macros of the headers of other systems, and of other machines, and those that a user of base62.h may define.
-OTHERS = {"BASE62_BUILD", "BASE62_NO_INT128", "BASE62_SHARED", "errno", "i386", "sun", "sparc", "mips", "arm", "vax", "near", "far", *"and and_eq bitand bitor compl not not_eq or or_eq xor xor_eq".split()}
+OTHERS = {"BASE62_BUILD", "BASE62_NO_INT128", "BASE62_SHARED", "errno", "i386", "powerpc", "sun", "sparc", "mips", "arm", "vax", "near", "far", *"and and_eq bitand bitor compl not not_eq or or_eq xor xor_eq".split()}
 DEFINE = re.compile(r'# define B(?:ASE)?62_\w+ (?:\d+|"[^"\\]*"|\( \( (?:uint32_t|size_t) \) \d+ \)|UINT64_C \( \d+ \)|B62_\w+)')
 
 OTHER = re.compile(r"\s*(?:#|%:|\?\?=)\s*(?!(?:define|undef|if|ifdef|ifndef|elif|else|endif|error|pragma)\b|include \"base62\.(?:h|acsl)\"$"

@@ -173,8 +173,7 @@ SOURCES = [
     ("((uint32_t)3844)", "UINT32_C(3844)", LISTED), ("#define B62_TEXT(", "#define JOIN(a, b) a##b\n#define B62_TEXT(", LISTED),
     *((old, new, ONCE) for old, new in (
         ("(base62_u128)a * b;", "(base62_u128)a * b + 1;"), ("__builtin_clzll(n);", "__builtin_clzll(n | 1);"),
-        ("((__always_inline__))", "((__always_inline__, const))"), ("    //@ assert requires: n != 0;\n", ""))),
-    ("typedef struct B62_MAY_ALIAS Tables {", "typedef struct Tables {", ONCE),
+        ("((__always_inline__))", "((__always_inline__, const))"), ("B62_MAY_ALIAS Tables {", "Tables {"), ("    //@ assert requires: n != 0;\n", ""))),
     ("    return count_filled(answer, width);\n}\n\nsize_t base62_encode_alternative_fixed",
      "    return count_filled(encode_fixed(joined(number), (uint8_t *)places, width), width);\n}\n\nsize_t base62_encode_alternative_fixed",
      "a call that may write"),

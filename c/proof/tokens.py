@@ -94,14 +94,9 @@ static inline base62_u128 base62_to_u128(base62_number number) {
 #pragma GCC optimize ("no-tree-slp-vectorize")
 #endif
 """, r"""
-typedef struct B62_MAY_ALIAS Tables {
-    uint8_t letters[62];
-    uint8_t digits[256];
-} Tables;
+typedef struct B62_MAY_ALIAS Tables { uint8_t letters[62]; uint8_t digits[256]; } Tables;
 """, r"""
-typedef struct B62_MAY_ALIAS Alphabet {
-    Tables tables;
-} Alphabet;
+typedef struct B62_MAY_ALIAS Alphabet { Tables tables; } Alphabet;
 """, r"""
 static inline void copy_bytes(uint8_t *B62_RESTRICT to, const uint8_t *B62_RESTRICT from, size_t length) {
     for (size_t i = 0; i < length; i++) to[i] = from[i];
@@ -124,11 +119,7 @@ static B62_ALWAYS_INLINE uint32_t u64_ilog2(uint64_t n) {
     return 63 ^ (uint32_t)__builtin_clzll(n);
 #else
     uint32_t bits = 0;
-    for (uint32_t step = 32; step != 0; step /= 2)
-        if (n >> step != 0) {
-            n >>= step;
-            bits += step;
-        }
+    for (uint32_t step = 32; step != 0; step /= 2) if (n >> step != 0) { n >>= step; bits += step; }
     return bits;
 #endif
 }

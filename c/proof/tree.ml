@@ -485,13 +485,11 @@ class walk = object (self)
 
   (* WP counts a struct in fields, and compilers in bytes, of which some are none of a field. *)
   method! vtype t =
-    let is_number f = Cil.isArithmeticType f.ftype in
-    (match t with
-      | TArray (t, _, _) -> (match Cil.unrollType t with
-        | TComp (c, _) when List.for_all is_number (Option.value c.cfields ~default:[]) -> ()
-        | t -> self#reject_if (not (Cil.isArithmeticType t)) (Cil.CurrentLoc.get ()) "an array of structs that hold more than numbers")
-      | _ -> ());
-    Cil.DoChildren
+    let holds_numbers t = match Cil.unrollType t with
+      | TComp (c, _) -> List.for_all (fun f -> Cil.isArithmeticType f.ftype) (Option.value c.cfields ~default:[])
+      | t -> Cil.isArithmeticType t in
+    let is_wrong = match t with TArray (t, _, _) -> not (holds_numbers t) | _ -> false in
+    self#reject_if is_wrong (Cil.CurrentLoc.get ()) "an array of structs that hold more than numbers"; Cil.DoChildren
 
   method! vattr a =
     let name = Cil.attributeName a in

@@ -2,11 +2,15 @@
 # Copyright (c) 2026 the maintainers of base62 for Rattle
 """The extension, over base62.c and base62.h, and what an sdist has of the repository."""
 
+import ast
+import json
 from pathlib import Path
 
 from setuptools import Extension, setup
+from setuptools.command.build_ext import build_ext
 from setuptools.command.sdist import sdist
 
+STUB = Path("base62/_base62.pyi")
 # They are above this folder in the repository, and within it in an sdist.
 SHARED = ["VERSION", "CHANGELOG.md", "c/base62.c", "c/base62.h", "tests/values.tsv"]
 top = Path("." if Path("VERSION").exists() else "..")
@@ -21,12 +25,31 @@ class SharedSdist(sdist):
             self.copy_file(str(top / name), str(copy))
 
 
+def docstring_macro(function):
+    """Return the docstring of a function for C, after the signature that the module inspect reads."""
+    for argument in function.args.args:
+        argument.annotation = None
+    docstring = f"{function.name}($module, /, {ast.unparse(function.args)})\n--\n\n{ast.get_docstring(function)}"
+    return f"#define DOC_{function.name} {json.dumps(docstring)}\n"
+
+
+class DocumentedBuild(build_ext):
+    """Writes the docstrings of the stub to a header first."""
+
+    def run(self):
+        functions = [node for node in ast.parse(STUB.read_text()).body if isinstance(node, ast.FunctionDef)]
+        self.mkpath(self.build_temp)
+        Path(self.build_temp, "_docstrings.h").write_text("".join(map(docstring_macro, functions)))
+        self.include_dirs.append(self.build_temp)
+        super().run()
+
+
 def extension(name, *sources):
     return Extension(
         f"base62.{name}",
         [f"base62/{source}" for source in (*sources, "_library.c")],
         include_dirs=[str(top / "c")],
-        depends=[str(top / "c/base62.c"), str(top / "c/base62.h"), *map(str, Path("base62").glob("*.h"))],
+        depends=[str(top / "c/base62.c"), str(top / "c/base62.h"), str(STUB), *map(str, Path("base62").glob("*.h"))],
         py_limited_api=True,
     )
 
@@ -39,5 +62,5 @@ setup(
     license="MIT",
     ext_modules=[extension("_base62", *base62), extension("_columns", *columns)],
     data_files=[("share/doc/base62-proved", [str(top / "CHANGELOG.md")])],
-    cmdclass={"sdist": SharedSdist},
+    cmdclass={"build_ext": DocumentedBuild, "sdist": SharedSdist},
 )

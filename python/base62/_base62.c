@@ -1,8 +1,10 @@
 /* SPDX-License-Identifier: MIT */
 /* Copyright (c) 2026 the maintainers of base62 for Rattle */
 
-/* Hand-written. The functions of base62.h for Python: conversions of arguments and results, and exceptions. */
+/* Hand-written. The functions of base62.h for Python: conversions of arguments and results, and exceptions. The
+   docstrings are those of _base62.pyi, of which setup.py makes _docstrings.h. */
 #include "_base62.h"
+#include "_docstrings.h"
 
 static struct state *state_of(PyObject *module) {
     return PyModule_GetState(module);
@@ -78,38 +80,13 @@ static int raise_out_of_range(struct state *state, const char *message) {
     return -1;
 }
 
-static const char not_a_number[] = "the number is not from 0 to 2**128 - 1";
-
-/* Shifts an int by 64 bits. */
-static PyObject *shift_by_half(PyObject *(*shift)(PyObject *, PyObject *), PyObject *number) {
-    PyObject *bits = PyLong_FromLong(64), *shifted = bits == NULL ? NULL : shift(number, bits);
-    Py_DecRef(bits);
-    return shifted;
-}
-
-/* For an int of 2^63 or more. */
-static int wide_number_or_raise(struct state *state, PyObject *integer, base62_number *number) {
-    PyObject *high = shift_by_half(PyNumber_Rshift, integer);
-    if (high == NULL)
-        return -1;
-    number->high = PyLong_AsUnsignedLongLong(high);
-    Py_DecRef(high);
-    if (number->high == UINT64_MAX && PyErr_Occurred() != NULL)
-        return PyErr_ExceptionMatches(PyExc_OverflowError) ? raise_out_of_range(state, not_a_number) : -1;
-    number->low = PyLong_AsUnsignedLongLongMask(integer);
-    return number->low == UINT64_MAX && PyErr_Occurred() != NULL ? -1 : 0;
-}
-
 /* For exactly an int, which always converts. */
 static int number_of_int_or_raise(struct state *state, PyObject *integer, base62_number *number) {
     int overflow;
     long long narrow = PyLong_AsLongLongAndOverflow(integer, &overflow);
-    if (overflow > 0)
-        return wide_number_or_raise(state, integer, number);
-    if (narrow < 0)
-        return raise_out_of_range(state, not_a_number);
     *number = base62_from_u64((uint64_t)narrow);
-    return 0;
+    int failed = overflow > 0 ? split_int(integer, number) : narrow < 0;
+    return failed > 0 ? raise_out_of_range(state, "the number is not from 0 to 2**128 - 1") : failed;
 }
 
 /* The int of an argument that is not exactly an int. */
@@ -197,8 +174,10 @@ PyObject *new_int(struct state *state, base62_number number) {
     if (number.high == 0)
         return PyLong_FromUnsignedLongLong(number.low);
     PyObject *high = PyLong_FromUnsignedLongLong(number.high), *low = PyLong_FromUnsignedLongLong(number.low);
-    PyObject *shifted = high == NULL || low == NULL ? NULL : shift_by_half(PyNumber_Lshift, high);
+    PyObject *bits = PyLong_FromLong(64);
+    PyObject *shifted = high == NULL || low == NULL || bits == NULL ? NULL : PyNumber_Lshift(high, bits);
     PyObject *integer = shifted == NULL ? NULL : PyNumber_Or(shifted, low);
+    Py_DecRef(bits);
     Py_DecRef(high);
     Py_DecRef(low);
     Py_DecRef(shifted);
@@ -237,6 +216,16 @@ static PyObject *new_range_or_raise(struct state *state, base62_status status, b
 
 /* Calls */
 
+/* Defines a call that takes an alphabet too: a function does it, given these arguments, the state and what is found. */
+#define DEFINE_CALL(name, parameter, function, ...)                                                                    \
+    static PyObject *name(PyObject *module, PyObject *const *args, Py_ssize_t nargs, PyObject *kwnames) {              \
+        static const struct parameters signature = {"O|O:" #name, {parameter, "alphabet", NULL}, 1, 2};                \
+        PyObject *found[3];                                                                                            \
+        if (unpack(&signature, args, nargs, kwnames, found) != 0)                                                      \
+            return NULL;                                                                                               \
+        return function(__VA_ARGS__, state_of(module), found);                                                         \
+    }
+
 typedef int read_number(struct state *, PyObject *, base62_number *);
 
 /* Encodes the argument of a call, which a function converts to a number. */
@@ -253,49 +242,8 @@ static inline PyObject *encode_or_raise(read_number *read, struct state *state, 
     return PyUnicode_DecodeASCII(text, (Py_ssize_t)length, NULL);
 }
 
-PyDoc_STRVAR(encode_doc,
-             "encode($module, /, number, alphabet=Alphabet.STANDARD)\n--\n\n"
-             "Return the encoded string of a number: 1 to 22 characters, without leading zeros.\n\n"
-             "number is an int from 0 to 2**128 - 1, an object whose __index__() returns such an int, or a\n"
-             "uuid.UUID.\n\n"
-             "Raises OutOfRangeError for any other number, ValueError if the alphabet is not ASCII, and what\n"
-             "Alphabet raises.\n\n"
-             ">>> import base62\n"
-             ">>> import uuid\n"
-             ">>> base62.encode(1337), base62.encode(1337, base62.Alphabet.ALTERNATIVE), base62.encode(0)\n"
-             "('LZ', 'lz', '0')\n"
-             ">>> base62.encode(uuid.UUID(\"12345678-1234-5678-1234-567812345678\"))\n"
-             "'YLmNWW2NwaipfRR50HIPA'");
-
-static PyObject *encode(PyObject *module, PyObject *const *args, Py_ssize_t nargs, PyObject *kwnames) {
-    static const struct parameters signature = {"O|O:encode", {"number", "alphabet", NULL}, 1, 2};
-    PyObject *found[3];
-    if (unpack(&signature, args, nargs, kwnames, found) != 0)
-        return NULL;
-    return encode_or_raise(number_or_raise, state_of(module), found);
-}
-
-PyDoc_STRVAR(encode_uuid_doc,
-             "encode_uuid($module, /, value, alphabet=Alphabet.STANDARD)\n--\n\n"
-             "Return the encoded string of a UUID's 128-bit integer, UUID.int.\n\n"
-             "value is a uuid.UUID, its 16 bytes, or a str of its 32 hexadecimal digits, uppercase or lowercase,\n"
-             "with or without hyphens, optionally in braces or after urn:uuid:. The bits of its version and\n"
-             "variant are not checked.\n\n"
-             "Raises ValueError for any other str or bytes, and what encode raises for the alphabet.\n\n"
-             ">>> import base62\n"
-             ">>> import uuid\n"
-             ">>> base62.encode_uuid(uuid.UUID(\"12345678-1234-5678-1234-567812345678\"))\n"
-             "'YLmNWW2NwaipfRR50HIPA'\n"
-             ">>> base62.encode_uuid(\"{12345678-1234-5678-1234-567812345678}\")\n"
-             "'YLmNWW2NwaipfRR50HIPA'");
-
-static PyObject *encode_uuid(PyObject *module, PyObject *const *args, Py_ssize_t nargs, PyObject *kwnames) {
-    static const struct parameters signature = {"O|O:encode_uuid", {"value", "alphabet", NULL}, 1, 2};
-    PyObject *found[3];
-    if (unpack(&signature, args, nargs, kwnames, found) != 0)
-        return NULL;
-    return encode_or_raise(uuid_or_raise, state_of(module), found);
-}
+DEFINE_CALL(encode, "number", encode_or_raise, number_or_raise)
+DEFINE_CALL(encode_uuid, "value", encode_or_raise, uuid_or_raise)
 
 static PyObject *new_fixed_or_raise(struct state *state, const base62_alphabet *tables, base62_number number,
                                     size_t width) {
@@ -315,18 +263,6 @@ static PyObject *new_fixed_or_raise(struct state *state, const base62_alphabet *
     return result;
 }
 
-PyDoc_STRVAR(encode_fixed_doc,
-             "encode_fixed($module, /, number, width, alphabet=Alphabet.STANDARD)\n--\n\n"
-             "Return the encoded string of a number, padded with leading zeros to exactly width characters.\n\n"
-             "Strings of the same width sort in numeric order if the alphabet's characters are in ascending byte\n"
-             "order, as in Alphabet.STANDARD. decode accepts them. Only memory limits the width: above 64, a buffer\n"
-             "of width bytes is allocated besides the result.\n\n"
-             "Raises OutOfRangeError if the number has more characters, ValueError if the width is negative,\n"
-             "MemoryError if an allocation fails, and what encode raises.\n\n"
-             ">>> import base62\n"
-             ">>> base62.encode_fixed(1337, 4)\n"
-             "'00LZ'");
-
 static PyObject *encode_fixed(PyObject *module, PyObject *const *args, Py_ssize_t nargs, PyObject *kwnames) {
     static const struct parameters signature = {"OO|O:encode_fixed", {"number", "width", "alphabet", NULL}, 2, 3};
     struct state *state = state_of(module);
@@ -341,14 +277,6 @@ static PyObject *encode_fixed(PyObject *module, PyObject *const *args, Py_ssize_
     return alphabet == NULL ? NULL : new_fixed_or_raise(state, &alphabet->tables, number, width);
 }
 
-PyDoc_STRVAR(encode_key_doc,
-             "encode_key($module, /, number)\n--\n\n"
-             "Return the key of a number: its standard string, padded with leading zeros to 22 characters.\n\n"
-             "Keys sort in numeric order. decode accepts them. Raises OutOfRangeError as encode does.\n\n"
-             ">>> import base62\n"
-             ">>> base62.encode_key(1337)\n"
-             "'00000000000000000000LZ'");
-
 static PyObject *encode_key(PyObject *module, PyObject *const *args, Py_ssize_t nargs, PyObject *kwnames) {
     static const struct parameters signature = {"O:encode_key", {"number", NULL}, 1, 1};
     struct state *state = state_of(module);
@@ -360,14 +288,6 @@ static PyObject *encode_key(PyObject *module, PyObject *const *args, Py_ssize_t 
     base62_encode_key(number, key);
     return PyUnicode_DecodeASCII(key, sizeof key, NULL);
 }
-
-PyDoc_STRVAR(digit_count_doc,
-             "digit_count($module, /, number)\n--\n\n"
-             "Return the length of the encoded string of a number, from 1 to 22.\n\n"
-             "Raises OutOfRangeError as encode does.\n\n"
-             ">>> import base62\n"
-             ">>> base62.digit_count(61), base62.digit_count(62)\n"
-             "(1, 2)");
 
 static PyObject *digit_count(PyObject *module, PyObject *const *args, Py_ssize_t nargs, PyObject *kwnames) {
     static const struct parameters signature = {"O:digit_count", {"number", NULL}, 1, 1};
@@ -405,87 +325,10 @@ static inline PyObject *decode_or_raise(decode_with *decode, new_result *new, st
     return status == BASE62_OK ? new(state, number) : raise_status(state, status, bad);
 }
 
-PyDoc_STRVAR(decode_doc,
-             "decode($module, /, text, alphabet=Alphabet.STANDARD)\n--\n\n"
-             "Return the number that a string represents, from 0 to 2**128 - 1. Leading zeros are ignored.\n\n"
-             "A str is encoded as UTF-8 first. A bytearray, a memoryview and a non-ASCII str are copied.\n\n"
-             "Raises EmptyInputError, InvalidByteError or TooLargeError, and what Alphabet raises.\n\n"
-             ">>> import base62\n"
-             ">>> base62.decode(\"00LZ\"), base62.decode(b\"lz\", base62.Alphabet.ALTERNATIVE)\n"
-             "(1337, 1337)\n"
-             ">>> base62.decode(\"7n42DGM5Tflk9n8mt7Fhc8\")\n"
-             "Traceback (most recent call last):\n"
-             "base62.TooLargeError: Decoded number cannot fit into a `u128`");
-
-static PyObject *decode(PyObject *module, PyObject *const *args, Py_ssize_t nargs, PyObject *kwnames) {
-    static const struct parameters signature = {"O|O:decode", {"text", "alphabet", NULL}, 1, 2};
-    PyObject *found[3];
-    if (unpack(&signature, args, nargs, kwnames, found) != 0)
-        return NULL;
-    return decode_or_raise(base62_decode_with, new_int, state_of(module), found);
-}
-
-PyDoc_STRVAR(decode_canonical_doc,
-             "decode_canonical($module, /, text, alphabet=Alphabet.STANDARD)\n--\n\n"
-             "Like decode, but accept only canonical strings: those that encode returns.\n\n"
-             "Each number has exactly one. Raises NotCanonicalError if decode accepts the string, but it has a\n"
-             "leading zero, and otherwise what decode raises.\n\n"
-             ">>> import base62\n"
-             ">>> base62.decode_canonical(\"LZ\"), base62.decode_canonical(\"0\")\n"
-             "(1337, 0)\n"
-             ">>> base62.decode_canonical(\"00LZ\")\n"
-             "Traceback (most recent call last):\n"
-             "base62.NotCanonicalError: Encoded input has a leading zero");
-
-static PyObject *decode_canonical(PyObject *module, PyObject *const *args, Py_ssize_t nargs, PyObject *kwnames) {
-    static const struct parameters signature = {"O|O:decode_canonical", {"text", "alphabet", NULL}, 1, 2};
-    PyObject *found[3];
-    if (unpack(&signature, args, nargs, kwnames, found) != 0)
-        return NULL;
-    return decode_or_raise(base62_decode_canonical_with, new_int, state_of(module), found);
-}
-
-PyDoc_STRVAR(decode_uuid_doc,
-             "decode_uuid($module, /, text, alphabet=Alphabet.STANDARD)\n--\n\n"
-             "Return the UUID whose 128-bit integer a string represents.\n\n"
-             "Every integer below 2**128 is the int of exactly one UUID: the bits of its version and variant are\n"
-             "not checked. Raises what decode raises.\n\n"
-             ">>> import base62\n"
-             ">>> base62.decode_uuid(\"YLmNWW2NwaipfRR50HIPA\")\n"
-             "UUID('12345678-1234-5678-1234-567812345678')");
-
-static PyObject *decode_uuid(PyObject *module, PyObject *const *args, Py_ssize_t nargs, PyObject *kwnames) {
-    static const struct parameters signature = {"O|O:decode_uuid", {"text", "alphabet", NULL}, 1, 2};
-    PyObject *found[3];
-    if (unpack(&signature, args, nargs, kwnames, found) != 0)
-        return NULL;
-    return decode_or_raise(base62_decode_with, new_uuid, state_of(module), found);
-}
-
-PyDoc_STRVAR(decode_uuid_canonical_doc,
-             "decode_uuid_canonical($module, /, text, alphabet=Alphabet.STANDARD)\n--\n\n"
-             "Like decode_uuid, but accept only canonical strings: those that encode_uuid returns.\n\n"
-             "Raises what decode_canonical raises.\n\n"
-             ">>> import base62\n"
-             ">>> base62.decode_uuid_canonical(\"YLmNWW2NwaipfRR50HIPA\")\n"
-             "UUID('12345678-1234-5678-1234-567812345678')");
-
-static PyObject *decode_uuid_canonical(PyObject *module, PyObject *const *args, Py_ssize_t nargs, PyObject *kwnames) {
-    static const struct parameters signature = {"O|O:decode_uuid_canonical", {"text", "alphabet", NULL}, 1, 2};
-    PyObject *found[3];
-    if (unpack(&signature, args, nargs, kwnames, found) != 0)
-        return NULL;
-    return decode_or_raise(base62_decode_canonical_with, new_uuid, state_of(module), found);
-}
-
-PyDoc_STRVAR(key_range_doc,
-             "key_range($module, /, prefix)\n--\n\n"
-             "Return the least and the greatest number whose key begins with prefix, or None if no key does.\n\n"
-             "Raises InvalidByteError.\n\n"
-             ">>> import base62\n"
-             ">>> base62.key_range(\"00000000000000000000L\")\n"
-             "(1302, 1363)\n"
-             ">>> base62.key_range(\"8\")");
+DEFINE_CALL(decode, "text", decode_or_raise, base62_decode_with, new_int)
+DEFINE_CALL(decode_canonical, "text", decode_or_raise, base62_decode_canonical_with, new_int)
+DEFINE_CALL(decode_uuid, "text", decode_or_raise, base62_decode_with, new_uuid)
+DEFINE_CALL(decode_uuid_canonical, "text", decode_or_raise, base62_decode_canonical_with, new_uuid)
 
 static PyObject *key_range(PyObject *module, PyObject *const *args, Py_ssize_t nargs, PyObject *kwnames) {
     static const struct parameters signature = {"O:key_range", {"prefix", NULL}, 1, 1};
@@ -502,17 +345,6 @@ static PyObject *key_range(PyObject *module, PyObject *const *args, Py_ssize_t n
     Py_DecRef(prefix.owner);
     return new_range_or_raise(state, status, range, bad);
 }
-
-PyDoc_STRVAR(fixed_range_doc,
-             "fixed_range($module, /, width, prefix, alphabet=Alphabet.STANDARD)\n--\n\n"
-             "Return the least and the greatest number whose string of this width begins with prefix.\n\n"
-             "The strings are those of encode_fixed. Return None if there is no such number. The width is\n"
-             "unbounded.\n\n"
-             "Raises InvalidByteError, ValueError if the width is negative, and what Alphabet raises.\n\n"
-             ">>> import base62\n"
-             ">>> base62.fixed_range(4, \"00L\")\n"
-             "(1302, 1363)\n"
-             ">>> base62.fixed_range(4, \"000LZ\")");
 
 static PyObject *fixed_range(PyObject *module, PyObject *const *args, Py_ssize_t nargs, PyObject *kwnames) {
     static const struct parameters signature = {"OO|O:fixed_range", {"width", "prefix", "alphabet", NULL}, 2, 3};
@@ -539,7 +371,7 @@ static PyObject *fixed_range(PyObject *module, PyObject *const *args, Py_ssize_t
 
 /* The module */
 
-#define CALL(name) {#name, (PyCFunction)(void (*)(void))name, METH_FASTCALL | METH_KEYWORDS, name##_doc}
+#define CALL(name) {#name, (PyCFunction)(void (*)(void))name, METH_FASTCALL | METH_KEYWORDS, DOC_##name}
 
 static PyMethodDef calls[] = {
     CALL(encode),
@@ -602,37 +434,5 @@ static int execute(PyObject *module) {
     return ok ? PyModule_AddStringConstant(module, "__version__", BASE62_VERSION) : -1;
 }
 
-static int traverse(PyObject *module, visitproc visit, void *arg) {
-    for (int i = 0; i < OBJECT_COUNT; i++)
-        Py_VISIT(state_of(module)->objects[i]);
-    return 0;
-}
-
-static int clear(PyObject *module) {
-    for (int i = 0; i < OBJECT_COUNT; i++) {
-        PyObject *object = state_of(module)->objects[i];
-        state_of(module)->objects[i] = NULL;
-        Py_DecRef(object);
-    }
-    return 0;
-}
-
-static void free_module(void *module) {
-    clear(module);
-}
-
-/* Py_mod_multiple_interpreters (3) = Py_MOD_PER_INTERPRETER_GIL_SUPPORTED (2). An interpreter with its own GIL needs
-   it, from 3.12 on; 3.11 rejects it, and the limited API of 3.11 does not have the names. */
-static PyModuleDef_Slot slots[] = {{3, (void *)2}, {Py_mod_exec, execute}, {0, NULL}};
-
-#define DEFINITION(module_slots)                                                                                       \
-    {                                                                                                                  \
-        .m_base = PyModuleDef_HEAD_INIT, .m_name = "base62._base62", .m_size = sizeof(struct state),                   \
-        .m_slots = (module_slots), .m_traverse = traverse, .m_clear = clear, .m_free = free_module,                    \
-    }
-
-static struct PyModuleDef since_3_12 = DEFINITION(slots), of_3_11 = DEFINITION(slots + 1);
-
-PyMODINIT_FUNC PyInit__base62(void) {
-    return PyModuleDef_Init(Py_Version >= 0x030c0000 ? &since_3_12 : &of_3_11);
-}
+#include "_module.h"
+DEFINE_MODULE(_base62, NULL)

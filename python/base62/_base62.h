@@ -8,11 +8,12 @@
 #define Py_LIMITED_API 0x030b0000
 #include <Python.h>
 
-#include "_isascii.h"
 #ifdef __GNUC__
 #pragma GCC visibility push(hidden)
 #endif
 #include <base62.h>
+
+#include "_objects.h"
 
 /* The objects that the module owns. Those before TYPES_END come from base62._types. */
 enum {

@@ -314,39 +314,5 @@ static int execute(PyObject *module) {
     return state->objects[COLUMN] == NULL ? -1 : PyModule_AddObjectRef(module, "Column", state->objects[COLUMN]);
 }
 
-static int traverse(PyObject *module, visitproc visit, void *arg) {
-    struct state *state = PyModule_GetState(module);
-    for (int i = 0; i < OBJECT_COUNT; i++)
-        Py_VISIT(state->objects[i]);
-    return 0;
-}
-
-static int clear(PyObject *module) {
-    struct state *state = PyModule_GetState(module);
-    for (int i = 0; i < OBJECT_COUNT; i++) {
-        PyObject *object = state->objects[i];
-        state->objects[i] = NULL;
-        Py_DecRef(object);
-    }
-    return 0;
-}
-
-static void free_module(void *module) {
-    clear(module);
-}
-
-/* As in _base62.c: Py_mod_multiple_interpreters from 3.12 on. */
-static PyModuleDef_Slot slots[] = {{3, (void *)2}, {Py_mod_exec, execute}, {0, NULL}};
-
-#define DEFINITION(module_slots)                                                                                       \
-    {                                                                                                                  \
-        .m_base = PyModuleDef_HEAD_INIT, .m_name = "base62._columns", .m_size = sizeof(struct state),                  \
-        .m_methods = calls, .m_slots = (module_slots), .m_traverse = traverse, .m_clear = clear,                       \
-        .m_free = free_module,                                                                                         \
-    }
-
-static struct PyModuleDef since_3_12 = DEFINITION(slots), of_3_11 = DEFINITION(slots + 1);
-
-PyMODINIT_FUNC PyInit__columns(void) {
-    return PyModuleDef_Init(Py_Version >= 0x030c0000 ? &since_3_12 : &of_3_11);
-}
+#include "_module.h"
+DEFINE_MODULE(_columns, calls)

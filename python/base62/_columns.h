@@ -12,12 +12,13 @@
 #include <string.h>
 
 #include "_arrow.h"
-#include "_isascii.h"
 /* Nothing but PyInit__columns is seen by other libraries of the process. */
 #ifdef __GNUC__
 #pragma GCC visibility push(hidden)
 #endif
 #include <base62.h>
+
+#include "_objects.h"
 
 /* The objects that the module owns. */
 enum { TO_INT, TO_BYTES, UUID, ALPHABET, COLUMN, OBJECT_COUNT };

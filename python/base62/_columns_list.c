@@ -20,29 +20,14 @@ static PyObject *convert(const struct source *source, int converter, PyObject *i
     return PyObject_CallFunctionObjArgs(source->state->objects[converter], item, NULL);
 }
 
-/* Stores an int of 2^63 or more. Returns the state of its row, or -1 with an exception. */
-static int read_wide(PyObject *integer, base62_number *number) {
-    PyObject *bits = PyLong_FromLong(64), *high = bits == NULL ? NULL : PyNumber_Rshift(integer, bits);
-    Py_DecRef(bits);
-    if (high == NULL)
-        return -1;
-    number->high = PyLong_AsUnsignedLongLong(high);
-    Py_DecRef(high);
-    if (number->high == UINT64_MAX && PyErr_Occurred() != NULL) {
-        if (!PyErr_ExceptionMatches(PyExc_OverflowError))
-            return -1;
-        PyErr_Clear();
-        return ROW_INVALID;
-    }
-    number->low = PyLong_AsUnsignedLongLongMask(integer);
-    return number->low == UINT64_MAX && PyErr_Occurred() != NULL ? -1 : ROW_VALID;
-}
-
+/* Returns the state of the row, or -1 with an exception. */
 static int read_int(PyObject *integer, base62_number *number) {
     int overflow;
     long long narrow = PyLong_AsLongLongAndOverflow(integer, &overflow);
-    if (overflow > 0)
-        return read_wide(integer, number);
+    if (overflow > 0) {
+        int failed = split_int(integer, number);
+        return failed < 0 ? -1 : failed ? ROW_INVALID : ROW_VALID;
+    }
     *number = base62_from_u64((uint64_t)narrow);
     return narrow < 0 ? ROW_NEGATIVE : ROW_VALID;
 }

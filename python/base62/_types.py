@@ -18,9 +18,6 @@ UNKNOWN = SafeUUID.unknown if _SLOTS == ("int", "is_safe", "__weakref__") else N
 
 
 class _BadByteError(ValueError):
-    byte: int
-    index: int
-
     def __init__(self, message: str = "", byte: int = 0, index: int = 0) -> None:
         super().__init__(message)
         self.byte = byte
@@ -36,8 +33,6 @@ class AlphabetError(_BadByteError):
     base62.AlphabetError: Alphabet repeats the byte b'0' at index 1
     """
 
-    __module__ = "base62"
-
     byte: int
     """The first byte that equals an earlier one."""
 
@@ -48,13 +43,9 @@ class AlphabetError(_BadByteError):
 class DecodeError(ValueError):
     """A string does not represent a number below 2**128."""
 
-    __module__ = "base62"
-
 
 class EmptyInputError(DecodeError):
     """A string is empty."""
-
-    __module__ = "base62"
 
 
 class TooLargeError(DecodeError):
@@ -62,8 +53,6 @@ class TooLargeError(DecodeError):
 
     If a string has several errors, docs/DEFINITIONS.md of the project says which one is raised.
     """
-
-    __module__ = "base62"
 
 
 class NotCanonicalError(DecodeError):
@@ -77,8 +66,6 @@ class NotCanonicalError(DecodeError):
     base62.NotCanonicalError: Encoded input has a leading zero
     """
 
-    __module__ = "base62"
-
 
 class InvalidByteError(_BadByteError, DecodeError):
     """A byte of a string is not a character of the alphabet.
@@ -90,8 +77,6 @@ class InvalidByteError(_BadByteError, DecodeError):
     ...     print(error, error.byte, error.index, sep="; ")
     Encoded input contains the invalid byte b'-' at index 4; 45; 4
     """
-
-    __module__ = "base62"
 
     byte: int
     """The first invalid byte. The bytes of a str are those of its UTF-8."""
@@ -109,7 +94,10 @@ class OutOfRangeError(OverflowError, ValueError):
     base62.OutOfRangeError: the number is not from 0 to 2**128 - 1
     """
 
-    __module__ = "base62"
+
+# Where users find them.
+for _error in (*DecodeError.__subclasses__(), DecodeError, AlphabetError, OutOfRangeError):
+    _error.__module__ = "base62"
 
 
 def to_int(number: Number) -> int:

@@ -218,18 +218,16 @@ class Requested:
 
 def metadata_of(schema: Schema) -> dict[bytes, bytes]:
     """The pairs of a schema's metadata."""
-    found, at = {}, schema.metadata
+    fields, at = [], schema.metadata
     if at is None:
         return {}
-    fields = []
     (count,) = struct.unpack("=i", ctypes.string_at(at, 4))
     at += 4
     for _ in range(2 * count):
         (length,) = struct.unpack("=i", ctypes.string_at(at, 4))
         fields.append(ctypes.string_at(at + 4, length))
         at += 4 + length
-    found = dict(zip(fields[::2], fields[1::2]))
-    return found
+    return dict(zip(fields[::2], fields[1::2]))
 
 
 def consume(column: Any, requested: Requested | None = None) -> tuple[str, list[Any], dict[bytes, bytes]]:

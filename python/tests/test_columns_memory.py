@@ -6,12 +6,9 @@ from __future__ import annotations
 
 import ctypes
 import gc
-import importlib
 import os
 import signal
 import sys
-import threading
-import time
 import unittest
 import uuid
 import weakref
@@ -22,7 +19,9 @@ from typing import Any
 import base62
 from arrow import Requested, buffer_of, consume
 from base62 import _columns, columns
+from test_base62 import others_run
 from test_memory import AllocationTestCase, memory
+from test_package import reimported
 
 COUNT = 1_000_000
 NUMBERS = array("Q", range(2**40, 2**40 + COUNT))
@@ -84,21 +83,9 @@ class Leaks(unittest.TestCase):
 class AllocationFailures(AllocationTestCase):
     """Each allocation of Python's fails in turn, alone and with all later ones."""
 
-    def leaks(self, call: Callable[..., object], *given: object) -> bool:
-        """Whether each sweep leaves a block, each time: what CPython keeps for itself has an end."""
-        for _ in range(20):
-            gc.collect()
-            before = sys.getallocatedblocks()
-            for _ in range(4):
-                self.sweep(call, *given)
-            gc.collect()
-            if sys.getallocatedblocks() - before < 4:
-                return False
-        return True
-
     def sweep_all(self, call: Callable[..., object], columns: list[Any], *given: object) -> None:
         for column in columns:
-            self.assertFalse(self.leaks(call, column, base62.Alphabet.STANDARD, *given), column)
+            self.check_no_leak(call, column, base62.Alphabet.STANDARD, *given)
 
     def tearDown(self) -> None:
         self.assertGreater(self.failures, 50)
@@ -162,29 +149,7 @@ class Interrupted(Exception):
 
 class Threads(unittest.TestCase):
     def test_gil_released(self) -> None:
-        """Another thread runs in a call, also if Python itself does not switch between them."""
-        runs, stop = [0], threading.Event()
-
-        def run() -> None:
-            while not stop.is_set():
-                runs[0] += 1
-                time.sleep(0)
-
-        bytes_of_rows, interval = bytes(4 * COUNT), sys.getswitchinterval()
-        other = threading.Thread(target=run)
-        other.start()
-        try:
-            sys.setswitchinterval(1000)
-            ran = 0
-            for _ in range(20):
-                before = runs[0]
-                columns.encode(bytes_of_rows)
-                ran += runs[0] > before
-        finally:
-            sys.setswitchinterval(interval)
-            stop.set()
-            other.join()
-        self.assertGreater(ran, 0)
+        self.assertTrue(others_run(lambda: columns.encode(bytes(COUNT))))
 
     def test_interrupt(self) -> None:
         """A signal is handled between blocks of rows: otherwise the last row would raise before."""
@@ -204,12 +169,7 @@ class Threads(unittest.TestCase):
 
     def test_unload(self) -> None:
         """An unloaded module releases its type. Columns may outlive it."""
-        names = [name for name in sys.modules if name.split(".")[0] == "base62"]
-        stored = {name: sys.modules.pop(name) for name in names}
-        try:
-            again = importlib.import_module("base62.columns")
-        finally:
-            sys.modules.update(stored)
+        again = reimported("base62.columns")
         column, left = again.encode([5]), weakref.ref(again.Column)
         self.assertIsNot(again.Column, columns.Column)
         del again

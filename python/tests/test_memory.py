@@ -1,6 +1,6 @@
 # SPDX-License-Identifier: MIT
 # Copyright (c) 2026 the maintainers of base62 for Rattle
-"""Tests of failing allocations: each allocation of a call fails in turn, alone and with all later ones."""
+"""Tests of memory: each allocation of a call fails in turn, alone and with all later ones, and nothing leaks."""
 
 from __future__ import annotations
 
@@ -9,6 +9,8 @@ import importlib
 import importlib.util
 import sys
 import unittest
+import uuid
+from array import array
 from typing import Any
 
 import base62
@@ -19,6 +21,10 @@ from calls import LETTERS, WIDE, Call
 # A call has made its allocations if it succeeds although each of the next ones would fail. No call makes so many.
 NEXT_ALLOCATIONS = 25
 MAX_ALLOCATIONS = 240
+# What calls borrow, besides what they are given. WIDE is the int of UUIDs.
+BORROWED: list[object] = [None, False, True, 0, 64, WIDE, uuid.UUID, base62.Alphabet, base62.Alphabet.STANDARD]
+BORROWED += [base62.Alphabet.ALTERNATIVE, base62.AlphabetError, base62.EmptyInputError, base62.InvalidByteError]
+BORROWED += [base62.TooLargeError, base62.NotCanonicalError, base62.OutOfRangeError]
 
 try:
     memory: Any = importlib.import_module("_testcapi")
@@ -45,14 +51,6 @@ def load_extension(name: str) -> Any:
     module = of_python.create_dynamic(spec)
     of_python.exec_dynamic(module)
     return module
-
-
-def encode_by_new_extension() -> str:
-    return str(load_extension("base62._base62").encode(WIDE))
-
-
-def name_of_new_extension() -> str:
-    return str(load_extension("base62._columns").Column.__name__)
 
 
 @unittest.skipIf(memory is None, "this Python has no _testcapi, by which allocations fail")
@@ -90,18 +88,25 @@ class AllocationTestCase(unittest.TestCase):
                 failures.append(self.reports_failure(wanted, first, last, call, *given, **named))
             self.failures += sum(failures)
 
+    def check_no_leak(self, call: Call, *given: Any, **named: Any) -> None:
+        """Not each sweep leaks a block or a reference, each time: what CPython keeps for itself has an end."""
+
+        def state() -> array[int]:
+            gc.collect()
+            counts = map(sys.getrefcount, [*BORROWED, *given, *named.values()])
+            # An array has no block for each count.
+            return array("q", [sys.getallocatedblocks(), *counts])
+
+        for _ in range(20):
+            before = state()
+            for _ in range(4):
+                self.sweep(call, *given, **named)
+            if all(now - was < 4 for was, now in zip(before, state())):
+                return
+        self.fail(f"{call} of {given} and {named} leaks")
+
 
 class AllocationFailures(AllocationTestCase):
-    def check_no_leak(self, call: Call, *given: Any, **named: Any) -> None:
-        """No failure leaks memory: ten sweeps would leak ten blocks. The first ones fill CPython's free lists."""
-        blocks = []
-        for sweeps in (5, 10):
-            for _ in range(sweeps):
-                self.sweep(call, *given, **named)
-            gc.collect()
-            blocks.append(sys.getallocatedblocks())
-        self.assertLess(blocks[1] - blocks[0], 10)
-
     def tearDown(self) -> None:
         self.assertGreater(self.failures, 50)
 
@@ -116,8 +121,8 @@ class AllocationFailures(AllocationTestCase):
     def test_loading(self) -> None:
         """A module that fails to load releases what it has imported."""
         before = sys.getrefcount(_types.to_int)
-        self.sweep(encode_by_new_extension)
-        self.sweep(name_of_new_extension)
+        self.sweep(lambda: load_extension("base62._base62").encode(WIDE))
+        self.sweep(lambda: load_extension("base62._columns").Column.__name__)
         gc.collect()
         self.assertEqual(sys.getrefcount(_types.to_int), before)
 

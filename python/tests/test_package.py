@@ -1,12 +1,11 @@
 # SPDX-License-Identifier: MIT
 # Copyright (c) 2026 the maintainers of base62 for Rattle
-"""Tests of the package: its exports, leaks, reimports and subinterpreters."""
+"""Tests of the package: its exports, reimports and subinterpreters."""
 
 from __future__ import annotations
 
 import ast
 import contextlib
-import copy
 import ctypes
 import doctest
 import gc
@@ -19,12 +18,10 @@ import unittest
 import unittest.mock
 import uuid
 import weakref
-from collections.abc import Callable
 from typing import Any
 
 import base62
-import calls
-from base62 import _base62, _columns, _types
+from base62 import _base62, _columns, _types, columns
 from calls import CUSTOM
 from paths import PACKAGE, TOP
 
@@ -34,11 +31,11 @@ CALLS: list[Any] = [getattr(base62, it) for it in base62.__all__ if it == "Alpha
 
 class Package(unittest.TestCase):
     def test_exports(self) -> None:
-        for name in base62.__all__:
-            self.assertTrue(inspect.getdoc(getattr(base62, name)), name)
-            self.assertEqual(getattr(base62, name).__module__, "base62", name)
+        for module in (base62, columns):
+            for name in module.__all__:
+                self.assertTrue(inspect.getdoc(getattr(module, name)), name)
+                self.assertEqual(getattr(module, name).__module__, module.__name__, name)
         types = ["AnyAlphabet", "AnyUUID", "EncodedString", "Number", "Text"]
-        # A module that may be imported.
         names = {name for name in dir(base62) if name[0] != "_"} - {"columns"}
         self.assertEqual(sorted(names), sorted(base62.__all__ + types))
         self.assertIs(base62.Text, base62.EncodedString)
@@ -94,17 +91,19 @@ class Package(unittest.TestCase):
 
     def test_private_library(self) -> None:
         """The library's own calls are not seen by other libraries of the process."""
-        extension = ctypes.CDLL(_base62.__file__)
-        self.assertTrue(hasattr(extension, "PyInit__base62"))
-        self.assertFalse(hasattr(extension, "base62_encode"))
+        for module in (_base62, _columns):
+            extension = ctypes.CDLL(module.__file__)
+            self.assertTrue(hasattr(extension, "PyInit_" + module.__name__.removeprefix("base62.")))
+            for name in ("base62_encode", "borrow", "open_input"):
+                self.assertFalse(hasattr(extension, name))
 
 
-def reimported() -> Any:
-    """Imports another copy of the package, as another interpreter would."""
+def reimported(name: str = "base62") -> Any:
+    """Imports another copy of a module of the package, as another interpreter would."""
     names = [name for name in sys.modules if name.split(".")[0] == "base62"]
     stored = {name: sys.modules.pop(name) for name in names}
     try:
-        return importlib.import_module("base62")
+        return importlib.import_module(name)
     finally:
         sys.modules.update(stored)
 
@@ -158,11 +157,12 @@ class Modules(unittest.TestCase):
         gc.collect()
         self.assertEqual([one() for one in left], [None] * len(left))
 
-    def run_in_subinterpreter(self, isolated: bool) -> None:
+    def test_interpreters(self) -> None:
+        """From 3.12 on an isolated one has its own GIL, and accepts only modules that support this."""
         said = "import base62.columns\nassert base62.decode(base62.encode(2**128 - 1)) == 2**128 - 1\n"
         said += "assert base62.columns.decode(base62.columns.encode([5])).tolist() == [5]"
         maker = interpreters()
-        for _ in range(3):
+        for isolated in (False, True) * 3:
             if maker.__name__ == "_interpreters":
                 other = maker.create("isolated" if isolated else "legacy")
             else:
@@ -172,65 +172,9 @@ class Modules(unittest.TestCase):
             maker.destroy(other)
         self.assertEqual(base62.encode(1337), "LZ")
 
-    def test_interpreter(self) -> None:
-        self.run_in_subinterpreter(isolated=False)
-
-    def test_isolated_interpreter(self) -> None:
-        """From 3.12 on it has its own GIL, and accepts only modules that support this."""
-        self.run_in_subinterpreter(isolated=True)
-
-
-def failing(call: Callable[..., object]) -> Callable[..., None]:
-    def run(*given: object, **named: object) -> None:
-        try:
-            call(*given, **named)
-        except (TypeError, ValueError, OverflowError, MemoryError):
-            return
-        raise AssertionError(f"{call} takes {given} and {named}")
-
-    return run
-
-
-@unittest.skipUnless(sys.getallocatedblocks(), "Python counts no blocks of memory of another malloc")
-class Leaks(unittest.TestCase):
-    """A thousand runs of each valid and each invalid call leave memory and reference counts unchanged."""
-
-    RUNS = 1_000
-    # What calls borrow, besides what they are given. WIDE is the int of UUIDs.
-    SHARED: list[object] = [None, False, True, 0, 64, calls.WIDE, uuid.UUID, base62.Alphabet]
-    SHARED += [base62.Alphabet.STANDARD, base62.Alphabet.ALTERNATIVE]
-    SHARED += [base62.AlphabetError, base62.EmptyInputError, base62.InvalidByteError, base62.TooLargeError]
-    SHARED += [base62.NotCanonicalError, base62.OutOfRangeError]
-
-    def check_no_leak(self, call: Callable[..., object], *given: object, **named: object) -> None:
-        def run(times: int) -> None:
-            for _ in range(times):
-                call(*given, **named)
-
-        def state() -> list[int]:
-            gc.collect()
-            return [sys.getallocatedblocks(), *map(sys.getrefcount, [*self.SHARED, *given, *named.values()])]
-
-        run(100)
-        before = state()
-        run(self.RUNS)
-        for was, now in zip(before, state()):
-            self.assertLess(abs(now - was), self.RUNS // 10, f"{call} of {given} and {named}")
-
-    def test_calls(self) -> None:
-        for call, given, named in calls.valid_calls():
-            self.check_no_leak(call, *given, **named)
-        for copied in (calls.LETTERS, base62.Alphabet.STANDARD):
-            self.check_no_leak(copy.copy, copied)
-            self.check_no_leak(base62.Alphabet, copied)
-
-    def test_invalid_calls(self) -> None:
-        for call, given, named in calls.invalid_calls():
-            self.check_no_leak(failing(call), *given, **named)
-        self.check_no_leak(failing(base62.encode_fixed), 1, 2**62)
-
 
 def load_tests(loader: unittest.TestLoader, tests: unittest.TestSuite, pattern: object) -> unittest.TestSuite:
     # Those of _types are found where callers find them. An example can be pasted alone: it has its imports.
     tests.addTests(doctest.DocTestSuite(base62, globs={}))
+    tests.addTests(doctest.DocTestSuite(columns, globs={"base62": base62}))
     return tests

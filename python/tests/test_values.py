@@ -35,6 +35,12 @@ KINDS: dict[str, type[ValueError]] = {
     "zero": base62.NotCanonicalError,
     "repeated": base62.AlphabetError,
 }
+DECODINGS: list[Callable[..., object]] = [
+    base62.decode,
+    base62.decode_canonical,
+    base62.decode_uuid,
+    base62.decode_uuid_canonical,
+]
 
 
 def forms_of_text(escaped: str) -> list[str | bytes]:
@@ -98,15 +104,17 @@ class Values(unittest.TestCase):
     def test_invalid(self) -> None:
         for name, escaped, *expected in rows("refused"):
             for text in forms_of_text(escaped):
-                for call in (base62.decode, base62.decode_canonical):
+                for call in DECODINGS:
                     self.raises(expected, call, text, ALPHABETS[name])
 
     def test_fixed(self) -> None:
         for name, number, width, escaped in rows("fixed"):
             for text in forms_of_text(escaped):
                 self.assertEqual(base62.decode(text, ALPHABETS[name]), int(number))
-            if name in OF_ASCII:
-                self.assertEqual(base62.encode_fixed(int(number), int(width), ALPHABETS[name]), text)
+            named = uuid.UUID(int=int(number))
+            for alphabet in forms_of_alphabet(name) if name in OF_ASCII else []:
+                self.assertEqual(base62.encode_fixed(int(number), int(width), alphabet), text)
+                self.assertEqual(base62.encode_fixed(named, int(width), alphabet), text)
             if (name, width) == ("standard", "22"):
                 self.assertEqual(base62.encode_key(int(number)), text)
 
@@ -130,13 +138,6 @@ class Values(unittest.TestCase):
                         self.raises([kind, *expected], call, prefix)
                     else:
                         self.assertEqual(call(prefix), tuple(map(int, expected)) or None)
-
-    def test_uuids(self) -> None:
-        for number, name, text in rows("uuid"):
-            self.assertEqual(base62.encode_uuid(uuid.UUID(name)), text)
-            self.assertEqual(base62.decode_uuid(text), uuid.UUID(name))
-            self.assertEqual(base62.decode_uuid_canonical(text), uuid.UUID(name))
-            self.assertEqual(base62.encode_fixed(uuid.UUID(name), 22), base62.encode_key(int(number)))
 
     def test_forms(self) -> None:
         for escaped, name in rows("form"):

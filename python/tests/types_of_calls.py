@@ -11,37 +11,17 @@ import base62
 from base62 import Alphabet, AlphabetError, DecodeError, InvalidByteError
 
 
-def right(number: int, name: UUID, text: str, packed: bytes, custom: Alphabet) -> None:
+def right(number: SupportsIndex | UUID, name: UUID | str | bytes, width: SupportsIndex) -> None:
     assert_type(base62.encode(number), str)
-    assert_type(base62.encode(number=name, alphabet=custom), str)
-    assert_type(base62.encode(True, text), str)
-    assert_type(base62.decode(text), int)
-    assert_type(base62.decode(packed, packed), int)
-    assert_type(base62.decode(text=packed, alphabet=custom), int)
-    assert_type(base62.decode_canonical(text, packed), int)
-    assert_type(base62.decode_canonical(text=packed, alphabet=custom), int)
+    assert_type(base62.encode_uuid(name), str)
+    assert_type(base62.encode_fixed(number, width), str)
+    assert_type(base62.encode_key(number), str)
     assert_type(base62.digit_count(number), int)
-    assert_type(base62.encode_fixed(number, number), str)
-    assert_type(base62.encode_fixed(number=name, width=True, alphabet=text), str)
-    assert_type(base62.encode_key(name), str)
-    assert_type(base62.key_range(text), tuple[int, int] | None)
-    assert_type(base62.key_bounds(prefix=packed), tuple[str, str] | None)
-    assert_type(base62.fixed_range(number, text), tuple[int, int] | None)
-    assert_type(base62.fixed_range(width=number, prefix=packed, alphabet=custom), tuple[int, int] | None)
-    assert_type(base62.encode_uuid(name, custom), str)
-    assert_type(base62.encode_uuid(text), str)
-    assert_type(base62.encode_uuid(packed, alphabet=text), str)
-    assert_type(base62.decode_uuid(text, custom), UUID)
-    assert_type(base62.decode_uuid_canonical(text, alphabet=packed), UUID)
-    assert_type(Alphabet(text), Alphabet)
-    assert_type(Alphabet(packed), Alphabet)
-    assert_type(Alphabet(custom), Alphabet)
-    assert_type((Alphabet.STANDARD, Alphabet.ALTERNATIVE), tuple[Alphabet, Alphabet])
     assert_type(base62.__version__, str)
 
 
-def buffers(text: bytearray | memoryview, width: SupportsIndex) -> None:
-    """Neither is taken for bytes: mypy runs without its promotions."""
+def right_texts(text: str | bytes | bytearray | memoryview, width: SupportsIndex) -> None:
+    """No buffer is taken for bytes: mypy runs without its promotions."""
     assert_type(base62.decode(text), int)
     assert_type(base62.decode_canonical(text), int)
     assert_type(base62.decode_uuid(text), UUID)
@@ -49,7 +29,18 @@ def buffers(text: bytearray | memoryview, width: SupportsIndex) -> None:
     assert_type(base62.key_range(text), tuple[int, int] | None)
     assert_type(base62.key_bounds(text), tuple[str, str] | None)
     assert_type(base62.fixed_range(width, text), tuple[int, int] | None)
-    assert_type(base62.encode_fixed(width, width), str)
+
+
+def right_alphabets(number: int, name: UUID, text: str, custom: Alphabet | str | bytes) -> None:
+    assert_type((Alphabet(custom), Alphabet.STANDARD, Alphabet.ALTERNATIVE), tuple[Alphabet, Alphabet, Alphabet])
+    assert_type(base62.encode(number, custom), str)
+    assert_type(base62.encode_uuid(name, custom), str)
+    assert_type(base62.encode_fixed(number, number, custom), str)
+    assert_type(base62.decode(text, custom), int)
+    assert_type(base62.decode_canonical(text, custom), int)
+    assert_type(base62.decode_uuid(text, custom), UUID)
+    assert_type(base62.decode_uuid_canonical(text, custom), UUID)
+    assert_type(base62.fixed_range(number, text, custom), tuple[int, int] | None)
 
 
 def attributes(invalid: InvalidByteError, repeated: AlphabetError) -> None:
@@ -60,7 +51,7 @@ def attributes(invalid: InvalidByteError, repeated: AlphabetError) -> None:
     fault = repeated  # type: ignore[assignment]
 
 
-def wrong(number: int, name: UUID, text: str, custom: Alphabet, view: memoryview) -> None:
+def wrong(number: int, name: UUID, text: str, view: memoryview) -> None:
     base62.encode(text)  # type: ignore[arg-type]
     base62.encode(1.0)  # type: ignore[arg-type]
     base62.encode(number, None)  # type: ignore[arg-type]
@@ -92,9 +83,6 @@ def wrong(number: int, name: UUID, text: str, custom: Alphabet, view: memoryview
     base62.decode_uuid_canonical(name)  # type: ignore[arg-type]
     base62.decode_uuid_canonical(text, number)  # type: ignore[arg-type]
     Alphabet(number)  # type: ignore[arg-type]
-    custom.letters  # type: ignore[attr-defined]
-    custom.name = text  # type: ignore[attr-defined]
-    base62.check_alphabet(text)  # type: ignore[attr-defined]
 
 
 class Subclass(Alphabet):  # type: ignore[misc]

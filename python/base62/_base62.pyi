@@ -1,6 +1,6 @@
 # SPDX-License-Identifier: MIT
 # Copyright (c) 2026 the maintainers of base62 for Rattle
-# Hand-written: the types of the extension, with its docstrings.
+# Hand-written: the types of the extension, and its docstrings, which setup.py compiles into it.
 from typing import ClassVar, Self, SupportsIndex, final
 from uuid import UUID
 

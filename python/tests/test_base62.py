@@ -1,6 +1,6 @@
 # SPDX-License-Identifier: MIT
 # Copyright (c) 2026 the maintainers of base62 for Rattle
-"""Tests of the functions, against Python's own integers."""
+"""Tests of the functions: what their arguments can be, their errors, and threads."""
 
 from __future__ import annotations
 

@@ -51,7 +51,7 @@ def attributes(invalid: InvalidByteError, repeated: AlphabetError) -> None:
     fault = repeated  # type: ignore[assignment]
 
 
-def wrong(number: int, name: UUID, text: str, view: memoryview) -> None:
+def wrong(number: int, name: UUID, text: str, custom: Alphabet, view: memoryview) -> None:
     base62.encode(text)  # type: ignore[arg-type]
     base62.encode(1.0)  # type: ignore[arg-type]
     base62.encode(number, None)  # type: ignore[arg-type]
@@ -83,6 +83,8 @@ def wrong(number: int, name: UUID, text: str, view: memoryview) -> None:
     base62.decode_uuid_canonical(name)  # type: ignore[arg-type]
     base62.decode_uuid_canonical(text, number)  # type: ignore[arg-type]
     Alphabet(number)  # type: ignore[arg-type]
+    custom.letters  # type: ignore[attr-defined]
+    custom.name = text  # type: ignore[attr-defined]
 
 
 class Subclass(Alphabet):  # type: ignore[misc]

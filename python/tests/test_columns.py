@@ -217,6 +217,8 @@ class Forms(unittest.TestCase):
             self.assertEqual(columns.encode(memoryview(given)[::-2]).tolist(), [base62.encode(it) for it in given[::-2]])
             self.assertEqual(columns.encode(array(code, [2 ** (8 * given.itemsize - code.islower()) - 1])).tolist(),
                              [base62.encode(2 ** (8 * given.itemsize - code.islower()) - 1)])
+            if code.islower():
+                self.assertRaises(base62.OutOfRangeError, columns.encode, array(code, [-1]))
         typed = memoryview((ctypes.c_uint64 * 2)(5, 2**64 - 1))
         self.assertEqual(typed.format, "<Q")
         self.assertEqual(columns.encode(typed).tolist(), ["5", base62.encode(2**64 - 1)])

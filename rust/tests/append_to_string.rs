@@ -6,11 +6,10 @@
 
 mod support;
 
-use base62::Alphabet;
 use std::alloc::{GlobalAlloc, Layout, System};
 use std::cell::Cell;
 use std::process::Command;
-use support::{ALTERNATIVE, STANDARD, borders, digits};
+use support::{alphabets, bytes, rows};
 
 thread_local! {
     static REQUESTS: Cell<usize> = const { Cell::new(0) };
@@ -38,37 +37,33 @@ unsafe impl GlobalAlloc for Counted {
     }
 }
 
-/// Appends to a string with so much room. Memory is requested once if there is too little room, and else never.
-fn appends(letters: &[u8; 62], number: u128, room: usize, call: impl Fn(&mut String)) {
-    let text = String::from_utf8(digits(letters, number)).unwrap();
-    for earlier in ["", "é", "https://example.org/"] {
-        let mut buf = String::with_capacity(earlier.len() + room);
-        buf.push_str(earlier);
+/// Appends with each spare capacity. Memory is requested once if the capacity is too small, and otherwise never.
+fn appends(text: &str, call: impl Fn(&mut String)) {
+    for room in 0..30 {
+        let mut buf = String::with_capacity("é".len() + room);
+        buf.push('é');
         let (capacity, fits) = (buf.capacity(), buf.capacity() - buf.len() >= text.len());
         let before = REQUESTS.get();
         call(&mut buf);
         assert_eq!(REQUESTS.get() - before, usize::from(!fits));
         assert_eq!(buf.capacity() == capacity, fits);
-        assert!(buf.capacity() >= capacity);
-        assert_eq!(buf, format!("{earlier}{text}"));
+        assert_eq!(buf, format!("é{text}"));
     }
 }
 
 #[test]
 fn each_length_over_each_room() {
-    const OWN: Alphabet =
-        Alphabet::of(*b"\0\x01\x023456789ABCDEFGHIJKLMNOPQRSTUVWXYZabcdefghijklmnopqrstuvwxy\x7f");
-    for number in borders() {
-        for room in 0..30 {
-            appends(STANDARD, number, room, |buf| {
-                base62::encode_buf(number, buf);
-            });
-            appends(ALTERNATIVE, number, room, |buf| {
-                base62::encode_alternative_buf(number, buf);
-            });
-            appends(OWN.letters(), number, room, |buf| {
-                base62::encode_buf_with(&OWN, number, buf);
-            });
+    let alphabets = alphabets();
+    for row in rows("encode") {
+        let (alphabet, number) = (&alphabets[row[0]], row[1].parse::<u128>().unwrap());
+        if alphabet.is_ascii() {
+            let text = String::from_utf8(bytes(row[2])).unwrap();
+            appends(&text, |buf| base62::encode_buf_with(alphabet, number, buf));
+            match row[0] {
+                "standard" => appends(&text, |buf| base62::encode_buf(number, buf)),
+                "alternative" => appends(&text, |buf| base62::encode_alternative_buf(number, buf)),
+                _ => (),
+            }
         }
     }
 }

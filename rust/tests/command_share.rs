@@ -6,65 +6,40 @@
 
 mod support;
 
-use std::env;
 use std::fs;
-use std::path::Path;
+use support::shell::{is_installed, run, sides};
 
-const PROGRAM: &str = env!("CARGO_BIN_EXE_base62");
-const BASH: &str = "share/bash-completion/completions/base62";
-const ZSH: &str = "share/zsh/site-functions/_base62";
-const FISH: &str = "share/fish/vendor_completions.d/base62.fish";
+const BASH: &str = "source $crate/share/bash-completion/completions/base62";
 
-/// What a line of bash prints, which finds the program as `base62` and this file as `$file`. It has to end well.
-fn output_of(line: &str, file: &str) -> String {
-    let folder = Path::new(PROGRAM).parent().unwrap().to_str().unwrap();
-    let path = format!("{folder}:{}", env::var("PATH").unwrap());
-    let file = format!("{}/{file}", env!("CARGO_MANIFEST_DIR"));
-    let (status, output, errors) = support::run(line, &[("PATH", &path), ("file", &file)]);
+/// What a line of bash prints. It has to end well.
+fn output_of(line: &str) -> String {
+    let (status, output, errors) = run(line);
     assert_eq!((status, errors), (Some(0), String::new()), "{line}");
     output
 }
 
-fn is_here(tool: &str, what: &str) -> bool {
-    let is_here = support::run(&format!("command -v {tool}"), &[]).0 == Some(0);
-    if !is_here {
-        println!("left out: {what}: install {tool}");
-    }
-    is_here
-}
-
 #[test]
 fn pages() {
-    if !is_here("help2man", "the pages of the manual") {
+    if !is_installed("help2man") {
         return;
     }
     for name in ["base62", "base62_cli"] {
-        let page = format!("share/man/man1/{name}.1");
-        let page = Path::new(env!("CARGO_MANIFEST_DIR")).join(page);
-        assert_eq!(
-            output_of(&format!("$file {name}"), "tests/page"),
-            fs::read_to_string(page).unwrap(),
-            "tests/page {name} writes it anew"
-        );
+        let page = format!("{}/share/man/man1/{name}.1", env!("CARGO_MANIFEST_DIR"));
+        let page = fs::read_to_string(page).unwrap();
+        let written = output_of(&format!("$crate/tests/page {name}"));
+        assert_eq!(written, page, "tests/page {name} writes it anew");
     }
 }
 
 /// Compares the words that are completed behind some arguments.
 fn are_completed(completed: impl Fn(&str) -> String) {
-    let command = "--help --version -V -h decode encode help range";
-    for (arguments, words) in [
-        ("", command),
-        ("help", command),
-        (
-            "encode",
-            "--alternative --hex --keep-empty --letters --uuid --width -a -e -l -u -w -x",
-        ),
-        (
-            "decode",
-            "--alternative --hex --keep-empty --letters --strict --uuid -a -e -l -s -u -x",
-        ),
-        ("range", "--alternative --letters --width -a -l -w"),
-    ] {
+    let table = "
+        -> --help --version -V -h decode encode help range
+        help -> --help --version -V -h decode encode help range
+        encode -> --alternative --hex --keep-empty --letters --uuid --width -a -e -l -u -w -x
+        decode -> --alternative --hex --keep-empty --letters --strict --uuid -a -e -l -s -u -x
+        range -> --alternative --letters --width -a -l -w";
+    for (arguments, words) in sides(table) {
         let output = completed(arguments);
         let mut found: Vec<_> = output.lines().collect();
         found.sort_unstable();
@@ -76,10 +51,10 @@ fn are_completed(completed: impl Fn(&str) -> String) {
 fn words_in_bash() {
     let completed = |words: &str| {
         let line = format!(
-            "source $file; compopt() {{ echo $@; }}; COMP_WORDS=(base62 {words})
+            "{BASH}; compopt() {{ echo $@; }}; COMP_WORDS=(base62 {words})
             COMP_CWORD=$((${{#COMP_WORDS[@]}} - 1)); _base62; printf '%s\n' ${{COMPREPLY[@]}}"
         );
-        output_of(&line, BASH)
+        output_of(&line)
     };
     are_completed(|arguments| completed(&format!("{arguments} ''")));
     assert_eq!(completed("-a decode -x --s"), "--strict\n");
@@ -91,18 +66,19 @@ fn words_in_bash() {
     for words in ["'<' ''", "'<'", "decode '2>' 5"] {
         assert_eq!(completed(words), "-o default\n\n");
     }
-    let line = "source $file; complete -p base62";
-    assert_eq!(output_of(line, BASH), "complete -F _base62 base62\n");
+    let completion = output_of(&format!("{BASH}; complete -p base62"));
+    assert_eq!(completion, "complete -F _base62 base62\n");
 }
 
 #[test]
 fn words_in_fish() {
-    if !is_here("fish", "completions of fish") {
+    if !is_installed("fish") {
         return;
     }
     let completed = |words: &str| {
-        let line = format!(r#"fish --no-config -c "source $file; complete -C 'base62 {words}'""#);
-        output_of(&line, FISH)
+        let file = "$crate/share/fish/vendor_completions.d/base62.fish";
+        let line = format!("source {file}; complete -C 'base62 {words}'");
+        output_of(&format!("fish --no-config -c \"{line}\""))
     };
     are_completed(|arguments| {
         let lines = ["", "-"].map(|word| completed(&format!("{arguments} {word}")));
@@ -119,7 +95,7 @@ fn words_in_fish() {
 /// completes to the file `$found`.
 const ZSH_AT_TERMINAL: &str = r#"
 found=$(mktemp); trap 'rm $found' EXIT; export found lines
-start='fpath=(${file:h} $fpath); autoload -Uz compinit; compinit -u -D; LISTMAX=1000
+start='fpath=($crate/share/zsh/site-functions $fpath); autoload -Uz compinit; compinit -u -D; LISTMAX=1000
     compadd() {
         local -a hits
         [[ ${@[1,(i)--]} = *\ -[OAD]\ * ]] || { builtin compadd -A hits "$@"; print -rl -- $hits >>$found }
@@ -138,10 +114,10 @@ sort -u $found | grep ."#;
 
 #[test]
 fn words_in_zsh() {
-    if !is_here("zsh", "completions of zsh") {
+    if !is_installed("zsh") {
         return;
     }
-    let completed = |lines: &str| output_of(&format!("lines='{lines}'; {ZSH_AT_TERMINAL}"), ZSH);
+    let completed = |lines: &str| output_of(&format!("lines='{lines}'; {ZSH_AT_TERMINAL}"));
     // Without a hyphen it completes subcommands, if there is none.
     are_completed(|arguments| completed(&format!("base62 {arguments} \nbase62 {arguments} -")));
     assert_eq!(completed("base62 decode --s"), "--strict\n");

@@ -1,7 +1,9 @@
 // SPDX-License-Identifier: MIT
 // Copyright (c) 2026 the maintainers of base62 for Rattle
 
-//! The signatures and bounds of the crate `base62` 2.2.6, and the traits that the types have.
+//! The signatures and bounds of the crate `base62` 2.2.6, constants, and the traits of the types.
+
+mod support;
 
 use base62::{Alphabet, AlphabetError, DecodeError, EncodeError, ParseAlphabetError};
 use std::fmt::{Debug, Display};
@@ -51,16 +53,39 @@ fn types() {
     assert!(shown(base62::encode_fmt_with(&own, 1337_u16)).contains("\"LZ\""));
 }
 
-/// The count of digits is known as a program is compiled.
-const DIGITS: [usize; 3] = [
-    base62::digit_count(61),
-    base62::digit_count(u64::MAX as u128),
-    base62::digit_count(u128::MAX),
-];
-
 #[test]
 fn constants() {
-    assert_eq!(DIGITS, [1, 11, 22]);
+    const DIGITS: [usize; 2] = [base62::digit_count(61), base62::digit_count(u128::MAX)];
+    const REPEATED: Result<Alphabet, AlphabetError> = Alphabet::new([7; 62]);
+    const OWN: Alphabet = Alphabet::of(*Alphabet::alternative().letters());
+    const IS_ASCENDING: [bool; 2] = [OWN.is_ascending(), Alphabet::standard().is_ascending()];
+    const IS_ASCII: bool = OWN.is_ascii();
+    assert_eq!(DIGITS, [1, base62::MAX_DIGITS]);
+    assert_eq!(REPEATED, Err(AlphabetError::Repeated(7, 1)));
+    assert_eq!(OWN.letters(), support::ALTERNATIVE);
+    assert_eq!((IS_ASCENDING, IS_ASCII), ([false, true], true));
+}
+
+#[test]
+fn alphabets_are_shown_by_their_letters() {
+    let shown = "Alphabet(b\"0123456789ABCDEFGHIJKLMNOPQRSTUVWXYZabcdefghijklmnopqrstuvwxyz\")";
+    assert_eq!(format!("{:?}", Alphabet::standard()), shown);
+    let mut letters = support::high_letters();
+    letters[..4].copy_from_slice(b"\"\\\n\0");
+    let shown = format!("{:?}", Alphabet::new(letters).unwrap());
+    assert!(shown.starts_with(r#"Alphabet(b"\"\\\n\x00\xc6\xc7"#));
+    assert!(shown.ends_with(r#"\xfe\xff")"#));
+}
+
+#[test]
+fn errors_ignore_formats_as_in_base62_2_2_6() {
+    fn ignores(error: impl std::error::Error) {
+        assert_eq!(format!("{error:>100}{error:.3}"), format!("{error}{error}"));
+    }
+    ignores(DecodeError::InvalidBase62Byte(b'-', 2));
+    ignores(DecodeError::EmptyInput);
+    ignores(EncodeError::BufferTooSmall);
+    ignores(AlphabetError::Repeated(b'-', 2));
 }
 
 #[test]

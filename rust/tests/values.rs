@@ -6,18 +6,21 @@
 mod support;
 
 use base62::{Alphabet, AlphabetError, DecodeError, EncodeError, ParseAlphabetError};
+use base62::{encode_fixed_str, encode_fixed_str_with, encode_key, encode_key_str};
+use std::fmt::Display;
 use std::hash::{DefaultHasher, Hash, Hasher};
 use std::str;
 use support::{alphabets, bytes, decode_error, rows};
 
 type Decoded<T> = Result<T, DecodeError>;
+type Filled<'a> = Result<&'a [u8], EncodeError>;
 type Uuid = [u8; 16];
 
 /// The calls over an alphabet: those that take it, or those of a built-in one, which ignore what they are handed.
 struct Calls {
     encode_bytes: fn(&Alphabet, u128, &mut [u8]) -> Result<usize, EncodeError>,
     encode_fixed: fn(&Alphabet, u128, &mut [u8]) -> Result<(), EncodeError>,
-    encode_fmt: fn(&Alphabet, u128) -> String,
+    encode_fmt: fn(&Alphabet, u128) -> Box<dyn Display>,
     decode: fn(&Alphabet, &[u8]) -> Decoded<u128>,
     decode_canonical: fn(&Alphabet, &[u8]) -> Decoded<Option<u128>>,
     decode_uuid: fn(&Alphabet, &[u8]) -> Decoded<Uuid>,
@@ -26,20 +29,18 @@ struct Calls {
     encode: fn(&Alphabet, u128) -> String,
     #[cfg(feature = "alloc")]
     encode_uuid: fn(&Alphabet, Uuid) -> String,
-    #[cfg(feature = "alloc")]
-    encode_buf: fn(&Alphabet, u128, &mut String),
     #[cfg(feature = "std")]
     encode_io: fn(&Alphabet, u128, &mut dyn std::io::Write) -> std::io::Result<()>,
 }
 
 macro_rules! calls {
     ($alphabet:ident: $encode_bytes:ident $encode_fixed:ident $encode_fmt:ident $decode:ident $decode_canonical:ident
-     $decode_uuid:ident $decode_uuid_canonical:ident $encode:ident $encode_uuid:ident
-     $encode_buf:ident $encode_io:ident $(, $own:ident)?) => {
+     $decode_uuid:ident $decode_uuid_canonical:ident $encode:ident $encode_uuid:ident $encode_io:ident
+     $(, $own:ident)?) => {
         Calls {
             encode_bytes: |$alphabet, num, buf| base62::$encode_bytes($($own,)? num, buf),
             encode_fixed: |$alphabet, num, places| base62::$encode_fixed($($own,)? num, places),
-            encode_fmt: |$alphabet, num| base62::$encode_fmt($($own,)? num).to_string(),
+            encode_fmt: |$alphabet, num| Box::new(base62::$encode_fmt($($own,)? num)),
             decode: |$alphabet, text| base62::$decode($($own,)? text),
             decode_canonical: |$alphabet, text| base62::$decode_canonical($($own,)? text),
             decode_uuid: |$alphabet, text| base62::$decode_uuid($($own,)? text),
@@ -48,8 +49,6 @@ macro_rules! calls {
             encode: |$alphabet, num| base62::$encode($($own,)? num),
             #[cfg(feature = "alloc")]
             encode_uuid: |$alphabet, uuid| base62::$encode_uuid($($own,)? uuid),
-            #[cfg(feature = "alloc")]
-            encode_buf: |$alphabet, num, buf| base62::$encode_buf($($own,)? num, buf),
             #[cfg(feature = "std")]
             encode_io: |$alphabet, num, w| base62::$encode_io($($own,)? num, w),
         }
@@ -57,12 +56,12 @@ macro_rules! calls {
 }
 
 const OF_STANDARD: Calls = calls!(_own: encode_bytes encode_fixed encode_fmt decode decode_canonical decode_uuid
-    decode_uuid_canonical encode encode_uuid encode_buf encode_io);
+    decode_uuid_canonical encode encode_uuid encode_io);
 const OF_ALTERNATIVE: Calls = calls!(_own: encode_alternative_bytes encode_alternative_fixed encode_fmt_alt
     decode_alternative decode_alternative_canonical decode_alternative_uuid decode_alternative_uuid_canonical
-    encode_alternative encode_alternative_uuid encode_alternative_buf encode_alternative_io);
+    encode_alternative encode_alternative_uuid encode_alternative_io);
 const OF_OWN: Calls = calls!(own: encode_bytes_with encode_fixed_with encode_fmt_with decode_with decode_canonical_with
-    decode_uuid_with decode_uuid_canonical_with encode_with encode_uuid_with encode_buf_with encode_io_with, own);
+    decode_uuid_with decode_uuid_canonical_with encode_with encode_uuid_with encode_io_with, own);
 
 /// Hands each row of a kind, from its second field on, to a test of each set of calls that its alphabet has.
 fn each(kind: &str, test: impl Fn(&Calls, &Alphabet, &[&str])) {
@@ -82,27 +81,62 @@ fn number(field: &str) -> u128 {
     field.parse().unwrap()
 }
 
+/// The UUID of a number is its bytes, the most significant first.
 #[test]
-fn canonical_texts() {
+fn decoding() {
+    for kind in ["encode", "zeros", "refused"] {
+        each(kind, |calls, alphabet, row| {
+            let error = || decode_error(&row[1..]).unwrap();
+            let (text, num, canonical) = match kind {
+                "encode" => (row[1], Ok(number(row[0])), Ok(Some(number(row[0])))),
+                "zeros" => (row[0], Ok(number(row[1])), Ok(None)),
+                _ => (row[0], Err(error()), Err(error())),
+            };
+            let text = bytes(text);
+            assert_eq!((calls.decode)(alphabet, &text), num);
+            assert_eq!((calls.decode_canonical)(alphabet, &text), canonical);
+            let uuid = num.map(u128::to_be_bytes);
+            assert_eq!((calls.decode_uuid)(alphabet, &text), uuid);
+            let uuid = canonical.map(|num| num.map(u128::to_be_bytes));
+            assert_eq!((calls.decode_uuid_canonical)(alphabet, &text), uuid);
+        });
+    }
+}
+
+/// A buffer of each size. Only the bytes of the text are written, or none if it does not fit.
+#[test]
+fn encoding() {
     each("encode", |calls, alphabet, row| {
         let (num, text) = (number(row[0]), bytes(row[1]));
-        let mut buf = [0; 22];
-        assert_eq!(
-            (calls.encode_bytes)(alphabet, num, &mut buf),
-            Ok(text.len())
-        );
-        assert_eq!(buf[..text.len()], text);
+        for size in 0..30 {
+            let (mut buf, mut expected) = ([b'?'; 31], [b'?'; 31]);
+            let result = (calls.encode_bytes)(alphabet, num, &mut buf[1..=size]);
+            if size < text.len() {
+                assert_eq!(result, Err(EncodeError::BufferTooSmall));
+            } else {
+                assert_eq!(result, Ok(text.len()));
+                expected[1..=text.len()].copy_from_slice(&text);
+            }
+            assert_eq!(buf, expected);
+        }
         assert_eq!(base62::digit_count(num), text.len());
-        assert_eq!((calls.decode)(alphabet, &text), Ok(num));
-        assert_eq!((calls.decode_canonical)(alphabet, &text), Ok(Some(num)));
-        let uuid = num.to_be_bytes();
-        assert_eq!((calls.decode_uuid)(alphabet, &text), Ok(uuid));
-        assert_eq!(
-            (calls.decode_uuid_canonical)(alphabet, &text),
-            Ok(Some(uuid))
-        );
+    });
+}
+
+/// All that a format can ask of a string.
+fn formats(shown: impl Display) -> String {
+    let padded = format!("{shown:30}|{shown:<30}|{shown:>30}|{shown:^30}|{shown:é^31}|{shown:1}");
+    let cut = format!("{shown:.0}|{shown:.1}|{shown:.22}|{shown:-^9.3}");
+    format!("{shown}|{padded}|{cut}|{shown:#}|{shown:+}|{shown:08}|{shown:0>22}")
+}
+
+#[test]
+fn displays_are_padded_as_strings_are() {
+    each("encode", |calls, alphabet, row| {
         if alphabet.is_ascii() {
-            assert_eq!((calls.encode_fmt)(alphabet, num).as_bytes(), text);
+            let shown = (calls.encode_fmt)(alphabet, number(row[0]));
+            let text = String::from_utf8(bytes(row[1])).unwrap();
+            assert_eq!(formats(shown), formats(text));
         }
     });
 }
@@ -112,14 +146,15 @@ fn canonical_texts() {
 fn strings() {
     each("encode", |calls, alphabet, row| {
         if alphabet.is_ascii() {
-            let (num, text) = (number(row[0]), String::from_utf8(bytes(row[1])).unwrap());
-            let encoded = (calls.encode)(alphabet, num);
-            assert_eq!((&encoded, encoded.capacity()), (&text, text.len()));
-            let encoded = (calls.encode_uuid)(alphabet, num.to_be_bytes());
-            assert_eq!((&encoded, encoded.capacity()), (&text, text.len()));
-            let mut buf = String::from("é");
-            (calls.encode_buf)(alphabet, num, &mut buf);
-            assert_eq!(buf, format!("é{text}"));
+            let (num, text) = (number(row[0]), bytes(row[1]));
+            let uuid = num.to_be_bytes();
+            for encoded in [
+                (calls.encode)(alphabet, num),
+                (calls.encode_uuid)(alphabet, uuid),
+            ] {
+                assert_eq!(encoded.as_bytes(), text);
+                assert_eq!(encoded.capacity(), text.len());
+            }
         }
     });
 }
@@ -127,118 +162,74 @@ fn strings() {
 #[cfg(feature = "std")]
 mod writers {
     use super::*;
-    use std::io::{Error, ErrorKind, Result, Write};
+    use std::io::{ErrorKind, Result, Write};
 
-    /// Takes so many bytes in a call, and fails if there is no more room.
+    /// Stores what `write_all` gets, and whether it succeeds. There are no other calls.
     struct Writer {
-        most: usize,
-        room: usize,
-        taken: Vec<Vec<u8>>,
+        written: Vec<Vec<u8>>,
+        succeeds: bool,
     }
 
     impl Write for Writer {
-        fn write(&mut self, bytes: &[u8]) -> Result<usize> {
-            if self.room == 0 {
-                return Err(ErrorKind::BrokenPipe.into());
-            }
-            let taken = &bytes[..bytes.len().min(self.most)];
-            self.room -= 1;
-            self.taken.push(taken.to_vec());
-            Ok(taken.len())
+        fn write_all(&mut self, bytes: &[u8]) -> Result<()> {
+            self.written.push(bytes.to_vec());
+            let error = ErrorKind::BrokenPipe.into();
+            if self.succeeds { Ok(()) } else { Err(error) }
+        }
+
+        fn write(&mut self, _: &[u8]) -> Result<usize> {
+            unreachable!()
         }
 
         fn flush(&mut self) -> Result<()> {
-            panic!("flushed");
+            unreachable!()
         }
     }
 
     #[test]
     fn writers() {
         each("encode", |calls, alphabet, row| {
-            let (num, text) = (number(row[0]), bytes(row[1]));
-            let written = |most, room| {
-                let taken = Vec::new();
-                let mut writer = Writer { most, room, taken };
-                let answer = (calls.encode_io)(alphabet, num, &mut writer);
-                (answer.map_err(|fault: Error| fault.kind()), writer.taken)
-            };
-            let each_byte: Vec<Vec<u8>> = text.iter().map(|&byte| vec![byte]).collect();
-            let but_one = each_byte[..text.len() - 1].to_vec();
-            assert_eq!(written(99, 1), (Ok(()), vec![text.clone()]));
-            assert_eq!(written(1, 99), (Ok(()), each_byte));
-            let fault = Err(ErrorKind::BrokenPipe);
-            assert_eq!(written(1, text.len() - 1), (fault, but_one));
+            for (succeeds, expected) in [(true, Ok(())), (false, Err(ErrorKind::BrokenPipe))] {
+                let written = Vec::new();
+                let mut writer = Writer { written, succeeds };
+                let result = (calls.encode_io)(alphabet, number(row[0]), &mut writer);
+                assert_eq!(result.map_err(|error| error.kind()), expected);
+                assert_eq!(writer.written, [bytes(row[1])]);
+            }
         });
     }
 }
 
-#[test]
-fn needless_zeros() {
-    each("zeros", |calls, alphabet, row| {
-        let (text, num) = (bytes(row[0]), number(row[1]));
-        assert_eq!((calls.decode)(alphabet, &text), Ok(num));
-        assert_eq!((calls.decode_canonical)(alphabet, &text), Ok(None));
-        assert_eq!((calls.decode_uuid)(alphabet, &text), Ok(num.to_be_bytes()));
-        assert_eq!((calls.decode_uuid_canonical)(alphabet, &text), Ok(None));
-    });
-}
-
-#[test]
-fn refused_texts() {
-    each("refused", |calls, alphabet, row| {
-        let (text, fault) = (bytes(row[0]), decode_error(&row[1..]).unwrap());
-        assert_eq!((calls.decode)(alphabet, &text), Err(fault));
-        assert_eq!((calls.decode_canonical)(alphabet, &text), Err(fault));
-        assert_eq!((calls.decode_uuid)(alphabet, &text), Err(fault));
-        assert_eq!((calls.decode_uuid_canonical)(alphabet, &text), Err(fault));
-    });
-}
-
+/// If the buffer is too small, it is left unchanged.
 #[test]
 fn fixed_widths() {
-    each("fixed", |calls, alphabet, row| {
-        let (num, width, text) = (number(row[0]), row[1].parse().unwrap(), bytes(row[2]));
-        let mut places = vec![b'?'; width];
-        assert_eq!((calls.encode_fixed)(alphabet, num, &mut places), Ok(()));
-        assert_eq!(places, text);
-        assert_eq!((calls.decode)(alphabet, &text), Ok(num));
-        let standard = *alphabet == Alphabet::standard();
-        if standard && width == 22 {
-            let mut key = [b'?'; 22];
-            assert_eq!(base62::encode_key(num).to_vec(), text);
-            assert_eq!(base62::encode_key_str(num, &mut key).as_bytes(), text);
-        }
-        let Ok(text) = str::from_utf8(&text) else {
-            return;
-        };
-        let mut places = vec![b'?'; width];
-        if standard {
-            assert_eq!(base62::encode_fixed_str(num, &mut places), Ok(text));
-        }
-        if alphabet.is_ascii() {
-            let mut places = vec![b'?'; width];
-            let encoded = base62::encode_fixed_str_with(alphabet, num, &mut places);
-            assert_eq!(encoded, Ok(text));
-        }
-    });
-}
-
-#[test]
-fn widths_too_narrow() {
-    each("narrow", |calls, alphabet, row| {
-        let mut places = vec![b'?'; row[1].parse().unwrap()];
-        let answer = (calls.encode_fixed)(alphabet, number(row[0]), &mut places);
-        assert_eq!(answer, Err(EncodeError::BufferTooSmall));
-        if alphabet.is_ascii() {
-            let answer = base62::encode_fixed_str_with(alphabet, number(row[0]), &mut places);
-            assert_eq!(answer, Err(EncodeError::BufferTooSmall));
-        }
-        if *alphabet == Alphabet::standard() {
-            let answer = base62::encode_fixed_str(number(row[0]), &mut places);
-            assert_eq!(answer, Err(EncodeError::BufferTooSmall));
-        }
-        assert!(places.iter().all(|&place| place == b'?'));
-    });
+    for kind in ["fixed", "narrow"] {
+        each(kind, |calls, alphabet, row| {
+            let (num, width) = (number(row[0]), row[1].parse().unwrap());
+            let text = row.get(2).map(|text| bytes(text));
+            let expected = text.as_deref().ok_or(EncodeError::BufferTooSmall);
+            let check = |encode: &dyn Fn(&mut [u8]) -> Filled<'_>| {
+                let mut buf = vec![b'?'; width];
+                let unchanged = buf.clone();
+                assert_eq!(encode(&mut buf), expected);
+                assert_eq!(buf, expected.unwrap_or(&unchanged));
+            };
+            check(&|buf| (calls.encode_fixed)(alphabet, num, buf).map(|()| &*buf));
+            if alphabet.is_ascii() {
+                check(&|buf| encode_fixed_str_with(alphabet, num, buf).map(str::as_bytes));
+            }
+            if *alphabet == Alphabet::standard() {
+                check(&|buf| encode_fixed_str(num, buf).map(str::as_bytes));
+                if width == 22 {
+                    assert_eq!(Ok(&encode_key(num)[..]), expected);
+                    check(&|buf| Ok(encode_key_str(num, buf.try_into().unwrap()).as_bytes()));
+                }
+            }
+            if let Ok(text) = expected {
+                assert_eq!((calls.decode)(alphabet, text), Ok(num));
+            }
+        });
+    }
 }
 
 #[test]
@@ -260,21 +251,6 @@ fn ranges() {
                 assert_eq!(base62::key_range(&prefix), expected);
             }
         }
-    }
-}
-
-#[test]
-fn uuids() {
-    for row in rows("uuid") {
-        let (num, text) = (number(row[0]), bytes(row[2]));
-        let uuid = u128::from_str_radix(&row[1].replace('-', ""), 16)
-            .unwrap()
-            .to_be_bytes();
-        assert_eq!(num, u128::from_be_bytes(uuid));
-        assert_eq!(base62::decode_uuid(&text), Ok(uuid));
-        assert_eq!(base62::decode_uuid_canonical(&text), Ok(Some(uuid)));
-        #[cfg(feature = "alloc")]
-        assert_eq!(base62::encode_uuid(uuid).as_bytes(), text);
     }
 }
 
@@ -323,6 +299,12 @@ fn letters() {
             [row[2] == "1", row[3] == "1"]
         );
     }
+    // Blanks at the ends are characters too.
+    let letters = " 123456789ABCDEFGHIJKLMNOPQRSTUVWXYZabcdefghijklmnopqrstuvwxy\n";
+    assert_eq!(
+        letters.parse::<Alphabet>().unwrap().as_ref(),
+        letters.as_bytes()
+    );
     assert_eq!(Alphabet::default(), Alphabet::standard());
     assert_eq!(Alphabet::new(*support::STANDARD), Ok(Alphabet::standard()));
     assert_eq!(
@@ -342,13 +324,6 @@ fn repeated_letters() {
         assert_eq!(fault_of_slice.to_string(), fault.to_string());
         assert_eq!(Alphabet::new(letters.try_into().unwrap()), Err(fault));
     }
-}
-
-#[test]
-fn letters_at_the_ends_that_are_blanks() {
-    let letters = " 123456789ABCDEFGHIJKLMNOPQRSTUVWXYZabcdefghijklmnopqrstuvwxy\n";
-    let alphabet: Alphabet = letters.parse().unwrap();
-    assert_eq!(alphabet.as_ref(), letters.as_bytes());
 }
 
 #[test]

@@ -1,14 +1,16 @@
 // SPDX-License-Identifier: MIT
 // Copyright (c) 2026 the maintainers of base62 for Rattle
 
-//! Values from outside this code, and texts by plain division.
+//! Values from outside this code.
 #![allow(dead_code)]
+
+#[cfg(all(feature = "std", unix))]
+pub mod shell;
 
 use base62::{Alphabet, DecodeError};
 use std::collections::HashMap;
 use std::fs;
 use std::path::Path;
-use std::process::Command;
 use std::sync::OnceLock;
 
 pub const STANDARD: &[u8; 62] = b"0123456789ABCDEFGHIJKLMNOPQRSTUVWXYZabcdefghijklmnopqrstuvwxyz";
@@ -85,47 +87,4 @@ pub fn decode_error(fields: &[&str]) -> Option<DecodeError> {
         }
         _ => panic!("no fault of decoding: {fields:?}"),
     }
-}
-
-/// The numbers about the borders of each length, of 64 bits and of 128.
-pub fn borders() -> Vec<u128> {
-    let powers = (0..22).map(|places| 62_u128.pow(places));
-    let mut all: Vec<u128> = powers
-        .flat_map(|power| [power - 1, power, power + 1])
-        .collect();
-    all.extend([
-        u128::from(u64::MAX),
-        1 << 64,
-        (1 << 64) + 1,
-        u128::MAX - 1,
-        u128::MAX,
-    ]);
-    all
-}
-
-/// The text of a number, by division.
-pub fn digits(letters: &[u8; 62], mut number: u128) -> Vec<u8> {
-    let mut text = vec![letters[(number % 62) as usize]];
-    while number >= 62 {
-        number /= 62;
-        text.insert(0, letters[(number % 62) as usize]);
-    }
-    text
-}
-
-/// That text with leading zeros, or none if it is longer than the width.
-pub fn fixed(letters: &[u8; 62], number: u128, width: usize) -> Option<Vec<u8>> {
-    let text = digits(letters, number);
-    let zeros = width.checked_sub(text.len())?;
-    Some([vec![letters[0]; zeros], text].concat())
-}
-
-/// What a line of bash with these variables ends with: its status, and what it has written to standard output and to
-/// standard error.
-pub fn run(line: &str, variables: &[(&str, &str)]) -> (Option<i32>, String, String) {
-    let mut bash = Command::new("bash");
-    bash.args(["-c", line]).envs(variables.iter().copied());
-    let ended = bash.output().unwrap();
-    let text = |bytes| String::from_utf8(bytes).unwrap();
-    (ended.status.code(), text(ended.stdout), text(ended.stderr))
 }

@@ -9,58 +9,33 @@ use crate::tool::{CHUNK_LEN, run};
 use std::collections::VecDeque;
 use std::io::{self, ErrorKind, Read, Write};
 
-const ROWS: [(&[u8], &str); 24] = [
-    (b"enc 000", "0"),
-    (b"enc 00000000000000000000000000000000000000005", "5"),
-    (b"enc 18446744073709551615", "LygHa16AHYF"),
-    (b"enc 18446744073709551616", "LygHa16AHYG"),
-    (
-        b"enc 340282366920938463463374607431768211455",
-        "7n42DGM5Tflk9n8mt7Fhc7",
-    ),
-    (
-        b"enc 340282366920938463463374607431768211456",
-        "fault: not a number",
-    ),
-    (b"enc ", "fault: not a number"),
-    (b"enc  1", "fault: not a number"),
-    (b"enc +1", "fault: not a number"),
-    (b"enc 1\r", "fault: not a number"),
-    (b"enc \xff", "fault: not a number"),
-    (b"dec LygHa16AHYF", "18446744073709551615"),
-    (b"dec LygHa16AHYG", "18446744073709551616"),
-    (
-        b"dec 26tF05fvSIgh0000000000",
-        "92202686130861137968548313400401640448",
-    ),
-    (
-        b"dec 7n42DGM5Tflk9n8mt7Fhc8",
-        "fault: Decoded number cannot fit into a `u128`",
-    ),
-    (
-        b"dec \xff",
-        "fault: Encoded input contains the invalid byte b'\\xff' at index 0",
-    ),
-    (b"dec ", "fault: Encoded input is an empty string"),
-    (b"alt 1337", "lz"),
-    (b"adc rustlang", "96813686712946"),
-    (b"", "fault: unknown command"),
-    (b"\xff", "fault: unknown command"),
-    (b"ENC 1", "fault: unknown command"),
-    (b"enc\xff1", "fault: unknown command"),
-    (b"enc", "fault: unknown command"),
-];
-
-/// All lines.
-fn input() -> Vec<u8> {
-    ROWS.map(|(line, _)| [line, b"\n"].concat()).concat()
-}
-
-/// The replies to them.
-fn output() -> Vec<u8> {
-    ROWS.map(|(_, reply)| [reply.as_bytes(), b"\n"].concat())
-        .concat()
-}
+/// Lines with their replies.
+const ROWS: &[u8] = b"\
+enc 000 -> 0
+enc 00000000000000000000000000000000000000005 -> 5
+enc 18446744073709551615 -> LygHa16AHYF
+enc 18446744073709551616 -> LygHa16AHYG
+enc 340282366920938463463374607431768211455 -> 7n42DGM5Tflk9n8mt7Fhc7
+enc 340282366920938463463374607431768211456 -> fault: not a number
+enc  -> fault: not a number
+enc  1 -> fault: not a number
+enc +1 -> fault: not a number
+enc 1\r -> fault: not a number
+enc \xff -> fault: not a number
+dec LygHa16AHYF -> 18446744073709551615
+dec LygHa16AHYG -> 18446744073709551616
+dec 26tF05fvSIgh0000000000 -> 92202686130861137968548313400401640448
+dec 7n42DGM5Tflk9n8mt7Fhc8 -> fault: Decoded number cannot fit into a `u128`
+dec \xff -> fault: Encoded input contains the invalid byte b'\\xff' at index 0
+dec  -> fault: Encoded input is an empty string
+alt 1337 -> lz
+adc rustlang -> 96813686712946
+ -> fault: unknown command
+\xff -> fault: unknown command
+ENC 1 -> fault: unknown command
+enc\xff1 -> fault: unknown command
+enc -> fault: unknown command
+";
 
 /// Moves one byte a call. Its first read fails with the error, if there is one.
 #[derive(Default)]
@@ -116,7 +91,12 @@ fn replies(input: &[u8], output: &[u8]) {
 
 #[test]
 fn whole_inputs() {
-    let (input, output) = (input(), output());
+    let (mut input, mut output) = (Vec::new(), Vec::new());
+    for row in ROWS.split_inclusive(|byte| *byte == b'\n') {
+        let arrow = row.windows(4).position(|four| four == b" -> ").unwrap();
+        input.extend([&row[..arrow], b"\n"].concat());
+        output.extend(&row[arrow + 4..]);
+    }
     replies(&input, &output);
     replies(&input[..input.len() - 1], &output);
     replies(b"", b"");

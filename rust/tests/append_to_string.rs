@@ -52,7 +52,7 @@ fn appends(text: &str, call: impl Fn(&mut String)) {
 }
 
 #[test]
-fn each_length_over_each_room() {
+fn each_length_in_each_capacity() {
     let alphabets = alphabets();
     for row in rows("encode") {
         let (alphabet, number) = (&alphabets[row[0]], row[1].parse::<u128>().unwrap());

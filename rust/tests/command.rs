@@ -128,7 +128,7 @@ fn invalid_inputs() {
     for (arguments, error) in sides(table) {
         rejects(&format!("base62 {arguments}"), error);
     }
-    // Of a string without a line feed it is the last byte.
+    // A carriage return that no line feed follows is part of the string.
     let error = r"line 1: LZ\r: Encoded input contains the invalid byte b'\r' at index 2";
     rejects(r"printf 'LZ\r' | base62 decode", error);
     // The results for all others are printed, in order.

@@ -65,7 +65,7 @@ fn message(error: &str) -> String {
     String::from_utf8(bytes(row.unwrap()[0])).unwrap()
 }
 
-/// Letters as an argument. The command takes only those that print.
+/// The alphabet as an argument. The command accepts printable ASCII characters, without blanks here.
 fn argument(letters: &str) -> Option<String> {
     let letters = String::from_utf8(bytes(letters)).ok()?;
     let is_graphic = letters.bytes().all(|letter| letter.is_ascii_graphic());

@@ -72,13 +72,9 @@ fn fail_in_turn(arguments: &[&str], lines: [&str; 2], output: &str, status: i32)
 #[test]
 fn lines() {
     fail_in_turn(&[COMMAND, "encode"], ["1337\nx\n6", "1\n"], "LZ\n\nz\n", 1);
-    fail_in_turn(&[COMMAND, "decode", "-u"], ["LZ\n", "0"], &uuids(), 0);
-}
-
-/// Of 1337 and 0.
-fn uuids() -> String {
     let zeros = "00000000-0000-0000-0000-000000000";
-    format!("{zeros}539\n{zeros}000\n")
+    let uuids = format!("{zeros}539\n{zeros}000\n");
+    fail_in_turn(&[COMMAND, "decode", "-u"], ["LZ\n", "0"], &uuids, 0);
 }
 
 #[test]

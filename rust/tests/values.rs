@@ -123,7 +123,7 @@ fn encoding() {
     });
 }
 
-/// All that a format can ask of a string.
+/// The string in each way that a format pads or truncates it.
 fn formats(shown: impl Display) -> String {
     let padded = format!("{shown:30}|{shown:<30}|{shown:>30}|{shown:^30}|{shown:é^31}|{shown:1}");
     let cut = format!("{shown:.0}|{shown:.1}|{shown:.22}|{shown:-^9.3}");

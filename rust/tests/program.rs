@@ -84,9 +84,11 @@ fn lines_of_no_command() {
         let line = format!(r"printf '{command} 5\nx\n' | base62_cli");
         ends_well(&line, &format!("5\n{fault}"));
     }
-    let parts = |end| format!(r"{{ printf en; sleep .2; printf '{end} 5\n'; }} | base62_cli");
-    ends_well(&parts("c"), "5\n");
-    ends(&parts("d"), 0, fault, hint);
+    // Of three reads, the second shows whether the first line is a request.
+    let reads =
+        |part| format!("{{ printf en; sleep .2; echo {part}; sleep .2; echo x; }} | base62_cli");
+    ends_well(&reads("c 5"), &format!("5\n{fault}"));
+    ends(&reads("d 5"), 0, &fault.repeat(2), hint);
     // And before the reply.
     let line = r#"coproc base62_cli 2>&1; echo 5 >&${COPROC[1]}
         read -t 20 -ru ${COPROC[0]} line; echo "$line""#;

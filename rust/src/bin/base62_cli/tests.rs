@@ -24,6 +24,7 @@ enc 1\r -> fault: not a number
 enc \xff -> fault: not a number
 dec LygHa16AHYF -> 18446744073709551615
 dec LygHa16AHYG -> 18446744073709551616
+dec BLJp4aZBJ3gG -> 590295810358705651712
 dec 26tF05fvSIgh0000000000 -> 92202686130861137968548313400401640448
 dec 7n42DGM5Tflk9n8mt7Fhc8 -> fault: Decoded number cannot fit into a `u128`
 dec \xff -> fault: Encoded input contains the invalid byte b'\\xff' at index 0

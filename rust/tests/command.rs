@@ -182,6 +182,10 @@ fn replies() {
     // The error is in an earlier read.
     let line = "{ echo dec; sleep .2; echo enc 5; } | base62";
     ends(line, 1, "fault: unknown command\n5\n", warning);
+    let fails = |error| format!("{warning}base62: {error}\n");
+    ends("base62 </", 1, "", &fails("read failed"));
+    let line = "base62 >/dev/full <<<'enc 5'";
+    ends(line, 1, "", &fails("write failed"));
 }
 
 #[test]

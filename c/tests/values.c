@@ -106,10 +106,11 @@ static char *fresh(size_t size) {
     return place_in(written, at_end, size);
 }
 
-/* The text stands at the start of the place, and no other byte is written. */
-static void expect_written(size_t size, const char *text, size_t length) {
+/* A call has returned the length, and has written the text at the start of the place, and no other byte. */
+static void expect_text(size_t returned, size_t size, const char *text, size_t length, const char *call) {
     const char *place = place_in(written, at_end, size);
     const char *around = place_in(written, at_end, size + AROUND);
+    expect_of_row(returned == length, call);
     expect_of_row(memcmp(place, text, length) == 0, "the text");
     for (size_t i = 0; i < size + AROUND; i++)
         if (around + i < place || around + i >= place + length)
@@ -130,11 +131,15 @@ struct results {
 static const struct results unwritten = {
     {UNWRITTEN, UNWRITTEN}, {{UNWRITTEN, UNWRITTEN}, {UNWRITTEN, UNWRITTEN}}, {UNWRITTEN_SIZE, FILLER}};
 
-static void expect_results(struct results found, struct results wanted) {
-    expect_of_row(same(found.number, wanted.number), "the number");
-    expect_of_row(same(found.range.least, wanted.range.least), "the least number");
-    expect_of_row(same(found.range.greatest, wanted.range.greatest), "the greatest number");
-    expect_of_row(found.bad.byte == wanted.bad.byte && found.bad.index == wanted.bad.index, "the bad byte");
+/* A call has returned the status and has written these results. Resets *found for the next call. */
+static void expect_results(base62_status returned, base62_status status, struct results *found, struct results wanted,
+                           const char *call) {
+    expect_of_row(returned == status, call);
+    expect_of_row(same(found->number, wanted.number), "the number");
+    expect_of_row(same(found->range.least, wanted.range.least), "the least number");
+    expect_of_row(same(found->range.greatest, wanted.range.greatest), "the greatest number");
+    expect_of_row(found->bad.byte == wanted.bad.byte && found->bad.index == wanted.bad.index, "the bad byte");
+    *found = unwritten;
 }
 
 /* The status of a word and the two fields that follow it. Writes the byte and the index that it names. */
@@ -164,10 +169,16 @@ static base62_status status_field(size_t i, base62_bad_byte *bad) {
     return BASE62_OK;
 }
 
-/* The alphabets of the file, each at the start and at the end of read-only memory. */
+/* An alphabet of the file, at the start and at the end of read-only memory. If it is built in, it has letters and calls
+ * of its own. */
 struct named {
     char name[32];
     const base62_alphabet *made[2];
+    const char *letters;
+    size_t (*encode)(base62_number, char *, size_t);
+    size_t (*encode_fixed)(base62_number, char *, size_t);
+    base62_status (*decode)(const char *, size_t, base62_number *, base62_bad_byte *);
+    base62_status (*decode_canonical)(const char *, size_t, base62_number *, base62_bad_byte *);
 };
 
 static struct named alphabets[MOST_ALPHABETS];
@@ -185,48 +196,51 @@ static int is_standard(const struct named *alphabet) {
     return strcmp(alphabet->name, "standard") == 0;
 }
 
-static int is_alternative(const struct named *alphabet) {
-    return strcmp(alphabet->name, "alternative") == 0;
-}
-
-/* Makes an alphabet where all bytes had one value, and leaves what then stands there in made. */
-static base62_status make_over(const char *letters, int before, base62_alphabet *made, base62_bad_byte *bad) {
-    char *place = fresh(sizeof *made);
-    memset(place, before, sizeof *made);
-    const base62_status status = base62_make_alphabet(copy_guarded(letters, 62), (base62_alphabet *)place, bad);
-    memcpy(made, place, sizeof *made);
-    expect_written(sizeof *made, place, sizeof *made);
-    return status;
-}
-
-/* An alphabet is the same whatever stood in its place. What stood there stays if the letters are refused. */
-static base62_status check_making(const char *letters, base62_alphabet *made, base62_bad_byte *bad) {
-    base62_alphabet again;
-    base62_bad_byte bad_again = unwritten.bad;
-    *bad = unwritten.bad;
-    const base62_status status = make_over(letters, FILLER, made, bad);
-    expect_of_row(make_over(letters, 0, &again, &bad_again) == status, "the status over other bytes");
-    expect_of_row(bad_again.byte == bad->byte && bad_again.index == bad->index, "the bad byte over other bytes");
-    for (size_t i = 0; i < sizeof again; i++) {
-        const int is_kept = made->bytes[i] == FILLER && again.bytes[i] == 0;
-        expect_of_row(status == BASE62_OK ? made->bytes[i] == again.bytes[i] : is_kept, "the bytes of an alphabet");
+static void set_built_in(struct named *alphabet) {
+    if (is_standard(alphabet)) {
+        alphabet->letters = BASE62_STANDARD_LETTERS;
+        alphabet->encode = base62_encode;
+        alphabet->encode_fixed = base62_encode_fixed;
+        alphabet->decode = base62_decode;
+        alphabet->decode_canonical = base62_decode_canonical;
+    } else if (strcmp(alphabet->name, "alternative") == 0) {
+        alphabet->letters = BASE62_ALTERNATIVE_LETTERS;
+        alphabet->encode = base62_encode_alternative;
+        alphabet->encode_fixed = base62_encode_alternative_fixed;
+        alphabet->decode = base62_decode_alternative;
+        alphabet->decode_canonical = base62_decode_alternative_canonical;
     }
-    return status;
+}
+
+/* Makes an alphabet where all bytes had one value. It is the same whatever stood there, and that stays if the letters
+ * are refused. */
+static void expect_making(const char *letters, base62_status status, base62_bad_byte bad, base62_alphabet *made) {
+    const int before[] = {FILLER, 0};
+    struct results found = unwritten, wanted = unwritten;
+    wanted.bad = bad;
+    for (int i = 0; i < 2; i++) {
+        base62_alphabet *place = memset(fresh(sizeof *made), before[i], sizeof *made);
+        expect_results(base62_make_alphabet(copy_guarded(letters, 62), place, &found.bad), status, &found, wanted,
+                       "make_alphabet");
+        if (status != BASE62_OK)
+            memset(made, before[i], sizeof *made);
+        else if (i == 0)
+            *made = *place;
+        expect_text(sizeof *made, sizeof *made, (const char *)made, sizeof *made, "the alphabet");
+    }
 }
 
 static void check_alphabet(void) {
     char letters[MOST_TEXT];
     base62_alphabet made;
-    base62_bad_byte bad;
     expect_of_row(text_field(2, letters) == BASE62_ALPHABET_LENGTH, "the count of letters");
-    expect_of_row(check_making(letters, &made, &bad) == BASE62_OK, "the status");
-    expect_of_row(bad.byte == FILLER && bad.index == UNWRITTEN_SIZE, "a bad byte is written");
+    expect_making(letters, BASE62_OK, unwritten.bad, &made);
     expect_of_row(alphabet_count < MOST_ALPHABETS && strlen(field(1)) < sizeof alphabets->name, "the alphabets");
     struct named *alphabet = &alphabets[alphabet_count];
     char *memory = map_guarded();
     strcpy(alphabet->name, field(1));
-    expect_of_row(!is_standard(alphabet) || memcmp(letters, BASE62_STANDARD_LETTERS, 62) == 0, "the standard letters");
-    expect_of_row(!is_alternative(alphabet) || memcmp(letters, BASE62_ALTERNATIVE_LETTERS, 62) == 0, "the letters");
+    set_built_in(alphabet);
+    expect_of_row(alphabet->letters == NULL || memcmp(letters, alphabet->letters, 62) == 0, "the letters");
     alphabet->made[at_end] = memcpy(place_in(memory, at_end, sizeof made), &made, sizeof made);
     set_read_only(memory);
     alphabet_count += (size_t)at_end;
@@ -235,68 +249,34 @@ static void check_alphabet(void) {
 static void check_repeated(void) {
     char letters[MOST_TEXT];
     base62_alphabet made;
-    base62_bad_byte bad;
+    const base62_bad_byte bad = {size_field(3), (unsigned char)size_field(2)};
     expect_of_row(text_field(1, letters) == BASE62_ALPHABET_LENGTH, "the count of letters");
-    expect_of_row(check_making(letters, &made, &bad) == BASE62_REPEATED_LETTER, "the status");
-    expect_of_row(bad.byte == size_field(2) && bad.index == size_field(3), "the repeated letter");
-}
-
-/* The built-in alphabets have calls of their own. These tell whether one is taken. */
-static int encode_built_in(const struct named *alphabet, base62_number number, char *buffer, size_t size,
-                           size_t *length) {
-    if (is_standard(alphabet))
-        *length = base62_encode(number, buffer, size);
-    else if (is_alternative(alphabet))
-        *length = base62_encode_alternative(number, buffer, size);
-    return is_standard(alphabet) || is_alternative(alphabet);
-}
-
-static int fix_built_in(const struct named *alphabet, base62_number number, char *places, size_t width,
-                        size_t *length) {
-    if (is_standard(alphabet))
-        *length = base62_encode_fixed(number, places, width);
-    else if (is_alternative(alphabet))
-        *length = base62_encode_alternative_fixed(number, places, width);
-    return is_standard(alphabet) || is_alternative(alphabet);
+    expect_making(letters, BASE62_REPEATED_LETTER, bad, &made);
 }
 
 /* Expects these results of decoding and of canonical decoding, as a custom alphabet and as a built-in one. */
-static void expect_decoded(size_t alphabet_at, const char *text, size_t length, base62_status wanted,
-                           base62_status wanted_canonical, struct results results) {
-    const struct named *alphabet = alphabet_field(alphabet_at);
+static void expect_decoded(const char *text, size_t length, base62_status wanted, base62_status wanted_canonical,
+                           struct results results) {
+    const struct named *alphabet = alphabet_field(1);
     const base62_alphabet *own = alphabet->made[at_end];
     const char *from = copy_guarded(text, length);
-    struct results canonical_results = wanted_canonical == wanted ? results : unwritten;
-    struct results found = unwritten, canonical = unwritten;
-    expect_of_row(base62_decode_with(own, from, length, &found.number, &found.bad) == wanted, "decode_with");
-    expect_results(found, results);
-    expect_of_row(
-        base62_decode_canonical_with(own, from, length, &canonical.number, &canonical.bad) == wanted_canonical,
-        "decode_canonical_with");
-    expect_results(canonical, canonical_results);
-    found = canonical = unwritten;
-    if (is_standard(alphabet)) {
-        expect_of_row(base62_decode(from, length, &found.number, &found.bad) == wanted, "decode");
-        expect_of_row(base62_decode_canonical(from, length, &canonical.number, &canonical.bad) == wanted_canonical,
-                      "decode_canonical");
-    } else if (is_alternative(alphabet)) {
-        expect_of_row(base62_decode_alternative(from, length, &found.number, &found.bad) == wanted,
-                      "decode_alternative");
-        expect_of_row(
-            base62_decode_alternative_canonical(from, length, &canonical.number, &canonical.bad) == wanted_canonical,
-            "decode_alternative_canonical");
-    } else {
+    const struct results canonical = wanted_canonical == wanted ? results : unwritten;
+    struct results found = unwritten;
+    expect_results(base62_decode_with(own, from, length, &found.number, &found.bad), wanted, &found, results,
+                   "decode_with");
+    expect_results(base62_decode_canonical_with(own, from, length, &found.number, &found.bad), wanted_canonical, &found,
+                   canonical, "decode_canonical_with");
+    if (alphabet->letters == NULL)
         return;
-    }
-    expect_results(found, results);
-    expect_results(canonical, canonical_results);
+    expect_results(alphabet->decode(from, length, &found.number, &found.bad), wanted, &found, results, "decode");
+    expect_results(alphabet->decode_canonical(from, length, &found.number, &found.bad), wanted_canonical, &found,
+                   canonical, "decode_canonical");
 }
 
-static void expect_number(size_t alphabet_at, const char *text, size_t length, base62_status wanted_canonical,
-                          base62_number number) {
+static void expect_number(const char *text, size_t length, base62_status wanted_canonical, base62_number number) {
     struct results wanted = unwritten;
     wanted.number = number;
-    expect_decoded(alphabet_at, text, length, BASE62_OK, wanted_canonical, wanted);
+    expect_decoded(text, length, BASE62_OK, wanted_canonical, wanted);
 }
 
 /* What the header has inline. */
@@ -325,23 +305,20 @@ static void check_encode(void) {
     most_digits = length > most_digits ? length : most_digits;
     for (size_t size = 0; size <= BASE62_MAX_DIGITS + 2; size++) {
         const size_t wanted = size < length ? 0 : length;
-        size_t told = 0;
-        expect_of_row(base62_encode_with(alphabet->made[at_end], number, fresh(size), size) == wanted, "encode_with");
-        expect_written(size, text, wanted);
-        if (encode_built_in(alphabet, number, fresh(size), size, &told)) {
-            expect_of_row(told == wanted, "encode");
-            expect_written(size, text, wanted);
-        }
+        expect_text(base62_encode_with(alphabet->made[at_end], number, fresh(size), size), size, text, wanted,
+                    "encode_with");
+        if (alphabet->letters != NULL)
+            expect_text(alphabet->encode(number, fresh(size), size), size, text, wanted, "encode");
     }
     expect_of_row(base62_digit_count(number) == length, "digit_count");
-    expect_number(1, text, length, BASE62_OK, number);
+    expect_number(text, length, BASE62_OK, number);
     check_inline(number);
 }
 
 static void check_zeros(void) {
     char text[MOST_TEXT];
     const size_t length = text_field(2, text);
-    expect_number(1, text, length, BASE62_NOT_CANONICAL, number_field(3));
+    expect_number(text, length, BASE62_NOT_CANONICAL, number_field(3));
 }
 
 static void check_refused(void) {
@@ -349,21 +326,17 @@ static void check_refused(void) {
     struct results wanted = unwritten;
     const size_t length = text_field(2, text);
     const base62_status status = status_field(3, &wanted.bad);
-    expect_decoded(1, text, length, status, status, wanted);
+    expect_decoded(text, length, status, status, wanted);
 }
 
 /* The number has this text of the width, or none if the length is 0. */
 static void expect_fixed(size_t width, const char *text, size_t length) {
     const struct named *alphabet = alphabet_field(1);
     const base62_number number = number_field(2);
-    size_t told = 0;
-    expect_of_row(base62_encode_fixed_with(alphabet->made[at_end], number, fresh(width), width) == length,
-                  "encode_fixed_with");
-    expect_written(width, text, length);
-    if (fix_built_in(alphabet, number, fresh(width), width, &told)) {
-        expect_of_row(told == length, "encode_fixed");
-        expect_written(width, text, length);
-    }
+    expect_text(base62_encode_fixed_with(alphabet->made[at_end], number, fresh(width), width), width, text, length,
+                "encode_fixed_with");
+    if (alphabet->letters != NULL)
+        expect_text(alphabet->encode_fixed(number, fresh(width), width), width, text, length, "encode_fixed");
 }
 
 static void check_fixed(void) {
@@ -374,10 +347,10 @@ static void check_fixed(void) {
     expect_fixed(width, text, length);
     if (is_standard(alphabet_field(1)) && width == BASE62_KEY_LENGTH) {
         base62_encode_key(number, fresh(width));
-        expect_written(width, text, length);
+        expect_text(width, width, text, length, "encode_key");
     }
     const int is_canonical = base62_digit_count(number) == width;
-    expect_number(1, text, length, is_canonical ? BASE62_OK : BASE62_NOT_CANONICAL, number);
+    expect_number(text, length, is_canonical ? BASE62_OK : BASE62_NOT_CANONICAL, number);
 }
 
 static void check_narrow(void) {
@@ -399,19 +372,14 @@ static void check_range(void) {
     } else {
         status = status_field(4, &wanted.bad);
     }
-    expect_of_row(base62_fixed_range_with(alphabet->made[at_end], width, from, length, &found.range, &found.bad) ==
-                      status, "fixed_range_with");
-    expect_results(found, wanted);
+    expect_results(base62_fixed_range_with(alphabet->made[at_end], width, from, length, &found.range, &found.bad),
+                   status, &found, wanted, "fixed_range_with");
     if (!is_standard(alphabet))
         return;
-    found = unwritten;
-    expect_of_row(base62_fixed_range(width, from, length, &found.range, &found.bad) == status, "fixed_range");
-    expect_results(found, wanted);
-    if (width != BASE62_KEY_LENGTH)
-        return;
-    found = unwritten;
-    expect_of_row(base62_key_range(from, length, &found.range, &found.bad) == status, "key_range");
-    expect_results(found, wanted);
+    expect_results(base62_fixed_range(width, from, length, &found.range, &found.bad), status, &found, wanted,
+                   "fixed_range");
+    if (width == BASE62_KEY_LENGTH)
+        expect_results(base62_key_range(from, length, &found.range, &found.bad), status, &found, wanted, "key_range");
 }
 
 static void check_uuid(void) {
@@ -426,7 +394,7 @@ static void check_uuid(void) {
     const unsigned char *from = (const unsigned char *)copy_guarded(bytes, sizeof bytes);
     expect_of_row(same(base62_number_of_uuid(from), number), "number_of_uuid");
     base62_uuid_of_number(number, (unsigned char *)fresh(sizeof bytes));
-    expect_written(sizeof bytes, bytes, sizeof bytes);
+    expect_text(sizeof bytes, sizeof bytes, bytes, sizeof bytes, "uuid_of_number");
 }
 
 /* The text in a buffer of each size, just too small ones too. */
@@ -440,8 +408,7 @@ static void check_message(void) {
     most_fault_text = length > most_fault_text ? length : most_fault_text;
     for (size_t size = 0; size <= BASE62_MAX_FAULT_TEXT + 2; size++) {
         const size_t wanted = size < length ? 0 : length;
-        expect_of_row(base62_fault_text(status, bad, fresh(size), size) == wanted, "fault_text");
-        expect_written(size, text, wanted);
+        expect_text(base62_fault_text(status, bad, fresh(size), size), size, text, wanted, "fault_text");
     }
 }
 

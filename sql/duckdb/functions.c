@@ -118,9 +118,12 @@ static const char *text_at(const struct chunk *chunk, idx_t argument, size_t *le
     return duckdb_string_t_data(text);
 }
 
+/* The width of the second argument, or that of a key if there is no such argument. */
 static bool width_at(const struct chunk *chunk, size_t *width) {
-    int64_t given = ((const int64_t *)chunk->arguments[1].data)[chunk->row];
+    int64_t given = BASE62_KEY_LENGTH;
     call_error error;
+    if (chunk->argument_count > 1)
+        given = ((const int64_t *)chunk->arguments[1].data)[chunk->row];
     if (!check_width(given, &error))
         return set_error(chunk, &error);
     *width = (size_t)given;
@@ -187,11 +190,6 @@ static inline bool encode(struct chunk *chunk) {
     return true;
 }
 
-static inline bool encode_key(struct chunk *chunk) {
-    base62_number number;
-    return number_at(chunk, &number) && set_fixed(chunk, NULL, number, BASE62_KEY_LENGTH);
-}
-
 static inline bool encode_fixed(struct chunk *chunk) {
     base62_number number;
     size_t width;
@@ -229,12 +227,15 @@ static inline bool is_text(struct chunk *chunk) {
 
 /* Finds the first or the last number whose string of the width begins with the prefix. If there is none, the row becomes
  * null. */
-static bool bound_at(struct chunk *chunk, size_t width, const base62_alphabet *alphabet, bool *empty, base62_number *bound) {
+static bool bound_at(struct chunk *chunk, size_t *width, bool *empty, base62_number *bound) {
     size_t length;
     const char *prefix = text_at(chunk, 0, &length);
+    const base62_alphabet *alphabet;
     base62_range range;
     call_error error;
-    if (!range_of_prefix(alphabet, prefix, length, width, &range, empty, &error))
+    if (!width_at(chunk, width) || !alphabet_at(chunk, 2, &alphabet))
+        return false;
+    if (!range_of_prefix(alphabet, prefix, length, *width, &range, empty, &error))
         return set_error(chunk, &error);
     if (*empty)
         set_null(chunk);
@@ -244,21 +245,17 @@ static bool bound_at(struct chunk *chunk, size_t width, const base62_alphabet *a
 }
 
 static inline bool key_bound(struct chunk *chunk) {
-    size_t width = BASE62_KEY_LENGTH;
+    size_t width;
     bool empty;
     base62_number bound;
-    if ((chunk->argument_count > 1 && !width_at(chunk, &width)) || !bound_at(chunk, width, NULL, &empty, &bound))
-        return false;
-    return empty || set_fixed(chunk, NULL, bound, width);
+    return bound_at(chunk, &width, &empty, &bound) && (empty || set_fixed(chunk, NULL, bound, width));
 }
 
 static inline bool range_bound(struct chunk *chunk) {
     size_t width;
-    const base62_alphabet *alphabet;
     bool empty;
     base62_number bound;
-    if (!width_at(chunk, &width) || !alphabet_at(chunk, 2, &alphabet) ||
-        !bound_at(chunk, width, alphabet, &empty, &bound))
+    if (!bound_at(chunk, &width, &empty, &bound))
         return false;
     if (!empty)
         set_number(chunk, bound);
@@ -280,7 +277,6 @@ static inline bool version(struct chunk *chunk) {
     }
 
 OVER_ROWS(encode)
-OVER_ROWS(encode_key)
 OVER_ROWS(encode_fixed)
 OVER_ROWS(decode)
 OVER_ROWS(is_text)
@@ -316,7 +312,7 @@ static const struct function {
     {"base62_decode_uuid_canonical", 1, 2, text_types, {TEXT}, UUID, &canonical_tag, decode_rows},
     {"base62_is_text", 1, 2, text_types, {TEXT}, DUCKDB_TYPE_BOOLEAN, NULL, is_text_rows},
     {"base62_is_canonical", 1, 2, text_types, {TEXT}, DUCKDB_TYPE_BOOLEAN, &canonical_tag, is_text_rows},
-    {"base62_encode_key", 1, 1, number_types, {0}, TEXT, NULL, encode_key_rows},
+    {"base62_encode_key", 1, 1, number_types, {0}, TEXT, NULL, encode_fixed_rows},
     {"base62_encode_fixed", 2, 3, number_types, {WIDTH, TEXT}, TEXT, NULL, encode_fixed_rows},
     {"base62_key_first", 1, 2, text_types, {WIDTH}, TEXT, NULL, key_bound_rows},
     {"base62_key_last", 1, 2, text_types, {WIDTH}, TEXT, &last_tag, key_bound_rows},

@@ -161,10 +161,6 @@ static Datum encode_with_width(base62_number number, size_t width, const base62_
     PG_RETURN_TEXT_P(result);
 }
 
-static Datum encode_key(base62_number number) {
-    return encode_with_width(number, BASE62_KEY_LENGTH, NULL);
-}
-
 static Datum encode_fixed(FunctionCallInfo fcinfo, base62_number number) {
     size_t width = get_width(fcinfo, 1);
     return encode_with_width(number, width, get_alphabet(fcinfo, 2));
@@ -269,8 +265,8 @@ SQL_FUNCTION(pg_base62_encode_int8, encode(fcinfo, get_int8(fcinfo, 0)))
 SQL_FUNCTION(pg_base62_encode_uuid, encode(fcinfo, get_uuid(fcinfo, 0)))
 SQL_FUNCTION(pg_base62_encode_numeric, encode(fcinfo, get_numeric(fcinfo, 0)))
 
-SQL_FUNCTION(pg_base62_encode_key_int8, encode_key(get_int8(fcinfo, 0)))
-SQL_FUNCTION(pg_base62_encode_key_uuid, encode_key(get_uuid(fcinfo, 0)))
+SQL_FUNCTION(pg_base62_encode_key_int8, encode_fixed(fcinfo, get_int8(fcinfo, 0)))
+SQL_FUNCTION(pg_base62_encode_key_uuid, encode_fixed(fcinfo, get_uuid(fcinfo, 0)))
 
 SQL_FUNCTION(pg_base62_encode_fixed_int8, encode_fixed(fcinfo, get_int8(fcinfo, 0)))
 SQL_FUNCTION(pg_base62_encode_fixed_uuid, encode_fixed(fcinfo, get_uuid(fcinfo, 0)))

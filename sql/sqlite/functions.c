@@ -90,10 +90,13 @@ static int read_alphabet(sqlite3_context *context, int index, int argc, sqlite3_
     return 1;
 }
 
-static int read_width(sqlite3_context *context, sqlite3_value *value, size_t *width) {
-    /* 0 is not a width. */
-    sqlite3_int64 given = sqlite3_value_type(value) == SQLITE_INTEGER ? sqlite3_value_int64(value) : 0;
+/* The width of the second argument, or that of a key if there is no such argument. */
+static int read_width(sqlite3_context *context, int argc, sqlite3_value **argv, size_t *width) {
+    sqlite3_int64 given = BASE62_KEY_LENGTH;
     call_error error;
+    /* 0 is not a width. */
+    if (argc > 1)
+        given = sqlite3_value_type(argv[1]) == SQLITE_INTEGER ? sqlite3_value_int64(argv[1]) : 0;
     if (!check_width(given, &error))
         return set_call_error(context, &error);
     *width = (size_t)given;
@@ -189,24 +192,17 @@ static void is_text(sqlite3_context *context, int argc, sqlite3_value **argv) {
     sqlite3_result_int(context, accepted);
 }
 
-static void encode_key(sqlite3_context *context, int argc, sqlite3_value **argv) {
-    base62_number number;
-    if (!any_null(argc, argv) && read_number(context, argv[0], &number))
-        result_fixed(context, NULL, number, BASE62_KEY_LENGTH);
-}
-
 static void encode_fixed(sqlite3_context *context, int argc, sqlite3_value **argv) {
     base62_number number;
     size_t width;
     base62_alphabet copy;
     const base62_alphabet *alphabet;
-    if (!any_null(argc, argv) && read_number(context, argv[0], &number) && read_width(context, argv[1], &width) &&
+    if (!any_null(argc, argv) && read_number(context, argv[0], &number) && read_width(context, argc, argv, &width) &&
         read_alphabet(context, 2, argc, argv, &copy, &alphabet))
         result_fixed(context, alphabet, number, width);
 }
 
-/* Finds the numbers whose strings of the width begin with the prefix. Without a width, the strings are keys. Returns 0
- * if the result is null or an error. */
+/* Finds the numbers whose strings of the width begin with the prefix. Returns 0 if the result is null or an error. */
 static int read_range(sqlite3_context *context, int argc, sqlite3_value **argv, size_t *width, base62_range *range) {
     const char *prefix;
     size_t length;
@@ -214,9 +210,8 @@ static int read_range(sqlite3_context *context, int argc, sqlite3_value **argv, 
     const base62_alphabet *alphabet;
     bool empty;
     call_error error;
-    *width = BASE62_KEY_LENGTH;
     if (any_null(argc, argv) || !read_text(context, argv[0], &prefix, &length) ||
-        (argc > 1 && !read_width(context, argv[1], width)) || !read_alphabet(context, 2, argc, argv, &copy, &alphabet))
+        !read_width(context, argc, argv, width) || !read_alphabet(context, 2, argc, argv, &copy, &alphabet))
         return 0;
     if (!range_of_prefix(alphabet, prefix, length, *width, range, &empty, &error))
         return set_call_error(context, &error);
@@ -262,7 +257,7 @@ static int create_functions(sqlite3 *db) {
         {"base62_is_text", 1, 2, NULL, is_text},
         {"base62_is_integer", 1, 2, &integer_tag, is_text},
         {"base62_is_canonical", 1, 2, &canonical_tag, is_text},
-        {"base62_encode_key", 1, 1, NULL, encode_key},
+        {"base62_encode_key", 1, 1, NULL, encode_fixed},
         {"base62_encode_fixed", 2, 3, NULL, encode_fixed},
         {"base62_key_first", 1, 2, NULL, key_bound},
         {"base62_key_last", 1, 2, &last_tag, key_bound},

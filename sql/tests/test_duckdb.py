@@ -9,24 +9,18 @@ import itertools
 import json
 import os
 import re
-import signal
 import subprocess
-import tempfile
-import time
 import unittest
 from pathlib import Path
 from typing import Any
 from urllib.parse import unquote_to_bytes
 from uuid import UUID
 
-from values import ALPHABETS, ALTERNATIVE, HERE, OWN, REPEATED, STANDARD, message, rows, text
+from values import ALPHABET, ALTERNATIVE, HEADER, NARROW, NEGATIVE, NO_ALPHABETS, OWN, README, REPEATED, STANDARD, WIDTH
+from values import functions_of, message, of_ascii, rows, text
 
 SHELL = [os.environ.get("DUCKDB", "duckdb"), "-init", os.devnull, "-unsigned", "-json"]
 LOAD = f"LOAD '{os.environ['BASE62_DUCKDB']}';\n"
-ALPHABET = "base62: an alphabet has 62 ASCII characters"
-NEGATIVE = "base62: a negative number has no base62 string"
-WIDTH = "base62: a width is an integer from 1 to 1000"
-NARROW = "base62: the number needs more characters than the width"
 WIDEST = 1000
 
 
@@ -41,7 +35,7 @@ def literal(value: Any) -> str:
     if isinstance(value, UUID):
         return f"'{value}'::UUID"
     if isinstance(value, str):
-        return "'" + value.replace("'", "''") + "'"
+        return "'" + value.replace("'", "''").replace("\0", "' || chr(0) || '") + "'"
     return "NULL" if value is None else str(value)
 
 
@@ -72,18 +66,15 @@ def errors(expressions: list[str]) -> list[str]:
     return re.findall(r"^Invalid Input Error: (.*)$", ran.stderr, re.MULTILINE) + re.findall("^.*Error: .*", ran.stdout)
 
 
-def of_ascii(kind: str) -> list[list[str]]:
-    return [[ALPHABETS[it[0]], *it[1:]] for it in rows(kind) if it[0] in ALPHABETS]
-
-
 class Case(unittest.TestCase):
     maxDiff = 2000
 
     def check_rows(self, columns: str, table: list[tuple[Any, ...]], expressions: list[str]) -> None:
-        """Each expression is true in each row of the table."""
-        self.assertGreater(len(table), 50)
+        """Each expression is true in each row of the table, and over the standard alphabet also without its letters."""
         values = ", ".join(f"({', '.join(map(literal, line))})" for line in table)
-        wrong = ", ".join(f"count(*) FILTER (WHERE ({it}) IS NOT TRUE) AS \"{it}\"" for it in expressions)
+        holds = {it: f"({it}) AND CASE letters WHEN '{STANDARD}' THEN {it.replace(', letters', '')} ELSE true END"
+                 for it in expressions}
+        wrong = ", ".join(f"count(*) FILTER (WHERE ({holds[it]}) IS NOT TRUE) AS \"{it}\"" for it in expressions)
         counts = row(f"SELECT {wrong} FROM given;", f"CREATE TABLE given AS SELECT * FROM (VALUES {values}) t({columns});\n")
         self.assertEqual(counts, dict.fromkeys(expressions, 0))
 
@@ -103,8 +94,6 @@ class Values(Case):
                 calls.append(f"base62_{name}({given}, letters) = n::UHUGEINT")
                 calls.append(f"base62_{name.replace('decode', 'decode_uuid')}({given}, letters) = u")
         self.check_rows("letters, n, u, s", table, calls)
-        standard = [it for it in table if it[0] == STANDARD]
-        self.check_rows("letters, n, u, s", standard, [it.replace(", letters", "") for it in calls])
 
     def test_zeros(self) -> None:
         calls = ["base62_decode(s, letters) = n::UHUGEINT", "base62_is_text(s, letters)"]
@@ -146,13 +135,11 @@ class Values(Case):
                 table.append((letters, int(width), prefix, *(found or (None, None))))
         ends = (("first", "least"), ("last", "greatest"))
         ranges = [f"base62_range_{it}(prefix, width, letters) IS NOT DISTINCT FROM {end}::UHUGEINT" for it, end in ends]
-        self.check_rows("letters, width, prefix, least, greatest", table, ranges)
         keys = [f"base62_key_{it}(prefix, width) IS NOT DISTINCT FROM base62_encode_fixed({end}::UHUGEINT, width)"
                 for it, end in ends]
-        standard = [it for it in table if it[0] == STANDARD]
-        self.check_rows("letters, width, prefix, least, greatest", standard, keys)
-        of_22 = [it for it in standard if it[1] == 22]
-        self.check_rows("letters, width, prefix, least, greatest", of_22, [it.replace("(prefix, width)", "(prefix)") for it in keys])
+        keys += [f"width <> 22 OR {it.replace('(prefix, width)', '(prefix)')}" for it in keys]
+        self.check_rows("letters, width, prefix, least, greatest", table, ranges)
+        self.check_rows("letters, width, prefix, least, greatest", [it for it in table if it[0] == STANDARD], keys)
         self.check_errors(bad)
 
     def test_repeats(self) -> None:
@@ -167,22 +154,18 @@ class Arguments(Case):
         listed = json.loads(shell("SELECT DISTINCT function_name, stability FROM duckdb_functions() "
                                   "WHERE function_name LIKE 'base62%';").stdout)
         self.assertEqual({it["stability"] for it in listed}, {"CONSISTENT"})
-        table = [line.split("|") for line in (HERE.parent / "README.md").read_text().splitlines() if line[:1] == "|"]
-        (place,) = {line.index(" DuckDB ") for line in table if " DuckDB " in line}
-        named = re.findall(r"base62_\w+", "".join(line[place] for line in table if len(line) > place))
-        self.assertEqual({it["function_name"] for it in listed}, set(named))
+        self.assertEqual({it["function_name"] for it in listed}, functions_of("DuckDB"))
 
     def test_version(self) -> None:
         """The one that the header has."""
-        header = next(file for file in (HERE.parent / "base62.h", HERE.parents[1] / "c/base62.h") if file.exists())
         version = row("SELECT base62_version() AS version;")["version"]
-        self.assertIn(f'#define BASE62_VERSION "{version}"\n', header.read_text())
+        self.assertIn(f'#define BASE62_VERSION "{version}"\n', HEADER)
         loaded = row("SELECT extension_version AS version FROM duckdb_extensions() WHERE extension_name = 'base62';")
         self.assertEqual(loaded["version"], "v" + version)
 
     def test_oldest(self) -> None:
         """The extension requires no later version of DuckDB than README says."""
-        (oldest,) = re.findall(r" DuckDB (\S+) and later", (HERE.parent / "README.md").read_text())
+        (oldest,) = re.findall(r" DuckDB (\S+) and later", README)
         self.assertIn(f"v{oldest}.0\0".encode(), Path(os.environ["BASE62_DUCKDB"]).read_bytes()[-512:])
 
     def test_nulls(self) -> None:
@@ -216,9 +199,7 @@ class Arguments(Case):
             self.assertIn("Binder Error: ", shell(f"SELECT base62_encode({given});").stderr, given)
 
     def test_alphabets(self) -> None:
-        no_alphabets = ["", "01", STANDARD[:61], STANDARD + "-", "é" + STANDARD[2:], "é" * 31]
-        calls = {f"base62_encode(1, {literal(it)})": ALPHABET for it in no_alphabets}
-        calls["base62_encode(1, chr(0) || substr('" + STANDARD + "', 2))"] = ALPHABET
+        calls = {f"base62_encode(1, {literal(it)})": ALPHABET for it in NO_ALPHABETS}
         calls[f"base62_decode('1', {literal(REPEATED)})"] = "base62: Alphabet repeats the byte b'0' at index 1"
         self.check_errors(calls)
 
@@ -245,7 +226,6 @@ class Queries(Case):
                  f"base62_decode(base62_encode_fixed(n, 30, '{OWN}'), '{OWN}') = n")
         counts = row("SELECT " + ", ".join(f"count(*) FILTER (WHERE {it}) AS \"{it}\"" for it in trips) + " FROM t;", made)
         self.assertEqual(counts, dict.fromkeys(trips, 500000))
-        self.assertTrue(row("SELECT max(base62_encode_key(n)) = base62_encode_key(max(n)) AS sorts FROM t;", made)["sorts"])
 
     def test_error_in_a_row(self) -> None:
         """A query ends with the error, and TRY makes it null in this row alone."""
@@ -255,28 +235,6 @@ class Queries(Case):
         ran = shell(made + "SELECT max(base62_decode(s)) FROM t;\nSELECT 1337 AS next;")
         self.assertIn(message(["byte", "45", "1"]), ran.stderr)
         self.assertIn("1337", ran.stdout)
-
-    def test_interrupt(self) -> None:
-        """Ctrl+C ends a query of very many rows, and the next one runs."""
-        script = LOAD + "SELECT 'begun';\nSELECT max(base62_encode_fixed(i, 1000)) FROM range(1000000000000) r(i);\n" \
-            "SELECT base62_encode(1337);"
-        # The shell sets the mode of its history to 0600, so that as root it would lock /dev/null for others.
-        folder = tempfile.TemporaryDirectory()
-        self.addCleanup(folder.cleanup)
-        environment = os.environ | {"DUCKDB_HISTORY": folder.name + "/history"}
-        with subprocess.Popen([*SHELL, "-interactive"], stdin=subprocess.PIPE, stdout=subprocess.PIPE,
-                              stderr=subprocess.STDOUT, text=True, env=environment) as running:
-            assert running.stdin and running.stdout
-            running.stdin.write(script)
-            running.stdin.close()
-            while "begun" not in running.stdout.readline():
-                self.assertIsNone(running.poll())
-            for _ in range(100):
-                if running.poll() is None:
-                    running.send_signal(signal.SIGINT)
-                    time.sleep(0.3)
-            running.kill()
-            self.assertIn('"LZ"', running.stdout.read())
 
     def test_memory(self) -> None:
         """What does not fit is an error of DuckDB, after which the connection goes on."""

@@ -19,6 +19,13 @@ def rows(kind: str) -> list[list[str]]:
     return [row[1:] for row in ROWS if row[0] == kind]
 
 
+def of_ascii(kind: str) -> list[list[str]]:
+    """The rows whose alphabet has ASCII characters, which stand in place of its name."""
+    found = [[ALPHABETS[row[0]], *row[1:]] for row in rows(kind) if row[0] in ALPHABETS]
+    assert len(found) > 50, kind
+    return found
+
+
 # Alphabets of ASCII characters other than a null byte.
 ALPHABETS = {
     name: unquote_to_bytes(letters).decode()
@@ -40,3 +47,20 @@ def text(number: int, letters: str = STANDARD) -> str:
 
 def message(error: list[str]) -> str:
     return "base62: " + MESSAGES[tuple(error[:2])] + "".join(error[2:])
+
+
+# The errors that the file has no rows for.
+ALPHABET = "base62: an alphabet has 62 ASCII characters"
+NEGATIVE = "base62: a negative number has no base62 string"
+WIDTH = "base62: a width is an integer from 1 to 1000"
+NARROW = "base62: the number needs more characters than the width"
+NO_ALPHABETS = ["", "01", STANDARD[:61], STANDARD + "-", "é" + STANDARD[2:], "é" * 31, "\0" + STANDARD[1:]]
+README = (HERE.parent / "README.md").read_text()
+HEADER = next(it for it in (HERE.parent / "base62.h", HERE.parents[1] / "c/base62.h") if it.exists()).read_text()
+
+
+def functions_of(database: str) -> set[str]:
+    """Those that the table in README has for a database."""
+    table = [line.split("|") for line in README.splitlines() if line.startswith("|")]
+    column = next(line.index(f" {database} ") for line in table if f" {database} " in line)
+    return set(re.findall(r"base62_\w+", "".join(line[column] for line in table if len(line) > column)))

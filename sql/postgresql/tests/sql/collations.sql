@@ -26,10 +26,6 @@ ANALYZE item, code, plain;
 
 \echo The collations of results
 \set own '\'zyxwvutsrqponmlkjihgfedcbaZYXWVUTSRQPONMLKJIHGFEDCBA9876543210\''
-SELECT DISTINCT pg_collation_for(result) FROM (VALUES (base62_encode_key(1)),
-    (base62_encode_key_uuid(gen_random_uuid())), (base62_encode_fixed(1, 5)), (base62_encode_fixed(1, 5, :own::text)),
-    (base62_encode_fixed_uuid(gen_random_uuid(), 22, :own)), (base62_key_first('1')), (base62_key_first('1', 4)),
-    (base62_key_last('1')), (base62_key_last('1', 4))) results (result);
 SELECT pg_collation_for(base62_encode_key(1)) key, pg_collation_for(base62_encode_fixed(1, 5, :own::text)) fixed,
     pg_collation_for(base62_key_first('1'::text)) first, pg_collation_for(base62_key_last('1'::text, 4)) last,
     pg_collation_for(base62_encode(1)) encoded;

@@ -26,19 +26,15 @@ CREATE FUNCTION accented() RETURNS text IMMUTABLE LANGUAGE sql
 SELECT call, error_of(call) FROM (VALUES
     ($$base62_encode(-1)$$),
     ($$base62_encode(-9223372036854775808, own())$$),
-    ($$base62_encode_key(-1)$$),
     ($$base62_encode(-1, '01')$$),
     ($$base62_encode_fixed(-1, 22)$$),
     ($$base62_encode_fixed(-1, 0, '01')$$),
     ($$base62_encode_fixed(62, 0, '01')$$),
-    ($$base62_encode_fixed(62, 1, own())$$),
-    ($$base62_encode_fixed(62, 0)$$),
     ($$base62_encode_fixed(62, -1)$$),
     ($$base62_encode_fixed(62, 1001)$$),
     ($$base62_encode_fixed(62, 2147483647)$$),
     ($$base62_encode_fixed_uuid('00000000-0000-0000-0000-000000000539', 1001, own())$$),
     ($$base62_key_first('', 0)$$),
-    ($$base62_key_last('', -1)$$),
     ($$base62_key_last('', 1001)$$),
     ($$base62_range_first('-', 0, '01')$$),
     ($$base62_range_last('-', 1001)$$),
@@ -49,33 +45,27 @@ SELECT call, error_of(call) FROM (VALUES
     ($$base62_encode_numeric(1337.5, own())$$),
     ($$base62_encode_numeric(340282366920938463463374607431768211455.01)$$),
     ($$base62_encode_numeric(340282366920938463463374607431768211456)$$),
-    ($$base62_encode_numeric(340282366920938463463374607431768211455.00)$$),
     ($$base62_encode_numeric(3402823669209384634633746074317682114550)$$),
     ($$base62_decode_numeric(base62_encode_numeric(18446744073709551616000000000))$$),
     ($$base62_encode_numeric(1e131071)$$),
     ($$base62_encode_numeric(1e-16383)$$),
     ($$base62_encode_numeric('NaN')$$),
     ($$base62_encode_numeric('Infinity')$$),
-    ($$base62_encode_fixed_numeric('-Infinity', 0)$$),
-    ($$base62_encode_fixed_numeric(62, 0)$$),
-    ($$base62_encode_fixed_numeric(62, 1)$$)
+    ($$base62_encode_fixed_numeric('-Infinity', 0)$$)
 ) calls (call);
 \echo Strings and prefixes
 SELECT call, error_of(call) FROM (VALUES
     ($$base62_decode('AzL8n0Y58m8')$$),
     ($$base62_decode_canonical('AzL8n0Y58m8')$$),
     ($$base62_key_last('0é', 1)$$),
-    ($$base62_range_last('0é', 1)$$),
     ($$base62_range_first_numeric('0é', 1, own())$$)
 ) calls (call);
 \echo Alphabets, and arguments of other types
 SELECT call, error_of(call) FROM (VALUES
     ($$base62_encode(1, '01')$$),
-    ($$base62_encode(1, '')$$),
     ($$base62_encode(1, accented())$$),
     ($$base62_encode_uuid('00000000-0000-0000-0000-000000000539', repeated())$$),
     ($$base62_encode_fixed(1, 1, repeated())$$),
-    ($$base62_is_text('-', repeated())$$),
     ($$base62_range_first('-', 1, repeated())$$),
     ($$base62_range_last_numeric('-', 1, accented())$$),
     ($$base62_is_bigint('LZ', '01')$$),

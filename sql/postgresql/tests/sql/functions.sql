@@ -7,9 +7,7 @@
 CREATE VIEW functions AS SELECT p.*
     FROM pg_proc p JOIN pg_depend d ON (d.classid, d.objid, d.deptype) = ('pg_proc'::regclass, p.oid, 'e')
     JOIN pg_extension e ON (d.refclassid, d.refobjid, e.extname) = ('pg_extension'::regclass, e.oid, 'base62');
-\echo The functions, by their arguments
-SELECT proargnames, prorettype::regtype, string_agg(proname, ', ' ORDER BY proname COLLATE "C") FROM functions
-    GROUP BY 1, 2 ORDER BY 1, prorettype::regtype::text COLLATE "C";
+\echo Their attributes
 SELECT provolatile, proisstrict, proparallel, proleakproof, prosecdef, count(*) FROM functions GROUP BY 1, 2, 3, 4, 5;
 \echo No two share a name, unless an argument is optional; each has its own description
 SELECT proname FROM functions GROUP BY proname, pronargs HAVING count(*) > 1;
@@ -18,19 +16,9 @@ SELECT count(DISTINCT obj_description(oid, 'pg_proc')), obj_description('base62_
     FROM functions;
 SELECT extversion, extrelocatable FROM pg_extension WHERE extname = 'base62';
 
-\echo Nulls, and arguments of no type
+\echo Arguments of no type
 \set own '\'zyxwvutsrqponmlkjihgfedcbaZYXWVUTSRQPONMLKJIHGFEDCBA9876543210\''
 \set alternative '\'0123456789abcdefghijklmnopqrstuvwxyzABCDEFGHIJKLMNOPQRSTUVWXYZ\''
-SELECT num_nonnulls(base62_encode(NULL), base62_encode(1, NULL), base62_encode_uuid(NULL), base62_decode(NULL),
-    base62_decode('1', NULL), base62_decode_uuid(NULL), base62_encode_key(NULL), base62_encode_key_uuid(NULL),
-    base62_encode_fixed(1, NULL), base62_encode_fixed(NULL, 0), base62_key_first(NULL), base62_key_last('-', NULL),
-    base62_key_first('8'), base62_key_last('8'), base62_is_text(NULL), base62_is_bigint('1', NULL),
-    base62_is_canonical(NULL), base62_is_canonical('1', NULL),
-    base62_decode_canonical(NULL), base62_decode_uuid_canonical('-', NULL),
-    base62_encode_fixed_uuid('00000000-0000-0000-0000-000000000539', NULL), base62_range_first(NULL, 11),
-    base62_range_last('A', NULL), base62_range_first_numeric('A', 11, NULL), base62_range_last('8', 22),
-    base62_range_last_numeric('8', 22), base62_encode_numeric(NULL), base62_encode_numeric(1, NULL),
-    base62_encode_fixed_numeric(1, NULL), base62_decode_numeric(NULL), base62_decode_numeric_canonical('-', NULL));
 SELECT base62_encode('1337'), base62_encode(1337::smallint), base62_encode(number => 1337),
     base62_decode(encoded => 'LZ'), base62_encode_uuid('00000000-0000-0000-0000-000000000539') uuid;
 SELECT base62_encode_fixed('1337', '3') fixed,
@@ -51,21 +39,7 @@ INSERT INTO long VALUES (repeat('0', 1000000) || 'LZ');
 SELECT pg_column_size(t) < 100000 compressed, base62_decode(t), base62_decode_uuid(t), base62_key_first(t),
     base62_is_text(t) FROM long;
 
-\echo Which strings are accepted
-SELECT base62_is_bigint(a), base62_is_bigint(b), base62_is_text(a), base62_is_text(b), base62_is_canonical(a)
-    FROM (VALUES ('LZ', '-'), ('-', 'LZ'), ('LZ', ''), ('AzL8n0Y58m8', 'LZ'), ('0LZ', '0')) v (a, b);
-
-\echo Alphabets that change from row to row, from call to call, and after an error
--- Any two of these as rows of one query: four pairs are of alphabets.
-CREATE FUNCTION of_rows(VARIADIC given text[]) RETURNS text LANGUAGE plpgsql AS $$
-BEGIN
-    RETURN (SELECT string_agg(base62_encode(1337, letters), ' ') FROM unnest(given) letters);
-EXCEPTION WHEN invalid_parameter_value THEN
-    RETURN sqlerrm;
-END $$;
-WITH given (letters) AS
-    (VALUES (:own), (:alternative), (left(:alternative, 61)), (left(:alternative, 10)), (''), (:alternative || '!'))
-    SELECT of_rows(a.letters, b.letters) COLLATE "C", count(*) FROM given a, given b GROUP BY 1 ORDER BY 1;
+\echo Alphabets that change from call to call, and after an error
 CREATE FUNCTION with_each(VARIADIC given text[]) RETURNS SETOF text LANGUAGE plpgsql AS $$
 DECLARE
     one text;

@@ -36,15 +36,6 @@ EXPLAIN (COSTS off) SELECT * FROM link WHERE id BETWEEN base62_range_first('Az',
 EXPLAIN (COSTS off) SELECT * FROM wide
     WHERE id BETWEEN base62_range_first_numeric('7n4', 22) AND base62_range_last_numeric('7n4', 22);
 
-\echo How many ids have a prefix, and how many more or fewer a range finds: also with an alphabet that does not ascend
-SELECT p prefix, count(*) FILTER (WHERE starts_with(code, p)) standard, count(*) FILTER (WHERE starts_with(code, p))
-    - count(*) FILTER (WHERE id BETWEEN base62_range_first(p, 11) AND base62_range_last(p, 11)) "by range",
-    count(*) FILTER (WHERE starts_with(o, p)) own, count(*) FILTER (WHERE starts_with(o, p))
-    - count(*) FILTER (WHERE id BETWEEN base62_range_first(p, 11, own) AND base62_range_last(p, 11, own)) "by range"
-    FROM (SELECT *, base62_encode_fixed(id, 11, own) o FROM code,
-        (VALUES ('zyxwvutsrqponmlkjihgfedcbaZYXWVUTSRQPONMLKJIHGFEDCBA9876543210')) letters (own)) codes,
-    (VALUES (''), ('0'), ('A'), ('Az'), ('B'), ('p'), ('z')) prefixes (p) GROUP BY p ORDER BY p COLLATE "C";
-
 \echo Partitions without such keys are pruned
 CREATE TABLE part (key base62_key PRIMARY KEY) PARTITION BY RANGE (key);
 CREATE TABLE part_0 PARTITION OF part FOR VALUES FROM (MINVALUE) TO ('2');

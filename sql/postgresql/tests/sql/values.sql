@@ -28,15 +28,28 @@ CREATE FUNCTION bigint_of(number numeric) RETURNS bigint LANGUAGE sql AS $$
     SELECT CASE WHEN number < 9223372036854775808 THEN number::bigint END
 $$;
 
--- The result of an expression, or the code and the message of its error.
-CREATE FUNCTION result(expression text, VARIADIC given text[]) RETURNS text LANGUAGE plpgsql AS $$
+-- The result of a call, or the code and the message of its error.
+CREATE FUNCTION result(name text, VARIADIC given text[]) RETURNS text LANGUAGE plpgsql AS $$
 DECLARE
     found text;
 BEGIN
-    EXECUTE 'SELECT ' || format(expression, VARIADIC given) INTO found;
+    EXECUTE format('SELECT %s(%s)', name, (SELECT string_agg(quote_nullable(a), ', ') FROM unnest(given) a)) INTO found;
     RETURN found;
 EXCEPTION WHEN OTHERS THEN
     RETURN sqlstate || ' ' || sqlerrm;
+END $$;
+
+-- In how many rows an expression is not true, or not true over the standard alphabet without the argument letters.
+CREATE FUNCTION wrong(relation text, VARIADIC expressions text[]) RETURNS TABLE (expression text, count bigint)
+    LANGUAGE plpgsql AS $$
+BEGIN
+    FOREACH expression IN ARRAY expressions LOOP
+        EXECUTE format('SELECT count(*) FROM %s WHERE (%s) IS NOT TRUE OR name = ''standard'' AND (%s) IS NOT TRUE',
+            relation, expression, replace(expression, ', letters', '')) INTO count;
+        IF count > 0 THEN
+            RETURN NEXT;
+        END IF;
+    END LOOP;
 END $$;
 
 -- The code and the message of an error. The file has the message for each byte, at some index.
@@ -58,112 +71,80 @@ SELECT f FROM line WHERE f[1] = 'uuid'
     AND (uuid_of(f[2]::numeric), base62_encode_uuid(f[3]::uuid), base62_decode_uuid(f[4]))
         IS DISTINCT FROM (f[3]::uuid, f[4], f[3]::uuid);
 SELECT f FROM line WHERE f[1] = 'repeated' AND octet_length(text_of(f[2])) = 62
-    AND result('base62_encode(1, %L)', text_of(f[2])) IS DISTINCT FROM error('repeated', f[3], f[4]);
+    AND result('base62_encode', '1', text_of(f[2])) IS DISTINCT FROM error('repeated', f[3], f[4]);
 
-\echo Canonical texts
+\echo Canonical texts, and texts with leading zeros
 CREATE TABLE encoded AS
-    SELECT name, letters, f[3]::numeric v, bigint_of(f[3]::numeric) n, uuid_of(f[3]::numeric) u, text_of(f[4]) t
-    FROM line JOIN alphabet ON name = f[2] WHERE f[1] = 'encode';
-SELECT * FROM encoded WHERE (base62_encode_uuid(u, letters), base62_decode_uuid(t, letters),
-        base62_decode_uuid_canonical(t, letters), base62_is_text(t, letters), base62_is_canonical(t, letters),
-        base62_is_bigint(t, letters)) IS DISTINCT FROM (t, u, u, true, true, n IS NOT NULL);
-SELECT * FROM encoded WHERE name = 'standard' AND (base62_encode_uuid(u), base62_decode_uuid(t),
-        base62_decode_uuid_canonical(t), base62_is_text(t), base62_is_canonical(t), base62_is_bigint(t))
-    IS DISTINCT FROM (t, u, u, true, true, n IS NOT NULL);
-SELECT * FROM encoded WHERE (base62_encode_numeric(v, letters), base62_encode_numeric(v + 0.00, letters),
-        base62_decode_numeric(t, letters), base62_decode_numeric_canonical(t, letters)) IS DISTINCT FROM (t, t, v, v);
-SELECT * FROM encoded WHERE name = 'standard' AND (base62_encode_numeric(v), base62_decode_numeric(t),
-        base62_decode_numeric_canonical(t)) IS DISTINCT FROM (t, v, v);
-SELECT * FROM encoded WHERE n IS NOT NULL
-    AND (base62_encode(n, letters), base62_decode(t, letters), base62_decode_canonical(t, letters))
-    IS DISTINCT FROM (t, n, n);
-SELECT * FROM encoded WHERE n IS NOT NULL AND name = 'standard'
-    AND (base62_encode(n), base62_decode(t), base62_decode_canonical(t)) IS DISTINCT FROM (t, n, n);
-SELECT * FROM encoded WHERE n IS NULL AND name = 'standard'
-    AND (result('base62_decode(%L)', t), result('base62_decode_canonical(%L)', t))
-    IS DISTINCT FROM ('22003 bigint out of range', '22003 bigint out of range');
-
-\echo Texts with leading zeros
-CREATE TABLE zeros AS
-    SELECT name, letters, f[4]::numeric v, bigint_of(f[4]::numeric) n, uuid_of(f[4]::numeric) u, text_of(f[3]) t
-    FROM line JOIN alphabet ON name = f[2] WHERE f[1] = 'zeros';
-SELECT * FROM zeros WHERE (base62_decode_uuid(t, letters), base62_is_text(t, letters), base62_is_canonical(t, letters),
-        base62_is_bigint(t, letters)) IS DISTINCT FROM (u, true, false, n IS NOT NULL)
-    OR n IS NOT NULL AND base62_decode(t, letters) IS DISTINCT FROM n
-    OR base62_decode_numeric(t, letters) IS DISTINCT FROM v
-    OR result('base62_decode_numeric_canonical(%L, %L)', t, letters) IS DISTINCT FROM error('zero')
-    OR result('base62_decode_canonical(%L, %L)', t, letters) IS DISTINCT FROM error('zero')
-    OR result('base62_decode_uuid_canonical(%L, %L)', t, letters) IS DISTINCT FROM error('zero');
+    SELECT name, letters, v, bigint_of(v) n, uuid_of(v) u, t,
+        coalesce(bigint_of(v)::text, '22003 bigint out of range') d, CASE kind WHEN 'zeros' THEN error('zero') END zero
+    FROM (SELECT f[1] kind, f[2] name, f[3]::numeric v, text_of(f[4]) t FROM line WHERE f[1] = 'encode'
+        UNION ALL SELECT f[1], f[2], f[4]::numeric, text_of(f[3]) FROM line WHERE f[1] = 'zeros') of
+    JOIN alphabet USING (name);
+SELECT * FROM wrong('encoded',
+    'base62_decode_uuid(t, letters) = u',
+    'base62_decode_numeric(t, letters) = v',
+    $$result('base62_decode', t, letters) = d$$,
+    $$result('base62_decode_uuid_canonical', t, letters) = coalesce(zero, u::text)$$,
+    $$result('base62_decode_numeric_canonical', t, letters) = coalesce(zero, v::text)$$,
+    $$result('base62_decode_canonical', t, letters) = coalesce(zero, d)$$,
+    'base62_is_text(t, letters)',
+    'base62_is_canonical(t, letters) = (zero IS NULL)',
+    'base62_is_bigint(t, letters) = (n IS NOT NULL)');
+SELECT * FROM wrong('(SELECT * FROM encoded WHERE zero IS NULL) canonical',
+    'base62_encode_uuid(u, letters) = t',
+    'base62_encode_numeric(v, letters) = t',
+    'base62_encode_numeric(v + 0.00, letters) = t',
+    'n IS NULL OR base62_encode(n, letters) = t');
 
 \echo Invalid texts, and whether there are enough
 CREATE TABLE invalid AS
-    SELECT letters, text_of(f[3]) t, error(VARIADIC f[4:]) error FROM line JOIN alphabet ON name = f[2]
+    SELECT name, letters, text_of(f[3]) t, error(VARIADIC f[4:]) error FROM line JOIN alphabet ON name = f[2]
     WHERE f[1] = 'refused' AND text_of(f[3]) IS NOT NULL;
 SELECT count(*) > 300 FROM invalid;
-SELECT * FROM invalid WHERE result('base62_decode(%L, %L)', t, letters) IS DISTINCT FROM error
-    OR result('base62_decode_uuid(%L, %L)', t, letters) IS DISTINCT FROM error
-    OR result('base62_decode_numeric(%L, %L)', t, letters) IS DISTINCT FROM error
-    OR result('base62_decode_numeric_canonical(%L, %L)', t, letters) IS DISTINCT FROM error
-    OR result('base62_decode_canonical(%L, %L)', t, letters) IS DISTINCT FROM error
-    OR result('base62_decode_uuid_canonical(%L, %L)', t, letters) IS DISTINCT FROM error
-    OR base62_is_text(t, letters) OR base62_is_canonical(t, letters) OR base62_is_bigint(t, letters);
+SELECT * FROM wrong('invalid',
+    $$result('base62_decode', t, letters) = error$$,
+    $$result('base62_decode_uuid', t, letters) = error$$,
+    $$result('base62_decode_numeric', t, letters) = error$$,
+    $$result('base62_decode_canonical', t, letters) = error$$,
+    $$result('base62_decode_uuid_canonical', t, letters) = error$$,
+    $$result('base62_decode_numeric_canonical', t, letters) = error$$,
+    'NOT base62_is_text(t, letters) AND NOT base62_is_canonical(t, letters) AND NOT base62_is_bigint(t, letters)');
 
 \echo Texts of a width, and numbers that have none
 CREATE TABLE fixed AS
-    SELECT name, letters, f[3]::numeric v, bigint_of(f[3]::numeric) n, uuid_of(f[3]::numeric) u, f[4]::integer w,
-        text_of(f[5]) t
-    FROM line JOIN alphabet ON name = f[2] WHERE f[1] = 'fixed';
-SELECT * FROM fixed WHERE base62_encode_fixed_uuid(u, w, letters) IS DISTINCT FROM t
-    OR base62_decode_uuid(t, letters) IS DISTINCT FROM u
-    OR n IS NOT NULL AND base62_encode_fixed(n, w, letters) IS DISTINCT FROM t
-    OR base62_encode_fixed_numeric(v, w, letters) IS DISTINCT FROM t
-    OR name = 'standard' AND base62_encode_fixed_numeric(v, w) IS DISTINCT FROM t
-    OR name = 'standard' AND base62_encode_fixed_uuid(u, w) IS DISTINCT FROM t
-    OR name = 'standard' AND n IS NOT NULL AND base62_encode_fixed(n, w) IS DISTINCT FROM t;
-SELECT * FROM fixed WHERE name = 'standard' AND w = 22
-    AND (base62_encode_key_uuid(u) IS DISTINCT FROM t OR n IS NOT NULL AND base62_encode_key(n) IS DISTINCT FROM t);
-SELECT f FROM line JOIN alphabet ON name = f[2] WHERE f[1] = 'narrow' AND f[4] <> '0'
-    AND result('base62_encode_fixed_uuid(%L, %s, %L)', uuid_of(f[3]::numeric)::text, f[4], letters)
-    IS DISTINCT FROM '22003 the number needs more characters than the width';
-SELECT f FROM line WHERE f[1] = 'narrow' AND f[4] <> '0' AND f[2] = 'standard' AND bigint_of(f[3]::numeric) IS NOT NULL
-    AND result('base62_encode_fixed(%s, %s)', f[3], f[4]) IS DISTINCT FROM '22003 the number needs more characters than the width';
-
-\echo The texts of the least and the greatest number of a prefix, and whether there are enough
-CREATE TABLE prefix AS
-    SELECT f[3]::integer w, text_of(f[4]) p, error(VARIADIC f[5:]) error, f[5] = 'numbers' has_range,
-        uuid_of(CASE WHEN f[5] = 'numbers' THEN f[6]::numeric END) least,
-        uuid_of(CASE WHEN f[5] = 'numbers' THEN f[7]::numeric END) greatest
-    FROM line WHERE f[1] = 'range' AND f[2] = 'standard' AND f[3]::bigint BETWEEN 1 AND 1000;
-UPDATE prefix SET error = NULL WHERE error = error('none');
-SELECT has_range, count(*) > 50, count(*) FILTER (WHERE error IS NOT NULL) > 10 FROM prefix
-    GROUP BY has_range ORDER BY has_range;
-SELECT * FROM prefix WHERE has_range
-    AND (base62_key_first(p, w) IS DISTINCT FROM base62_encode_fixed_uuid(least, w)
-        OR base62_key_last(p, w) IS DISTINCT FROM base62_encode_fixed_uuid(greatest, w));
-SELECT * FROM prefix WHERE has_range AND w = 22
-    AND (base62_key_first(p) IS DISTINCT FROM base62_encode_key_uuid(least)
-        OR base62_key_last(p) IS DISTINCT FROM base62_encode_key_uuid(greatest));
-SELECT * FROM prefix WHERE NOT has_range
-    AND (result('base62_key_first(%L, %s)', p, w::text) IS DISTINCT FROM error
-        OR result('base62_key_last(%L, %s)', p, w::text) IS DISTINCT FROM error);
-SELECT * FROM prefix WHERE NOT has_range AND w = 22
-    AND (result('base62_key_first(%L)', p) IS DISTINCT FROM error
-        OR result('base62_key_last(%L)', p) IS DISTINCT FROM error);
+    SELECT name, letters, f[3]::numeric v, bigint_of(f[3]::numeric) n, uuid_of(f[3]::numeric) u, f[4] w,
+        CASE WHEN f[1] = 'fixed' THEN text_of(f[5]) WHEN f[4] = '0' THEN '22023 a width is an integer from 1 to 1000'
+            ELSE '22003 the number needs more characters than the width' END t
+    FROM line JOIN alphabet ON name = f[2] WHERE f[1] IN ('fixed', 'narrow');
+SELECT * FROM wrong('fixed',
+    $$result('base62_encode_fixed_uuid', u::text, w, letters) = t$$,
+    $$result('base62_encode_fixed_numeric', v::text, w, letters) = t$$,
+    $$n IS NULL OR result('base62_encode_fixed', n::text, w, letters) = t$$,
+    $$w <> '22' OR name <> 'standard' OR base62_encode_key_uuid(u) = t$$,
+    $$w <> '22' OR name <> 'standard' OR n IS NULL OR base62_encode_key(n) = t$$);
 
 \echo The first and the last number of a prefix, and whether enough ranges are below 2^63, across it and above it
 CREATE TABLE span AS
-    SELECT name, letters, f[3]::integer w, text_of(f[4]) p, error(VARIADIC f[5:]) error,
+    SELECT name, letters, f[3] w, text_of(f[4]) p, nullif(error(VARIADIC f[5:]), error('none')) error,
         CASE WHEN f[5] = 'numbers' THEN f[6]::numeric END low, CASE WHEN f[5] = 'numbers' THEN f[7]::numeric END high
     FROM line JOIN alphabet ON name = f[2]
     WHERE f[1] = 'range' AND f[3]::bigint BETWEEN 1 AND 1000 AND text_of(f[4]) IS NOT NULL;
-UPDATE span SET error = NULL WHERE error = error('none');
 SELECT count(*) FILTER (WHERE bigint_of(high) IS NOT NULL) > 50 below,
     count(*) FILTER (WHERE bigint_of(low) IS NOT NULL AND bigint_of(high) IS NULL) > 50 across,
     count(*) FILTER (WHERE bigint_of(low) IS NULL AND low IS NOT NULL) > 50 above,
     count(*) FILTER (WHERE error IS NOT NULL) > 50 invalid FROM span;
-SELECT * FROM span, LATERAL (VALUES ('first', bigint_of(low)::text), ('first_numeric', low::text),
-    ('last', CASE WHEN bigint_of(low) IS NOT NULL THEN least(high, 9223372036854775807)::text END),
-    ('last_numeric', high::text)) ends (which, number)
-    WHERE result('base62_range_' || which || '(%L, %s, %L)', p, w::text, letters) IS DISTINCT FROM coalesce(error, number)
-    OR name = 'standard'
-    AND result('base62_range_' || which || '(%L, %s)', p, w::text) IS DISTINCT FROM coalesce(error, number);
+SELECT * FROM wrong('span',
+    $$result('base62_range_first', p, w, letters) IS NOT DISTINCT FROM coalesce(error, bigint_of(low)::text)$$,
+    $$result('base62_range_last', p, w, letters) IS NOT DISTINCT FROM coalesce(error,
+        CASE WHEN bigint_of(low) IS NOT NULL THEN least(high, 9223372036854775807)::text END)$$,
+    $$result('base62_range_first_numeric', p, w, letters) IS NOT DISTINCT FROM coalesce(error, low::text)$$,
+    $$result('base62_range_last_numeric', p, w, letters) IS NOT DISTINCT FROM coalesce(error, high::text)$$);
+
+\echo Their texts
+CREATE TABLE bounds AS SELECT name, p, w, coalesce(error, result('base62_encode_fixed_numeric', low::text, w)) first,
+    coalesce(error, result('base62_encode_fixed_numeric', high::text, w)) last FROM span WHERE name = 'standard';
+SELECT * FROM wrong('bounds',
+    $$result('base62_key_first', p, w) IS NOT DISTINCT FROM first$$,
+    $$result('base62_key_last', p, w) IS NOT DISTINCT FROM last$$,
+    $$w <> '22' OR result('base62_key_first', p) IS NOT DISTINCT FROM first$$,
+    $$w <> '22' OR result('base62_key_last', p) IS NOT DISTINCT FROM last$$);

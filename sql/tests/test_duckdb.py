@@ -109,11 +109,9 @@ class Values(Case):
         self.check_rows("letters, s", [it[:2] for it in table], calls)
         # The functions take turns, since each error takes DuckDB a millisecond.
         names = itertools.cycle(("decode", "decode_uuid", "decode_canonical", "decode_uuid_canonical"))
-        self.check_errors({f"base62_{name}({literal(s)}, {literal(letters)})": message(error)
+        last = {letters: "" if letters == STANDARD else ", " + literal(letters) for letters, _, _ in table}
+        self.check_errors({f"base62_{name}({literal(s)}{last[letters]})": message(error)
                            for name, (letters, s, error) in zip(names, table)})
-        ascii = {f"base62_decode({literal(s.decode())})": message(error) for letters, s, error in table
-                 if letters == STANDARD and s.isascii() and b"\0" not in s}
-        self.check_errors(ascii)
 
     def test_widths(self) -> None:
         fixed = [(letters, n, UUID(int=int(n)), int(width), s) for letters, n, width, s in of_ascii("fixed")]

@@ -1,7 +1,6 @@
 # SPDX-License-Identifier: MIT
 # Copyright (c) 2026 the maintainers of base62 for Rattle
-"""Tests of SQLite's functions, in the module that BASE62_SQLITE names, by the values that all packages are tested with.
-"""
+"""Tests of SQLite's functions, in the module that BASE62_SQLITE names, by the values of all packages."""
 
 from __future__ import annotations
 
@@ -207,7 +206,7 @@ class Arguments(Case):
                 self.assertEqual(self.result(name, given[0], value, *given[2:]), WIDTH)
         self.assertEqual(self.result("encode_fixed", 1337, WIDEST), "LZ".rjust(WIDEST, "0"))
         self.db.setlimit(sqlite3.SQLITE_LIMIT_LENGTH, 100)
-        for name, *given in (("encode_fixed", 0, 101), ("encode_fixed", 0, 101, OWN), ("key_first", "0", 101)):
+        for name, given in (("encode_fixed", (0, 101)), ("encode_fixed", (0, 101, OWN)), ("key_first", ("0", 101))):
             self.assertEqual(self.result(name, *given), TOO_BIG)
 
     def test_changing_letters(self) -> None:

@@ -18,7 +18,7 @@ PLANTED = [
     ("js/base62.wasm", b"leading zero", b"leading Zero"),
     ("js/wasm.js", b"do not edit.\n", b"do not edit.\r"),
     ("js/constants.js", b"STANDARD_LETTERS = '01", b"STANDARD_LETTERS = '10"),
-    ("js/module.cjs", b"? library.base62_decode_canonical_with(", b"? library.base62_decode_with("),
+    ("js/module.cjs", b"? library.base62_decode_canonical_with :", b"? library.base62_decode_with :"),
     ("js/index.cjs", b"// A text", b"// A tex"),
     ("js/module.js", b"each. Of a\n", b"each. Of a\r"),
     ("js/index.js", b"  decode,\n", b""),

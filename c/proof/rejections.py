@@ -166,8 +166,8 @@ SOURCES = [
     ("typedef struct InlineText {", "typedef struct Inline {", "another name"), ("typedef struct InlineText {", "typedef struct none {} none;\n"
      "typedef struct InlineText {", LISTED), ("typedef struct pair_u8_u8 { uint8_t", "typedef struct pair_u8_u8 { const uint8_t", LISTED),
     ("#define B62_TEXT(", "#define B62_APART B62_RESTRICT\n#define B62_TEXT(", LISTED),
-    ("if (fault.tag == DecodeError_EmptyInput_tag)", "if (fault.tag - 2 < 0)", "operator of an enum"),
-    ("if (fault.tag == DecodeError_EmptyInput_tag)", "if (fault.tag == 0x80000000)", "operator of an enum"),
+    *(("if (fault.tag == DecodeError_EmptyInput_tag)", f"if ({new})", "operator of an enum") for new in (
+        "fault.tag - 2 < 0", "fault.tag == 0x80000000", "(fault.tag == 1 ? fault.tag : 3) - 5 < 0")),
     ("        DecodeError_EmptyInput_tag,\n", "        DecodeError_EmptyInput_tag = 0x80000000,\n", "an enumerator"),
     ("((uint32_t)3844)", "4294967296", LISTED),
     ("((uint32_t)3844)", "UINT32_C(3844)", LISTED), ("#define B62_TEXT(", "#define JOIN(a, b) a##b\n#define B62_TEXT(", LISTED),

@@ -425,8 +425,7 @@ let bad_statuses = [ Some (Integer.of_int 3); Some (Integer.of_int 6) ]
 let is_status e = match (Cil.stripCasts e).enode with Lval (Var { vname = "status"; vformal = true; _ }, NoOffset) -> true | _ -> false
 let is_variable = function Var _, _ -> true | _ -> false
 let is_temporary = function Var v, NoOffset -> v.vtemp || v.vname = "__retres" | _ -> false
-let of_bytes = "sizeof of what does not consist of bytes"
-let of_enum = "an operator of an enum"
+let of_bytes, of_enum = "sizeof of what does not consist of bytes", "an operator of an enum"
 (* Compilers call functions of the C library by themselves, such as memset, and would take a function or a table of this
    file that has the name. None of these names has an underscore, but memset_pattern4, 8 and 16 of macOS. *)
 let is_own name = String.contains name '_' && not (String.starts_with ~prefix:"mem" name)
@@ -543,6 +542,7 @@ class walk = object (self)
         Hashtbl.add calls self#name f.vname
       | Instr (Set (to_, { enode = Lval (Mem _, _); _ }, _)) when Cil.isStructOrUnionType (Cil.typeOfLval to_) && not (is_variable to_) ->
         self#open_if true place "a struct that is copied from place to place"
+      | Instr (Set (to_, e, _)) when is_enum e && not (is_enum_type (Cil.typeOfLval to_)) -> self#open_if true place of_enum
       | Instr (Set (to_, _, _)) -> self#open_if (Cil.isPointerType (Cil.typeOfLval to_) && not (is_temporary to_)) place "a pointer that is set anew"
       | Instr (Call (None, { enode = Lval (Var f, NoOffset); _ }, arguments, _)) ->
         if self#name = "base62_fault_text" && f.vname = "text_of" && is_status (List.hd arguments) then set <- arguments @ set;

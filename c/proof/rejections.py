@@ -142,7 +142,7 @@ SOURCES = [
         "# 1 \"other.c\"", "#include \"min.inc\"", "#include <stdint.h>", "#undef B62_OK", "#define uint8_t uint32_t",
         "    const bool own = text->length > 9 || own;", "    const struct { uint8_t own; } all = {0};",
         "    const size_t errno = 0;", "    const size_t bitand = 0;", "    const uint64_t wide = UINT32_C(0xffffffff) + 1;",
-        "_Pragma(\"GCC optimize\")", "    if (part_length > unix)",
+        "_Pragma(\"GCC optimize\")", "    if (part_length > unix)", "    const size_t u128 = 0;",
         # What depends on the system or the compiler.
         "    const uint_fast32_t fast = 1;", "    const unsigned long size = 1;", "    const uint8_t letter = '\\xff';",
         "    const uint64_t number = 3000000000;", "    const uint64_t number = 1ul;", "    union { uint8_t a; } u = {0};",

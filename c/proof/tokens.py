@@ -131,8 +131,7 @@ PATH = "/usr/bin:/bin"
 FILES = {"CMakeLists.txt", "LICENSE", "README.md", "base62.c", "base62.h", "cmake", "proof", "tests"}
 # The headers of C and its macros, besides those in CONDITIONS, and the only other form of a define. The macro UINT32_C of
 # Frama-C has 64 bits.
-HEADERS = {"limits.h", "stdbool.h", "stddef.h", "stdint.h"}
-MACROS = {"UINT64_C", "bool", "true", "false"}
+HEADERS, MACROS = {"limits.h", "stdbool.h", "stddef.h", "stdint.h"}, {"UINT64_C", "bool", "true", "false"}
 # Macros of the headers of other systems, and of other machines, and those that a user of base62.h may define.
 OTHERS = {"BASE62_BUILD", "BASE62_NO_INT128", "BASE62_SHARED", "errno", "i386", "powerpc", "sun", "sparc", "mips", "arm", "vax", "near", "far", *"and and_eq bitand bitor compl not not_eq or or_eq xor xor_eq".split()}
 DEFINE = re.compile(r'# define B(?:ASE)?62_\w+ (?:\d+|"[^"\\]*"|\( \( (?:uint32_t|size_t) \) \d+ \)|UINT64_C \( \d+ \)|B62_\w+)')

@@ -109,7 +109,8 @@ module Forms = struct
 
     method! vname kind spec (name, decl, attributes, place) =
       declared <- name;
-      reject_if (attributes <> [] || List.mem SpecInline spec && not (is_static spec)) place "an attribute or a function";
+      let has_type_name = kind <> Cabsvisit.NType && Hashtbl.mem types name in
+      reject_if (has_type_name || attributes <> [] || List.mem SpecInline spec && not (is_static spec)) place "an attribute or a name";
       (* uint8_t (max_align_t) is a parameter in C99, and a parameter of type function in C11. *)
       (match decl with
         | PROTO (_, all, _, _) | PTR (_, PROTO (_, all, _, _)) ->

@@ -21,9 +21,6 @@ void escape(unsigned char byte) {}
 */
 static size_t compute_decimals(size_t number) {
     size_t length = 1, left = number / 10;
-    //@ assert five: without_decimals(UINT64_MAX, 5) == 184467440737095;
-    //@ assert ten: without_decimals(UINT64_MAX, 10) == 1844674407;
-    //@ assert fifteen: without_decimals(UINT64_MAX, 15) == 18446;
     //@ assert twenty: without_decimals(UINT64_MAX, 20) == 0;
     /*@ loop invariant 1 <= length <= 20 && decimal_length(number) == decimal_from(number, length);
         loop invariant left == without_decimals(number, length) && 0 <= left <= without_decimals(UINT64_MAX, length);

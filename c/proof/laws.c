@@ -100,12 +100,7 @@ static void powers_grow(size_t j, size_t k) {
 /*@ assigns \nothing; ensures power_of_62(21) < ACSL_2_128 <= power_of_62(22);
     ensures ten: power_of_62(10) == 839299365868340224 && shifted(839299365868340223, 12) >= ACSL_2_128;
 */
-static void power_22(void) {
-    //@ assert power_of_62(5) == 916132832;
-    //@ assert power_of_62(10) == 839299365868340224;
-    //@ assert power_of_62(15) == 839299365868340224 * 916132832;
-    //@ assert power_of_62(20) == 839299365868340224 * 839299365868340224;
-}
+static void power_22(void) {}
 
 /* A text denotes no less than its first k letters followed by zeros, and less than the next such number. */
 /*@ requires LETTERS_VALID && TEXT_VALID(p, n) && are_letters(letters, p, n) && k <= n; assigns \nothing;

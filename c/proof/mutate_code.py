@@ -58,8 +58,7 @@ SAME = {
     "range_found: if (!answer.is_ok || answer.err.tag == DecodeError_ArithmeticOverflow_tag) {",
     # All bytes are written again.
     "append_decimal: uint8_t digits[20] = {(0 + 1)};", "Alphabet_new: uint8_t digits[256] = {(0 + 1)};",
-    "encode_key: without fill_bytes(key, 0, 22);", "encode_key: fill_bytes(key,22, 0);",
-    "encode_key: fill_bytes(key, (0 + 1), 22);",
+    "encode_key: without fill_bytes(key, 0, 22);", "encode_key: fill_bytes(key,22, 0);", "encode_key: fill_bytes(key, (0 + 1), 22);",
 }
 
 # Of two arguments of these the order does not matter.

@@ -75,8 +75,7 @@ LISTS = [
     (ghost("", "assigns \\nothing; admit ensures no: \\false;"), ADMIT),
     (ghost("int i = 0; /@ admit loop invariant \\false; loop variant 9 - i; @/ while (i < 9) i++;"), ADMIT),
     # What is not tried.
-    (f"{STEP}assert no_wp: \\false;", NOT_TRIED),
-    (ghost("/@ loop variant no_wp: 0; @/ while (1) {}"), NOT_TRIED),
+    (f"{STEP}assert no_wp: \\false;", NOT_TRIED), (ghost("/@ loop variant no_wp: 0; @/ while (1) {}"), NOT_TRIED),
     (ghost("int i = 0; /@ loop assigns no_wp: i; loop variant 9 - i; @/ while (i < 9) i++;"), NOT_TRIED),
     # A function that does not end.
     (ghost("while(1) {}"), LOOP), (ghost("do\n{} while (1);"), LOOP), (ghost("for (;;) {}"), LOOP),
@@ -98,14 +97,12 @@ LISTS = [
     ("== in u64_ilog2 before assert requires\nghost int before = 0;", "without assert"),
     (f"{TOP}/*@ ghost /@ assigns \\nothing; ensures \\false; @/ void planted(void); */", "no body: planted"),
     # A change of the code.
-    (f"{NEXT}i++; /*@ assert last: \\true;", CODE),
-    (f"{STEP}ghost return 0;", WARNING),
-    (f"{STEP}ghost i = 0;", "rror"),
+    (f"{NEXT}i++; /*@ assert last: \\true;", CODE), (f"{STEP}assert a: \\true; *B62_MAY_ALIAS/ i++; // */\n/*@ assert b: \\true;", CODE),
+    (f"{STEP}ghost return 0;", WARNING), (f"{STEP}ghost i = 0;", "rror"),
     # A contract that is not one.
     ("== contract base62_encode\nrequires size > 100;\nassigns buffer[0 .. size - 1];", "two contracts"),
     ("== contract count_zeros\nrequires \\false;", "syntax error"),
-    (ghost("", "ensures \\true;"), NO_CONTRACT),
-    (ghost("", "behavior only: assumes \\false; assigns \\nothing;"), NO_CONTRACT),
+    (ghost("", "ensures \\true;"), NO_CONTRACT), (ghost("", "behavior only: assumes \\false; assigns \\nothing;"), NO_CONTRACT),
     (ghost("all = 0;", "assigns all;", before="//@ ghost int all;"), "a ghost function that assigns"),
     (ghost("", "assigns \\nothing; allocates \\nothing;"), "a clause of another kind"),
     (ghost("", "assigns \\nothing; ensures all == 1;", before="//@ ghost int all = 1;", head="void main(void)"),
@@ -114,14 +111,11 @@ LISTS = [
     (f"{TOP}/*@ assigns \\nothing; */\nint fputs_unlocked(const char *s, size_t n) {{ return 0; }}", "neither static"),
     (f"{TOP}/*@ assigns \\nothing; */\nstatic size_t planted(uint8_t (max_align_t)) {{ return 0; }}", "a declarator"),
     # Another annotation, and one that Frama-C leaves out with a warning.
-    (f"{TOP}/*@ global invariant no: \\false; */", KIND),
-    (f"{NEXT}/*@ ensures \\false;", KIND),
-    (f"{NEXT}/*@ for none: assert no: \\false;", "rror"),
-    (f"{STEP}assert here: \\nosuch;", WARNING),
+    (f"{TOP}/*@ global invariant no: \\false; */", KIND), (f"{NEXT}/*@ ensures \\false;", KIND),
+    (f"{NEXT}/*@ for none: assert no: \\false;", "rror"), (f"{STEP}assert here: \\nosuch;", WARNING),
     # What WP takes for something else.
     (logic("lemma no: \\forall integer n; n == 2 ==> (integer)(_Bool)n == n;"), "a cast to _Bool"),
-    (logic("predicate p(integer n) = \\valid((uint8_t *)n);"), NUMBER),
-    (logic("predicate p(uint8_t *a) = (uintptr_t)a == 0;"), NUMBER),
+    (logic("predicate p(integer n) = \\valid((uint8_t *)n);"), NUMBER), (logic("predicate p(uint8_t *a) = (uintptr_t)a == 0;"), NUMBER),
     (logic("predicate p{L}(char *a) = *a < 128;"), CHAR),
     (ghost("return *a < 128;", "requires \\valid_read(a); assigns \\nothing;", head="int planted(char *a)"), CHAR),
     # A struct with an array that is read whole.
@@ -165,11 +159,10 @@ SOURCES = [
     ("copy_bytes(made->tables.letters, letters, 62);", "copy_bytes(made->tables.letters, letters, 63);", "may go to another"),
     ("typedef struct InlineText {", "typedef struct Inline {", "another name"), ("typedef struct InlineText {", "typedef struct none {} none;\n"
      "typedef struct InlineText {", LISTED), ("typedef struct pair_u8_u8 { uint8_t", "typedef struct pair_u8_u8 { const uint8_t", LISTED),
-    ("#define B62_TEXT(", "#define B62_APART B62_RESTRICT\n#define B62_TEXT(", LISTED),
     *(("if (fault.tag == DecodeError_EmptyInput_tag)", f"if ({new})", "operator of an enum") for new in (
         "fault.tag - 2 < 0", "fault.tag == 0x80000000", "(fault.tag == 1 ? fault.tag : 3) - 5 < 0")),
     ("        DecodeError_EmptyInput_tag,\n", "        DecodeError_EmptyInput_tag = 0x80000000,\n", "an enumerator"),
-    ("((uint32_t)3844)", "4294967296", LISTED),
+    ("((uint32_t)3844)", "4294967296", LISTED), ("#define B62_TEXT(", "#define B62_APART B62_RESTRICT\n#define B62_TEXT(", LISTED),
     ("((uint32_t)3844)", "UINT32_C(3844)", LISTED), ("#define B62_TEXT(", "#define JOIN(a, b) a##b\n#define B62_TEXT(", LISTED),
     *((old, new, ONCE) for old, new in (
         ("(base62_u128)a * b;", "(base62_u128)a * b + 1;"), ("__builtin_clzll(n);", "__builtin_clzll(n | 1);"),
@@ -195,8 +188,7 @@ SOURCES = [
 
 # Changes of base62.acsl.
 SPECIFICATIONS = [
-    ("value(letters, text, n - 1)", "value(letters, text, n)", ENDS),
-    ("i < 62 && letters[i] != byte ?", "letters[i] != byte ?", ENDS),
+    ("value(letters, text, n - 1)", "value(letters, text, n)", ENDS), ("i < 62 && letters[i] != byte ?", "letters[i] != byte ?", ENDS),
     ("#define LETTERS(", "#define usize_min(a, b) usize_min(b, a)\n#define LETTERS(", CODE),
     ("assigns \\nothing; ensures number_of(\\result) == uuid", "ensures number_of(\\result) == uuid", NO_CONTRACT),
 ]
@@ -275,7 +267,9 @@ def cases(work):
     """Each planted text, what has to be said, and what says it in a folder."""
     source, header, specification = map(annotate.text_of, (wp.CODE, wp.C / "base62.h", wp.SPECIFICATION))
     laws = annotate.laws()
-    bare = wp.code(wp.prepared(work / "bare", source, wp.BARE))
+    bare = wp.prepared(work / "bare", source, wp.BARE)
+    wp.tree(bare)
+    bare = wp.code(bare)
     whole = annotate.annotated(source)
     calls = wp.checked(wp.prepared(work / "code", whole)).calls
     yield "nothing", None, lambda at: said_of_code(at, source)

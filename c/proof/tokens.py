@@ -143,7 +143,7 @@ OTHER = re.compile(r"\s*(?:#|%:|\?\?=)\s*(?!(?:define|undef|if|ifdef|ifndef|elif
 TEXTS = r'|(//@[^\n]*|//|"(?:\\.|[^"\\\n])*"|\'(?:\\.|[^\'\\\n])*\')'
 COMMENT = {"base62.h": re.compile(r"/\*.*?\*/" + TEXTS, re.S), "base62.c": re.compile(r"/\*.*?\*/|//(?!@)[^\n]*" + TEXTS, re.S)}
 TOKEN = re.compile(r'//@.*|"(?:\\.|[^"\\])*"|\'(?:\\.|[^\'\\])*\'|\w+|//|->|\+\+|--|<<=|>>=|<<|>>|&&|\|\||[-+*/%&|^=<>!]=|\S')
-WORD = re.compile(r"""//@.*|[a-z]\w*|[A-Z][a-z]\w*|_\d|B(?:ASE)?62_\w+|UINT64_C|0|[1-9]\d*|0x[0-9a-f]{1,16}
+WORD = re.compile(r"""//@\ assert\ requires:\ [\w<=!&\ ]+;|[a-z]\w*|[A-Z][a-z]\w*|_\d|B(?:ASE)?62_\w+|UINT64_C|0|[1-9]\d*|0x[0-9a-f]{1,16}
     |"(?:[ !#-\[\]-~]|\\[tnr\\"'])*"|'(?:[ -&(-\[\]-~]|\\[tnr\\"'])'
     |->|\+\+|--|<<|>>|&&|\|\||[-+*/<>=!]=|>>=|[-+*/%&|<>=!.,;:?(){}[\]]""", re.X | re.A)
 
@@ -157,10 +157,6 @@ def tokens(name, text):
             found.append(("\n", line))
         line += 1 + part.count("\v")
     return found
-
-
-def is_at(i, part, found):
-    return [token for token, _ in found[i:i + len(part)]] == [token for token, _ in part]
 
 
 def macros():
@@ -184,8 +180,8 @@ def wrong(name, text):
         yield f"{name}:{1 + text[:form.start()].count(chr(10))}: a splice, a trigraph, a digraph, no ASCII or an annotation: {form.group()!r}"
     found, given = tokens(name, text), macros() | {"B62_RESTRICT", "restrict"}
     for part in CONDITIONS[name]:
-        wanted = tokens(name, part)
-        at = [i for i in range(len(found)) if is_at(i, wanted, found)]
+        wanted = [token for token, _ in tokens(name, part)]
+        at = [i for i in range(len(found)) if [token for token, _ in found[i:i + len(wanted)]] == wanted]
         # What base62.h begins and ends with is about all of it, and base62.c begins with its headers.
         begins, ends = part == CONDITIONS[name][0], part == CONDITIONS["base62.h"][3]
         if len(at) != 1 or begins and at != [0] or ends and at != [len(found) - len(wanted)]:

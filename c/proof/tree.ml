@@ -627,6 +627,31 @@ let writes name = match Globals.Functions.find_by_name name with
       | TPtr (typ, _) -> not (is_constant_type typ) | _ -> false) (Kernel_function.get_formals kf)
   | exception Not_found -> true
 
+(* Leaves the code that WP reads, without ghosts. *)
+class bare = object
+  inherit Visitor.frama_c_inplace
+  method! vfunc f = f.slocals <- List.filter (fun v -> not v.vghost) f.slocals; Cil.DoChildren
+  (* An annotation may stand in a block of its own, or before an empty statement. *)
+  method! vblock b =
+    let flat b =
+      b.bstmts <- List.concat_map (fun s -> match s.skind with
+        | Instr (Skip _) when s.labels = [] -> []
+        | Block inner when s.labels = [] -> b.blocals <- b.blocals @ inner.blocals; inner.bstmts
+        | _ -> [ s ]) b.bstmts;
+      b in
+    b.bstmts <- List.filter (fun s -> not s.ghost) b.bstmts;
+    b.blocals <- List.filter (fun v -> not v.vghost) b.blocals;
+    Cil.ChangeDoChildrenPost (b, flat)
+end
+
+let is_code g = List.mem (file_of (Cil_datatype.Global.loc g)) [ "base62.c"; "base62.h" ]
+  && (match g with GFun ({ svar = v; _ }, _) | GVar (v, _, _) -> not v.vghost | GCompTag _ | GEnumTag _ | GType _ -> true | _ -> false)
+
+let write file lines =
+  let out = open_out file in
+  List.iter (output_string out) lines;
+  close_out out
+
 let main file =
   read_files ();
   Visitor.visitFramacFileSameGlobals (new walk) (Ast.get ());
@@ -634,8 +659,9 @@ let main file =
     !Forms.nested;
   let callers = List.sort_uniq compare (Hashtbl.fold (fun f _ all -> f :: all) calls []) in
   List.iter (fun f -> tell "rejected" f "it calls itself") (endless callers);
-  let out = open_out file in
-  List.iter (fun line -> output_string out (line ^ "\n")) (List.rev !found);
-  close_out out
+  write file (List.rev_map (fun line -> line ^ "\n") !found);
+  Visitor.visitFramacFile (new bare) (Ast.get ());
+  let text = Format.asprintf "\012%a" (Printer.without_annot Printer.pp_global) in
+  write (file ^ ".c") (List.map text (List.filter is_code (Ast.get ()).globals))
 
 let () = Db.Main.extend (fun () -> Option.iter main (Sys.getenv_opt "TREE"))

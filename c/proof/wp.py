@@ -103,10 +103,11 @@ def tree(file):
 
 
 def code(file):
-    """The code of a file without annotations and ghosts, as Frama-C prints it, but for a mark that changes no code."""
-    printed = file.parent / "printed.c"
-    frama_c(file, "code", ["-no-annot", "-print", "-ocode", str(printed)])
-    return printed.read_text().replace("__inline ", "")
+    """Each definition of a file as tree has printed it, but for a mark that changes no code, and for the literals before it."""
+    def counted(text):
+        names = {}
+        return re.sub(r"__constr_expr(_\d+)?", lambda found: names.setdefault(found[0], f"literal_{len(names)}"), text)
+    return sorted(map(counted, (file.parent / "tree.tsv.c").read_text().replace("__inline ", "").split("\f")))
 
 
 # The lemmas of a file, in the place of a function.
@@ -146,9 +147,10 @@ def checked_code(work, source, *more):
     if wrong:
         raise SystemExit("\n".join(wrong))
     bare = prepared(work / "bare", source, BARE)
+    found = tree(bare)
     file = prepared(work, annotate.annotated(source, *more))
     said = checked(file, code(bare))
-    said.wrong += [f"rejected: {what}" for kind, _, what in tree(bare) if kind in ("form", "open", "bare")]
+    said.wrong += [f"rejected: {what}" for kind, _, what in found if kind in ("form", "open", "bare")]
     return file, said
 
 

@@ -180,6 +180,7 @@ SOURCES = [
     ("const uint8_t *text, size_t text_length, uint8_t *buf,", "const uint8_t *text, size_t text_length, uint8_t *restrict buf,", LISTED),
     # What WP keeps apart, or takes for something else.
     ("typedef struct InlineText {", "typedef union InlineText {", LISTED),
+    ("typedef struct InlineText {", "typedef struct more { size_t n; uint8_t rest[]; } more;\ntypedef struct InlineText {", "a declarator"),
     ("typedef struct pair_u8_u8 { uint8_t _0;", "typedef struct pair_u8_u8 { uint8_t _0 : 6;", "a bit field"),
     ("typedef struct InlineText {", "typedef struct __attribute__((packed)) InlineText {", LISTED),
     (GROWS, f"    part_length = (size_t)(char)part_length;\n{GROWS}", CHAR),

@@ -41,7 +41,7 @@ module Forms = struct
       | [ SpecType Tchar ] -> decl <> JUSTBASE
       | _ -> false)) place "a type";
     reject_if (not (match decl with
-      | JUSTBASE | ARRAY (JUSTBASE, [], { expr_node = NOTHING; _ }) -> true
+      | JUSTBASE -> true | ARRAY (JUSTBASE, [], { expr_node = NOTHING; _ }) -> not is_field
       | ARRAY (JUSTBASE, [], { expr_node = CONSTANT (CONST_INT n); _ }) -> String.length n < 4 && n <> "0"
       | _ -> List.mem decl declarators)) place "a declarator"
 

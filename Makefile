@@ -20,20 +20,16 @@ prove: ## prove all crates, reject all mutants and run all tests, with the kit
 prove-c: ## prove c/base62.c by Frama-C; BITS=32 for 32-bit targets, MUTANTS=1 for its mutation tests
 	@$(if $(MUTANTS),c/proof/rejections.py && c/proof/mutate_code.py && c/proof/mutate_specification.py,c/proof/prove.py)
 
-generate: generate-texts ## write the generated files anew, after a change of their sources
-	translate/wasm
-
-generate-texts: # all but those of js/
+generate: ## write the generated files anew, after a change of their sources
 	tests/model.py
-	translate/rust.py
-	translate/c.py
+	translate/rust.py --write
+	translate/wasm
 
 check-generated: ## fail if a generated file is out of date; check-js compares those of js/
 	scripts/check-generated
 
 version: ## set the version everywhere: make version V=X.Y.Z
 	scripts/version.py '$(V)'
-	$(MAKE) --no-print-directory generate
 
 ROUNDS = 300
 bench: ## time the packages on this machine, beside other code for base 62
@@ -56,10 +52,5 @@ setup-full: ## install also browsers, Wine, cross compilers, emulators and prove
 check-debian: ## try README's lines in a bare Debian, as root: make check-debian SUITE=trixie
 	scripts/check-debian '$(SUITE)'
 
-# The names before version 3.4.
-generated: generate
-setup-all: setup-full
-check-on: check-debian
-
-.PHONY: help check $(parts:%=check-%) prove prove-c generate generate-texts check-generated version bench install-command dist setup \
-    setup-full check-debian generated setup-all check-on
+.PHONY: help check $(parts:%=check-%) prove prove-c generate check-generated version bench install-command dist setup \
+    setup-full check-debian

@@ -1,22 +1,16 @@
-/* Times base62.c and, with WITH_GMP, GMP's calls for base 62, which has the same letters. bench/run.py runs it. */
+/* Times base62.c. bench/run.py runs it. */
 #define _POSIX_C_SOURCE 199309L
 #include <base62.h>
 #include <stdio.h>
 #include <stdlib.h>
 #include <string.h>
 #include <time.h>
-#ifdef WITH_GMP
-#include <gmp.h>
-#endif
 
 enum { MOST = 1000, REPEATS = 20 };
 
 static struct {
     base62_number number;
     char text[BASE62_MAX_DIGITS + 1];
-#ifdef WITH_GMP
-    mpz_t large;
-#endif
 } values[MOST];
 static int count;
 static volatile size_t sink;
@@ -32,30 +26,12 @@ static void decode_by_base62(int i) {
     sink = base62_decode(values[i].text, strlen(values[i].text), &number, &bad) + number.low;
 }
 
-#ifdef WITH_GMP
-static mpz_t read;
-
-static void encode_by_gmp(int i) {
-    char buffer[BASE62_MAX_DIGITS + 2];
-    mpz_get_str(buffer, 62, values[i].large);
-    sink = (size_t)buffer[0];
-}
-
-static void decode_by_gmp(int i) {
-    sink = (size_t)mpz_set_str(read, values[i].text, 62) + mpz_get_ui(read);
-}
-#endif
-
 static const struct {
     const char *who, *call;
     void (*run)(int);
 } calls[] = {
     {"base62.c", "encode", encode_by_base62},
     {"base62.c", "decode", decode_by_base62},
-#ifdef WITH_GMP
-    {"GMP", "encode", encode_by_gmp},
-    {"GMP", "decode", decode_by_gmp},
-#endif
 };
 
 enum { CALLS = sizeof calls / sizeof *calls };
@@ -69,10 +45,6 @@ static double now(void) {
 static void add(unsigned long long high, unsigned long long low) {
     values[count].number = (base62_number){high, low};
     values[count].text[base62_encode(values[count].number, values[count].text, BASE62_MAX_DIGITS)] = 0;
-#ifdef WITH_GMP
-    mpz_init(values[count].large);
-    mpz_set_str(values[count].large, values[count].text, 62);
-#endif
     count++;
 }
 
@@ -100,9 +72,6 @@ int main(int arguments, char **given) {
         return 2;
     unsigned long long high, low;
     char kind[8], last[8] = "";
-#ifdef WITH_GMP
-    mpz_init(read);
-#endif
     while (fscanf(numbers, "%7s %llu %llu", kind, &high, &low) == 3 && count < MOST) {
         if (strcmp(last, kind) != 0 && count != 0)
             measure(last, atoi(given[2]));

@@ -9,16 +9,18 @@ import sys
 
 import plain
 
-CALLS = [("base62", "encode", "base62_encode(number)"), ("base62", "decode", "base62_decode(code)")]
+ENCODE = ("base62", "encode", "base62_encode(number)")
+DECODE = ("base62", "decode", "base62_decode(code)")
+DECODE_LARGE = ("base62", "decode", "base62_decode_uhugeint(code)")
 # A query takes time without any row too, so that the table has each number so many times.
 COPIES = 1000
 
 
-def times_of(extension, shell, numbers, rounds):
+def times_of(extension, shell, numbers, used, rounds):
     """The nanoseconds of a row in each call of each round."""
     kind = "UBIGINT" if max(numbers) < 2**64 else "UHUGEINT"
     given = f"SELECT unnest({list(map(str, numbers))})::{kind} AS number FROM range({COPIES})"
-    calls = [f"SELECT epoch_ns(now()::TIMESTAMP), count({call}) FROM link;" for _, _, call in CALLS] * rounds
+    calls = [f"SELECT epoch_ns(now()::TIMESTAMP), count({call}) FROM link;" for _, _, call in used] * rounds
     script = [f"LOAD '{extension}'; SET threads = 1;",
               f"CREATE TABLE link AS SELECT number, base62_encode(number) AS code FROM ({given});",
               *calls, "SELECT epoch_ns(now()::TIMESTAMP), 0;"]
@@ -30,8 +32,9 @@ def times_of(extension, shell, numbers, rounds):
 
 def main(extension, *shell, file, rounds):
     for kind, numbers in plain.numbers_of(file).items():
-        times = iter(times_of(extension, shell, numbers, rounds))
-        plain.measure(CALLS, lambda *call: next(times), kind, rounds)
+        used = [ENCODE, DECODE if max(numbers) < 2**63 else DECODE_LARGE]
+        times = iter(times_of(extension, shell, numbers, used, rounds))
+        plain.measure(used, lambda *call: next(times), kind, rounds)
 
 
 main(*sys.argv[1:-2], file=sys.argv[-2], rounds=int(sys.argv[-1]))

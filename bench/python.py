@@ -1,13 +1,9 @@
-"""Times the package for Python beside a plain loop and, if it is installed, gmpy2. bench/run.py runs it.
-
-base62.columns converts an Arrow array of all numbers, which have 64 bits or, if some are greater, 128.
-"""
+"""Times the package for Python beside a plain loop and, if it is installed, gmpy2. bench/run.py runs it."""
 
 import sys
 from time import perf_counter_ns
 
 import base62
-import base62.columns
 import plain
 
 CALLS = [
@@ -30,19 +26,15 @@ else:
 def main(file, rounds):
     for kind, numbers in plain.numbers_of(file).items():
         texts = [base62.encode(number) for number in numbers]
-        decode_column = base62.columns.decode if max(numbers) < 2**64 else base62.columns.decode_uuid
-        calls = [("base62.columns", "encode", base62.columns.encode), ("base62.columns", "decode", decode_column)]
         values = {"encode": numbers, "decode": texts}
-        columns = {"encode": [decode_column(texts)], "decode": [base62.columns.encode(numbers)]}
 
         def time(who, name, call):
-            given = (columns if who == "base62.columns" else values)[name]
             start = perf_counter_ns()
-            for value in given:
+            for value in values[name]:
                 call(value)
             return (perf_counter_ns() - start) / len(numbers)
 
-        plain.measure(CALLS + calls, time, kind, rounds)
+        plain.measure(CALLS, time, kind, rounds)
 
 
 main(sys.argv[1], int(sys.argv[2]))

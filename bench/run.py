@@ -3,7 +3,7 @@
 
 Each other program of this folder times one language. A round times all its calls in turn, and the least time of all
 rounds counts. It prints rows: whose call it is, the call, the kind of the numbers, and nanoseconds. This program builds
-and runs the others, prints one table of all, and draws it into out/bench.svg. What is missing is named and left out.
+and runs the others, and prints one table of all. What is missing is named and left out.
 
 The numbers are random, below 2^40, 2^64 or 2^128; those of the kind `mixed` have 1 to 128 bits, in random order.
 """
@@ -25,11 +25,11 @@ COUNT = 500
 PYTHON = "/usr/bin/python3" if os.path.exists("/usr/bin/python3") else sys.executable
 WHEELS = "/usr/share/python-wheels"
 FETCHING_NOTHING = ["--no-index", f"--find-links={WHEELS}"] if os.path.exists(WHEELS) else ["--no-build-isolation"]
-# Runs a command where DuckDB is, in the root of Debian unstable, with a folder as /mnt.
+# Runs a command where DuckDB or pyarrow is, in the root of Debian unstable, with a folder as /mnt.
 IN_UNSTABLE = """cd "$0" && . scripts/helpers.bash
-is_installed duckdb || { echo 'duckdb is missing' >&2 && exit 1; }
+is_installed "$1" || { echo "$1 is missing" >&2 && exit 1; }
 within() { local work=$1 && in_unstable "${@:2}"; }
-within "$@"
+within "${@:2}"
 """
 CARGO = """[package]
 name = "bench"
@@ -71,17 +71,8 @@ def copy(work, *names):
     run("cp", "-r", *[TOP / name for name in names], work)
 
 
-def compile_c(work, *options):
-    command = ["-O2", f"-I{TOP}/c", "-o", work / "c", BENCH / "c.c", TOP / "c/base62.c", *options]
-    run(os.environ.get("CC", "cc"), *command)
-
-
 def time_c(work):
-    try:
-        compile_c(work, "-DWITH_GMP", "-lgmp")
-    except Missing:
-        print("not timed: GMP")
-        compile_c(work)
+    run(os.environ.get("CC", "cc"), "-O2", f"-I{TOP}/c", "-o", work / "c", BENCH / "c.c", TOP / "c/base62.c")
     return [work / "c"]
 
 
@@ -110,6 +101,19 @@ def time_python(work):
     return [work / "venv/bin/python", BENCH / "python.py"]
 
 
+def time_columns(work):
+    copy(work, "c", "python", "bench", "VERSION", "CHANGELOG.md")
+    run(PYTHON, "-m", "pip", "install", *FETCHING_NOTHING, "--no-deps", f"--target={work}/site", work / "python")
+    try:
+        within, folder = ["env"], work
+        run(PYTHON, "-c", "import pyarrow")
+    except Missing:
+        within, folder = ["bash", "-c", IN_UNSTABLE, TOP, "pyarrow", work, "env"], Path("/mnt")
+    # The file of the numbers has another path there.
+    program = f'python3 {folder}/bench/columns.py {folder}/numbers "$1"'
+    return [*within, f"PYTHONPATH={folder}/site", "sh", "-c", program]
+
+
 def time_javascript(work):
     return ["node", BENCH / "javascript.mjs"]
 
@@ -121,7 +125,7 @@ def time_sqlite(work):
 
 
 def time_duckdb(work):
-    within, folder = ([], work) if shutil.which("duckdb") else (["bash", "-c", IN_UNSTABLE, TOP, work], Path("/mnt"))
+    within, folder = ([], work) if shutil.which("duckdb") else (["bash", "-c", IN_UNSTABLE, TOP, "duckdb", work], Path("/mnt"))
     copy(work, "c", "sql")
     run(*within, "make", "-C", folder / "sql", "duckdb")
     return [PYTHON, BENCH / "duckdb.py", folder / "sql/duckdb/base62.duckdb_extension", *within, "duckdb"]
@@ -131,6 +135,7 @@ LANGUAGES = {
     "C": time_c,
     "Rust": time_rust,
     "Python": time_python,
+    "Columns": time_columns,
     "JavaScript": time_javascript,
     "SQLite": time_sqlite,
     "DuckDB": time_duckdb,
@@ -172,29 +177,11 @@ def print_table(times):
             print(f"{language:11}{who:21}{cells}")
 
 
-def draw(times, file):
-    """Draws the bars of each language on one scale."""
-    file.parent.mkdir(exist_ok=True)
-    lines = [f"set terminal svg size 1200,{len(times) * 250}", f"set output '{file}'", f"set multiplot layout {len(times)},1",
-             "set style data histograms", "set style fill solid", "set yrange [0:]", "set ylabel 'nanoseconds'", "set key above"]
-    for language, found in times.items():
-        owners = list(dict.fromkeys(who for who, _, _ in found))
-        lines += [f"set title '{language}'", "$bars << END", '"" ' + " ".join(f'"{who}"' for who in owners)]
-        for call in CALLS:
-            lines += [" ".join([f'"{call} {kind}"', *(str(found[who, call, kind]) for who in owners)]) for kind in KINDS]
-        lines += ["END", f"plot for [i=2:{len(owners) + 1}] $bars using i:xtic(1) title columnheader(i)"]
-    run("gnuplot", input="\n".join(lines))
-
-
 def main(rounds):
     print(f"Python and SQLite are timed by {PYTHON}, which is {run(PYTHON, '--version').strip()}", flush=True)
     times = {language: times_of(language, rounds) for language in LANGUAGES}
     times = {language: found for language, found in times.items() if found}
     print_table(times)
-    try:
-        draw(times, TOP / "out/bench.svg")
-    except Missing as fault:
-        print(f"not drawn: {fault}")
 
 
 if __name__ == "__main__":

@@ -9,8 +9,8 @@ from time import perf_counter_ns
 
 import plain
 
-# The call that decodes, by whether the numbers are blobs.
-DECODERS = {False: "decode", True: "decode_blob"}
+# The calls, by whether the numbers are blobs.
+CALLS = {False: ("encode", "decode"), True: ("encode_uuid", "decode_blob")}
 
 
 def encode(number):
@@ -22,6 +22,7 @@ def opened(library):
     links.enable_load_extension(True)
     links.load_extension(library)
     links.create_function("plain_encode", 1, encode)
+    links.create_function("plain_encode_uuid", 1, encode)
     links.create_function("plain_decode", 1, plain.decode)
     links.create_function("plain_decode_blob", 1, lambda text: plain.decode(text).to_bytes(16, "big"))
     links.execute("CREATE TABLE link (number, code)")
@@ -42,9 +43,10 @@ def main(library, file, rounds):
             return (perf_counter_ns() - start) / len(rows)
 
         calls = []
+        encode_call, decode_call = CALLS[are_blobs]
         for who, prefix in (("base62", "base62"), ("a function in Python", "plain")):
-            calls += [(who, "encode", f"{prefix}_encode(number)")]
-            calls += [(who, "decode", f"{prefix}_{DECODERS[are_blobs]}(code)")]
+            calls += [(who, "encode", f"{prefix}_{encode_call}(number)")]
+            calls += [(who, "decode", f"{prefix}_{decode_call}(code)")]
         plain.measure(calls, time, kind, rounds)
 
 

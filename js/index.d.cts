@@ -10,24 +10,14 @@
  * `code` is listed with each function. An `alphabet` that is left out is {@link Alphabet.standard}.
  */
 
-/**
- * An unsigned integer: a `bigint` up to 2n ** 128n - 1n, or a `number` up to `Number.MAX_SAFE_INTEGER`. `false` is 0,
- * and `true` is 1.
- */
-export type Integer = number | bigint | boolean;
+/** An unsigned integer: a `bigint` up to 2n ** 128n - 1n, or a `number` up to `Number.MAX_SAFE_INTEGER`. */
+export type Integer = number | bigint;
 
 /**
  * An encoded string, or the bytes of one. A string is encoded as UTF-8. A lone surrogate is encoded as its own three
  * bytes, not as U+FFFD.
  */
 export type EncodedString = string | Uint8Array;
-
-/**
- * The former name of {@link EncodedString}. The DOM has a class `Text`.
- *
- * @deprecated It is removed in 4.0.
- */
-export type Text = EncodedString;
 
 /**
  * A UUID: 16 bytes, big-endian, or a string of 32 hexadecimal digits in either case. It may have hyphens as in
@@ -64,8 +54,8 @@ export function encode(number: Integer, alphabet?: Alphabet): string;
  * ```
  * @param value a number as in {@link encode}, or a UUID as in {@link encodeUuid}. A string is always a UUID.
  * @param width an integer from 1 to 2**53 - 1. 22 characters are enough for any number.
- * @throws {Base62Error} `BUFFER_TOO_SMALL` if the number needs more characters or the width is 0, `OUT_OF_RANGE` for
- *   any other number or width that is not such an integer, `INVALID_UUID`
+ * @throws {Base62Error} `OUT_OF_RANGE` if the number needs more characters, or for any other number or width,
+ *   `INVALID_UUID`
  * @throws {Error} an error of the runtime, without a `code`, if the width is more than its strings can have
  */
 export function encodeFixed(value: Integer | Uuid, width: number, alphabet?: Alphabet): string;
@@ -194,23 +184,23 @@ export function decodeUuidCanonical(text: EncodedString, alphabet?: Alphabet): s
  *
  * @example
  * ```js
- * import { fixedRange } from 'base62-proved';
+ * import { prefixRange } from 'base62-proved';
  *
- * console.log(fixedRange(7, '00a')); // [ 531948096n, 546724431n ]
+ * console.log(prefixRange('00a', 7)); // [ 531948096n, 546724431n ]
  * ```
- * @param width an integer from 0 to 2**53 - 1
  * @param prefix may be empty, or longer than the width
+ * @param width an integer from 0 to 2**53 - 1
  * @returns numbers from 0n to 2n ** 128n - 1n. The greatest may exceed a 64-bit column: see the README.
  * @throws {Base62Error} `INVALID_BYTE` for the prefix, `OUT_OF_RANGE` for the width
  */
-export function fixedRange(
-  width: number,
+export function prefixRange(
   prefix: EncodedString,
+  width: number,
   alphabet?: Alphabet,
 ): [least: bigint, greatest: bigint] | null;
 
 /**
- * Like {@link fixedRange}, but for keys, which have 22 characters of the standard alphabet.
+ * Like {@link prefixRange}, but for keys, which have 22 characters of the standard alphabet.
  *
  * @throws {Base62Error} `INVALID_BYTE`
  */
@@ -235,13 +225,13 @@ export class Alphabet {
   /**
    * Creates a custom alphabet. Create it once, not for each call.
    *
-   * @param letters 62 distinct ASCII characters in the order of their digit values, 0 to 61
-   * @throws {Base62Error} `REPEATED_LETTER` for the first character that equals an earlier one, `INVALID_ALPHABET` if
+   * @param characters 62 distinct ASCII characters in the order of their digit values, 0 to 61
+   * @throws {Base62Error} `REPEATED_CHARACTER` for the first character that equals an earlier one, `INVALID_ALPHABET` if
    *   they are not 62 ASCII characters
    */
-  constructor(letters: string);
+  constructor(characters: string);
   /** Its 62 characters. */
-  readonly letters: string;
+  readonly characters: string;
   /** `0` to `9`, `A` to `Z`, `a` to `z`, the default. */
   static readonly standard: Alphabet;
   /** `0` to `9`, `a` to `z`, `A` to `Z`. Strings of one width do not sort in numeric order. */
@@ -257,17 +247,16 @@ export class Base62Error extends RangeError {
   private constructor();
   /** Which error it is. */
   readonly code:
-    | 'BUFFER_TOO_SMALL'
     | 'EMPTY_INPUT'
     | 'INVALID_BYTE'
     | 'OVERFLOW'
-    | 'REPEATED_LETTER'
+    | 'REPEATED_CHARACTER'
     | 'NOT_CANONICAL'
     | 'OUT_OF_RANGE'
     | 'UNSAFE_INTEGER'
     | 'INVALID_UUID'
     | 'INVALID_ALPHABET';
-  /** The byte that `INVALID_BYTE` or `REPEATED_LETTER` is about, from 0 to 255. Other errors have none. */
+  /** The byte that `INVALID_BYTE` or `REPEATED_CHARACTER` is about, from 0 to 255. Other errors have none. */
   readonly byte?: number;
   /** Its index in the bytes, from 0. It is also the index of the character, since those before it are ASCII. */
   readonly index?: number;

@@ -7,20 +7,6 @@ import { load } from './module.js';
 import { wasm } from './wasm.js';
 
 export const {
-  Alphabet,
-  Base62Error,
-  decode,
-  decodeCanonical,
-  decodeNumber,
-  decodeNumberCanonical,
-  decodeUuid,
-  decodeUuidCanonical,
-  digitCount,
-  encode,
-  encodeFixed,
-  encodeKey,
-  encodeUuid,
-  fixedRange,
-  keyBounds,
-  keyRange,
+  Alphabet, Base62Error, decode, decodeCanonical, decodeNumber, decodeNumberCanonical, decodeUuid, decodeUuidCanonical,
+  digitCount, encode, encodeFixed, encodeKey, encodeUuid, keyBounds, keyRange, prefixRange,
 } = load(compile(wasm));

@@ -8,18 +8,18 @@
 const MAX_DIGITS = 22;
 const KEY_LENGTH = 22;
 const ALPHABET_LENGTH = 62;
-const STANDARD_LETTERS = '0123456789ABCDEFGHIJKLMNOPQRSTUVWXYZabcdefghijklmnopqrstuvwxyz';
-const ALTERNATIVE_LETTERS = '0123456789abcdefghijklmnopqrstuvwxyzABCDEFGHIJKLMNOPQRSTUVWXYZ';
+const STANDARD_ALPHABET = '0123456789ABCDEFGHIJKLMNOPQRSTUVWXYZabcdefghijklmnopqrstuvwxyz';
+const ALTERNATIVE_ALPHABET = '0123456789abcdefghijklmnopqrstuvwxyzABCDEFGHIJKLMNOPQRSTUVWXYZ';
 const UUID_LENGTH = 16;
-const MAX_FAULT_TEXT = 77;
+const MAX_ERROR_MESSAGE = 77;
 const ALPHABET_SIZE = 318;
 const OK = 0;
 const BUFFER_TOO_SMALL = 1;
 const EMPTY_INPUT = 2;
 const INVALID_BYTE = 3;
 const OVERFLOW = 4;
-const NO_KEY = 5;
-const REPEATED_LETTER = 6;
+const NO_MATCH = 5;
+const REPEATED_CHARACTER = 6;
 const NOT_CANONICAL = 7;
 const STATUSES = [
   'OK',
@@ -27,8 +27,8 @@ const STATUSES = [
   'EMPTY_INPUT',
   'INVALID_BYTE',
   'OVERFLOW',
-  'NO_KEY',
-  'REPEATED_LETTER',
+  'NO_MATCH',
+  'REPEATED_CHARACTER',
   'NOT_CANONICAL',
 ];
 
@@ -39,8 +39,8 @@ const TWO_TO_32 = 2 ** 32;
 const TWO_TO_64 = 2n ** 64n;
 const TWO_TO_128 = 2n ** 128n;
 const HEXADECIMAL = '0123456789abcdef';
-// Digits with hyphens or without, in braces or after urn:uuid:. That there are both braces or none is checked apart.
-const UUID = /^(?:\{|urn:uuid:)?[\da-f]{8}(-?)[\da-f]{4}\1[\da-f]{4}\1[\da-f]{4}\1[\da-f]{12}\}?$/i;
+const URN = 'urn:uuid:';
+const HYPHEN = 45;
 
 // The addresses of the arguments and results of a call, above the stack and the data of the WebAssembly. A number has
 // two halves of 64 bits, the higher first, each little-endian: byte i of a UUID is at i ^ 7. A range is its least and
@@ -73,14 +73,23 @@ class Base62Error extends RangeError {
 // A subclass can override the properties of a Uint8Array, so these are read by the getters that it inherits.
 const typedArray = Object.getPrototypeOf(Uint8Array.prototype);
 const getter = (name) => Object.getOwnPropertyDescriptor(typedArray, name).get;
-const typeOf = getter(Symbol.toStringTag);
-const lengthOf = getter('length');
-const bufferOf = getter('buffer');
-const offsetOf = getter('byteOffset');
+const [typeOf, lengthOf, bufferOf, offsetOf] = [Symbol.toStringTag, 'length', 'buffer', 'byteOffset'].map(getter);
 const { set: setBytes } = typedArray;
+// V8 has many internal forms of strings, and finds a property slowly once it was read from five of them. So these
+// methods are found once, and a length is that of '' + text, which V8 knows to be a string.
+const [charCodeAt, codePointAt] = [''.charCodeAt, ''.codePointAt].map((it) => it.call.bind(it));
 
-// Returns the value of a hexadecimal digit. The lower half of its code is the value, or for a letter 9 less.
-const digitOf = (code) => (code & 15) + 9 * (code >> 6);
+// Returns the value of a hexadecimal digit, or -1. The bit 32 makes a letter lowercase.
+function digitOf(code) {
+  if (code >= 48 && code <= 57) return code - 48;
+  return (code | 32) >= 97 && (code | 32) <= 102 ? (code | 32) - 87 : -1;
+}
+
+// Returns what is in the braces of a UUID or after its urn:uuid:, if it has either.
+function unframed(uuid) {
+  if (uuid.startsWith('{') && uuid.endsWith('}')) return uuid.slice(1, -1);
+  return uuid.slice(0, URN.length).toLowerCase() === URN ? uuid.slice(URN.length) : uuid;
+}
 
 const isUint8Array = (value) => typeOf.call(value) === 'Uint8Array';
 const isUnsignedSafeInteger = (number) => Number.isSafeInteger(number) && number >= 0;
@@ -90,8 +99,12 @@ function checkWidth(width) {
   if (!isUnsignedSafeInteger(width)) throw new Base62Error('a width is an integer from 0 to 2**53 - 1', 'OUT_OF_RANGE');
 }
 
-function outOfRange() {
-  return new Base62Error('a number is an integer from 0 to 2**128 - 1, or to 2**53 - 1 as a Number', 'OUT_OF_RANGE');
+const outOfRange = () =>
+  new Base62Error('a number is an integer from 0 to 2**128 - 1, or to 2**53 - 1 as a Number', 'OUT_OF_RANGE');
+
+function notANumber(given) {
+  const wanted = 'a number is a Number or a BigInt';
+  return new TypeError(typeof given === 'string' ? `${wanted}, not a string: give BigInt('1337')` : wanted);
 }
 
 function invalidUuid() {
@@ -110,19 +123,6 @@ function notAnAlphabet(given) {
 // A text is an encoded string or a prefix. The memory has room for 10,000 code units, of at most three bytes each. Of a
 // longer text the library gets pieces of this length: for decoding only one, for a range all.
 const PIECE_LENGTH = 10_000;
-
-function textLength(text) {
-  if (typeof text === 'string') return text.length;
-  if (!isUint8Array(text)) throw new TypeError('an encoded string or a prefix is a string or a Uint8Array');
-  return lengthOf.call(text);
-}
-
-// Returns the piece of a long text from start to end. A surrogate pair at its end stays whole, so that an error
-// reports the first of its four bytes: the piece is then one unit longer. The pair is invalid, so no piece follows.
-function pieceOf(text, start, end) {
-  if (typeof text === 'string') return text.slice(start, text.codePointAt(end - 1) > 0xffff ? end + 1 : end);
-  return new Uint8Array(bufferOf.call(text), offsetOf.call(text) + start, end - start);
-}
 
 function instantiate(module) {
   const { exports: library } = new WebAssembly.Instance(module);
@@ -145,15 +145,14 @@ function instantiate(module) {
     return result;
   }
 
-  const views = { bytes: new Uint8Array(buffer), words: new Uint32Array(buffer), halves: new BigUint64Array(buffer) };
-  return { enter, leave, ...views };
+  const [bytes, words, halves] = [Uint8Array, Uint32Array, BigUint64Array].map((View) => new View(buffer));
+  return { enter, leave, bytes, words, halves };
 }
 
 function createArguments({ bytes, words, halves }) {
   function writeNumber(number) {
     if (typeof number === 'bigint') return writeBigInt(number);
-    if (typeof number === 'boolean') return writeBigInt(BigInt(number));
-    if (typeof number !== 'number') throw new TypeError('a number is a Number, a BigInt or a boolean');
+    if (typeof number !== 'number') throw notANumber(number);
     if (!isUnsignedSafeInteger(number)) throw outOfRange();
     halves[NUMBER / 8] = 0n;
     words[NUMBER / 4 + 2] = number;
@@ -174,50 +173,57 @@ function createArguments({ bytes, words, halves }) {
     for (let i = 0; i < UUID_LENGTH; i++) bytes[NUMBER + (i ^ 7)] = uuid[i];
   }
 
+  // Without a regular expression: one may be compiled in any call, which on an exhausted stack is a SyntaxError.
   function writeUuidString(string) {
-    const hasBrace = string[0] === '{';
-    if (!UUID.test(string) || hasBrace !== (string[string.length - 1] === '}')) throw invalidUuid();
-    // Digits and hyphens take at most 36 characters. No hyphen stands between the two digits of a byte.
-    let at = hasBrace ? 1 : string.length > 36 ? 'urn:uuid:'.length : 0;
-    for (let i = 0; i < UUID_LENGTH; i++, at += 2) {
-      if (string[at] === '-') at++;
-      bytes[NUMBER + (i ^ 7)] = (digitOf(string.charCodeAt(at)) << 4) | digitOf(string.charCodeAt(at + 1));
+    const digits = ('' + string).length === 36 ? string : unframed(string);
+    const { length } = '' + digits;
+    if (length !== 32 && length !== 36) throw invalidUuid();
+    for (let i = 0, at = 0; i < UUID_LENGTH; i++, at += 2) {
+      const hasHyphen = length === 36 && (i === 4 || i === 6 || i === 8 || i === 10);
+      if (hasHyphen && charCodeAt(digits, at++) !== HYPHEN) throw invalidUuid();
+      const byte = (digitOf(charCodeAt(digits, at)) << 4) | digitOf(charCodeAt(digits, at + 1));
+      if (byte < 0) throw invalidUuid();
+      bytes[NUMBER + (i ^ 7)] = byte;
     }
   }
 
-  // Writes a text, or the piece of a long one that begins at start. Returns the number of bytes.
-  function writeText(text, length, start) {
-    if (length > PIECE_LENGTH) {
-      const end = Math.min(start + PIECE_LENGTH, length);
-      return writeText(pieceOf(text, start, end), end - start, 0);
-    }
-    if (typeof text === 'string') return writeUtf8(text);
-    setBytes.call(bytes, text, TEXT);
-    return length;
+  // Writes the piece of a text from start on. Returns its number of bytes: less than PIECE_LENGTH if nothing follows.
+  function writeText(text, start) {
+    if (typeof text === 'string') return writeString(text, start);
+    if (!isUint8Array(text)) throw new TypeError('an encoded string or a prefix is a string or a Uint8Array');
+    const length = lengthOf.call(text);
+    const size = Math.min(length - start, PIECE_LENGTH);
+    const piece = size === length ? text : new Uint8Array(bufferOf.call(text), offsetOf.call(text) + start, size);
+    setBytes.call(bytes, piece, TEXT);
+    return size;
   }
 
-  function writeUtf8(string) {
+  // Nearly all texts are ASCII.
+  function writeString(string, start) {
+    const length = Math.min(('' + string).length - start, PIECE_LENGTH);
+    let bits = 0;
+    for (let i = 0; i < length; i++) {
+      const unit = charCodeAt(string, start + i);
+      bytes[TEXT + i] = unit;
+      bits |= unit;
+    }
+    return bits < 128 ? length : writeUtf8(string, start, start + length);
+  }
+
+  // A surrogate pair at the end of a piece stays whole, so that an error reports the first of its four bytes. The pair
+  // is invalid, so no piece follows.
+  function writeUtf8(string, start, end) {
     let at = TEXT;
-    for (let i = 0, { length } = string; i < length; i++) {
-      const unit = string.charCodeAt(i);
-      if (unit < 128) {
-        bytes[at++] = unit;
-      } else {
-        const point = string.codePointAt(i);
-        at = writeCodePoint(at, point);
-        if (point > 0xffff) i++;
-      }
+    for (let i = start; i < end; i++) {
+      const point = codePointAt(string, i);
+      if (point > 0xffff) i++;
+      // The first of several bytes starts with as many 1 bits as there are bytes. As a byte, -128 >> n starts with
+      // n + 1 of them. A lone surrogate becomes its own three bytes.
+      let remaining = point < 0x80 ? 0 : point < 0x800 ? 1 : point < 0x10000 ? 2 : 3;
+      bytes[at++] = remaining === 0 ? point : (-128 >> remaining) | (point >> (6 * remaining));
+      while (remaining--) bytes[at++] = 128 | ((point >> (6 * remaining)) & 63);
     }
     return at - TEXT;
-  }
-
-  // The lead byte starts with as many 1 bits as there are bytes. As a byte, -128 >> n starts with n + 1 of them.
-  // A lone surrogate becomes its own three bytes.
-  function writeCodePoint(at, point) {
-    let remaining = point < 0x800 ? 1 : point < 0x10000 ? 2 : 3;
-    bytes[at++] = (-128 >> remaining) | (point >> (6 * remaining));
-    while (remaining--) bytes[at++] = 128 | ((point >> (6 * remaining)) & 63);
-    return at;
   }
 
   return { writeNumber, writeUuid, writeText };
@@ -272,40 +278,42 @@ function createResults({ enter, leave, bytes, words, halves }) {
   // STATUSES[status] is the name of the status, which is the error's code. The library counts an index from the start
   // of the piece. A message that has an index ends with it.
   function errorOf(status, start) {
-    const length = leave(enter().base62_fault_text(status, BAD_BYTE, TEXT, MAX_FAULT_TEXT));
+    const length = leave(enter().base62_error_message(status, BAD_BYTE, TEXT, MAX_ERROR_MESSAGE));
     let message = '';
     for (let i = 0; i < length; i++) message += String.fromCharCode(bytes[TEXT + i]);
-    if (status !== INVALID_BYTE && status !== REPEATED_LETTER) return new Base62Error(message, STATUSES[status]);
+    if (status !== INVALID_BYTE && status !== REPEATED_CHARACTER) return new Base62Error(message, STATUSES[status]);
     const index = words[BAD_BYTE / 4] + start;
-    return new Base62Error(message.replace(/\d+$/, index), STATUSES[status], bytes[BAD_BYTE + 4], index);
+    const text = message.slice(0, message.lastIndexOf(' ') + 1) + index;
+    return new Base62Error(text, STATUSES[status], bytes[BAD_BYTE + 4], index);
   }
 
   return { readBigInt, readNumber, readText, readUuid, errorOf };
 }
 
 function createAlphabets({ bytes, enter, leave }, writeText, errorOf) {
-  // The bytes of each Alphabet, as base62_make_alphabet has written them, and the one whose bytes are in the memory.
+  // The bytes of each Alphabet, as base62_alphabet_init has written them, and the one whose bytes are in the memory.
   const tables = new WeakMap();
   let current;
 
   class Alphabet {
-    constructor(letters) {
-      if (typeof letters !== 'string') throw new TypeError('the characters of an alphabet are a string');
-      // A character outside ASCII has more bytes than code units.
-      if (letters.length !== ALPHABET_LENGTH || writeText(letters, ALPHABET_LENGTH, 0) !== ALPHABET_LENGTH) {
-        throw new Base62Error('an alphabet has 62 ASCII characters', 'INVALID_ALPHABET');
-      }
+    constructor(characters) {
+      if (typeof characters !== 'string') throw new TypeError('the characters of an alphabet are a string');
+      const { length } = characters;
+      let wrong = length !== ALPHABET_LENGTH && `has ${length} character${length === 1 ? '' : 's'}, not 62`;
+      for (const it of characters) if (it > '\x7f') wrong = 'has a non-ASCII character';
+      if (wrong) throw new Base62Error(`the alphabet ${wrong}`, 'INVALID_ALPHABET');
+      writeText(characters, 0);
       // The library's form is written behind the characters: at ALPHABET it would replace that of the current alphabet.
       const address = TEXT + ALPHABET_LENGTH;
-      const status = leave(enter().base62_make_alphabet(TEXT, address, BAD_BYTE));
+      const status = leave(enter().base62_alphabet_init(address, TEXT, BAD_BYTE));
       if (status !== OK) throw errorOf(status, 0);
       tables.set(this, bytes.slice(address, address + ALPHABET_SIZE));
-      defineReadOnly(this, 'letters', letters);
+      defineReadOnly(this, 'characters', characters);
     }
   }
 
-  defineReadOnly(Alphabet, 'standard', new Alphabet(STANDARD_LETTERS));
-  defineReadOnly(Alphabet, 'alternative', new Alphabet(ALTERNATIVE_LETTERS));
+  defineReadOnly(Alphabet, 'standard', new Alphabet(STANDARD_ALPHABET));
+  defineReadOnly(Alphabet, 'alternative', new Alphabet(ALTERNATIVE_ALPHABET));
   const { standard } = Alphabet;
 
   function writeAlphabet(alphabet = standard) {
@@ -317,7 +325,7 @@ function createAlphabets({ bytes, enter, leave }, writeText, errorOf) {
   }
 
   // The zero of the alphabet in the memory.
-  const zero = () => current.letters[0];
+  const zero = () => current.characters[0];
 
   return { Alphabet, writeAlphabet, zero };
 }
@@ -347,11 +355,11 @@ function load(module) {
   function encodeFixed(value, width, alphabet) {
     checkWidth(width);
     // A string or a Uint8Array is always a UUID.
-    if (typeof value === 'string' || isUint8Array(value)) writeUuid(value);
+    if (typeof value === 'string' || (typeof value === 'object' && isUint8Array(value))) writeUuid(value);
     else writeNumber(value);
     writeAlphabet(alphabet);
     const length = leave(enter().base62_encode_fixed_with(ALPHABET, NUMBER, TEXT, Math.min(width, MAX_DIGITS)));
-    if (length === 0) throw new Base62Error('the number needs more characters than the width', 'BUFFER_TOO_SMALL');
+    if (length === 0) throw new Base62Error('the number needs more characters than the width', 'OUT_OF_RANGE');
     return readText(length).padStart(width, zero());
   }
 
@@ -368,7 +376,7 @@ function load(module) {
   function startOf(text) {
     const code = zero().charCodeAt(0);
     let count = 0;
-    if (typeof text === 'string') while (text.charCodeAt(count) === code) count++;
+    if (typeof text === 'string') while (count < text.length && charCodeAt(text, count) === code) count++;
     else while (text[count] === code) count++;
     return Math.max(count - 2, 0);
   }
@@ -376,13 +384,18 @@ function load(module) {
   // Returns NUMBER, at which the library writes the number. If more follows the first piece of a long text, this piece
   // has more than 22 characters after its zeros: an overflow, even if some are invalid.
   function decodeText(text, alphabet, isCanonical) {
-    const length = textLength(text);
+    const size = writeText(text, 0);
     writeAlphabet(alphabet);
-    const start = length > PIECE_LENGTH ? startOf(text) : 0;
-    const size = writeText(text, length, start);
+    if (size < PIECE_LENGTH) return decodeWritten(size, 0, isCanonical);
+    const start = startOf(text);
+    return decodeWritten(writeText(text, start), start, isCanonical);
+  }
+
+  function decodeWritten(size, start, isCanonical) {
     const library = enter();
-    const decodeWith = isCanonical ? library.base62_decode_canonical_with : library.base62_decode_with;
-    const status = leave(decodeWith(ALPHABET, TEXT, size, NUMBER, BAD_BYTE));
+    const status = leave(isCanonical
+      ? library.base62_decode_canonical_with(ALPHABET, TEXT, size, NUMBER, BAD_BYTE)
+      : library.base62_decode_with(ALPHABET, TEXT, size, NUMBER, BAD_BYTE));
     if (status !== OK) throw errorOf(status, start);
     return NUMBER;
   }
@@ -396,29 +409,36 @@ function load(module) {
 
   // A size_t has 32 bits, so a greater width is passed as the greatest size_t. A piece is so much shorter than either
   // that the range is the same: all numbers if the piece has only zeros, and else none.
-  function findRange(width, prefix, length, start) {
-    const size = writeText(prefix, length, start);
+  function findRange(size, width, start) {
     const width32 = Math.min(width, TWO_TO_32 - 1);
-    const status = leave(enter().base62_fixed_range_with(ALPHABET, width32, TEXT, size, NUMBER, BAD_BYTE));
-    if (status === NO_KEY) return null;
+    const status = leave(enter().base62_prefix_range_with(ALPHABET, TEXT, size, width32, NUMBER, BAD_BYTE));
+    if (status === NO_MATCH) return null;
     if (status !== OK) throw errorOf(status, start);
     return [readBigInt(NUMBER), readBigInt(GREATEST)];
   }
 
-  function fixedRange(width, prefix, alphabet) {
+  function prefixRange(prefix, width, alphabet) {
     checkWidth(width);
-    const length = textLength(prefix);
+    const size = writeText(prefix, 0);
     writeAlphabet(alphabet);
-    // Dropping as many zeros from the width as from the prefix keeps the range.
-    const start = length > PIECE_LENGTH ? startOf(prefix) : 0;
-    const range = findRange(Math.max(width - start, 0), prefix, length, start);
-    // If more pieces follow, the first one has too many characters for any number, so the range is null. The others are
-    // only searched for a bad byte, which the library reports whatever the width is.
-    for (let at = start + PIECE_LENGTH; at < length; at += PIECE_LENGTH) findRange(0, prefix, length, at);
+    return size < PIECE_LENGTH ? findRange(size, width, 0) : findRangeOfLong(prefix, width);
+  }
+
+  // Dropping as many zeros from the width as from the prefix keeps the range. If more pieces follow, the first one has
+  // too many characters for any number, so the range is null. The others are only searched for a bad byte, which the
+  // library reports whatever the width is.
+  function findRangeOfLong(prefix, width) {
+    const start = startOf(prefix);
+    let size = writeText(prefix, start);
+    const range = findRange(size, Math.max(width - start, 0), start);
+    for (let at = start + size; size === PIECE_LENGTH; at += size) {
+      size = writeText(prefix, at);
+      findRange(size, 0, at);
+    }
     return range;
   }
 
-  const keyRange = (prefix) => fixedRange(KEY_LENGTH, prefix);
+  const keyRange = (prefix) => prefixRange(prefix, KEY_LENGTH);
 
   function keyBounds(prefix) {
     const range = keyRange(prefix);
@@ -426,22 +446,8 @@ function load(module) {
   }
 
   return {
-    Alphabet,
-    Base62Error,
-    decode,
-    decodeCanonical,
-    decodeNumber,
-    decodeNumberCanonical,
-    decodeUuid,
-    decodeUuidCanonical,
-    digitCount,
-    encode,
-    encodeFixed,
-    encodeKey,
-    encodeUuid,
-    fixedRange,
-    keyBounds,
-    keyRange,
+    Alphabet, Base62Error, decode, decodeCanonical, decodeNumber, decodeNumberCanonical, decodeUuid, decodeUuidCanonical,
+    digitCount, encode, encodeFixed, encodeKey, encodeUuid, keyBounds, keyRange, prefixRange,
   };
 }
 

@@ -25,42 +25,41 @@ class SharedSdist(sdist):
             self.copy_file(str(top / name), str(copy))
 
 
-def docstring_macro(function):
-    """Return the docstring of a function for C, after the signature that the module inspect reads."""
-    for argument in function.args.args:
+def docstring_macro(node):
+    """Return the docstring of a function or a class for C, after the signature that the module inspect reads."""
+    is_class = isinstance(node, ast.ClassDef)
+    arguments = next(it for it in node.body if isinstance(it, ast.FunctionDef)).args if is_class else node.args
+    for argument in (*arguments.posonlyargs, *arguments.args):
         argument.annotation = None
-    docstring = f"{function.name}($module, /, {ast.unparse(function.args)})\n--\n\n{ast.get_docstring(function)}"
-    return f"#define DOC_{function.name} {json.dumps(docstring)}\n"
+    first = "" if is_class else "$module, " if arguments.posonlyargs else "$module, /, "
+    signature = f"{node.name}({first}{ast.unparse(arguments).removeprefix('cls, ')})"
+    docstring = f"{signature}\n--\n\n{ast.get_docstring(node)}"
+    return f"#define DOC_{node.name} {json.dumps(docstring)}\n"
 
 
 class DocumentedBuild(build_ext):
     """Writes the docstrings of the stub to a header first."""
 
     def run(self):
-        functions = [node for node in ast.parse(STUB.read_text()).body if isinstance(node, ast.FunctionDef)]
+        documented = [node for node in ast.parse(STUB.read_text()).body if isinstance(node, (ast.FunctionDef, ast.ClassDef))]
         self.mkpath(self.build_temp)
-        Path(self.build_temp, "_docstrings.h").write_text("".join(map(docstring_macro, functions)))
+        Path(self.build_temp, "_docstrings.h").write_text("".join(map(docstring_macro, documented)))
         self.include_dirs.append(self.build_temp)
         super().run()
 
 
-def extension(name, *sources):
-    return Extension(
-        f"base62.{name}",
-        [f"base62/{source}" for source in (*sources, "_library.c")],
-        include_dirs=[str(top / "c")],
-        depends=[str(top / "c/base62.c"), str(top / "c/base62.h"), str(STUB), *map(str, Path("base62").glob("*.h"))],
-        py_limited_api=True,
-    )
-
-
-base62 = ("_base62.c", "_alphabet.c", "_uuid.c")
-columns = ("_columns.c", "_columns_input.c", "_columns_list.c", "_columns_read.c", "_columns_result.c")
+extension = Extension(
+    "base62._base62",
+    [f"base62/{name}.c" for name in ("_base62", "_alphabet", "_uuid", "_columns", "_library")],
+    include_dirs=[str(top / "c")],
+    depends=[str(top / "c/base62.c"), str(top / "c/base62.h"), "base62/_base62.h", str(STUB)],
+    py_limited_api=True,
+)
 setup(
     version=(top / "VERSION").read_text().strip(),
     # As a field of pyproject.toml it has a form until setuptools 77, and another since.
     license="MIT",
-    ext_modules=[extension("_base62", *base62), extension("_columns", *columns)],
+    ext_modules=[extension],
     data_files=[("share/doc/base62-proved", [str(top / "CHANGELOG.md")])],
     cmdclass={"build_ext": DocumentedBuild, "sdist": SharedSdist},
 )

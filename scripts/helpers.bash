@@ -13,9 +13,9 @@ export CARGO_NET_OFFLINE=true PIP_NO_INDEX=1 PIP_FIND_LINKS=/usr/share/python-wh
     npm_config_fund=false npm_config_update_notifier=false
 
 # What the checks need besides the kit: `make setup` installs these,
-required=(build cargo cargo-clippy clang clang-tidy cmake ensurepip g++ gcc git gmp.h gmpy2 gnuplot make mypy node npm
-    pg_virtualenv pip pkg-config postgres postgres.h Python.h python3 /usr/bin/python3 reuse rustfmt script sqlite3 sqlite3ext.h tsc
-    uuidgen wasm-ld wheel)
+required=(build cargo cargo-clippy clang clang-tidy cmake ensurepip g++ gcc git gmpy2 make mypy node npm pg_virtualenv pip
+    pkg-config postgres postgres.h Python.h python3 /usr/bin/python3 reuse rustfmt script sqlite3 sqlite3ext.h tsc uuidgen wasm-ld
+    wheel)
 # and `make setup-full` these too.
 optional=(aarch64-linux-gnu-gcc arm-linux-gnueabihf-gcc chromium cvc4 cvc5 debootstrap distributed django duckdb esbuild express
     firefox-esr fish frama-c gawk go help2man i686-linux-gnu-gcc jsdom librust mlr node-base62 ocamlfind pandas pyarrow pydantic
@@ -27,7 +27,7 @@ declare -A packages=(
     [build]=python3-build [distributed]=python3-distributed [django]=python3-django [ensurepip]=python3-venv [express]=node-express
     [gmpy2]=python3-gmpy2 [pandas]=python3-pandas [pip]=python3-pip [pyarrow]=python3-pyarrow [pydantic]=python3-pydantic [Python.h]=python3-dev [/usr/bin/python3]=python3
     [shortuuid]=python3-shortuuid [sqlalchemy]=python3-sqlalchemy [wheel]=python3-wheel-whl [cargo-clippy]=rust-clippy
-    [clang]='clang libclang-rt-dev' [gcc]='gcc libc6-dev' [gmp.h]=libgmp-dev [gnuplot]=gnuplot-nox [go]=golang-go
+    [clang]='clang libclang-rt-dev' [gcc]='gcc libc6-dev' [go]=golang-go
     [duckdb]='duckdb libduckdb-dev' [mlr]=miller [node]=nodejs [script]=bsdutils [tsc]=node-typescript
     [wasm-ld]=lld [pg_virtualenv]=postgresql-common [postgres]=postgresql [postgres.h]=postgresql-server-dev-all
     [sqlite3ext.h]=libsqlite3-dev [frama-c]=frama-c-base [ocamlfind]=ocaml-findlib [wine]='wine wine64'
@@ -59,8 +59,8 @@ is_installed() {
     case $1 in
         # Of the system's Python, if there is one: Debian's setuptools works with no other.
         build | distributed | django | ensurepip | gmpy2 | pandas | pip | pydantic | shortuuid | sqlalchemy) PATH=/usr/bin:$PATH python3 -c "import $1" ;;
-        duckdb) command -v duckdb || [[ -e $unstable/fetched ]] ;;
-        pyarrow) PATH=/usr/bin:$PATH python3 -c "import pyarrow" || [[ -e $unstable/fetched ]] ;;
+        duckdb) command -v duckdb || cmp scripts/fetch-unstable "$unstable/fetched" ;;
+        pyarrow) PATH=/usr/bin:$PATH python3 -c "import pyarrow" || cmp scripts/fetch-unstable "$unstable/fetched" ;;
         cargo) in_order "$oldest_rust" "$(version_of cargo)" ;;
         cargo-clippy | rustfmt) is_installed cargo && command -v "$1" ;;
         # Debian's file, which serves each Python without a network.
@@ -69,7 +69,6 @@ is_installed() {
         express | jsdom) [[ -e /usr/share/nodejs/$1 ]] ;;
         node-base62) is_installed node && [[ -e /usr/share/nodejs/base62 ]] ;;
         ruby-base62) ruby -r base62 -e '' ;;
-        gmp.h) printf '#include <gmp.h>\n' | gcc -fsyntax-only -xc - ;;
         Python.h) python3 -c 'import os, sysconfig; os.stat(sysconfig.get_path("include") + "/Python.h")' ;;
         postgres) compgen -G '/usr/lib/postgresql/*/bin/postgres' ;;
         postgres.h) compgen -G '/usr/include/postgresql/*/server/postgres.h' ;;
@@ -121,12 +120,13 @@ has() {
     is_installed "$1" || ! skip "$2" "$1"
 }
 
-# The newest version of each compiler and linter whose warnings fail a check. Those of a later one are shown.
-declare -A newest=([cargo]=1.97 [clang]=21 [clang-tidy]=21 [gcc]=16 [mypy]=2.4)
+# The compilers and linters of the gate, by the version whose warnings fail a check. Each version has rules of its own, so
+# those of any other one are only printed.
+declare -A pinned=([cargo]=1.95 [clang]=14 [clang-tidy]=14 [gcc]=12 [mypy]=1.0 [reuse]=1.1)
 
 # TOOL. Whether its warnings fail a check.
 is_strict() {
-    in_order "$(version_of "$1")" "${newest[${1/#*-gcc/gcc}]}.999"
+    [[ $(version_of "$1"). = "${pinned[${1/#*-gcc/gcc}]}".* ]]
 }
 
 # COMPILER. Its option by which warnings fail a check.
@@ -167,4 +167,14 @@ quietly() {
         exit 1
     }
     grep ': warning: ' "$work/said" >&2 || true
+}
+
+# COMMAND.. Runs tests, one of which has to pass. The runners end well if they find none: unittest, doctest -v, Node's,
+# Cargo's and PostgreSQL's.
+run_tests() {
+    quietly "$@"
+    grep -qE '^Ran [1-9]|^[1-9][0-9]* passed|^(#|ℹ) pass [1-9]|^test result: ok\. [1-9]|All [1-9][0-9]* tests' "$work/said" || {
+        echo "no test has passed: $*" >&2
+        exit 1
+    }
 }

@@ -72,12 +72,13 @@ def append(fence: str, text: str, folder: Path, begun: set[Path]) -> None:
 
 def run(page: Path, folder: Path, wanted: list[bool]) -> None:
     begun = set[Path]()
-    printed = None
+    printed, count = None, 0
     for number, fence, text in parts(page):
         append(fence, text, folder, begun)
         if fence == "sh" and bool(CALLS_KIT.search(text)) not in wanted:
             printed = PASSED_OVER
         elif fence == "sh":
+            count += 1
             print(f"{page}:{number}: runs:\n{text}", end="", flush=True)
             ran = subprocess.run(["sh", "-euc", text], cwd=folder, stdin=subprocess.DEVNULL, stdout=subprocess.PIPE, text=True)
             if ran.returncode:
@@ -87,6 +88,8 @@ def run(page: Path, folder: Path, wanted: list[bool]) -> None:
             if printed not in (text, PASSED_OVER):
                 raise SystemExit(f"{page}:{number}: this is not what it printed:\n{printed}")
             printed = None
+    if wanted and not count:
+        raise SystemExit(f"{page}: it has no block to run")
 
 
 def main() -> None:

@@ -5,16 +5,21 @@
  * errors. Every function is static, so that a program that links a module gets no further names from it.
  *
  * A function that returns bool writes its result and returns true, or stores why it fails in *error and returns false.
- * A null alphabet is the standard one. */
+ * Decoding functions store nothing if error is null. A null alphabet is the standard one. */
 #ifndef BASE62_COMMON_H
 #define BASE62_COMMON_H
 
 #include "base62.h"
+#include <stdarg.h>
 #include <stdbool.h>
+#include <stdio.h>
 #include <string.h>
 
 /* No number needs more than 22 characters. A greater width fills a wider column; far greater ones only take time. */
 #define MAX_WIDTH 1000
+
+/* How many bytes of a rejected value a message has: as many as each number and each UUID has. */
+#define MAX_SHOWN 40
 
 /* PostgreSQL has an error code for each kind. */
 typedef enum {
@@ -23,52 +28,76 @@ typedef enum {
     INVALID_PARAMETER
 } error_kind;
 
-/* The message is English, in ASCII, and not terminated. */
+/* The message is a string in English, of printable ASCII. Of the bytes of a value each may take four characters. */
 typedef struct {
     error_kind kind;
-    size_t length;
-    char message[BASE62_MAX_FAULT_TEXT];
+    char message[BASE62_MAX_ERROR_MESSAGE + 4 * MAX_SHOWN + sizeof ": x'...'"];
 } call_error;
 
-/* Errors */
+/* Errors. Each of these functions returns false. */
 
-static inline bool fail_with(call_error *error, error_kind kind, const char *message) {
+#ifdef __GNUC__
+__attribute__((__format__(__printf__, 3, 4)))
+#endif
+static inline bool fail_with(call_error *error, error_kind kind, const char *format, ...) {
+    va_list values;
     error->kind = kind;
-    error->length = strlen(message);
-    memcpy(error->message, message, error->length);
+    va_start(values, format);
+    vsnprintf(error->message, sizeof error->message, format, values);
+    va_end(values);
     return false;
 }
 
 static inline bool fail_with_status(call_error *error, base62_status status, base62_bad_byte bad) {
-    error->kind = INVALID_TEXT;
-    if (status == BASE62_OVERFLOW)
-        error->kind = OUT_OF_RANGE;
-    if (status == BASE62_REPEATED_LETTER)
-        error->kind = INVALID_PARAMETER;
-    error->length = base62_fault_text(status, bad, error->message, sizeof error->message);
+    char message[BASE62_MAX_ERROR_MESSAGE];
+    size_t length = base62_error_message(status, bad, message, sizeof message);
+    error_kind kind = status == BASE62_OVERFLOW          ? OUT_OF_RANGE
+                      : status == BASE62_REPEATED_CHARACTER ? INVALID_PARAMETER
+                                                         : INVALID_TEXT;
+    return fail_with(error, kind, "%.*s", (int)length, message);
+}
+
+/* Appends a value to the message, shortened: a string if opening is "'", a blob if it is "x'", and otherwise digits. */
+static inline bool show(call_error *error, const char *opening, const char *value, size_t length) {
+    char *next = error->message + strlen(error->message);
+    next += sprintf(next, ": %s", opening);
+    for (size_t i = 0; i < length && i < MAX_SHOWN; i++) {
+        unsigned char byte = (unsigned char)value[i];
+        if (*opening == 'x')
+            next += sprintf(next, "%02x", byte);
+        else
+            next += sprintf(next, 32 <= byte && byte < 127 ? "%c" : "\\x%02x", byte);
+    }
+    sprintf(next, "%s%s", length > MAX_SHOWN ? "..." : "", *opening == '\0' ? "" : "'");
     return false;
 }
 
 /* Arguments */
 
-/* Other characters than ASCII would make invalid texts in a database, and a null byte would end them. */
-static inline bool create_alphabet(const char *letters, size_t length, base62_alphabet *alphabet, call_error *error) {
+/* Other characters than ASCII would make invalid strings in a database, and a null byte would end them. */
+static inline bool create_alphabet(const char *characters, size_t length, base62_alphabet *alphabet,
+                                   call_error *error) {
     base62_bad_byte bad = {0, 0};
-    base62_status status;
-    bool ascii = length == BASE62_ALPHABET_LENGTH;
-    for (size_t i = 0; ascii && i < length; i++) {
-        unsigned char letter = (unsigned char)letters[i];
-        ascii = 0 < letter && letter < 128;
-    }
+    base62_status status = BASE62_OK;
+    bool ascii = true;
+    for (size_t i = 0; i < length; i++)
+        ascii = ascii && (unsigned char)characters[i] < 128;
     if (!ascii)
-        return fail_with(error, INVALID_PARAMETER, "an alphabet has 62 ASCII characters");
-    status = base62_make_alphabet(letters, alphabet, &bad);
-    return status == BASE62_OK || fail_with_status(error, status, bad);
+        fail_with(error, INVALID_PARAMETER, "the alphabet has a non-ASCII character");
+    else if (memchr(characters, '\0', length) != NULL)
+        fail_with(error, INVALID_PARAMETER, "the alphabet has a null character");
+    else if (length != BASE62_ALPHABET_LENGTH)
+        fail_with(error, INVALID_PARAMETER, "the alphabet has %u characters, not 62", (unsigned)length);
+    else if ((status = base62_alphabet_init(alphabet, characters, &bad)) == BASE62_OK)
+        return true;
+    else
+        fail_with_status(error, status, bad);
+    return show(error, "'", characters, length);
 }
 
 static inline bool number_of_int64(int64_t value, base62_number *number, call_error *error) {
     *number = base62_from_u64((uint64_t)value);
-    return value >= 0 || fail_with(error, OUT_OF_RANGE, "a negative number has no base62 string");
+    return value >= 0 || fail_with(error, OUT_OF_RANGE, "the number is negative: %lld", (long long)value);
 }
 
 /* Returns whether the number is below 2^63, and if so writes it. */
@@ -82,7 +111,7 @@ static inline bool int64_of_number(base62_number number, int64_t *value) {
 
 static inline bool check_width(int64_t width, call_error *error) {
     bool valid = 1 <= width && width <= MAX_WIDTH;
-    return valid || fail_with(error, INVALID_PARAMETER, "a width is an integer from 1 to 1000");
+    return valid || fail_with(error, INVALID_PARAMETER, "the width is not from 1 to 1000: %lld", (long long)width);
 }
 
 /* Encoding, decoding and ranges */
@@ -98,7 +127,8 @@ static inline bool encode_width(const base62_alphabet *alphabet, base62_number n
                                 call_error *error) {
     size_t length = alphabet == NULL ? base62_encode_fixed(number, buffer, width)
                                      : base62_encode_fixed_with(alphabet, number, buffer, width);
-    return length != 0 || fail_with(error, OUT_OF_RANGE, "the number needs more characters than the width");
+    return length != 0 || fail_with(error, OUT_OF_RANGE, "the number needs %u characters, and the width is %u",
+                                    (unsigned)base62_digit_count(number), (unsigned)width);
 }
 
 static inline bool decode_text(const base62_alphabet *alphabet, const char *text, size_t length, bool canonical,
@@ -111,7 +141,28 @@ static inline bool decode_text(const base62_alphabet *alphabet, const char *text
     else
         status = alphabet == NULL ? base62_decode(text, length, number, &bad)
                                   : base62_decode_with(alphabet, text, length, number, &bad);
-    return status == BASE62_OK || fail_with_status(error, status, bad);
+    if (status != BASE62_OK && error != NULL) {
+        fail_with_status(error, status, bad);
+        show(error, "'", text, length);
+    }
+    return status == BASE62_OK;
+}
+
+/* Decodes a number below 2^63. The error of a greater one names a function that takes it: wider, or, if only canonical
+ * strings are decoded, wider_canonical. */
+static inline bool decode_int64(const base62_alphabet *alphabet, const char *text, size_t length, bool canonical,
+                                const char *wider, int64_t *value, call_error *error) {
+    base62_number number;
+    if (!decode_text(alphabet, text, length, canonical, &number, error))
+        return false;
+    if (int64_of_number(number, value))
+        return true;
+    if (error != NULL) {
+        fail_with(error, OUT_OF_RANGE, "the number is 2^63 or more, which %s%s takes", wider,
+                  canonical ? "_canonical" : "");
+        show(error, "'", text, length);
+    }
+    return false;
 }
 
 /* Finds the numbers whose strings of the width begin with the prefix. If there are none, only sets *empty. */
@@ -119,10 +170,10 @@ static inline bool range_of_prefix(const base62_alphabet *alphabet, const char *
                                    base62_range *range, bool *empty, call_error *error) {
     base62_bad_byte bad = {0, 0};
     base62_status status = alphabet == NULL
-                               ? base62_fixed_range(width, prefix, length, range, &bad)
-                               : base62_fixed_range_with(alphabet, width, prefix, length, range, &bad);
-    *empty = status == BASE62_NO_KEY;
-    return *empty || status == BASE62_OK || fail_with_status(error, status, bad);
+                               ? base62_prefix_range(prefix, length, width, range, &bad)
+                               : base62_prefix_range_with(alphabet, prefix, length, width, range, &bad);
+    *empty = status == BASE62_NO_MATCH;
+    return *empty || status == BASE62_OK || fail_with_status(error, status, bad) || show(error, "'", prefix, length);
 }
 
 /* The first or the last number of the range that is below 2^63. Returns whether there is one. */

@@ -31,7 +31,7 @@ HEAD = r"""
 #   range     ALPHABET  WIDTH  PREFIX  RANGE   the numbers whose texts of WIDTH letters begin with the prefix
 #   uuid      NUMBER  UUID  TEXT               the number as a UUID, and its canonical standard text
 #   form      STRING  UUID | none              a string that stands for a UUID, in lowercase with hyphens, or for none
-#   message   TEXT  FAULT                      the text of an error
+#   message   TEXT  FAULT                      the text of an error, but that Rust has another one for overflow
 #
 # FAULT  empty | overflow | byte BYTE INDEX
 #        in messages also: zero (a leading one) | narrow (a buffer is too small) | none (no text has the prefix) |
@@ -160,7 +160,7 @@ def escaped(byte: int) -> str:
 def message(fault: Result) -> str:
     texts = {
         "empty": "Encoded input is an empty string",
-        "overflow": "Decoded number cannot fit into a `u128`",
+        "overflow": "Decoded number is 2^128 or more",
         "byte": "Encoded input contains the invalid byte b'{}' at index {}",
         "zero": "Encoded input has a leading zero",
         "narrow": "Buffer too small to encode the number",
@@ -334,7 +334,7 @@ KNOWN_MESSAGES: list[tuple[str, Result]] = [
     ("Encoded input contains the invalid byte b'\\n' at index 10", ("byte", 10, 10)),
     ("Alphabet repeats the byte b'\\'' at index 61", ("repeated", 39, 61)),
     ("Alphabet repeats the byte b'0' at index 1", ("repeated", 48, 1)),
-    ("Decoded number cannot fit into a `u128`", ("overflow",)),
+    ("Decoded number is 2^128 or more", ("overflow",)),
     ("Encoded input is an empty string", ("empty",)),
     ("Buffer too small to encode the number", ("narrow",)),
     ("Encoded input has a leading zero", ("zero",)),

@@ -18,26 +18,16 @@ import functools
 import pathlib
 import re
 
-# Not where a link leads: there another base62.c may stand.
-FOLDER = pathlib.Path(__file__).absolute().parent
+FOLDER = pathlib.Path(__file__).resolve().parent
 
 # In the order in which they need each other.
-ANNOTATIONS = ("numbers faults powers results digits alphabets tables readers decoder texts canonical ranges fractions"
-               " parts writers counts encoders fixed uuids exports").split()
-
-
-def text_of(path):
-    """A file of lines of printable characters. Others, as a carriage return, compilers and this program may read
-    otherwise."""
-    text = path.read_bytes().decode() if path.is_file() else "\0"
-    if not text.replace("\n", "").isprintable():
-        raise SystemExit(f"no file, or a character that is not printable: {path}")
-    return text
+ANNOTATIONS = ("numbers faults powers digits alphabets tables readers decoder texts ranges fractions"
+               " parts writers counts encoders fixed uuids").split()
 
 
 def laws():
     """The text of all laws and examples."""
-    return text_of(FOLDER / "laws.c") + text_of(FOLDER / "examples.c")
+    return (FOLDER / "laws.c").read_text() + (FOLDER / "examples.c").read_text()
 
 
 def expanded(text):
@@ -53,7 +43,7 @@ def expanded(text):
 @functools.cache
 def lists():
     """The texts of all lists."""
-    return [expanded(text_of(FOLDER / "annotations" / f"{name}.acsl")) for name in ANNOTATIONS]
+    return [expanded((FOLDER / "annotations" / f"{name}.acsl").read_text()) for name in ANNOTATIONS]
 
 
 @functools.cache

@@ -4,7 +4,8 @@ in which macros are replaced. Its numbers are signed, of 192 bits: enough for ea
 import functools
 import subprocess
 
-import tokens
+# Where all tools are.
+PATH = "/usr/bin:/bin"
 
 
 @functools.cache
@@ -12,7 +13,7 @@ def answers(query):
     """What each prover says of a query. It has to be unsat: nothing contradicts the axiom."""
     commands = ["z3", "-in"], ["cvc5", "--lang=smt2"]
     text = f"(set-logic QF_BV)\n{query}\n"
-    said = [subprocess.run(command, input=text, env={"PATH": tokens.PATH}, capture_output=True, text=True, timeout=300)
+    said = [subprocess.run(command, input=text, env={"PATH": PATH}, capture_output=True, text=True, timeout=300)
             for command in commands]
     return [(command[0], ran.stdout.strip()) for command, ran in zip(commands, said)]
 

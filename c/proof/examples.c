@@ -37,11 +37,11 @@ static size_t compute_decimals(size_t number) {
 /* The index stands behind the text, in decimal. */
 //@ assigns \nothing; ensures \result == bad.index;
 size_t index_again(base62_bad_byte bad) {
-    char text[BASE62_MAX_FAULT_TEXT];
+    char text[BASE62_MAX_ERROR_MESSAGE];
     size_t again = 0;
     const size_t count = compute_decimals(bad.index);
     escape(bad.byte);
-    const size_t length = base62_fault_text(BASE62_INVALID_BYTE, bad, text, sizeof text);
+    const size_t length = base62_error_message(BASE62_INVALID_BYTE, bad, text, sizeof text);
     /*@ loop invariant 0 <= i <= count && again == without_decimals(bad.index, count - i);
         loop assigns i, again; loop variant count - i; */
     for (size_t i = 0; i < count; i++) {
@@ -68,28 +68,28 @@ size_t index_again(base62_bad_byte bad) {
 // == prove texts_by_example: asserts named same with tables
 /*@ requires \valid(buffer + (0 .. size - 1));
     assigns buffer[0 .. size - 1];
-    ensures longest: \result <= BASE62_MAX_FAULT_TEXT;
-    ensures roomy: size >= BASE62_MAX_FAULT_TEXT && 1 <= status <= 7 ==> \result > 0;
+    ensures longest: \result <= BASE62_MAX_ERROR_MESSAGE;
+    ensures roomy: size >= BASE62_MAX_ERROR_MESSAGE && 1 <= status <= 7 ==> \result > 0;
     ensures none: status == 0 || status > 7 ==> \result == 0;
     ensures rejected: \result == 0 && 1 <= status <= 7 ==> size < (status == 1 ? 37 : status == 2 ? 32
-        : status == 3 ? NAMED(35) : status == 4 ? 39 : status == 5 ? 46 : status == 6 ? NAMED(21) : 32);
+        : status == 3 ? NAMED(35) : status == 4 ? 31 : status == 5 ? 46 : status == 6 ? NAMED(21) : 32);
     ensures stays: \forall integer i; \result <= i < size ==> buffer[i] == \old(buffer[i]);
     ensures too_small: TEXT_OF(1, 37, 'B', 'r');
     ensures empty: TEXT_OF(2, 32, 'E', 'g');
     ensures bad: TEXT_THAT_NAMES(3, 35, 'E');
-    ensures overflow: TEXT_OF(4, 39, 'D', '`');
+    ensures overflow: TEXT_OF(4, 31, 'D', 'e');
     ensures no_key: TEXT_OF(5, 46, 'N', 'x');
     ensures repeated: TEXT_THAT_NAMES(6, 21, 'A');
     ensures leading_zero: TEXT_OF(7, 32, 'E', 'o');
 */
 size_t texts_by_example(base62_status status, base62_bad_byte bad, char *buffer, size_t size) {
     /*@ assert same: too_small_text[0] == 'B' && too_small_text[36] == 'r' && empty_text[0] == 'E'
-            && empty_text[31] == 'g' && overflow_text[0] == 'D' && overflow_text[38] == '`' && no_key_text[0] == 'N'
-            && no_key_text[45] == 'x' && leading_zero_text[0] == 'E' && leading_zero_text[31] == 'o'
+            && empty_text[31] == 'g' && overflow_text[0] == 'D' && overflow_text[30] == 'e' && no_match_text[0] == 'N'
+            && no_match_text[45] == 'x' && leading_zero_text[0] == 'E' && leading_zero_text[31] == 'o'
             && invalid_text[0] == 'E'
             && invalid_text[34] == ' ' && repeated_text[0] == 'A' && repeated_text[20] == ' ' && byte_text[0] == 'b'
             && byte_text[6] == '\'' && index_text[0] == '\'' && index_text[10] == ' '; */
     escape(bad.byte);
     compute_decimals(bad.index);
-    return base62_fault_text(status, bad, buffer, size);
+    return base62_error_message(status, bad, buffer, size);
 }

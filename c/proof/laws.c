@@ -301,7 +301,7 @@ base62_status decode(OVER, int is_strict, const char *text, size_t length, base6
     requires \separated(range, bad, prefix + (0 .. length - 1)) && APART(range) && APART(bad);
     assigns *range, *bad;
     ensures rejected: \result == BASE62_INVALID_BYTE <==> bad_index{Pre}(letters, BYTES(prefix), length) < length;
-    ensures status: \result == BASE62_INVALID_BYTE || \result == BASE62_NO_KEY || \result == BASE62_OK;
+    ensures status: \result == BASE62_INVALID_BYTE || \result == BASE62_NO_MATCH || \result == BASE62_OK;
     ensures result: \result == range_status{Pre}(letters, BYTES(prefix), length, width);
     ensures least: \result == BASE62_OK ==>
         number_of(range->least) == least_of{Pre}(letters, BYTES(prefix), length, width);
@@ -321,8 +321,8 @@ base62_status find_range(OVER, form how, size_t width, const char *prefix, size_
     /*@ assert ends: length <= width ==>
             least_of(letters, BYTES(prefix), length, width) < next_of(letters, BYTES(prefix), length, width); */
     if (how == KEY) return base62_key_range(prefix, length, range, bad);
-    if (letters == standard_letters) return base62_fixed_range(width, prefix, length, range, bad);
-    return base62_fixed_range_with(alphabet, width, prefix, length, range, bad);
+    if (letters == standard_letters) return base62_prefix_range(prefix, length, width, range, bad);
+    return base62_prefix_range_with(alphabet, prefix, length, width, range, bad);
 }
 
 /*
@@ -335,7 +335,7 @@ base62_status find_range(OVER, form how, size_t width, const char *prefix, size_
     ensures made: \result == BASE62_OK <==> \forall integer i, j; 0 <= i < j < 62 ==> letters[i] != letters[j];
     ensures as_good: \result == BASE62_OK ==> are_of(LETTERS(alphabet), alphabet);
     ensures letters: \result == BASE62_OK ==> are_same(LETTERS(alphabet), BYTES(letters), 62);
-    ensures rejected: \result != BASE62_OK ==> \result == BASE62_REPEATED_LETTER;
+    ensures rejected: \result != BASE62_OK ==> \result == BASE62_REPEATED_CHARACTER;
     ensures alphabet: \result != BASE62_OK ==>
         \forall integer i; 0 <= i < 318 ==> alphabet->bytes[i] == \old(alphabet->bytes[i]);
     ensures byte: \result != BASE62_OK ==> bad->index < 62 && bad->byte == BYTES(letters)[bad->index];
@@ -346,7 +346,7 @@ base62_status find_range(OVER, form how, size_t width, const char *prefix, size_
     ensures bad: \result == BASE62_OK ==> *bad == \old(*bad);
 */
 base62_status makes(const char *letters, base62_alphabet *alphabet, base62_bad_byte *bad) {
-    return base62_make_alphabet(letters, alphabet, bad);
+    return base62_alphabet_init(alphabet, letters, bad);
 }
 
 /* With other bytes than those of an alphabet a call writes what it may all the same, and nothing else. */
@@ -363,7 +363,7 @@ void uninitialized(const base62_alphabet *alphabet, const char *text, size_t len
     base62_encode_fixed_with(alphabet, number, places, width);
     base62_decode_with(alphabet, text, length, &number, &bad);
     base62_decode_canonical_with(alphabet, text, length, &number, &bad);
-    base62_fixed_range_with(alphabet, width, text, length, &range, &bad);
+    base62_prefix_range_with(alphabet, text, length, width, &range, &bad);
 }
 
 /* -------------------- Back again -------------------- */
@@ -524,8 +524,8 @@ int is_letter(OVER, unsigned d) {
     ensures last: (\forall integer i; 0 <= i < 15 ==> uuid[i] == 0) ==> number_of(\result) == uuid[15];
 */
 base62_number number_back_again(const unsigned char *uuid, unsigned char *again) {
-    const base62_number number = base62_number_of_uuid(uuid);
-    base62_uuid_of_number(number, again);
+    const base62_number number = base62_from_uuid(uuid);
+    base62_to_uuid(number, again);
     /*@ loop invariant 0 <= i <= 16;
         loop invariant are_same(again, uuid, i) <==> uuid_value(again, i) == uuid_value{Pre}(uuid, i);
         loop invariant i < 16 && (\forall integer j; 0 <= j < i ==> uuid[j] == 0) ==> uuid_value{Pre}(uuid, i) == 0;

@@ -1,4 +1,4 @@
-#!/usr/bin/python3 -IBS
+#!/usr/bin/python3 -B
 """Changes base62.c in one place after the other: c/proof/mutate_code.py [FUNCTIONS..]
 
 Each change has to leave a goal of its function without a proof. OPERATORS says what is exchanged for what in a body;
@@ -6,13 +6,9 @@ besides, each statement is left out, and two arguments next to each other are ex
 constant tables, and the function that reads them. mutate_specification.py tries the changes, and says how.
 """
 
+import re
 import sys
 
-sys.flags.isolated and sys.flags.no_site or sys.exit("run the file itself, as its first line says")
-sys.pycache_prefix = "/nonexistent"
-sys.path.append(__file__.rpartition("/")[0] or ".")  # Behind Python's own modules.
-
-import re
 import annotate
 import mutate_specification
 import wp
@@ -25,12 +21,15 @@ OPERATORS = [
     ("&&", "||"), (r"\|\|", "&&"), (r"(?<= )\+(?= )", "-"), ("(?<= )-(?= )", "+"), (r"(?<= )\*(?= )", "+"),
     ("(?<= )/(?= )", "%"), ("(?<= )%(?= )", "/"), ("<<", ">>"), ("(?<= )>>", "<<"), (r"(?<=[ (])!(?=\w)", ""),
     ("(?<= )&(?= )", "|"), (r"(?<= )\|(?= )", "&"), (r"\.high\b", ".low"), (r"\.low\b", ".high"),
-    (r"\btrue\b", "false"), (r"\bfalse\b", "true"), (r"\bstandard_", "alternative_"), (r"\balternative_", "standard_"),
-    (NUMBER, r"(\g<0> + 1)"), (r"\bB62_(?:POWER_\d+|[A-Z]+_[A-Z_]+|OK|OVERFLOW)\b(?!\()", r"(\g<0> + 1)"), (STATEMENT, ";"),
+    (r"\btrue\b", "false"), (r"\bfalse\b", "true"),
+    (r"(?<=&)B62_STANDARD\b", "B62_ALTERNATIVE"), (r"(?<=&)B62_ALTERNATIVE\b", "B62_STANDARD"),
+    (r"\bBASE62_(?:BUFFER_TOO_SMALL|REPEATED_LETTER)\b", "BASE62_OVERFLOW"),
+    (NUMBER, r"(\g<0> + 1)"), (r"\bB62_(?:POWER_\d+|[A-Z]+_[A-Z_]+\d*|OK|OVERFLOW)\b(?!\()", r"(\g<0> + 1)"),
+    (r"\bBASE62_(?:MAX_DIGITS|KEY_LENGTH)\b", r"(\g<0> + 1)"), (r"\bBASE62_OVERFLOW\b", "BASE62_OK"),
+    (r"\bBASE62_(?:OK|EMPTY_INPUT|INVALID_BYTE|NO_KEY|NOT_CANONICAL)\b", "BASE62_OVERFLOW"), (STATEMENT, ";"),
 ]
-TEXT = (r'"(?=\w)', '"x')
 TABLES = [
-    ("B62_POWERS", NUMBER, "power"), ("B62_GREATEST", NUMBER, "greatest"),
+    ("B62_GREATEST", NUMBER, "greatest"),
     ("B62_GREATEST_NARROW", "(?!^)" + NUMBER, "greatest_narrow"),  # No number has no letters.
     ("B62_STANDARD", "'A'", "standard_letter"), ("B62_STANDARD", r"\b10\b", "standard_byte"),
     ("B62_ALTERNATIVE", "'A'", "alternative_letter"), ("B62_ALTERNATIVE", r"\b10\b", "alternative_byte"),
@@ -40,30 +39,30 @@ TABLES = [
 SAME = {
     # Of two equal numbers either is the lesser.
     "usize_min: static B62_ALWAYS_INLINE size_t usize_min(size_t a, size_t b) { return a <= b ? a : b; }",
-    # The mask has no upper half, and the halves differ there.
-    "u128_and: static B62_ALWAYS_INLINE u128 u128_and(u128 a, u128 b) { return (u128){a.low & b.high, a.low & b.low}; }",
+    # The halves differ there.
     "u128_less: static B62_ALWAYS_INLINE bool u128_less(u128 a, u128 b)"
     " { return a.high == b.high ? a.low < b.low : a.high <= b.high; }",
-    # The first byte is looked at before the loop.
-    "count_zeros: for (size_t i = (0 + 1); i < input_length; i++) {",
-    # Twice what is added for rounding changes no letter either, the fraction never equals `upper`, and five letters are
-    # written by either function.
-    "fraction_of: const uint64_t fraction = u64_wrapping_add(scaled + (1 + 1), upper);",
-    "fraction_of: return (pair_u64_u64){(uint64_t)(fraction <= upper), fraction};",
-    "divide_narrow_by_62_10: u128_of(UINT64_C(12669882045338564947))), 59), u128_of((1 + 1))));",
-    "write_up_to_9: if (places > (4 + 1)) {",
-    # Five bytes are read by either function.
-    "read_up_to_10: if (part_length > 5) {",
-    # check_letters gives the error of a bad byte too.
-    "range_found: if (!answer.is_ok || answer.err.tag == DecodeError_ArithmeticOverflow_tag) {",
+    # Twice what is added for rounding changes no digit either, and five digits are written by either function.
+    "fraction_of: return u128_add(u128_of(scaled + (1 + 1)), u128_of(upper));",
+    "divide_narrow_by_62_10: return u128_add(u128_shift_right_1_to_63(u128_mul_64(n, UINT64_C(12669882045338564947)), 59),"
+    " u128_of((1 + 1)));",
+    "write_up_to_9: if (count > (4 + 1)) {",
+    # Five digits are read by either function, and 20 too.
+    "read_up_to_10: if (count <= 5) return read_more(tables, 0, text, count);",
+    "read_up_to_10: if (count < (5 + 1)) return read_more(tables, 0, text, count);",
+    "decode_over: if (count < 20) {",
+    # A call stores another value, or this one is not read.
+    "read_long: u128 n = {(0 + 1), 0};", "read_long: u128 n = {0, (0 + 1)};",
+    "decode_padded: base62_number number = {(0 + 1), 0};", "decode_padded: base62_number number = {0, (0 + 1)};",
+    *(f"range_over: base62_range found = {{{{{a}}}, {{{b}}}}};" for a, b in (
+        ("(0 + 1), 0", "0, 0"), ("0, (0 + 1)", "0, 0"), ("0, 0", "(0 + 1), 0"), ("0, 0", "0, (0 + 1)"))),
     # All bytes are written again.
-    "append_decimal: uint8_t digits[20] = {(0 + 1)};", "Alphabet_new: uint8_t digits[256] = {(0 + 1)};",
-    "encode_key: without fill_bytes(key, 0, 22);", "encode_key: fill_bytes(key,22, 0);", "encode_key: fill_bytes(key, (0 + 1), 22);",
+    "append_decimal: uint8_t digits[20] = {(0 + 1)};", "base62_alphabet_init: uint8_t digits[256] = {(0 + 1)};",
+    "base62_error_message: uint8_t message[BASE62_MAX_ERROR_MESSAGE] = {(0 + 1)};",
 }
 
 # Of two arguments of these the order does not matter.
-COMMUTATIVE = re.compile(r"\b(?:u128_(?:add|and|equal|mul|mul_64|or|checked_add|checked_mul|saturating_add)"
-                         r"|u64_wrapping_add|usize_min)\($")
+COMMUTATIVE = re.compile(r"\b(?:u128_(?:add|equal|mul_64|checked_mul|saturating_add)|usize_min)\($")
 
 
 def places(code):
@@ -77,9 +76,10 @@ def places(code):
         start = code.index("{", starts[first])
         body = "\n".join(bare)[start:starts[last + 1]]
         found = [(*each.span(), each.expand(new)) for old, new in OPERATORS for each in re.finditer(old, body)]
-        found += [(*each.span(), TEXT[1]) for each in re.finditer(TEXT[0], code[start:starts[last + 1]])]
         found += [each for each in mutate_specification.exchanges(body) if not COMMUTATIVE.search(body[:each[0]])]
         yield from ((name, start + first, start + last, new) for first, last, new in sorted(found))
+    for each in re.finditer(r'const uint8_t B62_(\w+)_TEXT\[\] = "', code):
+        yield each[1].lower() + "_is_same", each.end() - 1, each.end(), '"x'
     for table, old, name in TABLES:
         start = re.search(rf"\b{table}\b[^;(]*?= {{", code).end()
         for each in re.finditer(old, code[start:code.index("};", start)]):
@@ -96,6 +96,6 @@ def changes(text):
 
 
 if __name__ == "__main__":
-    annotated = annotate.annotated(annotate.text_of(wp.CODE))
+    annotated = annotate.annotated(wp.CODE.read_text())
     chosen = [change for change in changes(annotated) if not sys.argv[1:] or change[0][0] in sys.argv[1:]]
     sys.exit(mutate_specification.tried(chosen, SAME, lambda folder, text: wp.prepared(folder, text or annotated)))

@@ -1,4 +1,4 @@
-#!/usr/bin/python3 -IBS
+#!/usr/bin/python3 -B
 """Changes base62.acsl in one place after the other: c/proof/mutate_specification.py [TEXTS..]
 
 Each change has to leave a law or an example without a proof. OPERATORS says what is exchanged for what, wherever it
@@ -10,16 +10,12 @@ uses all of its time. So it has three times as long as the slowest goal of the f
 seconds more. A change that Frama-C cannot read is not tried.
 """
 
-import sys
-
-sys.flags.isolated and sys.flags.no_site or sys.exit("run the file itself, as its first line says")
-sys.pycache_prefix = "/nonexistent"
-sys.path.append(__file__.rpartition("/")[0] or ".")  # Behind Python's own modules.
-
 import os
 import pathlib
 import re
+import sys
 import tempfile
+
 import annotate
 import wp
 
@@ -74,8 +70,8 @@ SAME = {
     r"&& \exists integer i; 0 < i < index && letters[i] == letters[index];",
     "predicate is_alphabet{L}(unsigned char *letters) = are_distinct(letters, (62 - 1));",
     r"\true && are_distinct(letters, index)", "index <= 62 && are_distinct(letters, index)",
-    r": width == 0 || n > width || \false ? BASE62_NO_KEY",
-    ": width == 0 || n > width || least_of(letters, prefix, n, width) > ACSL_2_128 ? BASE62_NO_KEY",
+    r": width == 0 || n > width || \false ? BASE62_NO_MATCH",
+    ": width == 0 || n > width || least_of(letters, prefix, n, width) > ACSL_2_128 ? BASE62_NO_MATCH",
     *(f"n {it} : uuid_value(uuid, n - 1) * 256 + uuid[n - 1];" for it in ("< 0 ? 0", "<= 0 ? 1")),
     r"ensures \result == (number_of(number) <= ACSL_2_64 ? 1 : 0);",
     r"ensures \result == (number_of(number) < ACSL_2_64 ? 1 : 1);",
@@ -204,6 +200,6 @@ def tried(found, same, file_of):
 
 
 if __name__ == "__main__":
-    chosen = [change for change in changes(annotate.text_of(wp.SPECIFICATION))
+    chosen = [change for change in changes(wp.SPECIFICATION.read_text())
               if not sys.argv[1:] or any(text in change[1] for text in sys.argv[1:])]
     sys.exit(tried(chosen, SAME, lambda folder, text: wp.prepared(folder, annotate.laws(), text)))

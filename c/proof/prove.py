@@ -1,4 +1,4 @@
-#!/usr/bin/python3 -IBS
+#!/usr/bin/python3 -B
 """Proves base62.c and laws.c by Frama-C's WP: c/proof/prove.py [FUNCTIONS..]
 
 It prints the goals without a proof, how many are proved and how many failed, and the time. It fails if a goal has no
@@ -8,11 +8,9 @@ a requirement that nothing meets. It names each goal that takes over a third of 
 
 Variables: BITS (32 for a machine of 32 bits), CORES (how many functions are proved at once), LIMIT (seconds for a
 goal), WORK (an empty folder for the annotated code, the logs, and goals.tsv with the time of each goal), CACHE (a
-folder of results of provers, for a proof that is being made: it fails). Of this folder Python takes the four modules
-alone.
+folder of results of provers, for a proof that is being made: it fails).
 """
 
-import importlib.util
 import os
 import pathlib
 import re
@@ -20,19 +18,8 @@ import sys
 import tempfile
 import time
 
-sys.flags.isolated and sys.flags.no_site or sys.exit("run the file itself, as its first line says")
-sys.pycache_prefix = "/nonexistent"
-
-
-def module(name):
-    """A module of this folder, by its file: any other file of the folder is never looked for."""
-    spec = importlib.util.spec_from_file_location(name, pathlib.Path(__file__).with_name(f"{name}.py"))
-    sys.modules[name] = importlib.util.module_from_spec(spec)
-    spec.loader.exec_module(sys.modules[name])
-    return sys.modules[name]
-
-
-tokens, bits, annotate, wp = map(module, ("tokens", "bits", "annotate", "wp"))
+import annotate
+import wp
 
 
 def proved(file, mark, names):
@@ -60,7 +47,7 @@ def main(chosen):
     work = pathlib.Path(os.environ.get("WORK") or tempfile.mkdtemp()).resolve()
     if work.exists() and [*work.iterdir()]:
         sys.exit(f"not an empty folder: {work}")
-    file, code = wp.checked_code(work, annotate.text_of(wp.CODE))
+    file, code = wp.checked_code(work, wp.CODE.read_text())
     laws = wp.prepared(work / "laws", annotate.laws())
     of_laws = wp.checked(laws, calls=code.calls)
     wrong = code.wrong + of_laws.wrong + ["results are of CACHE"] * ("CACHE" in os.environ)

@@ -14,135 +14,109 @@ let file_of (place : location) = Filename.basename (Filepath.Normalized.to_prett
 let is_library (place : location) =
   String.starts_with ~prefix:"FRAMAC_SHARE/" (Filepath.Normalized.to_pretty_string (fst place).Filepath.pos_path)
 let at_place place what = Format.asprintf "%a: %s" Cil_printer.pp_location place what
+(* What is not on the list counts in base62.c and base62.h alone. *)
+let allow is_listed place what = if not is_listed then tell "unlisted" "" (at_place place ("not on the list: " ^ what))
 
-(* -------------------- The small C: a form that is not listed here is rejected -------------------- *)
+(* -------------------- The list: the C that base62.c and base62.h may be -------------------- *)
 
-module Forms = struct
+(* Each function is a table, from a kind of node to whether, or on which condition, it is allowed. What has no line of its
+   own is rejected. These are for the tree before types, `listed` below for the one with types. *)
+module Listed = struct
   open Cabs
-  let types = Hashtbl.create 50
-  let () = List.iter (fun name -> Hashtbl.replace types name ()) [ "uint8_t"; "uint32_t"; "uint64_t"; "size_t" ]
-  (* Calls within expressions, in an order that C leaves open. *)
-  let nested = ref []
-  let tell_if kind wrong place what = if wrong then tell kind "" (at_place place ("not on the list: " ^ what))
-  let reject_if = tell_if "form"
-  let is_static = List.mem (SpecStorage STATIC)
 
-  (* A type of one meaning on all targets, and a declarator. *)
-  let check_type ?(is_field = false) place spec decl declarators =
-    let decl = match decl with PARENTYPE ([], decl, []) -> decl | _ -> decl in
-    reject_if (is_field && List.mem (SpecCV CV_CONST) spec) place "a field that is const";
-    let is_type = function SpecCV CV_CONST | SpecStorage STATIC | SpecInline | SpecAttr _ -> false | _ -> true in
-    tell_if "open" (not (match List.filter is_type spec with
-      | [ SpecType Tbool ] | [ SpecType Tunsigned; SpecType Tchar ] -> true
-      (* Elsewhere its enumerators would have another scope in Frama-C, C90 or C++. *)
-      | [ SpecType (Tstruct ("", Some _, []) | Tenum ("", Some _, [])) ] -> is_field && file_of place <> "base62.h"
-      | [ SpecType (Tnamed name) ] -> Hashtbl.mem types name
-      | [ SpecType (Tvoid | Tint) ] -> decl = JUSTBASE && declarators = []
-      | [ SpecType Tchar ] -> decl <> JUSTBASE
-      | _ -> false)) place "a type";
-    reject_if (not (match decl with
-      | JUSTBASE -> true | ARRAY (JUSTBASE, [], { expr_node = NOTHING; _ }) -> not is_field
-      | ARRAY (JUSTBASE, [], { expr_node = CONSTANT (CONST_INT n); _ }) -> String.length n < 4 && n <> "0"
-      | _ -> List.mem decl declarators)) place "a declarator"
+  (* They have one size and one sign everywhere. The types that the files define are added. *)
+  let types = ref [ "uint8_t"; "uint32_t"; "uint64_t"; "size_t" ]
+  let specifier spec =
+    let is_plain = function SpecCV c -> c = CV_CONST | SpecStorage s -> s = STATIC | SpecPattern _ -> false | _ -> true in
+    List.for_all is_plain spec && match List.filter_map (function SpecType t -> Some t | _ -> None) spec with
+      | [ Tvoid | Tbool | Tint | Tchar | Tenum _ | Tstruct (_, None, _) ] | [ Tunsigned; Tchar ] -> true
+      | [ Tstruct (_, Some fields, _) ] ->
+        List.for_all (function FIELD (_, all) -> List.for_all (fun (_, bits) -> bits = None) all | _ -> false) fields
+      | [ Tnamed name ] -> List.mem name !types
+      | _ -> false
 
-  (* What a statement consists of, but for its parts: there an effect stands alone. *)
-  let rec alone e = e :: (match e.expr_node with CAST (_, SINGLE_INIT a) | PAREN a -> alone a | _ -> [])
-  let pointer = PTR ([], JUSTBASE)
+  (* It has one type everywhere. *)
+  let number text =
+    let is_of suffix = String.ends_with ~suffix (String.lowercase_ascii text) in
+    is_of "ll" || not (is_of "l") && (is_of "u" || String.starts_with ~prefix:"0x" text || int_of_string text < 0x80000000)
+  let is_ascii c = c < '\128'
+
+  let enumerators = ref []
+  let rec is_constant e = match e.expr_node with
+    | CONSTANT _ -> true | VARIABLE name -> List.mem name !enumerators
+    | PAREN a | CAST (_, SINGLE_INIT a) -> is_constant a | _ -> false
+  (* The parts of an expression that C evaluates one after the other: each may be an effect. *)
+  let rec alone e = e :: match e.expr_node with
+    | PAREN a | CAST (_, SINGLE_INIT a) | UNARY (NOT, a) -> alone a
+    | BINARY ((EQ | NE), a, b) when is_constant b -> alone a
+    | BINARY ((AND | OR), a, b) -> alone a @ alone b
+    | QUESTION (a, b, c) -> alone a @ alone b @ alone c
+    | BINARY (ASSIGN, { expr_node = VARIABLE _; _ }, ({ expr_node = CALL _; _ } as call)) -> [ call ]
+    | _ -> []
+  let expression may_have_effect e = match e.expr_node with
+    | NOTHING | VARIABLE _ | PAREN _ | QUESTION _ | INDEX _ | MEMBEROF _ | MEMBEROFPTR _ | CAST _ | EXPR_SIZEOF _ | TYPE_SIZEOF _
+    | UNARY ((NOT | MINUS | MEMOF | ADDROF), _)
+    | BINARY ((ADD | SUB | MUL | DIV | MOD | AND | OR | BAND | BOR | XOR | SHL | SHR | EQ | NE | LT | GT | LE | GE), _, _) -> true
+    | CONSTANT (CONST_INT n) -> number n
+    | CONSTANT (CONST_CHAR [ c ]) -> c < 128L
+    | CONSTANT (CONST_STRING s) -> Seq.fold_left (fun all c -> all && is_ascii c) true (String.to_seq s)
+    | BINARY ((ASSIGN | ADD_ASSIGN | SUB_ASSIGN | MUL_ASSIGN | DIV_ASSIGN | SHR_ASSIGN), _, _) | UNARY ((POSINCR | POSDECR), _) ->
+      may_have_effect
+    | CALL ({ expr_node = VARIABLE f; _ }, _, []) -> not (String.starts_with ~prefix:"__" f)  (* Those that write are below. *)
+    | _ -> false
+  let statement s = match s.stmt_node with
+    | NOP _ | COMPUTATION _ | RETURN _ | BLOCK _ | IF _ | WHILE _ | FOR (_, FC_DECL _, _, _, _, _) | DEFINITION (DECDEF _)
+    | CODE_ANNOT _ | CODE_SPEC _ -> true
+    | _ -> false
+  let is_variable = function PROTO _ | PTR (_, PROTO _) -> false | _ -> true
+  let definition d = match d with
+    | FUNDEF _ | TYPEDEF _ | GLOBANNOT _ -> true
+    | DECDEF (_, (_, all), _) -> not (List.exists (fun ((_, decl, _, _), init) -> is_variable decl && init = NO_INIT) all)
+    | _ -> false
+
+  (* Calls that may have no effect. *)
+  let nested_calls = ref []
 
   class walk = object
     inherit Cabsvisit.nopCabsVisitor
     val mutable effects = []
-    val mutable is_inside = false
     val mutable here = Cil_datatype.Location.unknown
-    (* The variable that is being declared. *)
-    val mutable declared = ""
 
     method! vexpr e =
       here <- e.expr_loc;
-      tell_if "open" (e.expr_node = VARIABLE declared) here "a variable that is initialized with itself";
+      let may_have_effect = List.memq e effects in
+      allow (expression may_have_effect e) here "an expression";
       (match e.expr_node with
-        | NOTHING | CONSTANT (CONST_INT _ | CONST_CHAR [ _ ] | CONST_STRING _) | VARIABLE _ | PAREN _ | QUESTION _ | INDEX _
-        | MEMBEROF _ | MEMBEROFPTR _ | EXPR_SIZEOF _ | UNARY ((NOT | MEMOF | MINUS), _)
-        | UNARY (ADDROF, { expr_node = VARIABLE _ | MEMBEROF _ | MEMBEROFPTR _ | INDEX _; _ })
-        | BINARY ((ADD | SUB | MUL | DIV | MOD | AND | OR | BAND | BOR | XOR | SHL | SHR | EQ | NE | LT | GT | LE | GE), _, _) -> ()
-        | BINARY ((ASSIGN | ADD_ASSIGN | SUB_ASSIGN | MUL_ASSIGN | DIV_ASSIGN | SHR_ASSIGN), _, _)
-        | UNARY ((POSINCR | POSDECR), _) when List.memq e effects -> ()
-        | CALL ({ expr_node = VARIABLE f; _ }, _, []) -> if not (List.memq e effects) then nested := (f, e.expr_loc) :: !nested
-        | CAST (([ SpecType Tvoid ], JUSTBASE), SINGLE_INIT { expr_node = VARIABLE _; _ }) when List.memq e effects -> ()
-        (* In C++ it ends with its expression. *)
-        | CAST (_, COMPOUND_INIT _) when file_of here = "base62.h" -> reject_if true here "an expression"
-        | CAST ((spec, decl), _) | TYPE_SIZEOF (spec, decl) -> check_type e.expr_loc spec decl [ pointer ]
-        | _ -> reject_if true e.expr_loc "an expression");
+        | CALL ({ expr_node = VARIABLE f; _ }, _, _) when not may_have_effect -> nested_calls := (f, here) :: !nested_calls
+        | _ -> ());
+      Cil.DoChildren
+
+    method! vattr _ = Cil.SkipChildren
+
+    method! vspec spec = allow (specifier spec) here "a type"; Cil.DoChildren
+
+    method! vtypespec t =
+      (match t with Tenum (_, Some all, _) -> enumerators := List.map (fun (name, _, _) -> name) all @ !enumerators | _ -> ());
       Cil.DoChildren
 
     method! vstmt s =
-      let place = Cabshelper.get_statementloc s in
+      here <- Cabshelper.get_statementloc s;
+      if not (statement s) then tell "rejected" "" (at_place here "not on the list: a statement");
       (match s.stmt_node with
-        | COMPUTATION (e, _) | RETURN (e, _) -> effects <- alone e
-        | FOR (_, FC_DECL _, _, step, _, _) -> effects <- [ step ]
-        | DEFINITION (DECDEF _) | NOP _ | CODE_ANNOT _ | CODE_SPEC _ | BLOCK _ | IF _ | WHILE _ -> ()
-        | _ -> reject_if true place "a statement");
-      Cil.DoChildren
-
-    method! vblock b = declared <- ""; reject_if (b.blabels <> [] || b.battrs <> []) here "a block"; Cil.DoChildren
-
-    method! vinitexpr i =
-      (match i with
-        | COMPOUND_INIT all ->
-          let name = function INFIELD_INIT (name, NEXT_INIT), _ -> name | NEXT_INIT, _ -> "" | _ -> "[" in
-          let names = List.sort_uniq compare (List.map name all) in
-          let is_wrong = List.mem "" names || List.mem "[" names || List.compare_lengths names all <> 0 in
-          reject_if (names <> [ "" ] && is_wrong) here "an initializer"
+        | COMPUTATION (e, _) | RETURN (e, _) | IF (e, _, _, _) | WHILE (_, e, _, _) -> effects <- alone e
+        | FOR (_, _, condition, step, _, _) -> effects <- alone condition @ alone step
         | _ -> ());
-      Cil.DoChildren
-
-    method! vtypespec t =
-      let is_field = function FIELD (_, all) -> List.for_all (fun (_, width) -> width = None) all | _ -> false in
-      let is_small (_, e, _) = match e.expr_node with NOTHING -> true | CONSTANT (CONST_INT n) -> String.length n < 4 | _ -> false in
-      reject_if (match t with
-        | Tstruct (_, Some all, []) -> all = [] || not (List.for_all is_field all) | Tenum (_, Some all, _) -> not (List.for_all is_small all)
-        | Tunion _ -> true | _ -> false) here "an empty struct, a union, a bit field or an enumerator";
-      Cil.DoChildren
-
-    (* Those of base62.h stand in the middle of a type. The walk over the tree below knows their names. *)
-    method! vattr _ = Cil.SkipChildren
-
-    method! vname kind spec (name, decl, attributes, place) =
-      declared <- name;
-      let has_type_name = kind <> Cabsvisit.NType && Hashtbl.mem types name in
-      reject_if (has_type_name || attributes <> [] || List.mem SpecInline spec && not (is_static spec)) place "an attribute or a name";
-      (* uint8_t (max_align_t) is a parameter in C99, and a parameter of type function in C11. *)
-      (match decl with
-        | PROTO (_, all, _, _) | PTR (_, PROTO (_, all, _, _)) ->
-          reject_if (List.exists (function _, (_, PARENTYPE _, _, _) -> true | _ -> false) all) place "a declarator"
-        | _ -> ());
-      (match decl with
-        | PROTO (JUSTBASE, _ :: _, [], false) | PTR ([], PROTO (JUSTBASE, _ :: _, [], false)) -> check_type place spec JUSTBASE []
-        | _ when kind = Cabsvisit.NType || name = "" && spec = [ SpecType Tvoid ] -> ()
-        | _ -> check_type ~is_field:(kind = Cabsvisit.NField) place spec decl
-          (match kind with NField -> [] | _ -> [ pointer; PTR ([ "restrict", [] ], JUSTBASE) ]));
       Cil.DoChildren
 
     method! vdef d =
-      let is_global = not is_inside and place = Cabshelper.get_definitionloc d in
-      is_inside <- true;
-      here <- place;
+      here <- Cabshelper.get_definitionloc d;
+      allow (definition d) here "a definition, or a variable that is not initialized";
       (match d with
-        | FUNDEF _ when is_global -> ()
-        | DECDEF (_, (spec, all), _) -> List.iter (fun ((_, decl, _, _), init) -> match decl, init with
-            | (PROTO _ | PTR (_, PROTO _)), NO_INIT when is_global -> ()
-            | _ ->
-              let is_kept = is_global || is_static spec in
-              tell_if "open" (init = NO_INIT) place "a variable that is not initialized where it is declared";
-              (match init with SINGLE_INIT e -> effects <- alone e @ effects | _ -> ());
-              reject_if (is_kept && not (is_static spec && List.mem (SpecCV CV_CONST) spec)) place "a variable that is kept";
-              reject_if (match decl with PTR (all, _) -> all <> [] || is_kept | _ -> false) place "a pointer variable") all
-        (* In C++ a tag is a type too. *)
-        | TYPEDEF ((SpecTypedef :: [ SpecType (Tstruct (tag, Some _, []) | Tenum (tag, Some _, [])) ], [ (name, JUSTBASE, [], _) ]), _)
-          when is_global -> tell_if "open" (tag <> name) place "another name of a struct or an enum"; Hashtbl.replace types name ()
-        | TYPEDEF (([ SpecTypedef; SpecType Tchar ], [ (_, ARRAY _, [], _) ]), _) | GLOBANNOT _ -> ()
-        | _ -> reject_if true place "a declaration");
-      Cil.DoChildrenPost (fun d -> declared <- ""; d)
+        | TYPEDEF ((_, names), _) -> types := List.map (fun (name, _, _, _) -> name) names @ !types
+        | DECDEF (_, (_, all), _) ->
+          List.iter (function _, SINGLE_INIT e -> effects <- alone e @ effects | _ -> ()) all
+        | _ -> ());
+      Cil.DoChildren
   end
 end
 
@@ -318,7 +292,7 @@ let read_files () =
     | _ -> () in
   let definition (ghost, d) =
     let place = Cabshelper.get_definitionloc d in
-    if not (is_library place) then ignore (Cabsvisit.visitCabsDefinition (new Forms.walk) d);
+    if not (is_library place) then ignore (Cabsvisit.visitCabsDefinition (new Listed.walk) d);
     definition (ghost, d) in
   List.iter (fun (_, definitions) -> List.iter definition definitions) (Ast.UntypedFiles.get ())
 
@@ -347,16 +321,6 @@ let contract kf =
       @ if b.b_extended <> [] || b.b_allocation <> FreeAllocAny then [ "a clause of another kind" ] else [])
     spec.spec_behavior
 
-(* Compilers have no result for 0. *)
-let some = "requires: n ≢ 0"
-let begins_with_assertion kf =
-  let is_it a = match a.annot_content with
-    | AAssert ([], { tp_kind = Assert; tp_statement = p }) -> Format.asprintf "%a" Cil_printer.pp_predicate p = some
-    | _ -> false in
-  match (Kernel_function.get_definition kf).sbody.bstmts with
-  | first :: _ -> List.exists is_it (Annotations.code_annot first)
-  | [] -> false
-
 (* -------------------- The walk -------------------- *)
 
 (* WP 25 has a false axiom for an array that is read whole, as a part of a struct too. *)
@@ -365,11 +329,10 @@ let rec has_array typ = match Cil.unrollType typ with
   | TComp (c, _) -> List.exists (fun f -> has_array f.ftype) (Option.value c.cfields ~default:[])
   | _ -> false
 
-(* What WP keeps apart, or takes for something else than compilers do. *)
 let is_of_kind kind typ = match Cil.unrollType typ with TInt (k, _) -> k = kind | _ -> false
 let is_through_a_number to_ from = Cil.isPointerType to_ <> Cil.isPointerType from && not (Cil.isVoidType to_)
-let through_a_number = "a pointer from a number, or a number from a pointer"
 let plain_char = "a plain char, which compilers may have with a sign"
+let through_a_number = "a pointer from a number, or a number from a pointer"
 
 (* Bytes have one size and no alignment. *)
 let rec is_of_bytes typ = match Cil.unrollType typ with
@@ -378,24 +341,22 @@ let rec is_of_bytes typ = match Cil.unrollType typ with
   | TComp (c, _) -> List.for_all (fun f -> is_of_bytes f.ftype) (Option.value c.cfields ~default:[])
   | _ -> false
 let is_byte typ = Cil.isArithmeticType typ && is_of_bytes typ
-let is_struct name typ = match Cil.unrollType typ with TComp (c, _) -> c.corig_name = name | _ -> false
+let name_of typ = match Cil.unrollType typ with TComp (c, _) -> c.corig_name | _ -> ""
 let is_constant_type typ = Cil.typeHasQualifier "const" typ
+let is_pointer e = Cil.isPointerType (Cil.typeOf e)
+let pointed typ = Cil.typeOf_pointed (Cil.unrollType typ)
+let is_same a b = Cil_datatype.Typ.equal (Cil.typeDeepDropAllAttributes a) (Cil.typeDeepDropAllAttributes b)
 
-(* The kind of an enum is up to the compiler, at least of 8 bits, and so is what an operator makes of it. *)
+(* The size and the sign of an enum are up to the compiler, and so is what an operator makes of it. *)
+let enum_variables = Hashtbl.create 10
 let rec is_enum e = match e.enode with
   | CastE (TInt _, a) -> is_enum a
+  | Lval (Var v, NoOffset) when Hashtbl.mem enum_variables v.vid -> true
   | _ -> (match Cil.unrollType (Cil.typeOf e) with TEnum _ -> true | _ -> false)
-let is_enum_type typ = match Cil.unrollType typ with TEnum _ -> true | _ -> false
-(* An enum, and the enum that it is cast from. *)
-let rec enums e = match e.enode with CastE (to_, a) when is_enum_type to_ -> e :: enums a | _ -> []
-let to_enum = "an enum of what is no constant, but is not returned to a caller of base62.h either"
-let is_small e = match Cil.constFoldToInt e with
-  | Some n -> Integer.le Integer.zero n && Integer.lt n (Integer.two_power_of_int 7) | None -> false
-let is_pointer e = Cil.isPointerType (Cil.typeOf e)
-let is_same a b = Cil_datatype.Typ.equal (Cil.typeDeepDropAllAttributes a) (Cil.typeDeepDropAllAttributes b)
+
 (* What a pointer that is not const points to may be a caller's memory, which is not set: reading it is undefined. A struct
    that is none of base62.h, and to which no pointer is cast, is a local of base62.c, and set. *)
-let is_set p = match Cil.unrollType (Cil.typeOf_pointed (Cil.unrollType (Cil.typeOf p))) with
+let is_set p = match Cil.unrollType (pointed (Cil.typeOf p)) with
   | TComp (c, _) as typ when not (Hashtbl.mem in_header c.corig_name || is_of_bytes typ) -> true
   | typ -> is_constant_type typ
 let rec is_of_local e = match e.enode with
@@ -412,74 +373,66 @@ let rec is_scalar_field = function
   | Field (f, NoOffset) -> Cil.isArithmeticOrPointerType f.ftype
   | Field (_, rest) | Index (_, rest) -> is_scalar_field rest
   | NoOffset -> false
-let beside = "a pointer to a field that may go to another one"
-let is_count e = not (is_enum e) && (Cil.isUnsignedInteger (Cil.typeOf e) || is_small e)
 (* Of copy_bytes the argument that is a whole array. *)
 let whole_array f arguments = match f.vname, arguments with
   | "copy_bytes", [ { enode = StartOf lval; _ } as a; _; length ] ->
     (match Cil.unrollType (Cil.typeOfLval lval), Cil.constFoldToInt length with
       | TArray (_, Some size, _), Some n when Cil.constFoldToInt size = Some n -> [ a ] | _ -> [])
   | _ -> []
-let read_unset = "a read of memory that a caller need not have set"
-(* Only of the statuses BASE62_INVALID_BYTE and BASE62_REPEATED_LETTER a caller has set a bad byte. *)
-let bad_statuses = [ Some (Integer.of_int 3); Some (Integer.of_int 6) ]
-let is_status e = match (Cil.stripCasts e).enode with Lval (Var { vname = "status"; vformal = true; _ }, NoOffset) -> true | _ -> false
-let is_variable = function Var _, _ -> true | _ -> false
-let is_temporary = function Var v, NoOffset -> v.vtemp || v.vname = "__retres" | _ -> false
-let of_bytes, of_enum = "sizeof of what does not consist of bytes", "an operator of an enum"
-(* Compilers call functions of the C library by themselves, such as memset, and would take a function or a table of this
-   file that has the name. None of these names has an underscore, but memset_pattern4, 8 and 16 of macOS. *)
-let is_own name = String.contains name '_' && not (String.starts_with ~prefix:"mem" name)
-  || List.mem name [ "append"; "decode"; "greatest"; "halves"; "joined"; "power" ]
+
+(* The list goes on, for the tree with types. Whole are the arrays that copy_bytes copies whole. *)
+let listed_cast to_ a =
+  let from = Cil.typeOf a in
+  match Cil.unrollType to_, Cil.unrollType from with
+  | TPtr (t, _), TPtr (f, _) ->
+    (is_byte t && is_byte f || is_same t f || List.mem (name_of f, name_of t) [ ("base62_alphabet", "Tables") ])
+    && (is_constant_type f || not (is_constant_type t) || is_of_local a)  (* Reading starts here. *)
+  | TVoid _, _ -> true
+  | (TInt _ | TEnum _), (TInt _ | TEnum _) -> true
+  | _ -> false
+let listed whole e = match e.enode with
+  | Const (CInt64 _ | CChr _ | CEnum _) -> true
+  | Lval (Var _, _) -> true
+  | Lval (Mem p, _) -> is_set p
+  | SizeOf t -> is_of_bytes t
+  | SizeOfE a -> is_of_bytes (Cil.typeOf a)
+  | BinOp (PlusPI, _, _, _) -> true
+  | BinOp (_, a, b, _) when is_pointer a || is_pointer b -> false
+  | BinOp ((Eq | Ne), _, _, _) | UnOp (LNot, _, _) -> true
+  | BinOp (Mod, _, b, typ) when Cil.isSignedInteger typ ->
+    (match Cil.constFoldToInt b with Some n -> Integer.gt n Integer.zero | None -> false)
+  | BinOp (_, a, b, _) -> not (is_enum a || is_enum b)
+  | UnOp (Neg, a, _) -> not (is_enum a)
+  | CastE (to_, a) -> listed_cast to_ a
+  | AddrOf (_, offset) -> not (is_beside offset || is_scalar_field offset)
+  | StartOf (_, offset) -> not (is_beside offset) || List.memq e whole
+  | _ -> false
+
 (* Those that Frama-C itself gives, and what base62.h says of buffers. *)
-let known_attributes = [ "const"; "restrict"; "ghost"; "access"; "arraylen" ]
-  @ [ "fc_ghost_formal"; "fc_local_static"; "fc_stdlib" ]
+let known_attributes = [ "const"; "restrict"; "ghost"; "access"; "arraylen"; "fc_ghost_formal"; "fc_local_static"; "fc_stdlib" ]
 
 let read_whole = "a struct with an array is read whole, and WP 25 has a false axiom for it"
 let not_tried = "WP tries no goal that is named no_wp"
 let calls = Hashtbl.create 1000
-(* The bytes of the variables of all functions: no call has more. *)
-let stack = ref 0
 
 class walk = object (self)
   inherit Visitor.frama_c_inplace
-  (* What a function of base62.h returns. *)
-  val mutable returned = []
-  (* Arrays that copy_bytes copies whole. *)
   val mutable whole = []
-  (* What is read of a bad byte where the status says that a caller has set it. *)
-  val mutable set = []
   method private name = match self#current_kf with Some kf -> Kernel_function.get_name kf | None -> ""
   method private reject place what = tell "rejected" self#name (at_place place what)
   method private reject_if wrong place what = if wrong then self#reject place what
-  (* What matters to compilers alone. *)
-  method private open_if wrong place what =
-    let is_ghost = match self#current_kf with Some kf -> (Kernel_function.get_vi kf).vghost | None -> false in
-    if wrong && not is_ghost then tell "open" self#name (at_place place what)
 
   method! vglob_aux g =
     let place = Cil_datatype.Global.loc g in
-    (match g with
-      | GFun ({ svar = v; slocals; sformals; _ }, _) when not v.vghost ->
-        let size n typ = n + if Cil.isVoidType typ then 0 else Cil.bytesSizeOf typ in
-        stack := List.fold_left size !stack (Cil.getReturnType v.vtype :: List.map (fun v -> v.vtype) (sformals @ slocals));
-        if !stack > 50000 then tell "open" v.vname (at_place place "variables that a stack may have no room for")
-      | _ -> ());
-    (match g with
-      | GFun ({ svar = v; _ }, _) | GFunDecl (_, v, _) | GVar (v, _, _) when not (v.vghost || is_own v.vname) ->
-        tell "open" v.vname (at_place place "not on the list: a name of a function or a table")
-      | GFun ({ svar = f; _ }, _) | GFunDecl (_, f, _)
-        when not (f.vghost || f.vstorage = Static || Hashtbl.mem in_header f.vorig_name || is_library place) ->
-        tell "open" f.vname (at_place place "a function that is neither static nor one of base62.h")
-      | _ -> ());
     (match g with
       | GFun ({ svar = f; _ }, _) | GFunDecl (_, f, _) when Ast.is_def_or_last_decl g ->
         let kf = Globals.Functions.get f in
         tell (if Kernel_function.is_definition kf then "defined" else "declared") f.vname "";
         if Hashtbl.mem in_header f.vorig_name && f.vstorage <> Static then tell "public" f.vname "";
-        List.iter (fun what -> tell "rejected" f.vname (at_place place what)) (contract kf);
-        if f.vname = "u64_ilog2" && not (begins_with_assertion kf) then tell "rejected" f.vname (at_place place ("without assert " ^ some))
-      | GVar (v, _, _) -> if v.vstorage = Static && is_constant_type v.vtype && file_of place = "base62.c" then tell "constant" v.vname ""
+        List.iter (fun what -> tell "rejected" f.vname (at_place place what)) (contract kf)
+      | GVar (v, _, _) ->
+        allow (v.vghost || is_constant_type v.vtype) place "a variable that is kept";
+        if v.vstorage = Static && is_constant_type v.vtype && file_of place = "base62.c" then tell "constant" v.vname ""
       | _ -> ());
     Cil.DoChildren
 
@@ -488,8 +441,11 @@ class walk = object (self)
     let holds_numbers t = match Cil.unrollType t with
       | TComp (c, _) -> List.for_all (fun f -> Cil.isArithmeticType f.ftype) (Option.value c.cfields ~default:[])
       | t -> Cil.isArithmeticType t in
-    let is_wrong = match t with TArray (t, _, _) -> not (holds_numbers t) | _ -> false in
-    self#reject_if is_wrong (Cil.CurrentLoc.get ()) "an array of structs that hold more than numbers"; Cil.DoChildren
+    let is_wrong = match t with TArray (t, size, _) -> size = None || not (holds_numbers t) | _ -> false in
+    self#reject_if is_wrong (Cil.CurrentLoc.get ()) "an array without a length, or of structs that hold more than numbers"; Cil.DoChildren
+
+  method! vvdec v =
+    allow (v.vformal || not (Cil.typeHasAttribute "restrict" v.vtype)) (Cil.CurrentLoc.get ()) "restrict"; Cil.DoChildren
 
   method! vattr a =
     let name = Cil.attributeName a in
@@ -528,70 +484,22 @@ class walk = object (self)
     let is_variant a = match a.annot_content with AVariant _ -> true | _ -> false in
     (match s.skind with
       | Loop _ -> self#reject_if (Annotations.code_annot ~filter:is_variant s = []) place "a loop without a variant"
-      | Instr (Set ((Var { vname = "status"; _ }, NoOffset), _, _)) -> self#open_if true place "a status that is set anew"
-      | If ({ enode = BinOp (Eq, status, number, _); _ }, { bstmts; _ }, _, _)
-        when self#name = "text_of" && is_status status && List.mem (Cil.constFoldToInt number) bad_statuses ->
-        List.iter (fun s -> match s.skind with Instr (Call (Some _, _, a, _)) -> set <- a @ set | _ -> ()) bstmts
-      | If (e, _, _, _) -> self#open_if (is_pointer e) place "a pointer as a condition"
-      | Return (Some e, _) | Instr (Set ((Var { vname = "__retres"; _ }, NoOffset), e, _)) when Hashtbl.mem in_header self#name ->
-        returned <- enums e @ returned
-      | Instr (Call (Some to_, { enode = Lval (Var f, NoOffset); _ }, _, _)) ->
-        self#open_if (is_enum_type (Cil.typeOfLval to_) && not (is_enum_type (Cil.getReturnType f.vtype))) place to_enum;
-        Hashtbl.add calls self#name f.vname
-      | Instr (Local_init (v, ConsInit (f, _, _), _)) ->
-        self#open_if (is_enum_type v.vtype && not (is_enum_type (Cil.getReturnType f.vtype))) place to_enum;
-        Hashtbl.add calls self#name f.vname
-      | Instr (Set (to_, { enode = Lval (Mem _, _); _ }, _)) when Cil.isStructOrUnionType (Cil.typeOfLval to_) && not (is_variable to_) ->
-        self#open_if true place "a struct that is copied from place to place"
-      | Instr (Set (to_, e, _)) when is_enum e && not (is_enum_type (Cil.typeOfLval to_)) -> self#open_if true place of_enum
-      | Instr (Set (to_, _, _)) -> self#open_if (Cil.isPointerType (Cil.typeOfLval to_) && not (is_temporary to_)) place "a pointer that is set anew"
-      | Instr (Call (None, { enode = Lval (Var f, NoOffset); _ }, arguments, _)) ->
-        if self#name = "base62_fault_text" && f.vname = "text_of" && is_status (List.hd arguments) then set <- arguments @ set;
+      | Instr (Set ((Var v, NoOffset), e, _)) -> if v.vtemp && is_enum e then Hashtbl.replace enum_variables v.vid ()
+      | Instr (Local_init (_, ConsInit (f, _, _), _)) -> Hashtbl.add calls self#name f.vname
+      | Instr (Call (_, { enode = Lval (Var f, NoOffset); _ }, arguments, _)) ->
         whole <- whole_array f arguments @ whole;
         Hashtbl.add calls self#name f.vname
       | _ -> ());
     Cil.DoChildren
 
   method! vexpr e =
-    let open_if wrong = self#open_if wrong e.eloc in
-    (* Ghost code, which reads too, is not in the bare code. *)
-    let bare_if wrong what = if wrong then tell "bare" self#name (at_place e.eloc what) in
-    let points_to_constant e = is_constant_type (Cil.typeOf_pointed (Cil.unrollType (Cil.typeOf e))) in
-    (match e.enode with
-      | Lval ((Var { vformal = true; _ } | Mem _ as place), _) when is_struct "base62_bad_byte" (Cil.typeOfLhost place) ->
-        bare_if (not (List.memq e set)) read_unset
-      | Lval (Mem p, _) -> bare_if (not (is_set p)) read_unset
-      | CastE (_, a) when is_pointer e && is_pointer a && points_to_constant e && not (points_to_constant a) ->
-        bare_if (not (is_of_local a)) read_unset
-      | _ -> ());
+    allow (listed whole e) e.eloc (Format.asprintf "the expression %a" Printer.pp_exp e);
     match e.enode with
-    | SizeOf t -> open_if (not (is_of_bytes t)) of_bytes; Cil.SkipChildren
-    | SizeOfE a -> open_if (not (is_of_bytes (Cil.typeOf a))) of_bytes; Cil.SkipChildren
-    | Const (CStr _ | CWStr _) -> open_if true "a string that is no initializer"; Cil.SkipChildren
-    | BinOp (op, a, b, _) when is_pointer a || is_pointer b ->
-      open_if (op <> PlusPI || not (is_count b)) "an operator of pointers"; Cil.DoChildren
-    | BinOp (Mod, _, b, _) when Cil.isSignedInteger (Cil.typeOf e) && not (is_small b && not (Cil.isZero b)) ->
-      open_if true "a remainder of numbers with a sign"; Cil.DoChildren
-    | AddrOf (_, offset) -> bare_if (is_beside offset || is_scalar_field offset) beside; Cil.DoChildren
-    | StartOf (_, offset) -> bare_if (is_beside offset && not (List.memq e whole)) beside; Cil.DoChildren
-    | BinOp ((Eq | Ne), a, b, _) when is_enum a || is_enum b ->
-      open_if (not (List.for_all (fun e -> is_enum e || is_small e) [ a; b ])) of_enum;
-      List.iter (fun a -> ignore (Visitor.visitFramacExpr (self :> Visitor.frama_c_visitor) (Cil.stripCasts a))) [ a; b ];
-      Cil.SkipChildren
-    | UnOp (_, a, _) -> open_if (is_pointer a || is_enum a) "an operator of a pointer or an enum"; Cil.DoChildren
-    | BinOp (_, a, b, _) -> open_if (is_enum a || is_enum b) of_enum; Cil.DoChildren
-    | CastE (TInt _, a) when is_enum a -> open_if true of_enum; Cil.DoChildren
-    | CastE (to_, a) when is_enum_type to_ && not (is_small a || List.memq e returned) -> open_if true to_enum; Cil.DoChildren
-    | CastE (to_, a) when is_enum a && not (is_enum_type to_ || is_of_kind IUInt to_) -> open_if true of_enum; Cil.DoChildren
-    | CastE (to_, a) when Cil.isPointerType to_ && is_pointer a ->
-      let to_, from = Cil.typeOf_pointed (Cil.unrollType to_), Cil.typeOf_pointed (Cil.unrollType (Cil.typeOf a)) in
-      open_if (is_constant_type from && not (is_constant_type to_)) "a cast that takes const away";
-      open_if (not (is_byte to_ && is_byte from || is_struct "Alphabet" to_ && is_struct "base62_alphabet" from || is_same to_ from))
-        "a cast to a pointer of another type"; Cil.DoChildren
-    | CastE (to_, a) when is_through_a_number to_ (Cil.typeOf a) ->
-      if Cil.isZero a then open_if true through_a_number else self#reject e.eloc through_a_number; Cil.DoChildren
-    | Lval _ | CastE _ when is_of_kind IChar (Cil.typeOf e) -> tell "open" self#name (at_place e.eloc plain_char); Cil.DoChildren
-    | Lval lval when has_array (Cil.typeOfLval lval) -> self#reject e.eloc read_whole; Cil.DoChildren
+    | SizeOf _ | SizeOfE _ -> Cil.SkipChildren
+    | Lval _ | CastE _ when is_of_kind IChar (Cil.typeOf e) -> tell "char" self#name (at_place e.eloc plain_char); Cil.DoChildren
+    | CastE (to_, a) ->
+      self#reject_if (is_through_a_number to_ (Cil.typeOf a) && not (Cil.isZero a)) e.eloc through_a_number; Cil.DoChildren
+    | Lval lval -> self#reject_if (has_array (Cil.typeOfLval lval)) e.eloc read_whole; Cil.DoChildren
     | _ -> Cil.DoChildren
 
   (* Where a clause names what is assigned, nothing is read. *)
@@ -608,7 +516,7 @@ class walk = object (self)
       | TCastE (to_, { term_type = Linteger; _ }) when Cil.isPointerType to_ -> self#reject t.term_loc through_a_number
       | TCastE (to_, _) when is_of_kind IBool to_ -> self#reject t.term_loc "a cast to _Bool, which WP leaves out"
       | TLval _ | TCastE _ when (match t.term_type with Ctype typ -> is_of_kind IChar typ | _ -> false) ->
-        tell "open" self#name (at_place t.term_loc (plain_char ^ " in a clause"))
+        tell "char" self#name (at_place t.term_loc plain_char)
       | _ -> ());
     match t.term_type with
     | Ctype typ when has_array typ -> self#reject t.term_loc read_whole; Cil.SkipChildren
@@ -655,8 +563,7 @@ let write file lines =
 let main file =
   read_files ();
   Visitor.visitFramacFileSameGlobals (new walk) (Ast.get ());
-  List.iter (fun (name, place) -> if writes name then tell "open" name (at_place place "a call that may write, within an expression"))
-    !Forms.nested;
+  List.iter (fun (name, place) -> allow (not (writes name)) place "a call that may write, within an expression") !Listed.nested_calls;
   let callers = List.sort_uniq compare (Hashtbl.fold (fun f _ all -> f :: all) calls []) in
   List.iter (fun f -> tell "rejected" f "it calls itself") (endless callers);
   write file (List.rev_map (fun line -> line ^ "\n") !found);

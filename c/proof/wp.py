@@ -2,6 +2,7 @@
 
 import concurrent.futures
 import dataclasses
+import difflib
 import functools
 import os
 import re
@@ -12,13 +13,15 @@ import tempfile
 
 import annotate
 import bits
-import tokens
-from annotate import FOLDER, hints, text_of
+from annotate import FOLDER, hints
+from bits import PATH
 
 C = FOLDER.parent
 BITS = os.environ.get("BITS", "64")
 CODE = C / "base62.c"
+HEADER = C / "base62.h"
 SPECIFICATION = FOLDER / "base62.acsl"
+PREPROCESSOR = FOLDER / "preprocessor.txt"
 # What stands before the bare code: no specification, and nothing that says who reads it.
 BARE = "#include <stddef.h>\n#include <stdint.h>\n#undef __FRAMAC__\n"
 FLAGS = f"-D__FC_MACHDEP_X86_{BITS} -DBASE62_NO_INT128 -U__SIZEOF_INT128__ -U__GNUC__"
@@ -34,14 +37,14 @@ HOW = {"with tables", "asserts named same with tables", "without a filter of hyp
 def tools():
     """A folder with what Frama-C needs: the walk over its tree, and why3's list of provers."""
     needed = ("frama-c", "ocamlfind", "why3", "z3", "cvc4", "cvc5", "gcc")
-    missing = [tool for tool in needed if not shutil.which(tool, path=tokens.PATH)]
+    missing = [tool for tool in needed if not shutil.which(tool, path=PATH)]
     if missing:
-        raise SystemExit(f"missing in {tokens.PATH}: {' '.join(missing)}\n"
+        raise SystemExit(f"missing in {PATH}: {' '.join(missing)}\n"
                          "Debian 12 has them: make setup-full installs all, as root. Elsewhere take c/proof/Dockerfile.")
     folder = tempfile.TemporaryDirectory()
     check_path(folder.name)
     shutil.copy(FOLDER / "tree.ml", folder.name)
-    library = subprocess.run(["frama-c", "-print-lib-path"], env={"PATH": tokens.PATH}, check=True, capture_output=True, text=True).stdout
+    library = subprocess.run(["frama-c", "-print-lib-path"], env={"PATH": PATH}, check=True, capture_output=True, text=True).stdout
     for command in (["ocamlfind", "ocamlopt", "-shared", "-I", library.strip(), "-package", "zarith,ocamlgraph",
                      "-o", "tree.cmxs", "tree.ml"], ["why3", "config", "detect"]):
         subprocess.run(command, cwd=folder.name, env=environment(folder.name), check=True, capture_output=True)
@@ -50,13 +53,7 @@ def tools():
 
 def environment(folder, **more):
     """All that the tools get of the environment: no folder of plugins, headers, libraries or results but this one."""
-    return {"PATH": tokens.PATH, "HOME": folder, "WHY3CONFIG": f"{folder}/why3.conf", "LC_ALL": "C.UTF-8", **more}
-
-
-@functools.cache
-def header():
-    """The text of base62.h: what is checked is what is proved."""
-    return text_of(C / "base62.h")
+    return {"PATH": PATH, "HOME": folder, "WHY3CONFIG": f"{folder}/why3.conf", "LC_ALL": "C.UTF-8", **more}
 
 
 def check_path(path):
@@ -64,14 +61,40 @@ def check_path(path):
         raise SystemExit(f"a path that a shell or Frama-C would read otherwise: {path}")
 
 
-def prepared(work, code, specification=None, head=None):
+def prepared(work, code, specification=None, header=None):
     """A file of this code, in a folder of its own with the specification and base62.h, or with other texts of these."""
     check_path(work)
     work.mkdir(parents=True, exist_ok=True)
-    file = work / "base62.c"
-    for path, text in (work / SPECIFICATION.name, specification or text_of(SPECIFICATION)), (work / "base62.h", head or header()), (file, code):
-        path.write_text(text)
+    (work / SPECIFICATION.name).write_text(specification or SPECIFICATION.read_text())
+    (work / HEADER.name).write_text(header or HEADER.read_text())
+    file = work / CODE.name
+    file.write_text(code)
     return file
+
+
+# The only lines of the preprocessor that PREPROCESSOR leaves out, if they are not between #if and #endif.
+CONSTANT = re.compile(r'#define B(?:ASE)?62_\w+ (?:\w+|"[^"]*"|\w+\(\w+\)|\(\(\w+\)\w+\))')
+
+
+def of_preprocessor(name, text):
+    """What a file leaves to the preprocessor: each paragraph with a line for it, and all between #if and #endif."""
+    comment = r"(?:/\*(?:(?!\*/).)*\*/|//(?!@)[^\n]*)"
+    text = re.sub(rf"^ *{comment}\n| *{comment}", "", text, flags=re.M | re.S)
+    found, depth = [f"== {name}"], -(name == HEADER.name)  # All of it is between #ifndef and #endif.
+    for part in re.split("\n\n+", text.strip()):
+        opened, closed = (len(re.findall(f"^ *# *{word}", part, re.M)) for word in ("if", "endif"))
+        lines = [line for line in part.split("\n") if opened or depth > 0 or not CONSTANT.fullmatch(line)]
+        if depth > 0 or any(line.lstrip().startswith("#") for line in lines):
+            found += lines
+        depth += opened - closed
+    return found
+
+
+def unlisted_lines(header, source):
+    """Where the lines of both files for the preprocessor are not those of the list."""
+    found = of_preprocessor(HEADER.name, header) + of_preprocessor(CODE.name, source)
+    yield from (f"{PREPROCESSOR.name}: {line}" for line in difflib.ndiff(PREPROCESSOR.read_text().splitlines(), found)
+                if line[0] in "-+")
 
 
 def frama_c(file, name, options, last=None, **more):
@@ -132,25 +155,25 @@ def checked(file, bare=None, calls=None):
     of = {kind: {name for each, name, _ in found if each == kind}
           for kind in ("defined", "declared", "public", "lemma", "constant")}
     wrong = [f"rejected: {name} {what}" for kind, name, what in dict.fromkeys(found)
-             if kind in ("rejected", "form") or kind == "open" and bare]
+             if kind == "rejected" or kind == "char" and bare]
     wrong += [f"no body: {name}" for name in sorted(of["declared"] - (set() if bare else calls or of["public"]))]
-    wrong += [*bits.wrong(found), *tokens.lines_of(file), *tokens.lines_of(file.parent / SPECIFICATION.name)]
+    wrong += bits.wrong(found)
     if bare and code(file) != bare:
         wrong.append("the lists change the code")
     lemmas = {LEMMAS} if of["lemma"] else set()
     return Checked(of["defined"] | lemmas, of["public"], set() if calls else of["constant"], wrong)
 
 
-def checked_code(work, source, *more):
-    """The file of base62.c with annotations; and what is said of it, and of what compilers read of base62.c."""
-    wrong = [*tokens.wrong("base62.c", source), *tokens.wrong("base62.h", header()), *tokens.others_in(C)]
+def checked_code(work, source, *more, header=None):
+    """The file of base62.c with annotations; and what is said of it, and of what is not on the list of the C it may be."""
+    wrong = [*unlisted_lines(header or HEADER.read_text(), source)]
     if wrong:
         raise SystemExit("\n".join(wrong))
-    bare = prepared(work / "bare", source, BARE)
+    bare = prepared(work / "bare", source, BARE, header)
     found = tree(bare)
-    file = prepared(work, annotate.annotated(source, *more))
+    file = prepared(work, annotate.annotated(source, *more), header=header)
     said = checked(file, code(bare))
-    said.wrong += [f"rejected: {what}" for kind, _, what in found if kind in ("form", "open", "bare")]
+    said.wrong += [what for kind, _, what in found if kind == "unlisted"]
     return file, said
 
 

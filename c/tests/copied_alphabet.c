@@ -8,7 +8,7 @@ int main(void) {
     char text[BASE62_MAX_DIGITS];
     base62_alphabet alphabet;
     base62_bad_byte bad;
-    if (base62_make_alphabet(BASE62_ALTERNATIVE_LETTERS, &alphabet, &bad) != BASE62_OK)
+    if (base62_alphabet_init(&alphabet, BASE62_ALTERNATIVE_ALPHABET, &bad) != BASE62_OK)
         return 1;
     const base62_alphabet copy = alphabet;
     const size_t length = base62_encode_with(&copy, base62_from_u64(1337), text, sizeof text);

@@ -1,5 +1,5 @@
-"""Tests of base62.h: what it defines, and what compilers warn of; and of the names in base62.c. CC is the compiler, by
-default gcc."""
+"""Tests of base62.h: what it defines, and what compilers warn of; and of the names in base62.c, and what it demands of
+compilers. CC is the compiler, by default gcc."""
 
 import os
 import pathlib
@@ -11,11 +11,13 @@ import unittest
 
 FOLDER = pathlib.Path(__file__).resolve().parents[1]
 COMPILER = shlex.split(os.environ.get("CC") or "gcc")
+IS_GCC = "Free Software Foundation" in subprocess.run([*COMPILER, "--version"], capture_output=True, text=True).stdout
 INCLUDES = "#include <stddef.h>\n#include <stdint.h>\n"
 HEADER = "#include <base62.h>\n"
+SOURCE = '#include "base62.c"\n'
 MACROS = {"BASE62_H", "BASE62_VERSION", "BASE62_VERSION_MAJOR", "BASE62_VERSION_MINOR", "BASE62_VERSION_PATCH"}
 MACROS |= {"BASE62_VERSION_NUMBER", "BASE62_MAX_DIGITS", "BASE62_KEY_LENGTH", "BASE62_ALPHABET_LENGTH"}
-MACROS |= {"BASE62_UUID_LENGTH", "BASE62_MAX_FAULT_TEXT", "BASE62_STANDARD_LETTERS", "BASE62_ALTERNATIVE_LETTERS"}
+MACROS |= {"BASE62_UUID_LENGTH", "BASE62_MAX_ERROR_MESSAGE", "BASE62_STANDARD_ALPHABET", "BASE62_ALTERNATIVE_ALPHABET"}
 
 # A valid argument for each parameter type, and a variable for each type of result. PROGRAM declares the variables.
 ARGUMENTS = {
@@ -142,6 +144,32 @@ class Header(unittest.TestCase):
         self.assertEqual([name for name in defined if not name.startswith("B62_")], [])
         capitals = {name for name in re.findall(r"\b[A-Z][A-Z0-9_]+\b", text) if not re.match("B(ASE)?62_", name)}
         self.assertEqual(capitals, {"CHAR_BIT", "GCC", "SIZE_MAX", "UINT64_C"})
+
+    def test_c_plus_plus(self):
+        """A C++20 module exports no static function. In C++98 a constant above a long of 32 bits is an extension."""
+        text = compiled(f"{INCLUDES}it_begins_here\n{HEADER}", "-E", language="c++").stdout.split("it_begins_here")[1]
+        self.assertNotRegex(text, r"\bstatic\b")
+        if os.uname().machine == "x86_64":
+            options = "-mx32 -ffreestanding -std=c++98 -Wall -Wextra -Wpedantic -Wold-style-cast -Wconversion -fsyntax-only"
+            self.assertEqual(compiled(HEADER, *options.split(), language="c++").stderr, "")
+
+    @unittest.skipUnless(IS_GCC, "options of gcc")
+    def test_code_behind_the_source(self):
+        """It is compiled as without base62.c before it. Up to GCC 10 a pragma for options would change all of them."""
+        code = "void add(double *two) { two[0] += 1; two[1] += 1; }\n"
+        alone, behind = (
+            re.search(r"^add:\n(.*?)\n\s*\.size\s+add", compiled(text, "-O2", "-S", "-o-").stdout, re.M | re.S)[1]
+            for text in (code, SOURCE + code)
+        )
+        self.assertEqual(re.sub(r"\.L\w+", "", alone), re.sub(r"\.L\w+", "", behind))
+        self.assertIn("GCC optimize", compiled(SOURCE, "-E").stdout)
+        self.assertNotIn("GCC optimize", compiled(SOURCE, "-E", "-U__GNUC__", "-D__GNUC__=10").stdout)
+
+    @unittest.skipUnless(IS_GCC, "clang has no other character set")
+    def test_character_set(self):
+        with self.assertRaises(subprocess.CalledProcessError) as raised:
+            compiled(SOURCE, "-fexec-charset=IBM1047", "-fsyntax-only")
+        self.assertIn("ASCII", raised.exception.stderr)
 
     def test_includes(self):
         """They stand outside of extern "C": there no template may stand, as some systems' headers have them."""

@@ -12,7 +12,7 @@
 
 enum { LINE = 1024, MOST_FIELDS = 8, MOST_TEXT = 512, MOST_ALPHABETS = 8, AROUND = 128 };
 
-/* The size of version 3, which callers of the shared library allocate. */
+/* The size of version 4, which callers of the shared library allocate. */
 typedef char alphabet_has_318_bytes[sizeof(base62_alphabet) == 318 ? 1 : -1];
 
 /* What stands at a byte and at a number that no call has written. */
@@ -153,8 +153,8 @@ static base62_status status_field(size_t i, base62_bad_byte *bad) {
         {"overflow", BASE62_OVERFLOW, 0},
         {"byte", BASE62_INVALID_BYTE, 1},
         {"narrow", BASE62_BUFFER_TOO_SMALL, 0},
-        {"none", BASE62_NO_KEY, 0},
-        {"repeated", BASE62_REPEATED_LETTER, 1},
+        {"none", BASE62_NO_MATCH, 0},
+        {"repeated", BASE62_REPEATED_CHARACTER, 1},
         {"zero", BASE62_NOT_CANONICAL, 0},
     };
     for (size_t k = 0; k < sizeof words / sizeof *words; k++)
@@ -198,13 +198,13 @@ static int is_standard(const struct named *alphabet) {
 
 static void set_built_in(struct named *alphabet) {
     if (is_standard(alphabet)) {
-        alphabet->letters = BASE62_STANDARD_LETTERS;
+        alphabet->letters = BASE62_STANDARD_ALPHABET;
         alphabet->encode = base62_encode;
         alphabet->encode_fixed = base62_encode_fixed;
         alphabet->decode = base62_decode;
         alphabet->decode_canonical = base62_decode_canonical;
     } else if (strcmp(alphabet->name, "alternative") == 0) {
-        alphabet->letters = BASE62_ALTERNATIVE_LETTERS;
+        alphabet->letters = BASE62_ALTERNATIVE_ALPHABET;
         alphabet->encode = base62_encode_alternative;
         alphabet->encode_fixed = base62_encode_alternative_fixed;
         alphabet->decode = base62_decode_alternative;
@@ -220,8 +220,8 @@ static void expect_making(const char *letters, base62_status status, base62_bad_
     wanted.bad = bad;
     for (int i = 0; i < 2; i++) {
         base62_alphabet *place = memset(fresh(sizeof *made), before[i], sizeof *made);
-        expect_results(base62_make_alphabet(copy_guarded(letters, 62), place, &found.bad), status, &found, wanted,
-                       "make_alphabet");
+        expect_results(base62_alphabet_init(place, copy_guarded(letters, 62), &found.bad), status, &found, wanted,
+                       "alphabet_init");
         if (status != BASE62_OK)
             memset(made, before[i], sizeof *made);
         else if (i == 0)
@@ -251,7 +251,7 @@ static void check_repeated(void) {
     base62_alphabet made;
     const base62_bad_byte bad = {size_field(3), (unsigned char)size_field(2)};
     expect_of_row(text_field(1, letters) == BASE62_ALPHABET_LENGTH, "the count of letters");
-    expect_making(letters, BASE62_REPEATED_LETTER, bad, &made);
+    expect_making(letters, BASE62_REPEATED_CHARACTER, bad, &made);
 }
 
 /* Expects these results of decoding and of canonical decoding, as a custom alphabet and as a built-in one. */
@@ -294,7 +294,7 @@ static void check_inline(base62_number number) {
 }
 
 /* The lengths of the longest texts of the rows, which are those of the header. */
-static size_t most_digits, most_fault_text;
+static size_t most_digits, longest_message;
 
 /* The text in a buffer of each size, just too small ones too. */
 static void check_encode(void) {
@@ -372,12 +372,12 @@ static void check_range(void) {
     } else {
         status = status_field(4, &wanted.bad);
     }
-    expect_results(base62_fixed_range_with(alphabet->made[at_end], width, from, length, &found.range, &found.bad),
-                   status, &found, wanted, "fixed_range_with");
+    expect_results(base62_prefix_range_with(alphabet->made[at_end], from, length, width, &found.range, &found.bad),
+                   status, &found, wanted, "prefix_range_with");
     if (!is_standard(alphabet))
         return;
-    expect_results(base62_fixed_range(width, from, length, &found.range, &found.bad), status, &found, wanted,
-                   "fixed_range");
+    expect_results(base62_prefix_range(from, length, width, &found.range, &found.bad), status, &found, wanted,
+                   "prefix_range");
     if (width == BASE62_KEY_LENGTH)
         expect_results(base62_key_range(from, length, &found.range, &found.bad), status, &found, wanted, "key_range");
 }
@@ -392,9 +392,9 @@ static void check_uuid(void) {
         bytes[i] = (char)strtoul(pair, NULL, 16);
     }
     const unsigned char *from = (const unsigned char *)copy_guarded(bytes, sizeof bytes);
-    expect_of_row(same(base62_number_of_uuid(from), number), "number_of_uuid");
-    base62_uuid_of_number(number, (unsigned char *)fresh(sizeof bytes));
-    expect_text(sizeof bytes, sizeof bytes, bytes, sizeof bytes, "uuid_of_number");
+    expect_of_row(same(base62_from_uuid(from), number), "from_uuid");
+    base62_to_uuid(number, (unsigned char *)fresh(sizeof bytes));
+    expect_text(sizeof bytes, sizeof bytes, bytes, sizeof bytes, "to_uuid");
 }
 
 /* The text in a buffer of each size, just too small ones too. */
@@ -405,10 +405,10 @@ static void check_message(void) {
     if (field_count > 4 && !is_size(4))
         return;
     const base62_status status = status_field(2, &bad);
-    most_fault_text = length > most_fault_text ? length : most_fault_text;
-    for (size_t size = 0; size <= BASE62_MAX_FAULT_TEXT + 2; size++) {
+    longest_message = length > longest_message ? length : longest_message;
+    for (size_t size = 0; size <= BASE62_MAX_ERROR_MESSAGE + 2; size++) {
         const size_t wanted = size < length ? 0 : length;
-        expect_text(base62_fault_text(status, bad, fresh(size), size), size, text, wanted, "fault_text");
+        expect_text(base62_error_message(status, bad, fresh(size), size), size, text, wanted, "error_message");
     }
 }
 
@@ -444,10 +444,10 @@ static void check_row(void) {
 static void check_rest(void) {
     const base62_status none[] = {BASE62_OK, (base62_status)8, (base62_status)-1};
     for (size_t i = 0; i < sizeof none / sizeof *none; i++)
-        expect(base62_fault_text(none[i], unwritten.bad, fresh(100), 100) == 0, "the text of no status");
+        expect(base62_error_message(none[i], unwritten.bad, fresh(100), 100) == 0, "the text of no status");
     expect(base62_version_number() == BASE62_VERSION_NUMBER, "the version");
     expect(most_digits == BASE62_MAX_DIGITS, "BASE62_MAX_DIGITS");
-    expect(sizeof(size_t) < 8 || most_fault_text == BASE62_MAX_FAULT_TEXT, "BASE62_MAX_FAULT_TEXT");
+    expect(sizeof(size_t) < 8 || longest_message == BASE62_MAX_ERROR_MESSAGE, "BASE62_MAX_ERROR_MESSAGE");
     for (size_t k = 0; k < kind_count; k++)
         expect(kinds[k].rows > 0, kinds[k].name);
 }

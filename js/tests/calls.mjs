@@ -127,7 +127,7 @@ const faults = {
   empty: 'EMPTY_INPUT',
   overflow: 'OVERFLOW',
   zero: 'NOT_CANONICAL',
-  repeated: 'REPEATED_LETTER',
+  repeated: 'REPEATED_CHARACTER',
 };
 
 // What refuses takes of a bad byte, with the message.
@@ -192,7 +192,7 @@ const tests = {
     const message = 'the number needs more characters than the width';
     for (const [name, digits, width] of rowsOf('narrow')) {
       const number = BigInt(digits);
-      refused(() => base62.encodeFixed(number, Number(width), alphabets[name]), 'BUFFER_TOO_SMALL', message);
+      refused(() => base62.encodeFixed(number, Number(width), alphabets[name]), 'OUT_OF_RANGE', message);
     }
     for (const width of [22, 23, 100, 1e6]) {
       same(base62.encodeFixed(1337, width), 'LZ'.padStart(width, '0'));
@@ -227,8 +227,8 @@ const tests = {
   'a range has the numbers of a prefix'({ base62, rowsOf, alphabets, refused }) {
     for (const [name, width, field, kind, ...numbers] of rowsOf('range')) {
       for (const prefix of formsOf(textOf(field))) {
-        const calls = [() => base62.fixedRange(Number(width), prefix, alphabets[name])];
-        if (name === 'standard') calls.push(() => base62.fixedRange(Number(width), prefix));
+        const calls = [() => base62.prefixRange(prefix, Number(width), alphabets[name])];
+        if (name === 'standard') calls.push(() => base62.prefixRange(prefix, Number(width)));
         if (name === 'standard' && width === '22') calls.push(() => base62.keyRange(prefix));
         for (const call of calls) {
           if (kind === 'byte') refused(call, ...wantedOf([kind, ...numbers]));
@@ -238,18 +238,19 @@ const tests = {
       }
     }
     for (const width of [2 ** 32, Number.MAX_SAFE_INTEGER]) {
-      sameRange(base62.fixedRange(width, '0'), [0, 2n ** 128n - 1n]);
+      sameRange(base62.prefixRange('0', width), [0, 2n ** 128n - 1n]);
     }
   },
 
   'invalid numbers are rejected'({ base62, refused }) {
+    const wanted = 'a number is a Number or a BigInt';
     // No string has the second width.
     const ofUuids = [base62.encodeKey, ...[22, 2 ** 40].map((width) => (it) => base62.encodeFixed(it, width))];
     const calls = [base62.encode, base62.digitCount, ...ofUuids];
     const rounded = [2 ** 53, 1.5, 5e-324, NaN, Infinity, -Infinity, -1];
     const wide = [-1n, 2n ** 128n, -(2n ** 200n), 2n ** 200n];
     const objects = [null, [], {}, Object(5), Object(5n), Object(''), new Uint8ClampedArray(16), convertible, trap];
-    const others = [undefined, Symbol('5'), ...objects];
+    const others = [undefined, Symbol('5'), true, false, ...objects];
     for (const call of calls) {
       for (const number of [...rounded, ...wide]) refused(() => call(number), 'OUT_OF_RANGE');
       for (const number of others) refusesType(() => call(number));
@@ -258,7 +259,8 @@ const tests = {
       for (const call of [base62.encode, base62.digitCount]) refusesType(() => call(wrong));
       for (const call of ofUuids) refused(() => call(wrong), 'INVALID_UUID');
     }
-    same([false, true].map((it) => base62.encode(it)).join(), '0,1');
+    same(faultOf(() => base62.encode('1337')).message, `${wanted}, not a string: give BigInt('1337')`);
+    same(faultOf(() => base62.encodeKey(true)).message, wanted);
     same(base62.encode(-0), '0');
     same(base62.digitCount(-0), 1);
     same(base62.decodeNumber('0'), 0);
@@ -268,14 +270,14 @@ const tests = {
   'invalid widths are rejected'({ base62, refused }) {
     for (const width of [-1, 1.5, NaN, Infinity, 2 ** 53]) {
       refused(() => base62.encodeFixed(5, width), 'OUT_OF_RANGE');
-      refused(() => base62.fixedRange(width, ''), 'OUT_OF_RANGE');
+      refused(() => base62.prefixRange('', width), 'OUT_OF_RANGE');
     }
     for (const width of ['5', 5n, undefined, null, convertible, trap]) {
       refusesType(() => base62.encodeFixed(5, width));
-      refusesType(() => base62.fixedRange(width, ''));
+      refusesType(() => base62.prefixRange('', width));
     }
-    refused(() => base62.encodeFixed(0, 0), 'BUFFER_TOO_SMALL');
-    same(base62.fixedRange(0, ''), null);
+    refused(() => base62.encodeFixed(0, 0), 'OUT_OF_RANGE');
+    same(base62.prefixRange('', 0), null);
   },
 
   'each decoder reports the error of a text'({ base62, rowsOf, alphabets, refused }) {
@@ -315,7 +317,7 @@ const tests = {
           const text = prefix + character.repeat(count);
           const found = ['INVALID_BYTE', undefined, byte, prefix.length];
           refused(() => base62.decode(text), ...(letters + size * count > 22 ? ['OVERFLOW'] : found));
-          refused(() => base62.fixedRange(7, text), ...found);
+          refused(() => base62.prefixRange(text, 7), ...found);
         }
       }
     }
@@ -334,7 +336,7 @@ const tests = {
     const likenesses = [Object.create(Alphabet.prototype), Object.create(alphabet), new Proxy(alphabet, {})];
     for (const other of [standard, ...likenesses]) {
       for (const call of decoders) refusesType(() => call('LZ', other));
-      refusesType(() => base62.fixedRange(7, 'LZ', other));
+      refusesType(() => base62.prefixRange('LZ', 7, other));
       refusesType(() => base62.encodeFixed(5, 7, other));
       refusesType(() => base62.encodeUuid(new Uint8Array(16), other));
     }
@@ -348,7 +350,7 @@ const tests = {
       [() => ['LZ'].map(base62.decode), index],
       [() => base62.encode(1337, custom), letters],
       [() => base62.encodeFixed(1337, 7, custom), letters],
-      [() => base62.fixedRange(7, 'Pd', custom), letters],
+      [() => base62.prefixRange('Pd', 7, custom), letters],
     ];
     for (const [call, said] of calls) same(faultOf(call) instanceof TypeError && faultOf(call).message, said);
   },
@@ -364,16 +366,20 @@ const tests = {
     for (const length of [0, 15, 17]) {
       for (const call of calls) refused(() => call(new Uint8Array(length)), 'INVALID_UUID');
     }
+    for (const [first, last] of ['{x', 'x}', '}{']) {
+      const wrong = `${first}550e8400e29b41d4a716446655440000${last}`;
+      for (const call of calls) refused(() => call(wrong), 'INVALID_UUID');
+    }
     const forms = 'with hyphens or without, in braces or after urn:uuid:, or 16 bytes';
     refused(() => base62.encodeUuid(''), 'INVALID_UUID', `a UUID is 32 hexadecimal digits, ${forms}`);
   },
 
-  'an alphabet has its letters'({ base62, rows, letters, alphabets, refused, Alphabet, ...strings }) {
+  'an alphabet has its characters'({ base62, rows, letters, alphabets, refused, Alphabet, ...strings }) {
     const { standard, alternative, custom } = strings;
-    same(Alphabet.standard.letters, standard);
-    same(Alphabet.alternative.letters, alternative);
+    same(Alphabet.standard.characters, standard);
+    same(Alphabet.alternative.characters, alternative);
     for (const [name, it] of Object.entries(letters)) {
-      if (name in alphabets) same(alphabets[name].letters, it);
+      if (name in alphabets) same(alphabets[name].characters, it);
       else refused(() => new Alphabet(it), 'INVALID_ALPHABET');
     }
     for (const [field, byte, index] of rows.repeated) {
@@ -381,14 +387,16 @@ const tests = {
       const wanted = isAscii(repeated) ? wantedOf(['repeated', byte, index]) : ['INVALID_ALPHABET'];
       refused(() => new Alphabet(repeated), ...wanted);
     }
-    const lengths = ['', standard.slice(1), `${standard}-`];
-    const others = ['\u00e9', 'z\u00e9', '\u{1f600}'].map((it) => standard.slice(0, -2) + it);
-    for (const wrong of [...lengths, ...others]) {
-      refused(() => new Alphabet(wrong), 'INVALID_ALPHABET', 'an alphabet has 62 ASCII characters');
+    for (const [wrong, size] of [['', '0 characters'], ['0', '1 character'], [`${standard}-`, '63 characters']]) {
+      refused(() => new Alphabet(wrong), 'INVALID_ALPHABET', `the alphabet has ${size}, not 62`);
+    }
+    for (const it of ['\u00e9', 'z\u00e9', '\x80', '\u{1f600}']) {
+      const wrong = standard.slice(0, -2) + it;
+      refused(() => new Alphabet(wrong), 'INVALID_ALPHABET', 'the alphabet has a non-ASCII character');
     }
     same(base62.encode(1337, alphabets.readable), 'Pd');
     same(base62.encode(1337), 'LZ');
-    same(new Alphabet(custom).letters, custom);
+    same(new Alphabet(custom).characters, custom);
     same(base62.encode(1337), 'LZ');
     class More extends Alphabet {}
     same(base62.encode(1337, new More(custom)), 'Pd');
@@ -426,7 +434,7 @@ const tests = {
 
   'prefixes of each length are read'({ base62, refused, forEachLength }) {
     forEachLength((count, zeros, zero, one, form, alphabet) => {
-      const range = (width, prefix) => base62.fixedRange(width, form(prefix), alphabet);
+      const range = (width, prefix) => base62.prefixRange(form(prefix), width, alphabet);
       sameRange(range(count + 2, zeros + one), [62n, 123n]);
       sameRange(range(count + 1, zeros + one), [1n, 1n]);
       same(range(count, zeros + one), null);

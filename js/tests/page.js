@@ -34,7 +34,7 @@ for (const [id, text, mark, message] of [
   ['standard', '-LZ', '-', "Encoded input contains the invalid byte b'-' at index 0"],
   ['standard', '00LZ-x', '-', "Encoded input contains the invalid byte b'-' at index 4"],
   ['standard', 'LZ\u{1f600}', '\u{1f600}', "Encoded input contains the invalid byte b'\\xf0' at index 2"],
-  ['alternative', '7N42dgm5tFLK9N8MT7fHC8', undefined, 'Decoded number cannot fit into a `u128`'],
+  ['alternative', '7N42dgm5tFLK9N8MT7fHC8', undefined, 'Decoded number is 2^128 or more'],
   ['number', '340282366920938463463374607431768211456', undefined, 'The number is 2^128 or more'],
   ['number', '12x', 'x', 'The character at index 2 is not a digit'],
   ['hexadecimal', 'fg', 'g', 'The character at index 1 is not a digit'],

@@ -1,16 +1,15 @@
 // Compiles only if the types of the package are exactly these, and each line below @ts-expect-error is rejected.
 import * as base62 from 'base62-proved';
-import { Alphabet, Base62Error, type EncodedString, type Integer, type Text, type Uuid } from 'base62-proved';
+import { Alphabet, Base62Error, type EncodedString, type Integer, type Uuid } from 'base62-proved';
 
 type Same<A, B> = (<T>() => T extends A ? 1 : 2) extends <T>() => T extends B ? 1 : 2 ? true : false;
 type AllOf<T extends true[]> = T;
 type Decodes<T> = (text: EncodedString, alphabet?: Alphabet) => T;
 type Code =
-  | 'BUFFER_TOO_SMALL'
   | 'EMPTY_INPUT'
   | 'INVALID_BYTE'
   | 'OVERFLOW'
-  | 'REPEATED_LETTER'
+  | 'REPEATED_CHARACTER'
   | 'NOT_CANONICAL'
   | 'OUT_OF_RANGE'
   | 'UNSAFE_INTEGER'
@@ -19,9 +18,8 @@ type Code =
 
 export type Checks = AllOf<
   [
-    Same<Integer, number | bigint | boolean>,
+    Same<Integer, number | bigint>,
     Same<EncodedString, string | Uint8Array>,
-    Same<Text, EncodedString>,
     Same<Uuid, string | Uint8Array>,
     Same<typeof base62.encode, (number: Integer, alphabet?: Alphabet) => string>,
     Same<typeof base62.encodeFixed, (value: Integer | Uuid, width: number, alphabet?: Alphabet) => string>,
@@ -34,11 +32,11 @@ export type Checks = AllOf<
     Same<typeof base62.decodeNumberCanonical, Decodes<number>>,
     Same<typeof base62.decodeUuid, Decodes<string>>,
     Same<typeof base62.decodeUuidCanonical, Decodes<string>>,
-    Same<typeof base62.fixedRange, (width: number, prefix: EncodedString, alphabet?: Alphabet) => [bigint, bigint] | null>,
+    Same<typeof base62.prefixRange, (prefix: EncodedString, width: number, alphabet?: Alphabet) => [bigint, bigint] | null>,
     Same<typeof base62.keyRange, (prefix: EncodedString) => [bigint, bigint] | null>,
     Same<typeof base62.keyBounds, (prefix: EncodedString) => [string, string] | null>,
     Same<ConstructorParameters<typeof Alphabet>, [string]>,
-    Same<Pick<Alphabet, keyof Alphabet>, { readonly letters: string }>,
+    Same<Pick<Alphabet, keyof Alphabet>, { readonly characters: string }>,
     Same<
       Pick<typeof Alphabet, keyof typeof Alphabet>,
       { prototype: Alphabet; readonly standard: Alphabet; readonly alternative: Alphabet }
@@ -53,7 +51,9 @@ export type Checks = AllOf<
 export const error: RangeError = null as unknown as Base62Error;
 
 // @ts-expect-error
-base62.encode(5, { letters: '0123' });
+base62.encode(true);
+// @ts-expect-error
+base62.encode(5, { characters: '0123' });
 // @ts-expect-error
 new Base62Error('5');
 // @ts-expect-error

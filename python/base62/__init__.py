@@ -23,8 +23,8 @@ from base62._base62 import (
     encode_fixed,
     encode_key,
     encode_uuid,
-    fixed_range,
     key_range,
+    prefix_range,
 )
 from base62._types import (
     AlphabetError,
@@ -40,8 +40,6 @@ from base62._types import (
 )
 
 AnyAlphabet = Alphabet | str | bytes
-# Deprecated, until 4.0. A module with __getattr__, which could warn of it, slows every base62.encode.
-Text = EncodedString
 
 __all__ = [
     "Alphabet",
@@ -61,9 +59,9 @@ __all__ = [
     "encode_fixed",
     "encode_key",
     "encode_uuid",
-    "fixed_range",
     "key_bounds",
     "key_range",
+    "prefix_range",
 ]
 
 

@@ -3,66 +3,54 @@
 
 /* Hand-written. The type Alphabet: a bytes object with the tables of the library behind its items. */
 #include "_base62.h"
+#include "_docstrings.h"
 
-static int make_alphabet_or_raise(struct state *state, const char *letters, struct alphabet *alphabet) {
+static int init_alphabet_or_raise(struct state *state, const char *characters, struct alphabet *alphabet) {
     base62_bad_byte bad = {0, 0};
-    base62_status status = base62_make_alphabet(letters, &alphabet->tables, &bad);
+    base62_status status = base62_alphabet_init(&alphabet->tables, characters, &bad);
     if (status != BASE62_OK) {
         raise_status(state, status, bad);
         return -1;
     }
     alphabet->is_ascii = 1;
     for (int i = 0; i < BASE62_ALPHABET_LENGTH; i++)
-        if ((unsigned char)letters[i] > 127)
+        if ((unsigned char)characters[i] > 127)
             alphabet->is_ascii = 0;
     return 0;
 }
 
-/* The letters of an argument that is not an Alphabet. */
-static int letters_or_raise(struct state *state, PyObject *argument, struct text *letters) {
-    PyObject *bytes = PyBytes_Check(argument) ? new_ref(argument) : convert(state, TO_LETTERS, argument);
-    if (steal_bytes_or_raise(bytes, letters) != 0)
+/* The characters of an argument that is not an Alphabet. */
+static int characters_or_raise(struct state *state, PyObject *argument, struct text *characters) {
+    PyObject *bytes = PyBytes_Check(argument) ? new_ref(argument) : convert(state, TO_CHARACTERS, argument);
+    if (steal_bytes_or_raise(bytes, characters) != 0)
         return -1;
-    if (letters->length == BASE62_ALPHABET_LENGTH)
+    if (characters->length == BASE62_ALPHABET_LENGTH)
         return 0;
-    const char *plural = letters->length == 1 ? "" : "s";
-    PyErr_Format(PyExc_ValueError, "the alphabet has %zd character%s, not 62", letters->length, plural);
-    Py_DecRef(letters->owner);
+    const char *plural = characters->length == 1 ? "" : "s";
+    PyErr_Format(PyExc_ValueError, "the alphabet has %zd character%s, not 62", characters->length, plural);
+    Py_DecRef(characters->owner);
     return -1;
 }
 
 /* Creates the fields of an alphabet from an argument that is not an Alphabet. */
-int alphabet_of_letters_or_raise(struct state *state, PyObject *argument, struct alphabet *alphabet) {
-    struct text letters;
-    if (letters_or_raise(state, argument, &letters) != 0)
+int alphabet_of_characters_or_raise(struct state *state, PyObject *argument, struct alphabet *alphabet) {
+    struct text characters;
+    if (characters_or_raise(state, argument, &characters) != 0)
         return -1;
-    int failed = make_alphabet_or_raise(state, letters.bytes, alphabet);
-    Py_DecRef(letters.owner);
+    int failed = init_alphabet_or_raise(state, characters.bytes, alphabet);
+    Py_DecRef(characters.owner);
     return failed;
 }
-
-PyDoc_STRVAR(Alphabet_doc,
-             "Alphabet(letters)\n--\n\n"
-             "A custom alphabet: 62 distinct bytes, in the order of their digit values.\n\n"
-             "It is immutable and cannot be subclassed. letters, an ASCII str or bytes, is checked here once; a str\n"
-             "or bytes passed to a function is checked on every call. With an alphabet that has\n"
-             "non-ASCII bytes, functions that encode raise ValueError.\n\n"
-             "Raises AlphabetError if a byte is repeated, ValueError if there are not 62, and UnicodeEncodeError if a\n"
-             "str is not ASCII.\n\n"
-             ">>> import base62\n"
-             ">>> custom = base62.Alphabet(\"23456789ABCDEFGHJKLMNPQRSTUVWXYZabcdefghijkmnpqrstuvwxyz-_.~!*\")\n"
-             ">>> base62.encode(62, custom), base62.decode(\"32\", custom)\n"
-             "('32', 62)");
 
 static PyObject *new_bytes(PyObject *bytes) {
     return PyBytes_FromStringAndSize(PyBytes_AsString(bytes), PyBytes_Size(bytes));
 }
 
-static PyObject *new_alphabet_of(struct state *state, PyTypeObject *type, PyObject *letters,
+static PyObject *new_alphabet_of(struct state *state, PyTypeObject *type, PyObject *characters,
                                  const struct alphabet *fields) {
     newfunc bytes_new = (newfunc)PyType_GetSlot(&PyBytes_Type, Py_tp_new);
     /* A subclass of bytes could override what its bytes are. */
-    PyObject *tuple = bytes_new == NULL ? NULL : Py_BuildValue("(N)", new_bytes(letters));
+    PyObject *tuple = bytes_new == NULL ? NULL : Py_BuildValue("(N)", new_bytes(characters));
     PyObject *object = tuple == NULL ? NULL : bytes_new(type, tuple, NULL);
     Py_DecRef(tuple);
     if (object == NULL)
@@ -77,18 +65,18 @@ static PyObject *new_alphabet_of(struct state *state, PyTypeObject *type, PyObje
 }
 
 static PyObject *alphabet_new(PyTypeObject *type, PyObject *tuple, PyObject *dict) {
-    static const char *const names[] = {"letters", NULL};
+    static const char *const names[] = {"characters", NULL};
     struct state *state = PyType_GetModuleState(type);
     PyObject *argument;
     if (state == NULL || !PyArg_ParseTupleAndKeywords(tuple, dict, "O:Alphabet", (char **)names, &argument))
         return NULL;
-    struct text letters;
-    if (letters_or_raise(state, argument, &letters) != 0)
+    struct text characters;
+    if (characters_or_raise(state, argument, &characters) != 0)
         return NULL;
     struct alphabet fields;
-    int failed = make_alphabet_or_raise(state, letters.bytes, &fields);
-    PyObject *object = failed ? NULL : new_alphabet_of(state, type, letters.owner, &fields);
-    Py_DecRef(letters.owner);
+    int failed = init_alphabet_or_raise(state, characters.bytes, &fields);
+    PyObject *object = failed ? NULL : new_alphabet_of(state, type, characters.owner, &fields);
+    Py_DecRef(characters.owner);
     return object;
 }
 
@@ -105,9 +93,24 @@ static int alphabet_traverse(PyObject *self, visitproc visit, void *arg) {
     return 0;
 }
 
+/* The name of a built-in alphabet, and NULL for another one. */
+static const char *name_of(PyObject *self) {
+    const struct state *state = PyType_GetModuleState(Py_TYPE(self));
+    if (state == NULL)
+        PyErr_Clear();
+    else if (self == state->objects[STANDARD])
+        return "Alphabet.STANDARD";
+    else if (self == state->objects[ALTERNATIVE])
+        return "Alphabet.ALTERNATIVE";
+    return NULL;
+}
+
 static PyObject *alphabet_repr(PyObject *self) {
-    PyObject *letters = new_bytes(self), *repr = letters == NULL ? NULL : PyUnicode_FromFormat("Alphabet(%R)", letters);
-    Py_DecRef(letters);
+    const char *name = name_of(self);
+    if (name != NULL)
+        return PyUnicode_FromString(name);
+    PyObject *characters = new_bytes(self), *repr = characters == NULL ? NULL : PyUnicode_FromFormat("Alphabet(%R)", characters);
+    Py_DecRef(characters);
     return repr;
 }
 
@@ -116,13 +119,9 @@ PyDoc_STRVAR(reduce_doc, "__reduce__($self, /)\n--\n\n"
 
 static PyObject *alphabet_reduce(PyObject *self, PyObject *unused) {
     (void)unused;
-    struct state *state = PyType_GetModuleState(Py_TYPE(self));
-    if (state == NULL)
-        return NULL;
-    if (self == state->objects[STANDARD])
-        return PyUnicode_FromString("Alphabet.STANDARD");
-    if (self == state->objects[ALTERNATIVE])
-        return PyUnicode_FromString("Alphabet.ALTERNATIVE");
+    const char *name = name_of(self);
+    if (name != NULL)
+        return PyUnicode_FromString(name);
     return Py_BuildValue("O(N)", Py_TYPE(self), new_bytes(self));
 }
 
@@ -132,7 +131,7 @@ static PyMethodDef alphabet_methods[] = {
 };
 
 static PyType_Slot alphabet_slots[] = {
-    {Py_tp_doc, (void *)Alphabet_doc},
+    {Py_tp_doc, (void *)DOC_Alphabet},
     {Py_tp_new, alphabet_new},
     {Py_tp_dealloc, alphabet_dealloc},
     {Py_tp_traverse, alphabet_traverse},
@@ -165,9 +164,9 @@ static int add_type(PyObject *module) {
 }
 
 /* Setting an attribute of an immutable type raises TypeError, so it is stored in the type's __dict__. */
-static int add_built_in(PyObject *module, int which, const char *name, const char *letters) {
+static int add_built_in(PyObject *module, int which, const char *name, const char *characters) {
     PyObject **objects = ((struct state *)PyModule_GetState(module))->objects, *type = objects[ALPHABET];
-    objects[which] = PyObject_CallFunction(type, "y", letters);
+    objects[which] = PyObject_CallFunction(type, "y", characters);
     PyObject *dict = objects[which] == NULL ? NULL : PyObject_GenericGetDict(type, NULL);
     int ok = dict != NULL && PyDict_SetItemString(dict, name, objects[which]) == 0;
     PyType_Modified((PyTypeObject *)type);
@@ -176,6 +175,6 @@ static int add_built_in(PyObject *module, int which, const char *name, const cha
 }
 
 int add_alphabets(PyObject *module) {
-    return add_type(module) && add_built_in(module, STANDARD, "STANDARD", BASE62_STANDARD_LETTERS) &&
-           add_built_in(module, ALTERNATIVE, "ALTERNATIVE", BASE62_ALTERNATIVE_LETTERS);
+    return add_type(module) && add_built_in(module, STANDARD, "STANDARD", BASE62_STANDARD_ALPHABET) &&
+           add_built_in(module, ALTERNATIVE, "ALTERNATIVE", BASE62_ALTERNATIVE_ALPHABET);
 }

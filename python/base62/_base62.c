@@ -80,6 +80,24 @@ static int raise_out_of_range(struct state *state, const char *message) {
     return -1;
 }
 
+/* Splits an int of 2^63 or more. Returns 1 if it is 2^128 or more, and -1 with an exception. */
+static int split_int(PyObject *integer, base62_number *number) {
+    PyObject *bits = PyLong_FromLong(64), *high = bits == NULL ? NULL : PyNumber_Rshift(integer, bits);
+    Py_DecRef(bits);
+    if (high == NULL)
+        return -1;
+    number->high = PyLong_AsUnsignedLongLong(high);
+    Py_DecRef(high);
+    if (number->high == UINT64_MAX && PyErr_Occurred() != NULL) {
+        if (!PyErr_ExceptionMatches(PyExc_OverflowError))
+            return -1;
+        PyErr_Clear();
+        return 1;
+    }
+    number->low = PyLong_AsUnsignedLongLongMask(integer);
+    return number->low == UINT64_MAX && PyErr_Occurred() != NULL ? -1 : 0;
+}
+
 /* For exactly an int, which always converts. */
 static int number_of_int_or_raise(struct state *state, PyObject *integer, base62_number *number) {
     int overflow;
@@ -148,14 +166,14 @@ int text_or_raise(struct state *state, PyObject *argument, struct text *text) {
     return text->bytes == NULL ? -1 : 0;
 }
 
-/* Borrows the fields of an Alphabet. From letters it creates such fields in *storage. */
+/* Borrows the fields of an Alphabet. From characters it creates such fields in *storage. */
 static const struct alphabet *alphabet_or_raise(struct state *state, PyObject *argument, struct alphabet *storage) {
     PyObject *object = argument == NULL ? borrow(state, STANDARD) : argument;
     if (object == NULL)
         return NULL;
     if ((PyObject *)Py_TYPE(object) == state->objects[ALPHABET])
         return fields_of(state, object);
-    return alphabet_of_letters_or_raise(state, object, storage) != 0 ? NULL : storage;
+    return alphabet_of_characters_or_raise(state, object, storage) != 0 ? NULL : storage;
 }
 
 static const struct alphabet *ascii_alphabet_or_raise(struct state *state, PyObject *argument,
@@ -189,11 +207,11 @@ PyObject *raise_status(struct state *state, base62_status status, base62_bad_byt
         [BASE62_EMPTY_INPUT] = EMPTY_INPUT_ERROR,
         [BASE62_INVALID_BYTE] = INVALID_BYTE_ERROR,
         [BASE62_OVERFLOW] = TOO_LARGE_ERROR,
-        [BASE62_REPEATED_LETTER] = ALPHABET_ERROR,
+        [BASE62_REPEATED_CHARACTER] = ALPHABET_ERROR,
         [BASE62_NOT_CANONICAL] = NOT_CANONICAL_ERROR,
     };
-    char message[BASE62_MAX_FAULT_TEXT];
-    size_t length = base62_fault_text(status, bad, message, sizeof message);
+    char message[BASE62_MAX_ERROR_MESSAGE];
+    size_t length = base62_error_message(status, bad, message, sizeof message);
     int error = errors[status], has_byte = error == INVALID_BYTE_ERROR || error == ALPHABET_ERROR;
     PyObject *text = PyUnicode_DecodeASCII(message, (Py_ssize_t)length, NULL);
     const char *format = has_byte ? "(NBn)" : "(N)";
@@ -207,7 +225,7 @@ PyObject *raise_status(struct state *state, base62_status status, base62_bad_byt
 
 static PyObject *new_range_or_raise(struct state *state, base62_status status, base62_range range,
                                     base62_bad_byte bad) {
-    if (status == BASE62_NO_KEY)
+    if (status == BASE62_NO_MATCH)
         return new_ref(Py_None);
     if (status != BASE62_OK)
         return raise_status(state, status, bad);
@@ -299,8 +317,6 @@ static PyObject *digit_count(PyObject *module, PyObject *const *args, Py_ssize_t
     return PyLong_FromSize_t(base62_digit_count(number));
 }
 
-typedef base62_status decode_with(const base62_alphabet *, const char *, size_t, base62_number *, base62_bad_byte *);
-
 typedef PyObject *new_result(struct state *, base62_number);
 
 /* Decodes the text of a call by a function of the library, and returns the number as an object. */
@@ -346,14 +362,14 @@ static PyObject *key_range(PyObject *module, PyObject *const *args, Py_ssize_t n
     return new_range_or_raise(state, status, range, bad);
 }
 
-static PyObject *fixed_range(PyObject *module, PyObject *const *args, Py_ssize_t nargs, PyObject *kwnames) {
-    static const struct parameters signature = {"OO|O:fixed_range", {"width", "prefix", "alphabet", NULL}, 2, 3};
+static PyObject *prefix_range(PyObject *module, PyObject *const *args, Py_ssize_t nargs, PyObject *kwnames) {
+    static const struct parameters signature = {"OO|O:prefix_range", {"prefix", "width", "alphabet", NULL}, 2, 3};
     struct state *state = state_of(module);
     PyObject *found[3];
     size_t width;
     struct text prefix;
-    if (unpack(&signature, args, nargs, kwnames, found) != 0 || width_or_raise(found[0], &width) != 0 ||
-        text_or_raise(state, found[1], &prefix) != 0)
+    if (unpack(&signature, args, nargs, kwnames, found) != 0 || width_or_raise(found[1], &width) != 0 ||
+        text_or_raise(state, found[0], &prefix) != 0)
         return NULL;
     base62_range range = {{0, 0}, {0, 0}};
     base62_bad_byte bad = {0, 0};
@@ -362,7 +378,7 @@ static PyObject *fixed_range(PyObject *module, PyObject *const *args, Py_ssize_t
     const struct alphabet *alphabet = alphabet_or_raise(state, found[2], &storage);
     if (alphabet != NULL) {
         PyThreadState *saved = release_gil_if_long((size_t)prefix.length);
-        status = base62_fixed_range_with(&alphabet->tables, width, prefix.bytes, (size_t)prefix.length, &range, &bad);
+        status = base62_prefix_range_with(&alphabet->tables, prefix.bytes, (size_t)prefix.length, width, &range, &bad);
         restore_gil(saved);
     }
     Py_DecRef(prefix.owner);
@@ -384,7 +400,7 @@ static PyMethodDef calls[] = {
     CALL(decode_uuid),
     CALL(decode_uuid_canonical),
     CALL(key_range),
-    CALL(fixed_range),
+    CALL(prefix_range),
     {NULL, NULL, 0, NULL},
 };
 
@@ -405,7 +421,7 @@ static int import_types(PyObject **objects) {
     static const char *const names[TYPES_END] = {
         "to_int",
         "to_bytes",
-        "to_letters",
+        "to_characters",
         "uuid_to_int",
         "int_to_uuid",
         "UUID",
@@ -427,6 +443,19 @@ static int import_types(PyObject **objects) {
     return ok;
 }
 
+/* Finds the C function of str.isascii. Returns 0, with an exception, if there is none. */
+static int find_isascii(PyCFunction *isascii) {
+    PyObject *empty = PyUnicode_FromString("");
+    PyObject *method = empty == NULL ? NULL : PyObject_GetAttrString(empty, "isascii");
+    if (method != NULL && PyCFunction_GetFlags(method) == METH_NOARGS)
+        *isascii = PyCFunction_GetFunction(method);
+    if (*isascii == NULL && PyErr_Occurred() == NULL)
+        PyErr_SetString(PyExc_SystemError, "str.isascii is not what it was");
+    Py_DecRef(method);
+    Py_DecRef(empty);
+    return *isascii != NULL;
+}
+
 static int execute(PyObject *module) {
     struct state *state = state_of(module);
     int ok = state != NULL && import_types(state->objects) && find_isascii(&state->str_isascii) &&
@@ -434,5 +463,47 @@ static int execute(PyObject *module) {
     return ok ? PyModule_AddStringConstant(module, "__version__", BASE62_VERSION) : -1;
 }
 
-#include "_module.h"
-DEFINE_MODULE(_base62, NULL)
+static int traverse(PyObject *module, visitproc visit, void *arg) {
+    struct state *state = state_of(module);
+    for (int i = 0; i < OBJECT_COUNT; i++)
+        Py_VISIT(state->objects[i]);
+    return 0;
+}
+
+static int clear(PyObject *module) {
+    struct state *state = state_of(module);
+    for (int i = 0; i < OBJECT_COUNT; i++) {
+        PyObject *object = state->objects[i];
+        state->objects[i] = NULL;
+        Py_DecRef(object);
+    }
+    return 0;
+}
+
+static void free_module(void *module) {
+    clear(module);
+}
+
+/* Py_mod_multiple_interpreters (3) = Py_MOD_PER_INTERPRETER_GIL_SUPPORTED (2). An interpreter with its own GIL needs
+   it, from 3.12 on; 3.11 rejects it, and the limited API of 3.11 does not have the names. */
+static PyModuleDef_Slot slots[] = {{3, (void *)2}, {Py_mod_exec, execute}, {0, NULL}};
+
+/* For base62.columns. */
+static PyMethodDef row_calls[] = {
+    {"encode_rows", encode_rows, METH_VARARGS, DOC_encode_rows},
+    {"decode_rows", decode_rows, METH_VARARGS, DOC_decode_rows},
+    {NULL, NULL, 0, NULL},
+};
+
+#define DEFINITION(module_slots)                                                                                       \
+    {                                                                                                                  \
+        .m_base = PyModuleDef_HEAD_INIT, .m_name = "base62._base62", .m_size = sizeof(struct state),                   \
+        .m_methods = row_calls, .m_slots = (module_slots), .m_traverse = traverse, .m_clear = clear,                   \
+        .m_free = free_module,                                                                                         \
+    }
+
+static struct PyModuleDef since_3_12 = DEFINITION(slots), of_3_11 = DEFINITION(slots + 1);
+
+PyMODINIT_FUNC PyInit__base62(void) {
+    return PyModuleDef_Init(Py_Version >= 0x030c0000 ? &since_3_12 : &of_3_11);
+}

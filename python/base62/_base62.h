@@ -7,19 +7,19 @@
 
 #define Py_LIMITED_API 0x030b0000
 #include <Python.h>
+/* Before the pragma, which would hide the functions of the C library too. */
+#include <string.h>
 
 #ifdef __GNUC__
 #pragma GCC visibility push(hidden)
 #endif
 #include <base62.h>
 
-#include "_objects.h"
-
 /* The objects that the module owns. Those before TYPES_END come from base62._types. */
 enum {
     TO_INT,
     TO_BYTES,
-    TO_LETTERS,
+    TO_CHARACTERS,
     UUID_TO_INT,
     INT_TO_UUID,
     UUID,
@@ -60,6 +60,8 @@ struct alphabet {
     char is_ascii;
 };
 
+typedef base62_status decode_with(const base62_alphabet *, const char *, size_t, base62_number *, base62_bad_byte *);
+
 /* Py_IncRef and Py_DecRef are functions of the running Python. Macros of 3.11 would count objects that are immortal
    since 3.12. */
 static inline PyObject *new_ref(PyObject *object) {
@@ -82,10 +84,15 @@ PyObject *new_int(struct state *state, base62_number number);
 PyObject *raise_status(struct state *state, base62_status status, base62_bad_byte bad);
 
 /* In _alphabet.c. */
-int alphabet_of_letters_or_raise(struct state *state, PyObject *argument, struct alphabet *alphabet);
+int alphabet_of_characters_or_raise(struct state *state, PyObject *argument, struct alphabet *alphabet);
 int add_alphabets(PyObject *module);
 
+/* In _columns.c. */
+PyObject *encode_rows(PyObject *module, PyObject *args);
+PyObject *decode_rows(PyObject *module, PyObject *args);
+
 /* In _uuid.c. */
+int read_uuid(struct text text, unsigned char uuid[BASE62_UUID_LENGTH]);
 PyObject *int_of_uuid(struct state *state, PyObject *uuid);
 int uuid_or_raise(struct state *state, PyObject *argument, base62_number *number);
 PyObject *new_uuid(struct state *state, base62_number number);

@@ -13,7 +13,7 @@ __version__: str
 class Alphabet(bytes):
     """A custom alphabet: 62 distinct bytes, in the order of their digit values.
 
-    It is immutable and cannot be subclassed. letters, an ASCII str or bytes, is checked here once; a str
+    It is immutable and cannot be subclassed. characters, an ASCII str or bytes, is checked here once; a str
     or bytes passed to a function is checked on every call. With an alphabet that has
     non-ASCII bytes, functions that encode raise ValueError.
 
@@ -28,7 +28,7 @@ class Alphabet(bytes):
 
     STANDARD: ClassVar[Alphabet]
     ALTERNATIVE: ClassVar[Alphabet]
-    def __new__(cls, letters: str | bytes) -> Self: ...
+    def __new__(cls, characters: str | bytes) -> Self: ...
 
 def encode(number: Number, alphabet: AnyAlphabet = Alphabet.STANDARD) -> str:
     """Return the encoded string of a number: 1 to 22 characters, without leading zeros.
@@ -111,7 +111,7 @@ def decode(text: EncodedString, alphabet: AnyAlphabet = Alphabet.STANDARD) -> in
     (1337, 1337)
     >>> base62.decode("7n42DGM5Tflk9n8mt7Fhc8")
     Traceback (most recent call last):
-    base62.TooLargeError: Decoded number cannot fit into a `u128`
+    base62.TooLargeError: Decoded number is 2^128 or more
     """
 
 def decode_canonical(text: EncodedString, alphabet: AnyAlphabet = Alphabet.STANDARD) -> int:
@@ -160,8 +160,8 @@ def key_range(prefix: EncodedString) -> tuple[int, int] | None:
     >>> base62.key_range("8")
     """
 
-def fixed_range(
-    width: SupportsIndex, prefix: EncodedString, alphabet: AnyAlphabet = Alphabet.STANDARD
+def prefix_range(
+    prefix: EncodedString, width: SupportsIndex, alphabet: AnyAlphabet = Alphabet.STANDARD
 ) -> tuple[int, int] | None:
     """Return the least and the greatest number whose string of this width begins with prefix.
 
@@ -171,7 +171,33 @@ def fixed_range(
     Raises InvalidByteError, ValueError if the width is negative, and what Alphabet raises.
 
     >>> import base62
-    >>> base62.fixed_range(4, "00L")
+    >>> base62.prefix_range("00L", 4)
     (1302, 1363)
-    >>> base62.fixed_range(4, "000LZ")
+    >>> base62.prefix_range("000LZ", 4)
     """
+
+# For base62.columns. A type is a letter, as _columns.c says.
+def encode_rows(
+    alphabet: Alphabet,
+    width: int,
+    source: tuple[str, int, int, object, object, object],
+    result: tuple[str, object, object, object],
+    coerces: bool,
+    /,
+) -> tuple[int, int, int]:
+    """Encode rows of numbers, with the width, or with no leading zeros if it is -1.
+
+    source is a type, an offset, the count of rows, and the buffers of validity, values and characters; result a type,
+    and the buffers of validity, offsets and values. Return how many rows are encoded before the first invalid one, the
+    length of their strings, and how many are null. Raises ValueError if a buffer is too short, or has such offsets.
+    """
+
+def decode_rows(
+    alphabet: Alphabet,
+    is_canonical: bool,
+    source: tuple[str, int, int, object, object, object],
+    result: tuple[str, object, object, object],
+    coerces: bool,
+    /,
+) -> tuple[int, int, int]:
+    """Like encode_rows, but decode rows of strings."""

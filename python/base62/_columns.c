@@ -1,318 +1,322 @@
 /* SPDX-License-Identifier: MIT */
 /* Copyright (c) 2026 the maintainers of base62 for Rattle */
 
-/* Hand-written. The loops of base62.columns: each row is converted by a function of base62.h, which is proved. */
-#include "_columns.h"
+/* Hand-written. The loops of base62.columns over the buffers of Arrow arrays. Whatever these contain, nothing outside
+   of them is read or written. A type is a letter of Arrow's C data interface: uint64 L, int64 l, decimal128 d,
+   fixed_size_binary(16) w, string u, binary z, large_string U, large_binary Z. */
+#include "_base62.h"
 
-typedef base62_status decode_with(const base62_alphabet *, const char *, size_t, base62_number *, base62_bad_byte *);
-
-/* What is done to the rows, and how far it is. */
-struct conversion {
-    enum kind kind;
-    base62_alphabet alphabet;
-    int is_fixed;
-    size_t width;
-    decode_with *decode;
-    /* Invalid rows become null. Otherwise this function raises the exception of their value. */
-    int coerces;
-    PyObject *convert_one;
-    struct result *result;
-    /* The rows that are done, and the bytes of their strings. */
-    int64_t row;
-    size_t used, size;
+/* An array to read: so many rows, from an offset on. A buffer that it lacks is NULL. */
+struct source {
+    int type;
+    Py_ssize_t offset, count;
+    Py_buffer validity, values, characters;
 };
 
-enum outcome { DONE, INVALID_ROW, UNREADABLE_ROW, NO_MEMORY };
+/* An array to write. */
+struct result {
+    int type;
+    Py_buffer validity, offsets, values;
+    /* The length of its strings, and how many of its rows are null. */
+    Py_ssize_t used, nulls;
+};
 
-/* Blocks */
+struct conversion {
+    struct source source;
+    struct result result;
+    const base62_alphabet *alphabet;
+    /* Of encoding: the width, or -1 for strings without leading zeros. */
+    Py_ssize_t width;
+    decode_with *decode;
+    /* Invalid rows become null. Otherwise the first one ends the conversion. */
+    int coerces;
+    /* The rows that are converted. */
+    Py_ssize_t row;
+};
 
-/* Where the string of the row before a row ends. */
-static void store_offset(struct result *result, int64_t row, size_t offset) {
-    if (result->type == UTF8)
-        ((int32_t *)result->offsets)[row] = (int32_t)offset;
-    else
-        ((int64_t *)result->offsets)[row] = (int64_t)offset;
+enum outcome { VALID, MISSING, INVALID, MALFORMED };
+
+/* 2^64 - 1 has so many. */
+enum { MAX_DIGITS_OF_64_BITS = 11 };
+
+/* Reading. An index counts from the start of the buffers. */
+
+static int is_text(int type) {
+    return type == 'u' || type == 'z' || type == 'U' || type == 'Z';
 }
 
-static inline size_t encode_number(const struct conversion *conversion, base62_number number, char *place, size_t size) {
-    return conversion->is_fixed
-               ? base62_encode_fixed_with(&conversion->alphabet, number, place, conversion->width)
-               : base62_encode_with(&conversion->alphabet, number, place, size);
+static int has_large_offsets(int type) {
+    return type == 'U' || type == 'Z';
 }
 
-static void encode_block(struct conversion *conversion, struct block *block) {
-    struct result *result = conversion->result;
-    size_t used = conversion->used;
-    for (int i = 0; i < block->count; i++) {
-        size_t length = 0;
-        if (block->states[i] == ROW_VALID) {
-            length = encode_number(conversion, block->numbers[i], result->values + used, conversion->size - used);
-            if (length == 0)
-                block->states[i] = ROW_INVALID;
-        }
-        used += length;
-        store_offset(result, conversion->row + i + 1, used);
-    }
-    conversion->used = used;
+/* The size of a value, or of an offset. */
+static Py_ssize_t size_of(int type) {
+    return type == 'd' || type == 'w' ? BASE62_UUID_LENGTH : type == 'u' || type == 'z' ? 4 : 8;
 }
 
-static void decode_block(struct conversion *conversion, struct block *block) {
-    int is_uint64 = conversion->result->type == UINT64;
-    uint64_t *integers = (void *)conversion->result->values;
-    unsigned char *uuids = (void *)conversion->result->values;
-    for (int i = 0; i < block->count; i++) {
-        base62_number number = {0, 0};
-        base62_bad_byte bad;
-        struct text text = block->texts[i];
-        if (block->states[i] == ROW_VALID &&
-            (conversion->decode(&conversion->alphabet, text.bytes, text.length, &number, &bad) != BASE62_OK ||
-             (is_uint64 && number.high != 0))) {
-            block->states[i] = ROW_INVALID;
-            number.low = 0;
-        }
-        if (is_uint64)
-            integers[conversion->row + i] = number.low;
-        else
-            base62_uuid_of_number(number, uuids + BASE62_UUID_LENGTH * (conversion->row + i));
-    }
+static int is_null(const struct source *source, Py_ssize_t index) {
+    const unsigned char *bits = source->validity.buf;
+    return bits != NULL && (bits[index / 8] >> index % 8 & 1) == 0;
 }
 
-/* Makes rows null, and invalid ones if they become so. */
-static enum outcome store_nulls(const struct conversion *conversion, struct block *block) {
-    for (int i = 0; i < block->count; i++) {
-        if (block->states[i] == ROW_VALID)
-            continue;
-        block->bad = i;
-        if (block->states[i] != ROW_NULL && !conversion->coerces)
-            return INVALID_ROW;
-        if (set_null(conversion->result, conversion->row + i) != 0)
-            return NO_MEMORY;
-    }
-    return DONE;
+static unsigned char *place_at(const Py_buffer *buffer, Py_ssize_t index, Py_ssize_t size) {
+    return (unsigned char *)buffer->buf + index * size;
 }
 
-static void read_validity(const struct source *source, int64_t first, struct block *block) {
-    memset(block->states, ROW_VALID, (size_t)block->count);
-    for (int which = 0; which < 2; which++) {
-        const struct bitmap *bitmap = &source->validity[which];
-        int64_t bit = bitmap->offset + first;
-        for (int i = 0; bitmap->bits != NULL && i < block->count; i++, bit++)
-            if ((bitmap->bits[bit / 8] >> bit % 8 & 1) == 0)
-                block->states[i] = ROW_NULL;
-    }
-}
-
-static enum outcome convert_block(struct conversion *conversion, const struct source *source, int64_t first,
-                                  struct block *block) {
-    int64_t left = source->rows - first;
-    block->count = left < BLOCK_ROWS ? (int)left : BLOCK_ROWS;
-    read_validity(source, first, block);
-    enum outcome outcome = source->read(source, first, block) == 0 ? DONE : UNREADABLE_ROW;
-    if (outcome == DONE) {
-        (conversion->kind == NUMBERS ? encode_block : decode_block)(conversion, block);
-        outcome = store_nulls(conversion, block);
-    }
-    if (source->list != NULL)
-        release_owners(block);
-    if (outcome == DONE)
-        conversion->row += block->count;
-    return outcome;
-}
-
-/* Errors */
-
-/* The int of a number. A negative one is the two's complement of its low half. */
-static PyObject *new_int(base62_number number, int is_negative) {
-    unsigned char bytes[BASE62_UUID_LENGTH];
-    if (is_negative)
-        return PyLong_FromLongLong((int64_t)number.low);
-    base62_uuid_of_number(number, bytes);
-    return PyObject_CallMethod((PyObject *)&PyLong_Type, "from_bytes", "y#s", bytes, (Py_ssize_t)sizeof bytes, "big");
-}
-
-/* The value of the bad row of a block. */
-static PyObject *new_value(const struct conversion *conversion, const struct source *source, int64_t first,
-                           const struct block *block) {
-    int bad = block->bad;
-    if (source->list != NULL) {
-        PyObject *item = PyList_GetItem(source->list, (Py_ssize_t)(first + bad));
-        Py_IncRef(item);
-        return item;
-    }
-    if (conversion->kind == NUMBERS)
-        return new_int(block->numbers[bad], block->states[bad] == ROW_NEGATIVE);
-    return PyBytes_FromStringAndSize(block->texts[bad].bytes, (Py_ssize_t)block->texts[bad].length);
-}
-
-/* Adds the row to the exception that is set. */
-static void add_row(int64_t row) {
-    PyObject *type, *exception, *traceback;
-    PyErr_Fetch(&type, &exception, &traceback);
-    PyErr_NormalizeException(&type, &exception, &traceback);
-    PyObject *number = PyLong_FromLongLong(row);
-    if (number != NULL && PyObject_SetAttrString(exception, "row", number) == 0) {
-        PyErr_Restore(type, exception, traceback);
+static inline enum outcome read_text(const struct source *source, Py_ssize_t index, int is_large, struct text *text) {
+    int64_t ends[2];
+    if (is_large) {
+        memcpy(ends, place_at(&source->values, index, sizeof *ends), sizeof ends);
     } else {
-        Py_DecRef(type);
-        Py_DecRef(exception);
-        Py_DecRef(traceback);
+        int32_t small[2];
+        memcpy(small, place_at(&source->values, index, sizeof *small), sizeof small);
+        ends[0] = small[0];
+        ends[1] = small[1];
     }
-    Py_DecRef(number);
+    if (ends[0] < 0 || ends[1] < ends[0] || ends[1] > source->characters.len)
+        return MALFORMED;
+    text->bytes = (const char *)source->characters.buf + ends[0];
+    text->length = (Py_ssize_t)(ends[1] - ends[0]);
+    return VALID;
 }
 
-/* Raises what the function that converts one value raises. */
-static void raise_for_row(const struct conversion *conversion, const struct source *source, int64_t first,
-                          const struct block *block, enum outcome outcome) {
-    if (outcome == NO_MEMORY) {
-        PyErr_NoMemory();
-        return;
+/* A string for a UUID, or its 16 bytes. */
+static enum outcome read_uuid_text(const struct source *source, Py_ssize_t index, base62_number *number) {
+    struct text text;
+    unsigned char uuid[BASE62_UUID_LENGTH];
+    enum outcome outcome = read_text(source, index, has_large_offsets(source->type), &text);
+    if (outcome != VALID)
+        return outcome;
+    if (source->type == 'u' || source->type == 'U') {
+        if (read_uuid(text, uuid) != 0)
+            return INVALID;
+    } else {
+        if (text.length != BASE62_UUID_LENGTH)
+            return INVALID;
+        memcpy(uuid, text.bytes, sizeof uuid);
     }
-    if (outcome == INVALID_ROW) {
-        PyObject *value = new_value(conversion, source, first, block);
-        PyObject *result = value == NULL ? NULL : PyObject_CallFunctionObjArgs(conversion->convert_one, value, NULL);
-        Py_DecRef(value);
-        Py_DecRef(result);
-    }
-    if (PyErr_Occurred() == NULL)
-        PyErr_SetString(PyExc_ValueError, "the column is malformed");
-    add_row(conversion->row + block->bad);
+    *number = base62_from_uuid(uuid);
+    return VALID;
 }
 
-/* Columns */
-
-/* After so many rows another thread may run, and signals are handled. */
-enum { RUN_ROWS = 1 << 20 };
-
-static int convert_source(struct conversion *conversion, const struct source *source) {
-    struct block block;
-    int64_t first = 0;
-    while (first < source->rows) {
-        enum outcome outcome = DONE;
-        int64_t end = source->rows - first < RUN_ROWS ? source->rows : first + RUN_ROWS;
-        PyThreadState *saved = source->list != NULL ? NULL : PyEval_SaveThread();
-        while (first < end && (outcome = convert_block(conversion, source, first, &block)) == DONE)
-            first += block.count;
-        if (saved != NULL)
-            PyEval_RestoreThread(saved);
-        if (outcome != DONE)
-            raise_for_row(conversion, source, first, &block, outcome);
-        if (outcome != DONE || PyErr_CheckSignals() != 0)
-            return -1;
+static enum outcome read_number(const struct source *source, Py_ssize_t index, base62_number *number) {
+    uint64_t halves[2];
+    switch (source->type) {
+    case 'L':
+    case 'l':
+        memcpy(halves, place_at(&source->values, index, sizeof *halves), sizeof *halves);
+        *number = base62_from_u64(halves[0]);
+        return source->type == 'l' && halves[0] > INT64_MAX ? INVALID : VALID;
+    case 'd':
+        /* Two's complement, in the byte order of this machine. */
+        memcpy(halves, place_at(&source->values, index, sizeof halves), sizeof halves);
+        *number = (base62_number){.high = halves[!PY_BIG_ENDIAN], .low = halves[PY_BIG_ENDIAN]};
+        return number->high > INT64_MAX ? INVALID : VALID;
+    case 'w':
+        *number = base62_from_uuid(place_at(&source->values, index, BASE62_UUID_LENGTH));
+        return VALID;
+    default:
+        return read_uuid_text(source, index, number);
     }
-    return 0;
 }
 
-/* The result is NULL, with an exception, if the rows could have more bytes than memory. */
-static struct result *new_result_or_raise(struct conversion *conversion, const struct input *input, enum type type,
-                                          size_t width) {
-    struct result *result = NULL;
-    if (width == 0 || (size_t)input->rows <= PTRDIFF_MAX / width) {
-        conversion->size = (size_t)input->rows * width;
-        if (type == UTF8 && conversion->size > INT32_MAX)
-            type = LARGE_UTF8;
-        result = new_result(type, input->rows, conversion->size);
-    }
-    if (result == NULL)
-        PyErr_NoMemory();
-    return result;
+/* Writing */
+
+static void store_offset(const struct result *result, Py_ssize_t row) {
+    int64_t large = result->used;
+    int32_t small = (int32_t)result->used;
+    if (has_large_offsets(result->type))
+        memcpy(place_at(&result->offsets, row, sizeof large), &large, sizeof large);
+    else
+        memcpy(place_at(&result->offsets, row, sizeof small), &small, sizeof small);
 }
 
-/* Converts a column of so many bytes a row at most. */
-static PyObject *convert_input(const struct state *state, struct conversion *conversion, const struct input *input,
-                               enum type type, size_t width) {
-    conversion->result = new_result_or_raise(conversion, input, type, width);
-    int failed = conversion->result == NULL;
-    if (!failed && conversion->kind == NUMBERS)
-        store_offset(conversion->result, 0, 0);
-    for (Py_ssize_t i = 0; !failed && i < input->source_count; i++)
-        failed = convert_source(conversion, &input->sources[i]) != 0;
-    if (failed) {
-        if (conversion->result != NULL)
-            release_result(conversion->result);
-        return NULL;
+static void store_number(const struct result *result, Py_ssize_t row, base62_number number) {
+    if (result->type == 'w')
+        base62_to_uuid(number, place_at(&result->values, row, BASE62_UUID_LENGTH));
+    else
+        memcpy(place_at(&result->values, row, sizeof number.low), &number.low, sizeof number.low);
+}
+
+/* Makes a row null. Returns 0 if it ends the conversion instead. */
+static int set_null(struct conversion *conversion, Py_ssize_t row, enum outcome outcome) {
+    if (outcome == MALFORMED || (outcome == INVALID && !conversion->coerces))
+        return 0;
+    ((unsigned char *)conversion->result.validity.buf)[row / 8] &= (unsigned char)~(1 << row % 8);
+    conversion->result.nulls++;
+    return 1;
+}
+
+/* Rows */
+
+static enum outcome encode_row(const struct conversion *conversion, Py_ssize_t row, size_t *length) {
+    const struct source *source = &conversion->source;
+    const struct result *result = &conversion->result;
+    base62_number number;
+    if (is_null(source, source->offset + row))
+        return MISSING;
+    enum outcome outcome = read_number(source, source->offset + row, &number);
+    if (outcome != VALID)
+        return outcome;
+    char *place = (char *)result->values.buf + result->used;
+    size_t left = (size_t)(result->values.len - result->used), width = (size_t)conversion->width;
+    *length = conversion->width < 0 ? base62_encode_with(conversion->alphabet, number, place, left)
+                                    : base62_encode_fixed_with(conversion->alphabet, number, place, width);
+    return *length == 0 ? INVALID : VALID;
+}
+
+/* Returns the outcome of the row that ends the conversion, if it is before the end. */
+static enum outcome encode_until(struct conversion *conversion, Py_ssize_t end) {
+    struct result *result = &conversion->result;
+    for (; conversion->row < end; conversion->row++) {
+        size_t length = 0;
+        enum outcome outcome = encode_row(conversion, conversion->row, &length);
+        if (outcome != VALID && !set_null(conversion, conversion->row, outcome))
+            return outcome;
+        result->used += (Py_ssize_t)length;
+        store_offset(result, conversion->row + 1);
     }
-    if (conversion->kind == NUMBERS)
-        shrink_result(conversion->result, conversion->used);
-    return new_column(state, conversion->result);
+    return VALID;
+}
+
+static inline enum outcome decode_row(const struct conversion *conversion, Py_ssize_t row, int is_large,
+                                      base62_number *number) {
+    const struct source *source = &conversion->source;
+    struct text text;
+    base62_bad_byte bad;
+    if (is_null(source, source->offset + row))
+        return MISSING;
+    enum outcome outcome = read_text(source, source->offset + row, is_large, &text);
+    if (outcome != VALID)
+        return outcome;
+    if (conversion->decode(conversion->alphabet, text.bytes, (size_t)text.length, number, &bad) != BASE62_OK)
+        return INVALID;
+    int type = conversion->result.type;
+    return type != 'w' && (number->high != 0 || (type == 'l' && number->low > INT64_MAX)) ? INVALID : VALID;
+}
+
+static enum outcome decode_until(struct conversion *conversion, Py_ssize_t end) {
+    int is_large = has_large_offsets(conversion->source.type);
+    Py_ssize_t row = conversion->row;
+    for (; row < end; row++) {
+        base62_number number;
+        /* Each is compiled for its size of offsets. */
+        enum outcome outcome =
+            is_large ? decode_row(conversion, row, 1, &number) : decode_row(conversion, row, 0, &number);
+        if (outcome != VALID) {
+            conversion->row = row;
+            if (!set_null(conversion, row, outcome))
+                return outcome;
+            number = base62_from_u64(0);
+        }
+        store_number(&conversion->result, row, number);
+    }
+    conversion->row = row;
+    return VALID;
 }
 
 /* Calls */
 
-static int set_alphabet(struct conversion *conversion, PyObject *alphabet) {
-    base62_bad_byte bad;
-    const char *letters = PyBytes_AsString(alphabet);
-    if (letters == NULL)
-        return -1;
-    if (base62_make_alphabet(letters, &conversion->alphabet, &bad) == BASE62_OK)
+static int is_type(int type, const char *types) {
+    return type != 0 && strchr(types, type) != NULL;
+}
+
+static int has(const Py_buffer *buffer, Py_ssize_t count, Py_ssize_t size) {
+    return count <= buffer->len / size;
+}
+
+/* Whether the buffers have the rows, each of which needs so many bytes in the result at most. */
+static int has_rows(const struct conversion *conversion, Py_ssize_t most) {
+    const struct source *source = &conversion->source;
+    const struct result *result = &conversion->result;
+    if (source->offset < 0 || source->count < 0 || source->offset > PY_SSIZE_T_MAX - 8 - source->count)
         return 0;
-    PyErr_SetString(PyExc_SystemError, "an Alphabet repeats a character");
-    return -1;
+    Py_ssize_t count = source->count, last = source->offset + count;
+    /* Offsets have one more, for the end of the last string. */
+    return has(&source->values, last + is_text(source->type), size_of(source->type)) &&
+           (source->validity.buf == NULL || has(&source->validity, (last + 7) / 8, 1)) &&
+           has(&result->validity, (count + 7) / 8, 1) && (most == 0 || has(&result->values, count, most)) &&
+           (!is_text(result->type) || has(&result->offsets, count + 1, size_of(result->type))) &&
+           (result->type != 'u' || result->values.len <= INT32_MAX);
 }
 
-PyDoc_STRVAR(encode_doc, "encode($module, column, alphabet, width, coerces, convert_one, /)\n--\n\n"
-                         "Encode a column of numbers, without leading zeros if the width is negative.");
+/* Signals are handled between so many rows. It is a multiple of 8, so that no byte of a bitmap is begun twice. */
+enum { RUN_ROWS = 1 << 16 };
 
-static PyObject *encode(PyObject *module, PyObject *args) {
-    const struct state *state = PyModule_GetState(module);
-    struct conversion conversion = {.kind = NUMBERS};
-    PyObject *column, *alphabet;
-    Py_ssize_t width;
-    struct input input;
-    if (!PyArg_ParseTuple(args, "OO!npO:encode", &column, state->objects[ALPHABET], &alphabet, &width,
-                          &conversion.coerces, &conversion.convert_one) ||
-        set_alphabet(&conversion, alphabet) != 0 || open_input(state, column, NUMBERS, &input) != 0)
+/* The GIL is free while rows are converted. */
+static enum outcome convert_rows(struct conversion *conversion,
+                                 enum outcome (*convert_until)(struct conversion *, Py_ssize_t)) {
+    Py_ssize_t count = conversion->source.count;
+    if (is_text(conversion->result.type))
+        store_offset(&conversion->result, 0);
+    while (conversion->row < count) {
+        Py_ssize_t rows = count - conversion->row < RUN_ROWS ? count - conversion->row : RUN_ROWS;
+        PyThreadState *saved = PyEval_SaveThread();
+        memset((char *)conversion->result.validity.buf + conversion->row / 8, 0xff, (size_t)(rows + 7) / 8);
+        enum outcome outcome = convert_until(conversion, conversion->row + rows);
+        PyEval_RestoreThread(saved);
+        if (outcome != VALID || PyErr_CheckSignals() != 0)
+            return outcome;
+    }
+    return VALID;
+}
+
+/* The option is the width, or whether strings have to be canonical. */
+static int parse_conversion(PyObject *module, PyObject *args, struct conversion *conversion, Py_ssize_t *option) {
+    struct state *state = PyModule_GetState(module);
+    struct source *source = &conversion->source;
+    struct result *result = &conversion->result;
+    PyObject *alphabet, *type = borrow(state, ALPHABET);
+    *conversion = (struct conversion){.row = 0};
+    if (type == NULL ||
+        !PyArg_ParseTuple(args, "O!n(Cnnz*z*z*)(Cw*w*w*)p", type, &alphabet, option, &source->type, &source->offset,
+                          &source->count, &source->validity, &source->values, &source->characters, &result->type,
+                          &result->validity, &result->offsets, &result->values, &conversion->coerces))
+        return -1;
+    conversion->alphabet = &fields_of(state, alphabet)->tables;
+    if (source->characters.buf == NULL)
+        source->characters.buf = (char *)"";
+    return 0;
+}
+
+/* Returns the rows that are converted, of which the one after may be invalid, and what the result has of them. */
+static PyObject *finish(struct conversion *conversion, enum outcome outcome) {
+    PyBuffer_Release(&conversion->source.validity);
+    PyBuffer_Release(&conversion->source.values);
+    PyBuffer_Release(&conversion->source.characters);
+    PyBuffer_Release(&conversion->result.validity);
+    PyBuffer_Release(&conversion->result.offsets);
+    PyBuffer_Release(&conversion->result.values);
+    if (outcome == MALFORMED)
+        PyErr_SetString(PyExc_ValueError, "the array is malformed");
+    if (PyErr_Occurred() != NULL)
         return NULL;
-    conversion.is_fixed = width >= 0;
-    conversion.width = width < 0 ? base62_digit_count(input.greatest) : (size_t)width;
-    PyObject *result = convert_input(state, &conversion, &input, UTF8, conversion.width);
-    close_input(&input);
-    return result;
+    return Py_BuildValue("nnn", conversion->row, conversion->result.used, conversion->result.nulls);
 }
 
-PyDoc_STRVAR(decode_doc, "decode($module, column, alphabet, is_canonical, is_uuid, coerces, convert_one, /)\n--\n\n"
-                         "Decode a column of strings, to integers below 2**64 or to UUIDs.");
+PyObject *encode_rows(PyObject *module, PyObject *args) {
+    struct conversion conversion;
+    Py_ssize_t width;
+    if (parse_conversion(module, args, &conversion, &width) != 0)
+        return NULL;
+    conversion.width = width;
+    int type = conversion.source.type;
+    Py_ssize_t most = width >= 0 ? width : type == 'L' || type == 'l' ? MAX_DIGITS_OF_64_BITS : BASE62_MAX_DIGITS;
+    enum outcome outcome = MALFORMED;
+    if (is_type(type, "LldwuzUZ") && is_type(conversion.result.type, "uU") && has_rows(&conversion, most))
+        outcome = convert_rows(&conversion, encode_until);
+    return finish(&conversion, outcome);
+}
 
-static PyObject *decode(PyObject *module, PyObject *args) {
-    const struct state *state = PyModule_GetState(module);
-    struct conversion conversion = {.kind = TEXTS};
-    PyObject *column, *alphabet;
-    int is_canonical, is_uuid;
-    struct input input;
-    if (!PyArg_ParseTuple(args, "OO!pppO:decode", &column, state->objects[ALPHABET], &alphabet, &is_canonical, &is_uuid,
-                          &conversion.coerces, &conversion.convert_one) ||
-        set_alphabet(&conversion, alphabet) != 0 || open_input(state, column, TEXTS, &input) != 0)
+PyObject *decode_rows(PyObject *module, PyObject *args) {
+    struct conversion conversion;
+    Py_ssize_t is_canonical;
+    if (parse_conversion(module, args, &conversion, &is_canonical) != 0)
         return NULL;
     conversion.decode = is_canonical ? base62_decode_canonical_with : base62_decode_with;
-    size_t width = is_uuid ? BASE62_UUID_LENGTH : sizeof(uint64_t);
-    PyObject *result = convert_input(state, &conversion, &input, is_uuid ? UUIDS : UINT64, width);
-    close_input(&input);
-    return result;
+    enum outcome outcome = MALFORMED;
+    if (is_type(conversion.source.type, "uzUZ") && is_type(conversion.result.type, "Llw") &&
+        has_rows(&conversion, size_of(conversion.result.type)))
+        outcome = convert_rows(&conversion, decode_until);
+    return finish(&conversion, outcome);
 }
-
-/* The module */
-
-static PyMethodDef calls[] = {
-    {"encode", encode, METH_VARARGS, encode_doc},
-    {"decode", decode, METH_VARARGS, decode_doc},
-    {NULL, NULL, 0, NULL},
-};
-
-static int import_object(struct state *state, int which, const char *module, const char *name) {
-    PyObject *found = PyImport_ImportModule(module);
-    state->objects[which] = found == NULL ? NULL : PyObject_GetAttrString(found, name);
-    Py_DecRef(found);
-    return state->objects[which] != NULL;
-}
-
-static int execute(PyObject *module) {
-    struct state *state = PyModule_GetState(module);
-    if (state == NULL || !import_object(state, TO_INT, "base62._types", "to_int") ||
-        !import_object(state, TO_BYTES, "base62._types", "to_bytes") || !import_object(state, UUID, "uuid", "UUID") ||
-        !import_object(state, ALPHABET, "base62._base62", "Alphabet") || !find_isascii(&state->str_isascii))
-        return -1;
-    state->objects[COLUMN] = new_column_type(module);
-    return state->objects[COLUMN] == NULL ? -1 : PyModule_AddObjectRef(module, "Column", state->objects[COLUMN]);
-}
-
-#include "_module.h"
-DEFINE_MODULE(_columns, calls)

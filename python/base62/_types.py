@@ -135,8 +135,8 @@ def to_bytes(text: EncodedString) -> bytes:
     return bytes(view)
 
 
-def to_letters(alphabet: object) -> bytes:
-    """Return the letters of an alphabet that is neither an Alphabet nor bytes."""
+def to_characters(alphabet: object) -> bytes:
+    """Return the characters of an alphabet that is neither an Alphabet nor bytes."""
     if not isinstance(alphabet, str):
         raise TypeError(f"an alphabet is an Alphabet, a str or bytes, not {type(alphabet)}")
     return str.encode(alphabet, "ascii")

@@ -25,7 +25,7 @@ static void remove_frame(struct text *text) {
 }
 
 /* Reads a string for a UUID, as docs/DEFINITIONS.md defines it. Returns -1 if it is none. */
-static int read_uuid(struct text text, unsigned char uuid[BASE62_UUID_LENGTH]) {
+int read_uuid(struct text text, unsigned char uuid[BASE62_UUID_LENGTH]) {
     remove_frame(&text);
     int has_hyphens = text.length == 2 * BASE62_UUID_LENGTH + 4;
     if (!has_hyphens && text.length != 2 * BASE62_UUID_LENGTH)
@@ -52,7 +52,7 @@ static int number_of_string_or_raise(struct state *state, PyObject *argument, ba
     if (failed)
         PyErr_SetString(PyExc_ValueError, "badly formed hexadecimal UUID string");
     else
-        *number = base62_number_of_uuid(uuid);
+        *number = base62_from_uuid(uuid);
     return failed;
 }
 
@@ -64,7 +64,7 @@ static int number_of_bytes_or_raise(PyObject *argument, base62_number *number) {
     if (failed)
         PyErr_SetString(PyExc_ValueError, "bytes is not a 16-char string");
     else
-        *number = base62_number_of_uuid((const unsigned char *)text.bytes);
+        *number = base62_from_uuid((const unsigned char *)text.bytes);
     Py_DecRef(text.owner);
     return failed;
 }

@@ -10,6 +10,7 @@ from collections.abc import Callable, Iterator
 from typing import Any
 
 import base62
+from base62 import _base62
 
 CUSTOM = "zyxwvutsrqponmlkjihgfedcbaZYXWVUTSRQPONMLKJIHGFEDCBA9876543210"
 LETTERS = base62.Alphabet(CUSTOM)
@@ -42,19 +43,19 @@ def valid_calls() -> Iterator[Invocation]:
         yield invocation(base62.decode, "LZ", letters)
         yield invocation(base62.decode_canonical, "LZ", letters)
         yield invocation(base62.encode_fixed, WIDE, 65, letters)
-        yield invocation(base62.fixed_range, 40, "0", letters)
+        yield invocation(base62.prefix_range, "0", 40, letters)
     texts: list[Any] = ["LZ", TEXT, TEXT.encode(), bytearray(TEXT, "ascii"), memoryview(b"0L0Z")[::2]]
     for text in texts:
         yield invocation(base62.decode, text)
         yield invocation(base62.decode_canonical, text[-1:])
         yield invocation(base62.key_range, text[:2])
-        yield invocation(base62.fixed_range, 22, text[:2])
+        yield invocation(base62.prefix_range, text[:2], 22)
     for shown in (LETTERS, base62.Alphabet.STANDARD):
         yield invocation(repr, shown)
         yield invocation(base62.Alphabet, shown)
         yield invocation(shown.__reduce__)
     yield invocation(base62.decode_uuid_canonical, TEXT)
-    yield invocation(base62.fixed_range, width=40, prefix="0", alphabet=CUSTOM)
+    yield invocation(base62.prefix_range, prefix="0", width=40, alphabet=CUSTOM)
     yield invocation(base62.encode, number=WIDE, alphabet=LETTERS)
     yield invocation(base62.decode, "LZ", alphabet=CUSTOM)
     yield invocation(base62.Alphabet, CUSTOM)
@@ -65,6 +66,14 @@ def valid_calls() -> Iterator[Invocation]:
     for text in ("LZ", TEXT, bytearray(TEXT, "ascii")):
         yield invocation(base62.decode_uuid, text)
         yield invocation(base62.decode_uuid, text[-2:], LETTERS)
+    yield rows_of(_base62.encode_rows, "w", 2, "U")
+    yield rows_of(_base62.decode_rows, "u", 2, "L")
+
+
+def rows_of(call: Call, form: str, count: int, new_form: str, option: int = 1, values: bytes = bytes(32)) -> Invocation:
+    """A call of the loops for columns, with buffers for two rows."""
+    new = bytearray(1), bytearray(32), bytearray(44)
+    return invocation(call, LETTERS, option, (form, 0, count, b"\3", values, b"LZ"), (new_form, *new), True)
 
 
 def invalid_calls() -> Iterator[Invocation]:
@@ -84,8 +93,8 @@ def invalid_calls() -> Iterator[Invocation]:
         (base62.encode_fixed, [(1337, 1), (1, -1), (1, -(2**64)), (1, "1"), (-1, 5), (1,)]),
         (base62.encode_fixed, [(1, 5, None), (1, 5, REPEATED), (1, 5, HIGH)]),
         (base62.key_range, [("-",), (bytearray(b"-"),), (5,), ()]),
-        (base62.fixed_range, [(5, "-"), (5, bytearray(b"-")), (5, 5), (-1, "0"), ("5", "0"), (5,)]),
-        (base62.fixed_range, [(5, text, letters) for text in texts for letters in none]),
+        (base62.prefix_range, [("-", 5), (bytearray(b"-"), 5), (5, 5), ("0", -1), ("0", "5"), ("0",)]),
+        (base62.prefix_range, [(text, 5, letters) for text in texts for letters in none]),
         (base62.decode, [(text, letters) for text in texts for letters in none]),
         (base62.decode_canonical, [(text, letters) for text in texts for letters in none]),
         (base62.Alphabet, [(REPEATED,), (REPEATED.encode(),), (b"short",), (5,), ()]),
@@ -94,3 +103,10 @@ def invalid_calls() -> Iterator[Invocation]:
         for one in given:
             yield invocation(call, *one)
     yield invocation(base62.encode, 1, other=1)
+    # Too few rows, negative offsets, a wrong type, a wrong argument behind the buffers, and one before them.
+    yield rows_of(_base62.encode_rows, "w", 3, "U")
+    yield rows_of(_base62.decode_rows, "u", 2, "L", values=b"\xff" * 32)
+    yield rows_of(_base62.decode_rows, "L", 2, "L")
+    call, (*given, new, coerces), _ = rows_of(_base62.encode_rows, "w", 2, "U")
+    yield invocation(call, *given, (*new[:3], b"read-only"), coerces)
+    yield invocation(call, "letters", *given[1:], new, coerces)

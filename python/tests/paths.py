@@ -4,7 +4,9 @@
 
 from __future__ import annotations
 
+import doctest
 import pathlib
+import re
 import sys
 
 PACKAGE = pathlib.Path(__file__).parents[1]
@@ -13,3 +15,12 @@ TOP = next(folder for folder in (PACKAGE, PACKAGE.parent) if (folder / "VERSION"
 VALUES = TOP / "tests/values.tsv"
 
 sys.path.append(str(PACKAGE / "examples"))
+
+
+def readme(section: str = "") -> doctest.DocTest:
+    """The examples of a section of README that needs other libraries, or of all other sections."""
+    parts = re.split("(?m)^## (.*)$", (PACKAGE / "README.md").read_text())
+    sections = dict(zip(parts[1::2], parts[2::2]))
+    others = "".join(text for name, text in sections.items() if name != "Columns")
+    text = sections[section] if section else parts[0] + others
+    return doctest.DocTestParser().get_doctest(text, {}, section or "README", "README.md", 0)

@@ -15,9 +15,9 @@ from typing import Any
 
 import paths  # The folder of the examples is on the path then.
 
-# The module, and the library with the least major version.
-EXAMPLES = [("pydantic_type", "pydantic", 2), ("sqlalchemy_column", "SQLAlchemy", 1), ("django_field", "Django", 3),
-           ("pandas_column", "pandas", 1), ("dask_column", "distributed", 2022)]
+# The module, and its libraries with their least major versions.
+EXAMPLES = {"pydantic_type": {"pydantic": 2}, "sqlalchemy_column": {"SQLAlchemy": 1}, "django_field": {"Django": 3},
+            "dask_column": {"distributed": 2022, "pyarrow": 18}}
 
 
 def is_here(library: str, least: int) -> bool:
@@ -61,19 +61,18 @@ def wrong_databases(name: str, module: Any) -> list[str]:
 
 
 def main() -> int:
-    assert sorted(module for module, _, _ in EXAMPLES) == sorted(
-        file.stem for file in (paths.PACKAGE / "examples").glob("*_*.py")
-    )
+    assert sorted(EXAMPLES) == sorted(file.stem for file in (paths.PACKAGE / "examples").glob("*_*.py"))
     failed = 0
-    for module, library, least in EXAMPLES:
-        if is_here(library, least):
+    for module, libraries in EXAMPLES.items():
+        missing = [f"{library} {least} or later" for library, least in libraries.items() if not is_here(library, least)]
+        if missing:
+            print(f"left out: {module}: install {', '.join(missing)}")
+        else:
             example = importlib.import_module(module)
             result = doctest.testmod(example)
             wrong = wrong_databases(module, example)
             failed += result.failed or not result.attempted or len(wrong)
             print(f"{module}: {result.attempted} examples", *wrong)
-        else:
-            print(f"left out: {module}: install {library} {least} or later")
     return failed
 
 

@@ -55,8 +55,8 @@ OF_TEXTS: list[Call] = [
     base62.decode_uuid_canonical,
     base62.key_range,
     base62.key_bounds,
-    lambda prefix: base62.fixed_range(22, prefix),
-    lambda prefix: base62.fixed_range(5000, prefix, Alphabet.ALTERNATIVE),
+    lambda prefix: base62.prefix_range(prefix, 22),
+    lambda prefix: base62.prefix_range(prefix, 5000, Alphabet.ALTERNATIVE),
 ]
 
 
@@ -206,7 +206,7 @@ class Threads(unittest.TestCase):
                 lambda: base62.decode(zeros),
                 lambda: base62.decode(bytearray(zeros, "ascii"), Alphabet.ALTERNATIVE),
                 lambda: base62.key_range(zeros),
-                lambda: base62.fixed_range(5, zeros),
+                lambda: base62.prefix_range(zeros, 5),
                 lambda: base62.encode_fixed(1337, len(zeros)),
             ]
             for call in calls:
@@ -218,6 +218,7 @@ class Alphabets(RaisesTestCase):
         self.assertEqual(Alphabet.STANDARD, STANDARD.encode())
         self.assertEqual(Alphabet.ALTERNATIVE, STANDARD.swapcase().encode())
         for built_in in (Alphabet.STANDARD, Alphabet.ALTERNATIVE):
+            self.assertIs(eval(repr(built_in)), built_in)
             for again in copies(built_in):
                 self.assertIs(again, built_in)
 
@@ -228,16 +229,10 @@ class Alphabets(RaisesTestCase):
         self.assertEqual(str(custom), repr(custom))
         self.assertEqual(eval(repr(custom)), custom)
         self.assertEqual((custom, hash(custom)), (CUSTOM.encode(), hash(CUSTOM.encode())))
-        for again in (*copies(custom), Alphabet(custom), Alphabet(letters=CUSTOM)):
+        for again in (*copies(custom), Alphabet(custom), Alphabet(characters=CUSTOM)):
             self.assertIs(type(again), Alphabet)
             self.assertEqual((again, hash(again)), (custom, hash(custom)))
             self.assertEqual(base62.decode(base62.encode(1337, custom), again), 1337)
-
-    def test_of_version_2(self) -> None:
-        """What version 2 has pickled is read."""
-        front = b"\x80\x04\x95\\\0\0\0\0\0\0\0\x8c\x06base62\x94\x8c\x08Alphabet\x94\x93\x94C>"
-        again = pickle.loads(front + CUSTOM.encode() + b"\x94\x85\x94\x81\x94.")
-        self.assertEqual((type(again), again), (Alphabet, CUSTOM.encode()))
 
     def test_overridden_bytes(self) -> None:
         """A method that a subclass of bytes overrides is not called."""
@@ -285,7 +280,7 @@ class Alphabets(RaisesTestCase):
                 error = self.raised(ValueError, call, letters)
                 self.assertEqual(str(error), "an alphabet for encoding has ASCII characters")
         self.assertEqual(base62.decode("1", mixed), 1)
-        self.assertEqual(base62.fixed_range(3, b"\x80", Alphabet(mixed)), (61 * 62**2, 62**3 - 1))
+        self.assertEqual(base62.prefix_range(b"\x80", 3, Alphabet(mixed)), (61 * 62**2, 62**3 - 1))
 
     def test_types(self) -> None:
         calls: list[Call] = [
@@ -294,7 +289,7 @@ class Alphabets(RaisesTestCase):
             lambda custom: base62.encode_fixed(1, 5, custom),
             lambda custom: base62.decode("1", custom),
             lambda custom: base62.decode_canonical("1", custom),
-            lambda custom: base62.fixed_range(5, "1", custom),
+            lambda custom: base62.prefix_range("1", 5, custom),
         ]
         for letters in (None, 62, [*STANDARD], bytearray(STANDARD.encode()), Alphabet):
             for call in calls:
@@ -308,8 +303,8 @@ class Widths(RaisesTestCase):
             self.assertEqual(base62.encode_fixed(61, width, CUSTOM), CUSTOM[0] * (width - 1) + CUSTOM[61])
         self.assertEqual(base62.decode("0" * 5000 + LARGEST_TEXT), LARGEST)
         for width in (sys.maxsize, sys.maxsize + 1, 2**64 + 4, 2**70):
-            self.assertEqual(base62.fixed_range(width, CUSTOM[0] * 5000, CUSTOM), (0, LARGEST))
-            self.assertIsNone(base62.fixed_range(width, CUSTOM[1], CUSTOM))
+            self.assertEqual(base62.prefix_range(CUSTOM[0] * 5000, width, CUSTOM), (0, LARGEST))
+            self.assertIsNone(base62.prefix_range(CUSTOM[1], width, CUSTOM))
             self.raised(MemoryError, base62.encode_fixed, 1, width)
 
     def test_widths(self) -> None:
@@ -319,7 +314,7 @@ class Widths(RaisesTestCase):
 
         calls: list[tuple[Call, object]] = [
             (lambda width: base62.encode_fixed(1337, width), "00LZ"),
-            (lambda width: base62.fixed_range(width, "00L"), (1302, 1363)),
+            (lambda width: base62.prefix_range("00L", width), (1302, 1363)),
         ]
         for call, answer in calls:
             self.assertEqual(call(Indexed()), answer)

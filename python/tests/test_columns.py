@@ -1,478 +1,522 @@
 # SPDX-License-Identifier: MIT
 # Copyright (c) 2026 the maintainers of base62 for Rattle
-"""Tests of columns by the values of tests/values.tsv and by the functions for one value."""
+"""Tests of columns by the values of tests/values.tsv and by the functions for one value, with pyarrow and pandas."""
 
 from __future__ import annotations
 
-import ctypes
+import doctest
+import gc
+import importlib.util
 import io
+import pickle
 import random
-import struct
+import sys
+import types
 import unittest
 import uuid
-from array import array
-from collections.abc import Callable, Sequence
+from collections.abc import Callable, Iterator
+from decimal import Decimal
 from typing import Any
 from urllib.parse import unquote_to_bytes
 
 import base62
-from arrow import INTEGERS, NO_SCHEMA, OFFSETS, RELEASE_ARRAY, VIEWS
-from arrow import Chunks, Column, Requested, Schema, Table, buffer_of, consume, pointer_of
-from base62 import columns
+from paths import readme
+from test_base62 import others_run
 from test_values import ALPHABETS, KINDS, OF_ASCII, forms_of_text, rows
 
-NUMBERS = [*INTEGERS, "w:16"]
-TEXTS = [*OFFSETS, *VIEWS]
-ENCODINGS: list[Callable[..., columns.Column]] = [
-    columns.encode,
-    columns.encode_key,
-    lambda column: columns.encode_fixed(column, 30),
-]
-DECODINGS = [columns.decode, columns.decode_canonical, columns.decode_uuid, columns.decode_uuid_canonical]
-OUT_OF_RANGE = "the number is not from 0 to 2**128 - 1"
-# More than two blocks of rows.
-ROWS = 700
+try:
+    pa: Any = importlib.import_module("pyarrow")
+    pd: Any = importlib.import_module("pandas")
+except ImportError as error:
+    raise unittest.SkipTest(f"{error.name} is not installed") from None
+np: Any = importlib.import_module("numpy")
+columns: Any = importlib.import_module("base62.columns")
+
+LARGEST = 2**128 - 1
+NAME = uuid.UUID("550e8400-e29b-41d4-a716-446655440000")
+TEXT = "2aUyqjCzEIiEcYMKj7TZtw"
+NUMBER_TYPES = [getattr(pa, f"{sign}int{bits}")() for bits in (8, 16, 32, 64) for sign in ("", "u")]
+TEXT_TYPES = [pa.string(), pa.large_string(), pa.string_view(), pa.binary(), pa.large_binary(), pa.binary_view()]
+Call = Callable[..., Any]
 
 
-def big(number: int) -> bytes:
-    return number.to_bytes(16, "big")
+class Index:
+    def __index__(self) -> int:
+        return 1337
 
 
-def numbers_for(form: str, seed: int, has_nulls: bool = True) -> list[Any]:
-    """Random numbers of a type, and its greatest one, among nulls."""
-    maker = random.Random(f"{form} {seed}")
-    bits = 128 if form == "w:16" else struct_bits(form)
-    found: list[Any] = [2**bits - 1, 0, *(maker.getrandbits(maker.randint(1, bits)) for _ in range(ROWS))]
-    if form == "w:16":
-        found = [*map(big, found)]
-    return [None if has_nulls and maker.random() < 0.3 else it for it in found]
+def dictionary(array: Any) -> Any:
+    """A dictionary of the distinct values, whose type may have no kernel for that."""
+    rows = array.to_pylist()
+    distinct = [*dict.fromkeys(rows)]
+    return pa.DictionaryArray.from_arrays(pa.array([*map(distinct.index, rows)], pa.int16()), pa.array(distinct, array.type))
 
 
-def struct_bits(form: str) -> int:
-    """The bits of the greatest number."""
-    return {"c": 7, "C": 8, "s": 15, "S": 16, "i": 31, "I": 32, "l": 63, "L": 64}[form]
+def forms_of(array: Any) -> Iterator[Any]:
+    """An array as other columns: slices of more rows, chunks, tables, dictionaries and other libraries' arrays."""
+    more = pa.concat_arrays([array[:5], array, array[:3]])
+    chunks = pa.chunked_array([array[:1], array[:0], array[1:]])
+    table = pa.table({"column": chunks})
+    yield from (array, more[5 : len(array) + 5], chunks, table, *table.combine_chunks().to_batches())
+    yield from (dictionary(array), pa.chunked_array([dictionary(array)]))
+    # An array and chunks of another library.
+    yield types.SimpleNamespace(__arrow_c_array__=array.__arrow_c_array__)
+    yield types.SimpleNamespace(__arrow_c_stream__=chunks.__arrow_c_stream__)
 
 
-def encoded(row: Any, encode: Callable[..., str] = base62.encode, *given: Any) -> bytes | None:
-    if row is None:
-        return None
-    return encode(int.from_bytes(row, "big") if isinstance(row, bytes) else row, *given).encode()
+class ColumnsTestCase(unittest.TestCase):
+    def check(self, call: Call, column: Any, expected: list[Any], of_result: Any = None) -> Any:
+        """The result is valid, has the type if one is given, and chunks if the column has them."""
+        result = call(column)
+        result.validate(full=True)
+        self.assertEqual(result.to_pylist(), expected, column)
+        self.assertIn(of_result, (None, result.type))
+        stream = "__arrow_c_stream__" in getattr(column, "__dict__", {})
+        has_chunks = stream or isinstance(column, (pa.ChunkedArray, pa.Table))
+        self.assertIsInstance(result, pa.ChunkedArray if has_chunks else pa.Array)
+        return result
+
+    def raised(self, kind: type[Exception], call: Call, *given: Any, **named: Any) -> Any:
+        with self.assertRaises(kind) as caught:
+            call(*given, **named)
+        self.assertIs(type(caught.exception), kind)
+        return caught.exception
 
 
-def texts_of(numbers: Sequence[int | None]) -> list[Any]:
-    return [encoded(it) for it in numbers]
-
-
-class Values(unittest.TestCase):
+class Values(ColumnsTestCase):
     """The rows of values.tsv, as a column for each alphabet."""
 
     def test_encode(self) -> None:
         for name in OF_ASCII:
-            found = [(int(digits), unquote_to_bytes(text)) for it, digits, text in rows("encode") if it == name]
-            forms: list[Any] = [[number for number, _ in found], Column("w:16", [big(number) for number, _ in found], 3)]
-            for given in forms:
-                column = columns.encode(given, ALPHABETS[name])
-                self.assertEqual(consume(column), ("u", [text for _, text in found], {}))
-                self.assertEqual(column.tolist(), [text.decode() for _, text in found])
+            found = [(int(digits), unquote_to_bytes(text).decode()) for it, digits, text in rows("encode") if it == name]
+            numbers, texts = [number for number, _ in found], [text for _, text in found]
+            sixteen = pa.array([number.to_bytes(16, "big") for number in numbers], pa.binary(16))
+            for column in (numbers, sixteen, sixteen.cast(pa.uuid())):
+                self.check(lambda it: columns.encode(it, ALPHABETS[name]), column, texts, pa.string())
+            self.check(lambda it: columns.encode_uuid(it, ALPHABETS[name]), sixteen, texts, pa.string())
 
     def test_decode(self) -> None:
         for name, alphabet in ALPHABETS.items():
             found = [(int(digits), forms_of_text(text)) for it, digits, text in rows("encode") if it == name]
             names = [uuid.UUID(int=number) for number, _ in found]
             narrow = [number if number < 2**64 else None for number, _ in found]
-            for form in TEXTS:
-                for decode in DECODINGS:
-                    given = Column(form, [texts[0] for _, texts in found], 5)
-                    expected = names if "uuid" in decode.__name__ else narrow
-                    self.assertEqual(decode(given, alphabet, errors="null").tolist(), expected)
-            self.assertEqual(columns.decode_uuid([texts[-1] for _, texts in found], alphabet).tolist(), names)
+            for column in (pa.array([texts[0] for _, texts in found]), [texts[-1] for _, texts in found]):
+                for call in (columns.decode, columns.decode_canonical):
+                    self.check(lambda it: call(it, alphabet, errors="coerce"), column, narrow, pa.uint64())
+                for call in (columns.decode_uuid, columns.decode_uuid_canonical):
+                    self.check(lambda it: call(it, alphabet), column, names, pa.uuid())
 
     def test_errors(self) -> None:
-        """Each string that is rejected, between two that are not: its error and its row, or a null."""
-        refused = [(name, text, expected, False) for name, text, *expected in rows("refused")]
-        refused += [(name, text, ["zero"], True) for name, text, _ in rows("zeros")]
-        for name, text, expected, is_canonical in refused:
-            zero = ALPHABETS[name][:1]
-            decode = columns.decode_uuid_canonical if is_canonical else columns.decode_uuid
+        """Each string that is rejected, behind a null: its error and its row, or a null."""
+        refused = [(name, text, expected, "") for name, text, *expected in rows("refused")]
+        refused += [(name, text, ["zero"], "_canonical") for name, text, _ in rows("zeros")]
+        for name, text, expected, suffix in refused:
+            calls = [getattr(columns, f"{call}{suffix}") for call in ("decode", "decode_uuid")]
             for bad in forms_of_text(text):
-                with self.assertRaises(KINDS[expected[0]]) as caught:
-                    decode([zero, bad, zero], ALPHABETS[name])
-                error: Any = caught.exception
-                self.assertIs(type(error), KINDS[expected[0]])
-                self.assertEqual(vars(error), {**dict(zip(("byte", "index"), map(int, expected[1:]))), "row": 1})
-            nulls = decode(Column("z", [zero, unquote_to_bytes(text), zero], 1), ALPHABETS[name], errors="null")
-            self.assertEqual(nulls.tolist(), [uuid.UUID(int=0), None, uuid.UUID(int=0)])
+                error = self.raised(KINDS[expected[0]], calls[len(text) % 2], [None, bad], ALPHABETS[name])
+                notes = [f"Row 1 of the column is {bad!r}"] if len(repr(bad)) < 80 else error.__notes__
+                wanted = dict(zip(("byte", "index"), map(int, expected[1:]))) | {"row": 1, "__notes__": notes}
+                self.assertEqual(vars(error), wanted)
+        texts = [unquote_to_bytes(text) for name, text, *_ in rows("refused") if name == "standard"]
+        self.check(lambda it: columns.decode_uuid(it, errors="coerce"), texts, [None] * len(texts))
 
     def test_fixed(self) -> None:
         for name, number, width, text in rows("fixed"):
             if name in OF_ASCII:
-                column = columns.encode_fixed([None, int(number)], int(width), ALPHABETS[name])
-                self.assertEqual(consume(column), ("u", [None, unquote_to_bytes(text)], {}))
+                call = lambda it: columns.encode_fixed(it, int(width), ALPHABETS[name])
+                self.check(call, [None, int(number)], [None, unquote_to_bytes(text).decode()], pa.string())
         for name, number, width in rows("narrow"):
             if name in OF_ASCII:
-                column = columns.encode_fixed(Column("w:16", [big(int(number))]), int(width), ALPHABETS[name], errors="null")
-                self.assertEqual(column.tolist(), [None])
+                call = lambda it: columns.encode_fixed(it, int(width), ALPHABETS[name], errors="coerce")
+                self.check(call, pa.array([int(number).to_bytes(16, "big")], pa.binary(16)), [None])
+
+    def test_uuid_strings(self) -> None:
+        found = [(unquote_to_bytes(escaped).decode(), name) for escaped, name in rows("form")]
+        expected = [None if name == "none" else base62.encode_uuid(uuid.UUID(name)) for _, name in found]
+        for of_type in TEXT_TYPES[:3]:
+            column = pa.array([text for text, _ in found]).cast(of_type)
+            self.check(lambda it: columns.encode_uuid(it, errors="coerce"), column, expected)
 
 
-class Forms(unittest.TestCase):
-    """Arrays of each type, from each offset, with and without nulls, equal the functions for one value."""
+class Arrays(ColumnsTestCase):
+    """Arrays of each type in each form equal the functions for one value."""
+
+    def some(self, bits: int, count: int = 200) -> list[Any]:
+        maker = random.Random(bits)
+        found = [maker.getrandbits(maker.randint(1, bits)) for _ in range(count)]
+        return [2**bits - 1, 0, *(None if maker.random() < 0.3 else it for it in found)]
+
+    def each(self, call: Call, rows: list[Any], *given: Any) -> list[Any]:
+        return [None if row is None else call(row, *given) for row in rows]
 
     def test_numbers(self) -> None:
-        for form in NUMBERS:
-            for offset in (0, 1, 5, 8, 13):
-                given = numbers_for(form, offset)
-                expected = [encoded(row) for row in given]
-                self.assertEqual(consume(columns.encode(Column(form, given, offset))), ("u", expected, {}))
-                keys = [encoded(row, base62.encode_key) for row in given]
-                self.assertEqual(consume(columns.encode_key(Column(form, given, offset))), ("u", keys, {}))
-                given = numbers_for(form, offset, has_nulls=False)
-                column = columns.encode(Column(form, given, offset, has_bitmap=False))
-                self.assertEqual(consume(column), ("u", [encoded(row) for row in given], {}))
+        for of_type in NUMBER_TYPES:
+            numbers = self.some(of_type.bit_width - (str(of_type)[0] == "i"))
+            texts = self.each(base62.encode, numbers)
+            for column in forms_of(pa.array(numbers, of_type)):
+                self.check(columns.encode, column, texts, pa.string())
+        self.check(columns.encode_key, column, self.each(base62.encode_key, numbers), pa.string())
+        self.check(lambda it: columns.encode_fixed(it, 11), column, self.each(base62.encode_fixed, numbers, 11))
+        for precision in (1, 18, 38):
+            of_type = pa.decimal128(precision)
+            numbers = [10**precision - 1, 0, None, 7] * 20
+            for column in forms_of(pa.array([it and Decimal(it) for it in numbers], of_type)):
+                self.check(columns.encode, column, self.each(base62.encode, numbers), pa.string())
 
-    def test_texts(self) -> None:
-        for form in TEXTS:
-            for offset in (0, 1, 5, 8, 13):
-                for numbers, decode in ((numbers_for("L", offset), columns.decode), (numbers_for("w:16", offset), columns.decode_uuid)):
-                    column = decode(Column(form, texts_of(numbers), offset))
-                    self.assertEqual(consume(column)[1], numbers)
-                numbers = numbers_for("L", offset, has_nulls=False)
-                column = columns.decode_canonical(Column(form, texts_of(numbers), offset, has_bitmap=False))
-                self.assertEqual((consume(column)[1], buffer_of(column).tolist()), (numbers, numbers))
+    def test_sixteen_bytes(self) -> None:
+        numbers = self.some(128)
+        texts, names = self.each(base62.encode, numbers), [None if it is None else uuid.UUID(int=it) for it in numbers]
+        sixteen = [it and it.bytes for it in names]
+        for of_type in (pa.uuid(), pa.binary(16)):
+            for column in forms_of(pa.array(sixteen, pa.binary(16)).cast(of_type)):
+                if isinstance(column, (pa.DictionaryArray, pa.ChunkedArray)) and "dictionary<values=ext" in str(column.type):
+                    continue
+                for call in (columns.encode, columns.encode_uuid):
+                    self.check(call, column, texts, pa.string())
+        for of_type in TEXT_TYPES[3:]:
+            for column in forms_of(pa.array(sixteen, of_type)):
+                self.check(columns.encode_uuid, column, texts, pa.string())
+        for of_type in TEXT_TYPES:
+            for column in forms_of(pa.array(texts).cast(of_type)):
+                for call in (columns.decode_uuid, columns.decode_uuid_canonical):
+                    self.check(call, column, names, pa.uuid())
 
-    def test_null_count(self) -> None:
-        """An array that has no nulls by its count may have any bitmap."""
-        column = Column("L", [1, 2, 3])
-        column.set_buffers([b"\0", column.kept[1].raw])
-        column.array.null_count = 0
-        self.assertEqual(columns.encode(column).tolist(), ["1", "2", "3"])
+    def test_strings(self) -> None:
+        numbers = self.some(63)
+        keys = self.each(base62.encode_key, numbers)
+        for of_type in TEXT_TYPES:
+            for column in forms_of(pa.array(self.each(base62.encode, numbers)).cast(of_type)):
+                self.check(columns.decode_canonical, column, numbers, pa.uint64())
+                self.check(lambda it: columns.decode(it, type=pa.int64()), column, numbers, pa.int64())
+            self.check(columns.decode, pa.array(keys).cast(of_type), numbers, pa.uint64())
 
     def test_empty(self) -> None:
-        """An empty array may lack its buffers."""
-        for form in NUMBERS + TEXTS:
-            convert = columns.encode if form in NUMBERS else columns.decode
-            for count in (1, 0):
-                column = Column(form, [])
-                column.set_buffers([None] * len(column.buffers))
-                column.array.buffers = column.buffers if count else None
-                self.assertEqual(consume(convert(column))[1], [])
-        self.assertEqual(consume(columns.encode(Chunks(Column("L", []), [])))[1], [])
-        empties: list[Any] = [[], b"", array("Q")]
-        for empty in empties:
-            self.assertEqual((columns.encode(empty).tolist(), len(columns.encode(empty))), ([], 0))
+        for call, of_type, of_result in (
+            (columns.encode, pa.int8(), pa.string()),
+            (columns.encode_uuid, pa.uuid(), pa.string()),
+            (columns.decode, pa.string_view(), pa.uint64()),
+            (columns.decode_uuid, pa.binary(), pa.uuid()),
+        ):
+            empty = pa.array([], of_type)
+            empties = [empty, [], pa.chunked_array([], of_type), pa.chunked_array([empty]), np.array([]), pd.Series([])]
+            for column in empties:
+                self.check(call, column, [], of_result)
 
-    def test_no_characters(self) -> None:
-        """Empty strings need no buffer of characters."""
-        for form in OFFSETS:
-            column = Column(form, [b"", None])
-            column.set_buffers([b"\1", bytes(24), None])
-            self.assertEqual(columns.decode(column, errors="null").tolist(), [None, None])
-
-    def test_chunks(self) -> None:
-        for form in ("i", "w:16", "u", "vz"):
-            convert, seeds = (columns.encode if form in NUMBERS else columns.decode), [*range(9)]
-            given = [numbers_for(form if form in NUMBERS else "L", seed)[: 97 * seed] for seed in seeds]
-            parts = given if form in NUMBERS else [texts_of(it) for it in given]
-            stream = Chunks(Column(form, []), [Column(form, part, seed) for part, seed in zip(parts, seeds)])
-            expected = [encoded(row) if form in NUMBERS else row for part in given for row in part]
-            self.assertEqual(consume(convert(stream))[1], expected)
-
-    def test_tables(self) -> None:
-        """A table of one column has an offset and nulls of its own."""
-        numbers, texts = numbers_for("L", 1), texts_of(numbers_for("L", 1))
-        bits = bytes([0b10110101]) * 100
-        for offset in (0, 3, 8):
-            expected = [it if bits[i // 8] >> i % 8 & 1 else None for i, it in enumerate(texts)][offset : offset + 300]
-            column = columns.encode(Table([Column("L", numbers, 5)], 300, offset, bits))
-            self.assertEqual(consume(column)[1], expected)
-            table = Table([Column("u", texts, 5)], 300, offset)
-            self.assertEqual(consume(columns.decode(table))[1], numbers[offset : offset + 300])
-        schema, chunk = Table([Column("L", [])], 0), Table([Column("L", [1, 2])], 2)
-        self.assertEqual(columns.encode(Chunks(schema, [chunk])).tolist(), ["1", "2"])
-
-    def test_large_utf8(self) -> None:
-        """Strings that could have 2^31 characters have offsets of 64 bits."""
-        self.assertEqual(consume(columns.encode_fixed([None], 2**31 - 1))[0], "u")
-        self.assertEqual(consume(columns.encode_fixed([None], 2**31))[0], "U")
-        column = columns.encode_fixed([None] * 15 + [1337], 2**27)
-        form, read, _ = consume(column)
-        self.assertEqual((form, read[:15], read[15][-3:]), ("U", [None] * 15, b"0LZ"))
-        self.assertEqual([len(column.tolist()[15]), len(read[15])], [2**27, 2**27])
-
-    def test_lists(self) -> None:
-        class Index:
-            def __index__(self) -> int:
-                return 1337
-
-        given = [None, 0, True, 2**63 - 1, 2**63, 2**64, 2**128 - 1, uuid.UUID(int=5), Index()]
-        self.assertEqual(columns.encode(given * 99).tolist(), [None if it is None else base62.encode(it) for it in given] * 99)
-        texts = ["LZ", b"LZ", bytearray(b"LZ"), memoryview(b"LZ"), None, "AzL8n0Y58m7"]
-        self.assertEqual(columns.decode(texts * 99).tolist(), [1337, 1337, 1337, 1337, None, 2**63 - 1] * 99)
-        letters = base62.Alphabet("ÿ".encode("latin-1") + b"".join(bytes([it]) for it in range(61)))
-        self.assertEqual(columns.decode([b"\xff\0"], letters).tolist(), [1])
-
-    def test_buffers(self) -> None:
-        for code in "bBhHiIlLqQ":
-            given = array(code, [0, 1, 61, 62, 127])
-            self.assertEqual(columns.encode(given).tolist(), [base62.encode(it) for it in given])
-            self.assertEqual(columns.encode(memoryview(given)[::-2]).tolist(), [base62.encode(it) for it in given[::-2]])
-            self.assertEqual(columns.encode(array(code, [2 ** (8 * given.itemsize - code.islower()) - 1])).tolist(),
-                             [base62.encode(2 ** (8 * given.itemsize - code.islower()) - 1)])
-            if code.islower():
-                self.assertRaises(base62.OutOfRangeError, columns.encode, array(code, [-1]))
-        typed = memoryview((ctypes.c_uint64 * 2)(5, 2**64 - 1))
-        self.assertEqual(typed.format, "<Q")
-        self.assertEqual(columns.encode(typed).tolist(), ["5", base62.encode(2**64 - 1)])
-        self.assertEqual(columns.encode(b"\0\xff").tolist(), ["0", base62.encode(255)])
-
-    def test_requested(self) -> None:
-        """What a consumer requests is honoured if the column has such a form, and is ignored if not."""
-        texts = [encoded(it) for it in (1337, None, 2**128 - 1)]
-        small, large = columns.encode([1337, None, 2**128 - 1]), columns.encode_fixed([None], 2**31)
-        for form, expected in {"u": "u", "z": "z", "U": "U", "Z": "Z", "vu": "vu", "vz": "vz", "L": "u", "?": "u"}.items():
-            self.assertEqual(consume(small, Requested(form)), (expected, texts, {}))
-        for form, expected in {"u": "U", "z": "U", "U": "U", "Z": "Z", "vu": "U"}.items():
-            self.assertEqual(consume(large, Requested(form)), (expected, [None], {}))
-        lengths = [62**it for it in range(20)]
-        self.assertEqual(consume(columns.encode(lengths), Requested("vu"))[1], [encoded(it) for it in lengths])
-        for form, expected in {"L": "L", "l": "l", "i": "L", "u": "L"}.items():
-            self.assertEqual(consume(columns.decode(["AzL8n0Y58m7", None]), Requested(form)), (expected, [2**63 - 1, None], {}))
-        self.assertEqual(consume(columns.decode(["1", "AzL8n0Y58m8"]), Requested("l")), ("L", [1, 2**63], {}))
-        names, metadata = columns.decode_uuid(["LZ"]), {b"ARROW:extension:name": b"arrow.uuid"}
-        self.assertEqual(consume(names, Requested("w:16")), ("w:16", [big(1337)], {}))
-        self.assertEqual(consume(names, Requested("w:16", b"\0" * 4)), ("w:16", [big(1337)], metadata))
-        self.assertEqual(consume(names, Requested("z")), ("w:16", [big(1337)], metadata))
-        dictionary = Requested("U")
-        dictionary.schema.dictionary = ctypes.pointer(Requested("u").schema)
-        self.assertEqual(consume(small, dictionary), ("u", texts, {}))
-        nested = Requested("+s", n_children=1)
-        for wrong in (nested.capsule, small.__arrow_c_array__()[1], 5):
-            self.assertRaises(ValueError, small.__arrow_c_array__, wrong)
-        self.assertEqual(consume(Exporter(small.__arrow_c_array__(requested_schema=None)))[1], texts)
-
-    def test_schema(self) -> None:
-        for column, form in ((columns.encode([]), b"u"), (columns.decode([]), b"L"), (columns.decode_uuid([]), b"w:16")):
-            capsule = column.__arrow_c_schema__()
-            schema = Schema.from_address(pointer_of(capsule, b"arrow_schema"))
-            self.assertEqual((schema.format, schema.name, schema.flags, schema.n_children), (form, b"", 2, 0))
+    def test_two_gibibytes(self) -> None:
+        """The last string of a column is decoded again."""
+        result = columns.encode_fixed([1337] * 17, 2**27)
+        self.assertEqual((result.type, result[16].as_buffer().size), (pa.large_string(), 2**27))
+        self.check(columns.decode, result, [1337] * 17)
+        last = pa.chunked_array([result[16:], pa.array(["LZ"], pa.large_string())])
+        del result
+        self.check(columns.decode, last, [1337, 1337])
+        # What could have 2^31 bytes has the large type, in each chunk.
+        self.assertEqual(columns.encode_fixed([None], 2**31 - 1).type, pa.string())
+        self.assertEqual(columns.encode_fixed([None], 2**31).type, pa.large_string())
+        chunks = pa.chunked_array([[1], [None, None]], pa.uint64())
+        self.check(lambda it: columns.encode_fixed(it, 2**30)[1:], chunks, [None, None], pa.large_string())
 
 
-class Exporter:
-    def __init__(self, exported: Any) -> None:
-        self.exported = exported
+class Objects(ColumnsTestCase):
+    """Columns of Python, NumPy and pandas."""
 
-    def __arrow_c_array__(self, requested_schema: object = None) -> Any:
-        if isinstance(self.exported, Exception):
-            raise self.exported
-        return self.exported
+    def test_numbers(self) -> None:
+        numbers = [1337, None, 0, 2**63 - 1]
+        texts = ["LZ", None, "0", "AzL8n0Y58m7"]
+        with_nan: list[Any] = [1337, float("nan"), 0, 2**63 - 1]
+        for column in (
+            numbers,
+            tuple(numbers),
+            (it for it in numbers),
+            with_nan,
+            [pd.NA if it is None else it for it in numbers],
+            [None if it is None else Decimal(it) for it in numbers],
+            np.array(numbers, object),
+            np.ma.array([1337, 5, 0, 2**63 - 1], mask=[0, 1, 0, 0]),
+            pd.Series(numbers, dtype="Int64", index=[5, 5, 5, 5]),
+            pd.Series(numbers, dtype="uint64[pyarrow]"),
+            pd.Series(numbers, dtype=object),
+            pd.Series(pd.array(numbers, "Int64")).astype("category"),
+            pd.array(numbers, "UInt64"),
+            pd.DataFrame({"id": pd.array(numbers, "Int64")}, index=[5, 4, 3, 2]),
+        ):
+            found = columns.encode(column)
+            self.assertEqual(found.to_pylist(), texts, column)
+        self.check(columns.encode, range(60, 63), ["y", "z", "10"])
+        self.check(columns.encode, pd.Index([61, 62]), ["z", "10"])
+        self.check(columns.encode, np.array([5, 6, 62, 7], np.uint16)[::-2], ["7", "6"])
+        self.check(columns.encode, np.array([5, 2**64 - 1], ">u8"), ["5", "LygHa16AHYF"])
+
+    def test_wide_integers(self) -> None:
+        """Lists that pyarrow has no type for."""
+        lists: list[list[Any]] = [
+            [2**63, 0, None],
+            [2**64, 1, float("nan")],
+            [np.int8(1), np.uint64(2**63), pd.NA],
+            [True, 2, None],
+            [NAME, 2**128 - 1, None],
+            [Index(), None],
+        ]
+        for numbers in lists:
+            texts = [None if it is None or it is pd.NA or it != it else base62.encode(it) for it in numbers]
+            for column in (numbers, (it for it in numbers), np.array(numbers, object), pd.Series(numbers, dtype=object)):
+                self.check(columns.encode, column, texts, pa.string())
+        self.check(lambda it: columns.encode(it, errors="coerce"), [2**128, -1, 5, -(2**200)], [None, None, "5", None])
+        # pyarrow would take the integer parts of these for uint64.
+        for floats in ([1.5, 2**63], [2**63, 1.5], [1.5, 2**64], [2.0, 1]):
+            for errors in ("raise", "coerce"):
+                self.raised(TypeError, columns.encode, floats, errors=errors)
+
+    def test_uuids(self) -> None:
+        for column in (
+            [NAME, None],
+            [NAME.bytes, None],
+            [bytearray(NAME.bytes), None],
+            [str(NAME), None],
+            [str(NAME), NAME, NAME.bytes, None],
+            pd.Series([NAME, None, float("nan")]),
+            pd.Series([NAME.hex, None], dtype="string"),
+            pd.Series([NAME.urn, None], dtype="category"),
+        ):
+            self.check(columns.encode_uuid, column, [None if pd.isna(it) else TEXT for it in column], pa.string())
+        # NumPy cuts zeros at the end of S16.
+        zeros = bytes([1]) + bytes(15)
+        for form in ("S16", "V16"):
+            self.check(columns.encode_uuid, np.array([NAME.bytes, zeros], form), [TEXT, base62.encode_uuid(zeros)])
+        self.check(columns.encode, [NAME, uuid.UUID(int=LARGEST)], [TEXT, "7n42DGM5Tflk9n8mt7Fhc7"])
+
+    def test_strings(self) -> None:
+        texts: list[Any] = ["LZ", None, "z"]
+        for column in (
+            texts,
+            ["LZ", float("nan"), b"z"],
+            [bytearray(b"LZ"), None, memoryview(b"z")],
+            np.array(texts, object),
+            np.ma.array(["LZ", "", "z"], mask=[0, 1, 0]),
+            pd.Series(texts),
+            pd.Series(texts, dtype="string"),
+            pd.Series(texts, dtype="string[pyarrow]"),
+            pd.Series(texts, dtype="category"),
+            pd.Categorical(texts),
+            pd.DataFrame({"code": texts}),
+        ):
+            self.assertEqual(columns.decode(column).to_pylist(), [1337, None, 61], column)
+        for form in ("U", "S", np.dtypes.StringDType()):
+            column = np.array(["LZ", "0", "z\0z"], form)
+            self.check(columns.decode, column[:2], [1337, 0])
+            self.assertEqual(self.raised(base62.InvalidByteError, columns.decode, column).row, 2)
+        error = self.raised(base62.InvalidByteError, columns.decode, ["LZ", "\ud800"])
+        self.assertEqual((error.byte, error.row), (0xED, 1))
+        # A program can create a column of strings that are not UTF-8.
+        error = self.raised(base62.InvalidByteError, columns.decode, pa.array([b"LZ", b"\xff"]).view(pa.string()))
+        self.assertEqual((error.byte, error.row), (0xFF, 1))
+
+    def test_missing_only(self) -> None:
+        for column in ([None], [float("nan")], [pd.NA], pd.Series([None]), pd.Series([float("nan")]), np.array([np.nan])):
+            self.check(columns.encode, column, [None], pa.string())
+            self.check(columns.decode, column, [None], pa.uint64())
+            self.check(columns.decode_uuid, column, [None], pa.uuid())
+
+    def test_pandas(self) -> None:
+        """Results are assigned by position, and numbers above 2^53 are kept, with missing ones among them."""
+        frame = pd.DataFrame({"id": pd.array([1337, None, 2**63 + 1], "UInt64")}, index=[9, 8, 7])
+        frame["code"] = columns.encode(frame["id"])
+        self.assertEqual(frame["code"].where(frame["code"].notna(), None).tolist(), ["LZ", None, "AzL8n0Y58m9"])
+        frame["back"] = pd.array(columns.decode(frame["code"]), "uint64[pyarrow]")
+        self.assertTrue((frame["back"] == frame["id"]).all())
+        self.assertEqual(frame["back"].tolist(), [1337, pd.NA, 2**63 + 1])
+
+    def test_pickle(self) -> None:
+        for result in (columns.encode([1, None]), columns.decode(["LZ"]), columns.decode_uuid([TEXT])):
+            self.assertEqual(pickle.loads(pickle.dumps(result)), result)
 
 
-class Errors(unittest.TestCase):
+CUSTOM = ALPHABETS["standard"][::-1]
+# Each function, and that for one value, with what they take besides. A valid value, an invalid one, and one of a type
+# that is wrong.
+FUNCTIONS: list[tuple[Call, Call, tuple[int, ...], Any, Any, Any]] = [
+    (columns.encode, base62.encode, (), 1337, -1, "1"),
+    (columns.encode_fixed, base62.encode_fixed, (3,), 1337, 62**3, 1.0),
+    (columns.encode_key, base62.encode_key, (), 1337, -1, "1"),
+    (columns.encode_uuid, base62.encode_uuid, (), str(NAME), "5", 5),
+    (columns.encode_uuid, base62.encode_uuid, (), NAME.bytes, b"5", 5),
+    (columns.decode, base62.decode, (), "LZ", "L-", 5),
+    (columns.decode_canonical, base62.decode_canonical, (), "LZ", "", 5),
+    (columns.decode_uuid, base62.decode_uuid, (), "LZ", "LZ~", 5),
+    (columns.decode_uuid_canonical, base62.decode_uuid_canonical, (), b"LZ", b"\xff", NAME),
+]
+
+
+class Arguments(ColumnsTestCase):
+    def test_results(self) -> None:
+        for call, one, given, value, bad, _ in FUNCTIONS:
+            for alphabet in ((), (base62.Alphabet.ALTERNATIVE,), (CUSTOM,), (CUSTOM.decode(),)):
+                if call is columns.encode_key and alphabet:
+                    self.raised(TypeError, call, [value], *alphabet)
+                    continue
+                of_types = [pa.string(), pa.large_string()] if "encode" in call.__name__ else [pa.uint64(), pa.int64()]
+                if call.__name__.startswith("decode_uuid"):
+                    self.raised(TypeError, call, [value], *alphabet, type=pa.uuid())
+                    of_types = []
+                expected = one(value, *given, *alphabet)
+                optional: list[dict[str, Any]] = [{}, *({"type": it} for it in of_types)]
+                for named in optional:
+                    self.check(lambda it: call(it, *given, *alphabet, **named), [value, None], [expected, None])
+                    coerced = call([value, bad], *given, *alphabet, errors="coerce", **named)
+                    self.assertEqual(coerced.to_pylist(), [expected, None])
+                    self.assertEqual(coerced.type, named.get("type", coerced.type))
+
     def test_rows(self) -> None:
-        """The exception is that of the function for one value, with the first such row."""
-        for form in ("c", "s", "i", "l"):
-            least = -(2 ** struct_bits(form))
-            for row in (0, 255, 256, 699):
-                given = [7] * row + [least, None, least]
-                for encode in ENCODINGS:
-                    self.check_row(row, base62.OutOfRangeError, OUT_OF_RANGE, encode, Column(form, given, 3))
-                column = columns.encode(Column(form, given, 3), errors="null")
-                self.assertEqual(consume(column)[1], [b"7"] * row + [None] * 3)
-                self.check_row(row, base62.OutOfRangeError, OUT_OF_RANGE, columns.encode, given)
-        wide: list[Any] = [[62**5], Column("l", [62**5]), Column("w:16", [big(2**128 - 1)]), Column("L", [2**64 - 1])]
-        for given_wide in wide:
-            message = "the number needs more characters than the width"
-            self.check_row(0, base62.OutOfRangeError, message, columns.encode_fixed, given_wide, 5)
-        strings: list[Any] = [["1", b"LygHa16AHYG"], Column("u", [b"1", b"LygHa16AHYG"])]
-        for given_strings in strings:
-            message = "the number is not from 0 to 2**64 - 1"
-            self.check_row(1, base62.OutOfRangeError, message, columns.decode, given_strings)
-        self.assertEqual(columns.decode(["1", "LygHa16AHYF", "LygHa16AHYG"], errors="null").tolist(), [1, 2**64 - 1, None])
+        """The exception is that of the function for one value. Rows are counted over chunks."""
+        for call, one, given, value, bad, _ in FUNCTIONS:
+            with self.assertRaises(ValueError) as caught:
+                one(bad, *given)
+            expected = caught.exception
+            rows = [None, *[value] * 300, bad, bad]
+            chunks = pa.chunked_array([pa.array(rows[:7]), pa.array(rows[7:])])
+            for column in (rows, pd.Series(rows, dtype=object), chunks, np.array(rows, object), dictionary(pa.array(rows))):
+                error = self.raised(type(expected), call, column, *given)
+                notes = {"row": 301, "__notes__": [f"Row 301 of the column is {bad!r}"]}
+                self.assertEqual((str(error), vars(error)), (str(expected), vars(expected) | notes))
 
-    def check_row(self, row: int, kind: type[Exception], message: str, call: Callable[..., object], *given: Any) -> None:
-        with self.assertRaises(kind) as caught:
-            call(*given)
-        self.assertEqual((str(caught.exception), getattr(caught.exception, "row", None)), (message, row))
-
-    def test_chunks(self) -> None:
-        """Rows are counted over all chunks."""
-        stream = Chunks(Column("u", []), [Column("u", [b"1"] * 300), Column("u", []), Column("u", [b"1", b"-"], 3)])
-        self.check_row(301, base62.InvalidByteError, "Encoded input contains the invalid byte b'-' at index 0", columns.decode, stream)
+    def test_other_numbers(self) -> None:
+        for of_type in (pa.int8(), pa.int64(), pa.decimal128(5)):
+            error = self.raised(base62.OutOfRangeError, columns.encode, pa.array([0, -1, -5], of_type))
+            self.assertEqual((error.row, error.__notes__), (1, ["Row 1 of the column is -1"]))
+        error = self.raised(base62.OutOfRangeError, columns.encode_fixed, pa.array([NAME.bytes], pa.binary(16)), 2)
+        self.assertEqual(error.__notes__, [f"Row 0 of the column is {NAME!r}"])
+        error = self.raised(base62.OutOfRangeError, columns.encode, [2**200, 5])
+        self.assertEqual(error.row, 0)
+        for of_type, bits, text in ((pa.uint64(), 64, "LygHa16AHYG"), (pa.int64(), 63, "AzL8n0Y58m8")):
+            below = base62.encode(2**bits - 1)
+            self.check(lambda it: columns.decode(it, type=of_type, errors="coerce"), [below, text], [2**bits - 1, None])
+            for column in ([below, text], [below, bytearray(text, "ascii")], [below, text, "\ud800"]):
+                error = self.raised(base62.OutOfRangeError, columns.decode, column, type=of_type)
+                self.assertEqual((str(error), error.row), (f"the number is not from 0 to 2**{bits} - 1", 1))
+        error = self.raised(base62.TooLargeError, columns.decode, ["LZ", "-" * 300])
+        self.assertEqual(error.__notes__, ["Row 1 of the column is '" + 74 * "-" + "..."])
 
     def test_objects(self) -> None:
-        """An object of another type raises what the function for one value raises, also with errors="null"."""
-        cases: list[tuple[Any, Any, Any]] = [
-            (columns.encode, base62.encode, "1"),
-            (columns.encode, base62.encode, float("nan")),
-            (columns.decode, base62.decode, 5),
-            (columns.decode, base62.decode, array("H", [48])),
-        ]
-        for convert, one, bad in cases:
-            with self.assertRaises(TypeError) as single:
-                one(bad)
-            for errors in ("raise", "null"):
-                self.check_row(1, TypeError, str(single.exception), lambda it: convert(it, errors=errors), [None, bad])
-        self.assertRaises(base62.OutOfRangeError, columns.encode, [2**200])
-        self.assertEqual(columns.encode([2**200, -(2**200), 2**128], errors="null").tolist(), [None] * 3)
-        self.check_row(0, base62.InvalidByteError, "Encoded input contains the invalid byte b'\\xed' at index 0", columns.decode, ["\ud800"])
+        """An object of another type raises TypeError, also if invalid rows become null."""
+        for call, one, given, value, _, wrong in FUNCTIONS:
+            for errors in ("raise", "coerce"):
+                self.raised(TypeError, call, [wrong], *given, errors=errors)
+                error = self.raised(TypeError, call, [value, None, object()], *given, errors=errors)
+                self.assertEqual(error.row, 2)
 
-    def test_changed_list(self) -> None:
-        """A list that becomes shorter meanwhile."""
-        class Clear:
-            def __index__(self) -> int:
-                given.clear()
-                return 1
-
-        given: list[Any] = [Clear(), 2]
-        self.assertRaises(IndexError, columns.encode, given)
+    def test_wrong(self) -> None:
+        for call, _, given, value, _, _ in FUNCTIONS:
+            for column in (5, None, object(), "LZ", b"LZ", np.array(5), np.array([[76, 90]], np.uint8), pd.DataFrame(),
+                           pd.DataFrame({"a": [value], "b": [value]}), pa.table({"a": [value], "b": [value]})):
+                self.raised(TypeError, call, column, *given)
+            for errors in ("null", "ignore", None, True):
+                error = self.raised(ValueError, call, [value], *given, errors=errors)
+                self.assertEqual(str(error), f"errors is 'raise' or 'coerce', not {errors!r}")
+            if call is not columns.encode_key:
+                for alphabet in ("short", "0" * 62, b"", "é" * 62):
+                    self.assertRaises(ValueError, call, [value], *given, alphabet)
+                for other in (None, 5):
+                    self.raised(TypeError, call, [value], *given, other)
+            if not call.__name__.startswith("decode_uuid"):
+                for of_type in (None, "string", pa.int32(), pa.uuid(), pa.binary()):
+                    self.raised(TypeError, call, [value], *given, type=of_type)
+        high = bytes(range(194, 256))
+        for call in (columns.encode, columns.encode_uuid, lambda it, letters: columns.encode_fixed(it, 5, letters)):
+            error = self.raised(ValueError, call, [NAME], high)
+            self.assertEqual(str(error), "an alphabet for encoding has ASCII characters")
+        self.check(lambda it: columns.decode(it, high), [high[5:6]], [5])
+        for width, kind in ((-1, ValueError), (-(2**70), ValueError), ("1", TypeError), (0, base62.OutOfRangeError)):
+            self.raised(kind, columns.encode_fixed, [1], width)
+        for width in (2**62, 2**70):
+            self.assertRaises(MemoryError, columns.encode_fixed, [1, 2], width)
+        self.check(lambda it: columns.encode_fixed(it, Index(), errors="coerce"), [None, 5], [None, "0" * 1336 + "5"])
 
     def test_types(self) -> None:
-        """A column of another type is named."""
-        others = ["e", "f", "g", "b", "n", "d:38,0", "tdD", "+l", "+r", "w:15", "w:160", "", "uu", "vu!"]
-        for convert, forms in ((columns.encode, [*TEXTS, *others]), (columns.decode, [*NUMBERS, *others])):
-            for form in forms:
-                column = Column("L", [1])
-                column.schema.format = form.encode()
-                with self.assertRaisesRegex(TypeError, f"not the Arrow type '{form.replace('+', '.')}'$"):
-                    convert(column)
-                self.assertEqual(column.released, 1)
-                stream = Chunks(column, [])
-                self.assertRaises(TypeError, convert, stream)
-                self.assertEqual(stream.released, 1)
-        column = Column("i", [1])
-        column.schema.dictionary = ctypes.pointer(Column("u", []).schema)
-        self.assertRaisesRegex(TypeError, "'dictionary'", columns.encode, column)
-        for other in (None, "1", 1, (1, 2), {1}, 1.0, object()):
-            self.assertRaisesRegex(TypeError, f"not {type(other)}$", columns.encode, other)
-        tables: list[list[Column]] = [[], [Column("L", [1]), Column("L", [1])]]
-        for children in tables:
-            self.assertRaisesRegex(TypeError, f"one column, not {len(children)}$", columns.encode, Table(children, 0))
-        big_endian: Any = ctypes.c_uint32.__ctype_be__  # type: ignore[attr-defined]
-        views = [memoryview((big_endian * 2)()), memoryview(b"ab").cast("c"), memoryview(b"ab").cast("?")]
-        for wrong in (array("d", [1.0]), *views):
-            self.assertRaisesRegex(TypeError, "the buffer format '", columns.encode, wrong)
-        self.assertRaisesRegex(TypeError, "not the buffer format 'B'$", columns.decode, b"LZ")
-        self.assertRaisesRegex(TypeError, "one dimension, not 2$", columns.encode, memoryview(bytes(4)).cast("B", (2, 2)))
-
-    def test_arguments(self) -> None:
-        for convert in (columns.encode, columns.decode, columns.decode_uuid):
-            letters: list[Any] = [None, "short", "0" * 62, "é" * 62, 5]
-            for wrong in letters:
-                with self.assertRaises((TypeError, ValueError)) as single:
-                    base62.decode("1", wrong)
-                self.assertRaisesRegex(type(single.exception), str(single.exception)[:20], convert, [], wrong)
-        high = bytes(range(194, 256))
-        self.assertRaises(ValueError, columns.encode, [1], high)
-        self.assertRaises(ValueError, columns.encode_fixed, [1], 5, high)
-        self.assertRaises(ValueError, columns.encode_fixed, [1], -1)
-        self.assertRaises(TypeError, columns.encode_fixed, [1], "1")
-        self.assertRaisesRegex(MemoryError, "", columns.encode_fixed, [1], 2**70)
-        self.assertRaises(base62.OutOfRangeError, columns.encode_fixed, [1], 0)
-        self.assertRaisesRegex(ValueError, "errors is 'raise' or 'null', not 'coerce'", columns.encode, [1], errors="coerce")
-        self.assertRaises(TypeError, columns.Column)
-
-    def test_buffer_of_column(self) -> None:
-        for column in (columns.encode([1]), columns.decode([None]), columns.decode_uuid(["1"])):
-            self.assertRaises(BufferError, memoryview, column)
-        self.assertTrue(buffer_of(columns.decode(["1"])).readonly)
-        self.assertEqual(bytes(buffer_of(columns.decode(["LZ"]))), struct.pack("=Q", 1337))
-        self.assertRaises(TypeError, io.BytesIO(b"").readinto, columns.decode(["1"]))
+        """A column of another type is named, with what to pass instead."""
+        opaque = pa.opaque(pa.binary(16), "uhugeint", "DuckDB")
+        uhugeint = pa.ExtensionArray.from_storage(opaque, pa.array([bytes(16)], pa.binary(16)))
+        ends = pa.RunEndEncodedArray.from_arrays([1], ["1"])
+        cases: list[tuple[Call, Any, str, str]] = [
+            (columns.encode, pa.array([1.0]), "double", "in pandas as Int64"),
+            (columns.encode, np.array([1.0, np.nan]), "double", "floats are rounded above 2[*][*]53"),
+            (columns.encode, pa.array([True]), "bool", "cast it to uint8"),
+            (columns.encode, pd.to_datetime(["2026-01-01"]), "timestamp", "cast it to int64"),
+            (columns.encode, [Decimal("1.0")], "decimal128.2, 1.", "cast it to decimal128.38, 0."),
+            (columns.encode, pa.array([5], pa.decimal256(5)), "decimal256.5, 0.", "cast it to decimal128.38, 0."),
+            (columns.encode, uhugeint, "extension<arrow.opaque.*uhugeint", "cast it to UBIGINT, HUGEINT or UUID in DuckDB"),
+            (columns.encode_uuid, uhugeint, "extension<arrow.opaque", "uuid, binary or strings"),
+            (columns.encode, ["1"], "string", "encode_uuid takes UUIDs"),
+            (columns.encode, [bytes(16)], "binary", "encode_uuid takes UUIDs"),
+            (columns.encode, pa.array([bytes(8)], pa.binary(8)), "fixed_size_binary.8.", "integers, decimal128 of scale 0"),
+            (columns.encode, pa.array([[1]]), "list<item: int64>", "integers, decimal128 of scale 0"),
+            (columns.encode, pd.Series([1.5]).astype("category"), "double", "in pandas as Int64"),
+            (columns.encode_uuid, [1], "int64", "encode takes integers"),
+            (columns.decode, [1337], "int64", "read it as strings, since numbers have lost leading zeros"),
+            (columns.decode, [1.5], "double", "read it as strings"),
+            (columns.decode, ends, "run_end_encoded", "decode it by pyarrow.compute.run_end_decode"),
+            (columns.decode_uuid, [NAME], "extension<arrow.uuid>", "strings or binary"),
+        ]
+        for call, column, name, hint in cases:
+            for errors in ("raise", "coerce"):
+                with self.assertRaisesRegex(TypeError, f"^the column has the type {name}.*, not .*{hint}"):
+                    call(column, errors=errors)
 
 
-class Malformed(unittest.TestCase):
-    """Arrays and protocols that break their contract raise an exception, and are released once."""
+class Runtime(ColumnsTestCase):
+    def test_file_system(self) -> None:
+        """Threads that read the column take the GIL."""
+        fs, dataset = importlib.import_module("pyarrow.fs"), importlib.import_module("pyarrow.dataset")
+        file = io.BytesIO()
+        importlib.import_module("pyarrow.parquet").write_table(pa.table({"id": range(100_000)}), file, row_group_size=1000)
 
-    def check(self, column: Any, kind: type[Exception] = ValueError, message: str = "the column is malformed") -> None:
-        for given in (column, Chunks(column, [column])):
-            column.released, column.array.release = 0, RELEASE_ARRAY(column.release)
-            convert = columns.encode if column.schema.format.decode() in (*NUMBERS, "+s") else columns.decode
-            self.assertRaisesRegex(kind, message, convert, given)
-            self.assertEqual(column.released, 1)
+        class Files(fs.FileSystemHandler):  # type: ignore
+            open_input_file = lambda self, path: pa.PythonFile(io.BytesIO(file.getvalue()), mode="r")
+            get_file_info = lambda self, paths: [fs.FileInfo(path, fs.FileType.File, size=file.tell()) for path in paths]
+            get_type_name = lambda self: "bytes"
+            normalize_path = lambda self, path: path
 
-    def test_counts(self) -> None:
-        for form in NUMBERS + TEXTS:
-            row = 1 if form in INTEGERS else b"1" * 16
-            for field, values in {
-                "length": (-1, -(2**63), 2**63 - 1),
-                "offset": (-1, -(2**63), 2**63 - 1, 2**62),
-                "n_buffers": (-1, 0, 1, *((3, 4) if form in NUMBERS else (2, 4) if form in OFFSETS else (2,))),
-                "n_children": (1, -1),
-            }.items():
-                for value in values:
-                    column = Column(form, [row])
-                    setattr(column.array, field, value)
-                    self.check(column)
-            column = Column(form, [row])
-            column.array.dictionary = ctypes.pointer(Column("u", []).array)
-            self.check(column)
-            column = Column(form, [row])
-            column.array.buffers[1] = None
-            self.check(column)
+        Files.__abstractmethods__ = frozenset()
+        found = dataset.dataset("ids.parquet", filesystem=fs.PyFileSystem(Files()), format="parquet")
+        result = columns.encode(found.scanner(batch_size=500).to_reader())
+        self.assertEqual(result.to_pylist(), [base62.encode(number) for number in range(100_000)])
 
-    def test_offsets(self) -> None:
-        for form, code in OFFSETS.items():
-            for ends in ((-1, 1, 2), (0, -1, 1), (1, 0, 1), (0, 2, 1), (0, 1, -1), (0, 2**31 - 1, 1)):
-                column = Column(form, [b"1", b"1"])
-                column.set_buffers([None, struct.pack(f"=3{code}", *ends), b"111"])
-                self.check(column)
-            column = Column(form, [b"1"])
-            column.array.buffers[2] = None
-            self.check(column)
+    def test_gil(self) -> None:
+        numbers, strings = pa.array(range(100_000)), columns.encode(range(100_000))
+        for call, column in ((columns.encode, numbers), (columns.decode, strings), (columns.decode_uuid, strings)):
+            self.assertTrue(others_run(lambda: call(column)))
 
-    def test_views(self) -> None:
-        text = b"1" * 20
-        for view in ((-1, 0, 0), (20, -1, 0), (20, 2, 0), (20, 0, -1), (20, 0, 3), (2**31 - 1, 0, 2**31 - 1)):
-            column = Column("vu", [text])
-            views = struct.pack("=i4sii", view[0], text[:4], *view[1:])
-            column.set_buffers([None, views, text + b"11", text, struct.pack("=3q", 22, 20, 99)])
-            self.check(column)
-        for missing in (2, 4):
-            column = Column("vu", [text, text])
-            column.array.buffers[missing] = None
-            self.check(column)
+    def test_size(self) -> None:
+        """A result keeps no memory for strings that are longer than its own."""
+        self.assertLess(columns.encode([1] * 1000).get_total_buffer_size(), 6000)
 
-    def test_row(self) -> None:
-        """The row of what cannot be read."""
-        column = Column("u", [b"1"] * 300)
-        ends = [*range(300), 0]
-        column.set_buffers([None, struct.pack("=301i", *ends[:299], 500, 299), b"1" * 300])
-        with self.assertRaises(ValueError) as caught:
-            columns.decode(column)
-        self.assertEqual(vars(caught.exception), {"row": 298})
+    def test_leaks(self) -> None:
+        """A thousand calls with new items, valid and not, leave no objects and no buffers."""
 
-    def test_tables(self) -> None:
-        for length, offset in ((3, 0), (2, 1), (-1, 0), (0, -1)):
-            child = Column("L", [1, 2])
-            self.check(Table([child], length, offset))
-            self.assertEqual(child.released, 0)
-        for field, value in {"n_children": 2, "n_buffers": 2}.items():
-            table = Table([Column("L", [1])], 1)
-            setattr(table.array, field, value)
-            self.check(table)
+        def run() -> None:
+            for number in range(2**70, 2**70 + 1000):
+                for call, _, given, value, bad, wrong in FUNCTIONS:
+                    column = [value, bad, str(number), number, number % 2**63, uuid.UUID(int=number)][number % 3 :]
+                    for errors in ("raise", "coerce"):
+                        try:
+                            call(column[: number % 4], *given, errors=errors)
+                        except (TypeError, ValueError):
+                            pass
 
-    def test_protocol(self) -> None:
-        column = Column("L", [1])
-        pair = column.__arrow_c_array__()
-        for wrong in (None, [*pair], pair[:1], (*pair, 1), (pair[1], pair[0]), (1, 2)):
-            self.assertRaises((TypeError, ValueError), columns.encode, Exporter(wrong))
-        self.assertRaises(KeyError, columns.encode, Exporter(KeyError()))
-        self.assertEqual(column.released, 0)
-        self.assertEqual(columns.encode(Exporter(pair)).tolist(), ["1"])
-        self.assertEqual((column.released, column.schemas_released), (1, 0))
-        self.assertRaisesRegex(ValueError, "released", columns.encode, Exporter(pair))
-        column = Column("L", [1])
-        column.schema.release = NO_SCHEMA
-        self.assertRaisesRegex(ValueError, "released", columns.encode, column)
+        def state() -> tuple[int, int]:
+            gc.collect()
+            return sys.getallocatedblocks(), pa.total_allocated_bytes()
 
-    def test_streams(self) -> None:
-        for error, message in ((b"it is broken", "it is broken"), (None, r"\?"), (b"\xff", "\ufffd")):
-            chunks = [Column("L", [1]), Column("L", [2])]
-            stream = Chunks(Column("L", []), chunks, error, code=5)
-            with self.assertRaisesRegex(OSError, f"^.Errno 5. the Arrow stream fails: {message}$"):
-                columns.encode(stream)
-            self.assertEqual([*(it.released for it in chunks), stream.released], [1, 1, 1])
-        chunks = [Column("L", [it]) for it in range(70)]
-        stream = Chunks(Column("L", []), chunks)
-        self.assertEqual(columns.encode(stream).tolist(), [base62.encode(it) for it in range(70)])
-        self.assertEqual([*(it.released for it in chunks), stream.released], [1] * 71)
-        self.assertEqual((stream.schema.released, stream.schema.schemas_released), (0, 1))
-        self.assertRaisesRegex(ValueError, "released", columns.encode, stream)
+        run()
+        before = state()
+        run()
+        blocks, size = state()
+        self.assertLess(blocks - before[0], 500)
+        self.assertEqual(size, before[1])
+
+
+def load_tests(loader: unittest.TestLoader, tests: unittest.TestSuite, pattern: object) -> unittest.TestSuite:
+    # An example can be pasted alone: it has its imports.
+    tests.addTests(doctest.DocTestSuite(columns, globs={}))
+    if importlib.util.find_spec("dask"):
+        tests.addTest(doctest.DocTestCase(readme("Columns")))
+    return tests

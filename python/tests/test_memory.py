@@ -15,7 +15,7 @@ from typing import Any
 
 import base62
 import calls
-from base62 import _columns, _types
+from base62 import _types
 from calls import LETTERS, WIDE, Call
 
 # A call has made its allocations if it succeeds although each of the next ones would fail. No call makes so many.
@@ -34,8 +34,7 @@ except ImportError:
 
 def outcome(call: Call, given: tuple[object, ...], named: dict[str, object]) -> object:
     try:
-        result = call(*given, **named)
-        return result.tolist() if isinstance(result, _columns.Column) else result
+        return call(*given, **named)
     except (ValueError, TypeError, OverflowError) as error:
         if not str(error) and type(error) in (ValueError, TypeError, OverflowError):
             # An earlier 3.11 drops a message whose allocation fails.
@@ -123,7 +122,6 @@ class AllocationFailures(AllocationTestCase):
         """A module that fails to load releases what it has imported."""
         before = sys.getrefcount(_types.to_int)
         self.sweep(lambda: load_extension("base62._base62").encode(WIDE))
-        self.sweep(lambda: load_extension("base62._columns").Column.__name__)
         gc.collect()
         self.assertEqual(sys.getrefcount(_types.to_int), before)
 

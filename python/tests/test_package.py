@@ -14,6 +14,7 @@ import importlib.metadata
 import inspect
 import pathlib
 import sys
+import types
 import unittest
 import unittest.mock
 import uuid
@@ -21,9 +22,9 @@ import weakref
 from typing import Any
 
 import base62
-from base62 import _base62, _columns, _types, columns
+from base62 import _base62, _types
 from calls import CUSTOM
-from paths import PACKAGE, TOP
+from paths import PACKAGE, TOP, readme
 
 # The calls, and the type that is called too.
 CALLS: list[Any] = [getattr(base62, it) for it in base62.__all__ if it == "Alphabet" or it.islower()]
@@ -31,14 +32,20 @@ CALLS: list[Any] = [getattr(base62, it) for it in base62.__all__ if it == "Alpha
 
 class Package(unittest.TestCase):
     def test_exports(self) -> None:
-        for module in (base62, columns):
-            for name in module.__all__:
-                self.assertTrue(inspect.getdoc(getattr(module, name)), name)
-                self.assertEqual(getattr(module, name).__module__, module.__name__, name)
-        types = ["AnyAlphabet", "AnyUUID", "EncodedString", "Number", "Text"]
+        for name in base62.__all__:
+            self.assertTrue(inspect.getdoc(getattr(base62, name)), name)
+            self.assertEqual(getattr(base62, name).__module__, "base62", name)
+        types = ["AnyAlphabet", "AnyUUID", "EncodedString", "Number"]
         names = {name for name in dir(base62) if name[0] != "_"} - {"columns"}
         self.assertEqual(sorted(names), sorted(base62.__all__ + types))
-        self.assertIs(base62.Text, base62.EncodedString)
+
+    def test_columns_without_pyarrow(self) -> None:
+        """What is missing is named, and how it is installed. The package does not need it."""
+        for other in (None, types.ModuleType("pyarrow")):
+            with unittest.mock.patch.dict(sys.modules, {"pyarrow": other}):
+                self.assertEqual(reimported().encode(1337), "LZ")
+                with self.assertRaisesRegex(ImportError, r"needs pyarrow 18 or later: install base62-proved\[columns\]$"):
+                    reimported("base62.columns")
 
     def test_version(self) -> None:
         self.assertEqual(base62.__version__, (TOP / "VERSION").read_text().strip())
@@ -49,8 +56,7 @@ class Package(unittest.TestCase):
         package = importlib.metadata.distribution("base62-proved")
         files = {file.name: file for file in package.files or () if file.suffix != ".pyc"}
         modules = [file.name for file in files.values() if file.parts[0] == "base62"]
-        wanted = ["__init__.py", "_base62.pyi", "_columns.pyi", "_types.py", "columns.py", "py.typed"]
-        wanted += [pathlib.Path(str(extension.__file__)).name for extension in (_base62, _columns)]
+        wanted = ["__init__.py", "_base62.pyi", "_types.py", "columns.py", "py.typed", pathlib.Path(_base62.__file__).name]
         self.assertEqual(sorted(modules), sorted(wanted))
         self.assertEqual(files["LICENSE"].read_text(), (TOP / "LICENSE").read_text())
         self.assertEqual(files["CHANGELOG.md"].read_text(), (TOP / "CHANGELOG.md").read_text())
@@ -61,7 +67,7 @@ class Package(unittest.TestCase):
 
     def test_signatures(self) -> None:
         """Calls take their parameters by name, in any order."""
-        values: dict[str, object] = {"number": 1337, "text": "LZ", "width": 4, "prefix": "00L", "letters": CUSTOM}
+        values: dict[str, object] = {"number": 1337, "text": "LZ", "width": 4, "prefix": "00L", "characters": CUSTOM}
         values |= {"value": uuid.UUID(int=1337), "alphabet": base62.Alphabet(CUSTOM)}
         for call in CALLS:
             parameters = inspect.signature(call).parameters
@@ -75,6 +81,7 @@ class Package(unittest.TestCase):
         """Editors show what help shows."""
         stub = ast.parse(pathlib.Path(_base62.__file__).with_name("_base62.pyi").read_text())
         documented = [node for node in stub.body if isinstance(node, (ast.FunctionDef, ast.ClassDef))]
+        self.assertEqual(str(inspect.signature(base62.encode)), "(number, alphabet=Alphabet.STANDARD)")
         told = {node.name: ast.get_docstring(node) for node in documented}
         shown = {name: inspect.getdoc(one) for name, one in vars(_base62).items() if callable(one)}
         self.assertEqual(told, shown)
@@ -91,11 +98,10 @@ class Package(unittest.TestCase):
 
     def test_private_library(self) -> None:
         """The library's own calls are not seen by other libraries of the process."""
-        for module in (_base62, _columns):
-            extension = ctypes.CDLL(module.__file__)
-            self.assertTrue(hasattr(extension, "PyInit_" + module.__name__.removeprefix("base62.")))
-            for name in ("base62_encode", "borrow", "open_input"):
-                self.assertFalse(hasattr(extension, name))
+        extension = ctypes.CDLL(_base62.__file__)
+        self.assertTrue(hasattr(extension, "PyInit__base62"))
+        for name in ("base62_encode", "borrow", "encode_rows"):
+            self.assertFalse(hasattr(extension, name))
 
 
 def reimported(name: str = "base62") -> Any:
@@ -142,7 +148,7 @@ class Modules(unittest.TestCase):
         errors = [base62.AlphabetError, base62.EmptyInputError, base62.InvalidByteError]
         errors += [base62.NotCanonicalError, base62.OutOfRangeError, base62.TooLargeError]
         alphabets = [base62.Alphabet, base62.Alphabet.STANDARD, base62.Alphabet.ALTERNATIVE]
-        conversions = [_types.to_int, _types.to_bytes, _types.to_letters]
+        conversions = [_types.to_int, _types.to_bytes, _types.to_characters]
         of_uuids = [_types.uuid_to_int, _types.int_to_uuid, uuid.UUID, uuid.SafeUUID.unknown, "int", "is_safe"]
         for owned in (*errors, *alphabets, *conversions, *of_uuids):
             self.assertTrue(any(one is owned for one in found), owned)
@@ -159,8 +165,7 @@ class Modules(unittest.TestCase):
 
     def test_interpreters(self) -> None:
         """From 3.12 on an isolated one has its own GIL, and accepts only modules that support this."""
-        said = "import base62.columns\nassert base62.decode(base62.encode(2**128 - 1)) == 2**128 - 1\n"
-        said += "assert base62.columns.decode(base62.columns.encode([5])).tolist() == [5]"
+        said = "import base62\nassert base62.decode(base62.encode(2**128 - 1)) == 2**128 - 1"
         maker = interpreters()
         for isolated in (False, True) * 3:
             if maker.__name__ == "_interpreters":
@@ -176,5 +181,5 @@ class Modules(unittest.TestCase):
 def load_tests(loader: unittest.TestLoader, tests: unittest.TestSuite, pattern: object) -> unittest.TestSuite:
     # Those of _types are found where callers find them. An example can be pasted alone: it has its imports.
     tests.addTests(doctest.DocTestSuite(base62, globs={}))
-    tests.addTests(doctest.DocTestSuite(columns, globs={"base62": base62}))
+    tests.addTest(doctest.DocTestCase(readme()))
     return tests

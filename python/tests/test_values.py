@@ -130,7 +130,7 @@ class Values(unittest.TestCase):
             if int(width) > sys.maxsize:
                 continue
             for prefix in forms_of_text(escaped):
-                calls: list[Callable[..., object]] = [lambda of: base62.fixed_range(int(width), of, ALPHABETS[name])]
+                calls: list[Callable[..., object]] = [lambda of: base62.prefix_range(of, int(width), ALPHABETS[name])]
                 if (name, width) == ("standard", "22"):
                     calls += [base62.key_range, numbers_of_bounds]
                 for call in calls:
@@ -157,7 +157,7 @@ class Values(unittest.TestCase):
             lambda letters: base62.encode_fixed(1, 5, letters),
             lambda letters: base62.decode_canonical("9", letters),
             lambda letters: base62.decode_uuid_canonical("9", letters),
-            lambda letters: base62.fixed_range(5, "9", letters),
+            lambda letters: base62.prefix_range("9", 5, letters),
         ]
         for escaped, *expected in rows("repeated"):
             for letters in forms_of_text(escaped):

@@ -28,7 +28,7 @@ def right_texts(text: str | bytes | bytearray | memoryview, width: SupportsIndex
     assert_type(base62.decode_uuid_canonical(text), UUID)
     assert_type(base62.key_range(text), tuple[int, int] | None)
     assert_type(base62.key_bounds(text), tuple[str, str] | None)
-    assert_type(base62.fixed_range(width, text), tuple[int, int] | None)
+    assert_type(base62.prefix_range(text, width), tuple[int, int] | None)
 
 
 def right_alphabets(number: int, name: UUID, text: str, custom: Alphabet | str | bytes) -> None:
@@ -40,7 +40,7 @@ def right_alphabets(number: int, name: UUID, text: str, custom: Alphabet | str |
     assert_type(base62.decode_canonical(text, custom), int)
     assert_type(base62.decode_uuid(text, custom), UUID)
     assert_type(base62.decode_uuid_canonical(text, custom), UUID)
-    assert_type(base62.fixed_range(number, text, custom), tuple[int, int] | None)
+    assert_type(base62.prefix_range(text, number, custom), tuple[int, int] | None)
 
 
 def attributes(invalid: InvalidByteError, repeated: AlphabetError) -> None:
@@ -67,10 +67,10 @@ def wrong(number: int, name: UUID, text: str, custom: Alphabet, view: memoryview
     base62.encode_key(text)  # type: ignore[arg-type]
     base62.key_range(number)  # type: ignore[arg-type]
     base62.key_range(text)[0]  # type: ignore[index]
-    base62.fixed_range(text, text)  # type: ignore[arg-type]
-    base62.fixed_range(number, number)  # type: ignore[arg-type]
-    base62.fixed_range(number, text, None)  # type: ignore[arg-type]
-    base62.fixed_range(number, text)[0]  # type: ignore[index]
+    base62.prefix_range(text, text)  # type: ignore[arg-type]
+    base62.prefix_range(number, number)  # type: ignore[arg-type]
+    base62.prefix_range(text, number, None)  # type: ignore[arg-type]
+    base62.prefix_range(text, number)[0]  # type: ignore[index]
     base62.key_bounds(number)  # type: ignore[arg-type]
     base62.key_bounds(text)[0]  # type: ignore[index]
     base62.encode_uuid(number)  # type: ignore[arg-type]
@@ -83,7 +83,7 @@ def wrong(number: int, name: UUID, text: str, custom: Alphabet, view: memoryview
     base62.decode_uuid_canonical(name)  # type: ignore[arg-type]
     base62.decode_uuid_canonical(text, number)  # type: ignore[arg-type]
     Alphabet(number)  # type: ignore[arg-type]
-    custom.letters  # type: ignore[attr-defined]
+    custom.characters  # type: ignore[attr-defined]
     custom.name = text  # type: ignore[attr-defined]
 
 

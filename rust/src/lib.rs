@@ -30,14 +30,14 @@
 //! ```
 //! use base62::Alphabet;
 //!
-//! const OWN: Alphabet = Alphabet::of(*b"ABCDEFGHIJKLMNOPQRSTUVWXYZabcdefghijklmnopqrstuvwxyz0123456789");
+//! const OWN: Alphabet = Alphabet::from_static(*b"ABCDEFGHIJKLMNOPQRSTUVWXYZabcdefghijklmnopqrstuvwxyz0123456789");
 //! assert_eq!(base62::decode_with(&OWN, "BA"), Ok(62));
 //! ```
 //!
 //! A repeated character is then a compile error:
 //!
 //! ```compile_fail,E0080
-//! const REPEATED: base62::Alphabet = base62::Alphabet::of([b'A'; 62]);
+//! const REPEATED: base62::Alphabet = base62::Alphabet::from_static([b'A'; 62]);
 //! ```
 //!
 //! | to get | function |
@@ -50,7 +50,7 @@
 //! | a UUID | [`decode_uuid`], or [`decode_uuid_canonical`] in the same way |
 //! | a string of a fixed width | [`encode_fixed`], [`encode_fixed_str`] |
 //! | the same with 22 characters, enough for each number | [`encode_key`], [`encode_key_str`] |
-//! | the numbers whose strings of a fixed width share a prefix | [`fixed_range`], [`key_range`] |
+//! | the numbers whose strings of a fixed width share a prefix | [`prefix_range`], [`key_range`] |
 //!
 //! Names with `alternative` or `alt` use the alternative alphabet. For a key in another alphabet, call
 //! [`encode_fixed_with`] with 22 bytes, which never fails.
@@ -62,7 +62,7 @@
 //! code checks each index, and that strings are UTF-8.
 //!
 //! Only the functions of `alloc` allocate. If an allocation fails, they abort the program, as a `String` does.
-//! [`Alphabet::of`] panics if a character is repeated. `encode_with`, `encode_uuid_with`, `encode_buf_with`,
+//! [`Alphabet::from_static`] panics if a character is repeated. `encode_with`, `encode_uuid_with`, `encode_buf_with`,
 //! [`encode_fixed_str_with`] and [`encode_fmt_with`] panic if the alphabet contains a non-ASCII byte. Functions are not
 //! constant-time.
 
@@ -107,10 +107,10 @@ pub use codec::{
     encode_bytes_with,
 };
 pub use count::{MAX_DIGITS, digit_count};
-pub use fault::{AlphabetError, DecodeError, EncodeError};
+pub use fault::{AlphabetError, CanonicalError, DecodeError, EncodeError};
 pub use fixed::{
     encode_alternative_fixed, encode_fixed, encode_fixed_str, encode_fixed_str_with,
-    encode_fixed_with, fixed_range, fixed_range_with,
+    encode_fixed_with, prefix_range, prefix_range_with,
 };
 pub use key::{encode_key, encode_key_str, key_range};
 pub use show::{encode_fmt, encode_fmt_alt, encode_fmt_with};

@@ -73,7 +73,8 @@ fn inputs() {
 fn decimal_numbers() {
     let powers = (0..39).map(|count| 10_u128.pow(count));
     let numbers = powers.flat_map(|power| [power - 1, power, power + 1]);
-    let numbers: String = numbers.map(|number| format!("{number}\n")).collect();
+    let lines: Vec<_> = numbers.map(|number| format!("{number}\n")).collect();
+    let numbers = lines.concat();
     for zeros in ["", "0", "000000000000000000000"] {
         let with_zeros = format!("printf '{numbers}' | sed 's/^/{zeros}/'");
         prints(
@@ -161,33 +162,6 @@ fn inputs_in_messages() {
     }
 }
 
-/// Without arguments.
-#[test]
-fn replies() {
-    let warning = "base62: no subcommand is given, so it replies to lines, which ends with version 4.0: \
-                   call base62_cli, or try base62 --help\n";
-    ends("base62 </dev/null", 0, "", warning);
-    ends("printf 'enc 1337\ndec z' | base62", 0, "LZ\n61\n", warning);
-    ends("printf 'enc 1337\ndec z' | base62 2>&-", 0, "LZ\n61\n", "");
-    for lines in [
-        "enc x",
-        "enc 61\ndec !",
-        "alt -5\nenc 5",
-        "enc 5\nadc \ndec z",
-        "1337",
-    ] {
-        let line = format!("printf '{lines}' | base62 | grep -c ^fault:; exit ${{PIPESTATUS[1]}}");
-        ends(&line, 1, "1\n", warning);
-    }
-    // The error is in an earlier read.
-    let line = "{ echo dec; sleep .2; echo enc 5; } | base62";
-    ends(line, 1, "fault: unknown command\n5\n", warning);
-    let fails = |error| format!("{warning}base62: {error}\n");
-    ends("base62 </", 1, "", &fails("read failed"));
-    let line = "base62 >/dev/full <<<'enc 5'";
-    ends(line, 1, "", &fails("write failed"));
-}
-
 #[test]
 fn options() {
     for option in ["-w11", "-w 11", "--width=11", "--width 11", "-w9 -w11"] {
@@ -195,21 +169,21 @@ fn options() {
         prints(&format!("base62 encode 5 {option}"), "00000000005\n");
         prints(&format!("base62 {option} encode 5"), "00000000005\n");
     }
-    for option in ["--alternative", "-l $letters -a"] {
+    for option in ["--alternative", "-A $letters -a"] {
         prints(&format!("base62 encode {option} 1337"), "lz\n");
     }
-    for option in ["-l$letters", "-a -l $letters", "--letters=$letters"] {
+    for option in ["-A$letters", "-a -A $letters", "--alphabet=$letters"] {
         prints(&format!("base62 encode {option} 1337"), "LZ\n");
     }
-    prints("base62 encode --letters $letters 1337", "LZ\n");
+    prints("base62 encode --alphabet $letters 1337", "LZ\n");
     let uuid = "00000000-0000-0000-0000-000000000539";
-    prints("base62 decode -sa --uuid lz", &format!("{uuid}\n"));
+    prints("base62 decode -ca --uuid lz", &format!("{uuid}\n"));
     prints(&format!("base62 encode -uaw5 {uuid}"), "000lz\n");
-    prints("base62 encode --letters==${letters:1} 0", "=\n");
-    prints("base62 encode -l \" ${letters:1}\" -w2 5", " 5\n");
+    prints("base62 encode --alphabet==${letters:1} 0", "=\n");
+    prints("base62 encode -A \" ${letters:1}\" -w2 5", " 5\n");
     // Letters and texts may begin as options do.
-    prints("base62 encode -l \"-${letters:1}\" -w3 -- 5", "--5\n");
-    let line = "base62 decode -l \"-${letters:1}\" -- --5 -- -";
+    prints("base62 encode -A \"-${letters:1}\" -w3 -- 5", "--5\n");
+    let line = "base62 decode -A \"-${letters:1}\" -- --5 -- -";
     prints(line, "5\n0\n0\n");
 }
 
@@ -258,30 +232,31 @@ fn wrong_arguments() {
         - -> there is no subcommand -
         -- --help -> there is no subcommand --help
         $'\xff' -> there is no subcommand \xff
+         -> no subcommand is given
         -a -> no subcommand is given
         -- -> no subcommand is given
-        encode -s 5 -> encode has no option --strict
+        encode -c 5 -> encode has no option --canonical
         decode -w 5 -> decode has no option --width
-        range -s 5 -> range has no option --strict
+        range -c 5 -> range has no option --canonical
         range -aux 5 -> range has no option --uuid
         range -x 5 -> range has no option --hex
         range -e 5 -> range has no option --keep-empty
         encode -w -> -w needs a value
-        encode --letters -> --letters needs a value
+        encode --alphabet -> --alphabet needs a value
         encode -w '' 5 -> a width is an integer of 1 or more, not ''
         encode -w $'\xff' -> a width is an integer of 1 or more, not \xff
-        encode -l '' -> the alphabet has 0 characters, not 62
-        encode -l 5 -> the alphabet has 1 character, not 62
-        encode -l ${letters:1} -> the alphabet has 61 characters, not 62
-        encode -l ${letters}! -> the alphabet has 63 characters, not 62
-        range -l 1${letters:1} 5 -> Alphabet repeats the byte b'1' at index 1
-        encode -l ${letters:1}$'\xe9' -> an alphabet has 62 printable ASCII characters
-        encode -l ${letters:1}$'\x1f' -> an alphabet has 62 printable ASCII characters
-        encode -l ${letters:1}$'\x7f' -> an alphabet has 62 printable ASCII characters";
+        encode -A '' -> the alphabet has 0 characters, not 62
+        encode -A 5 -> the alphabet has 1 character, not 62
+        encode -A ${letters:1} -> the alphabet has 61 characters, not 62
+        encode -A ${letters}! -> the alphabet has 63 characters, not 62
+        range -A 1${letters:1} 5 -> Alphabet repeats the byte b'1' at index 1
+        encode -A ${letters:1}$'\xe9' -> the alphabet has a character that is not printable ASCII
+        encode -A ${letters:1}$'\x1f' -> the alphabet has a character that is not printable ASCII
+        encode -A ${letters:1}$'\x7f' -> the alphabet has a character that is not printable ASCII";
     for (arguments, error) in sides(table) {
         is_wrong(arguments, error);
     }
-    for option in ["help", "version", "hex", "strict", "uuid", "keep-empty"] {
+    for option in ["help", "version", "hex", "canonical", "uuid", "keep-empty"] {
         let error = format!("--{option} takes no value");
         is_wrong(&format!("--{option}=5"), &error);
         is_wrong(&format!("encode --{option}= 5"), &error);
@@ -376,7 +351,7 @@ fn bounded_memory() {
     let error = |line| format!("base62: line {line}: {}..: {error}\n", "0".repeat(100));
     let errors = [1, 2, 3].map(error).concat();
     ends(
-        &format!("{lines} | (ulimit -v 40000; base62 decode)"),
+        &format!("{lines} | (ulimit -v 41000; base62 decode)"),
         1,
         "\n\n\n",
         &errors,

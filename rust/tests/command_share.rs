@@ -36,9 +36,9 @@ fn are_completed(completed: impl Fn(&str) -> String) {
     let table = "
         -> --help --version -V -h decode encode help range
         help -> --help --version -V -h decode encode help range
-        encode -> --alternative --hex --keep-empty --letters --uuid --width -a -e -l -u -w -x
-        decode -> --alternative --hex --keep-empty --letters --strict --uuid -a -e -l -s -u -x
-        range -> --alternative --letters --width -a -l -w";
+        encode -> --alphabet --alternative --hex --keep-empty --uuid --width -A -a -e -u -w -x
+        decode -> --alphabet --alternative --canonical --hex --keep-empty --uuid -A -a -c -e -u -x
+        range -> --alphabet --alternative --width -A -a -w";
     for (arguments, words) in sides(table) {
         let output = completed(arguments);
         let mut found: Vec<_> = output.lines().collect();
@@ -57,9 +57,9 @@ fn words_in_bash() {
         output_of(&line)
     };
     are_completed(|arguments| completed(&format!("{arguments} ''")));
-    assert_eq!(completed("-a decode -x --s"), "--strict\n");
+    assert_eq!(completed("-a decode -x --c"), "--canonical\n");
     // In the place of a value there is no word.
-    for words in ["encode -w ''", "encode --width ''", "range -l ''"] {
+    for words in ["encode -w ''", "encode --width ''", "range -A ''"] {
         assert_eq!(completed(words), "\n");
     }
     // Behind a redirection, bash completes the names of files.
@@ -120,9 +120,9 @@ fn words_in_zsh() {
     let completed = |lines: &str| output_of(&format!("lines='{lines}'; {ZSH_AT_TERMINAL}"));
     // Without a hyphen it completes subcommands, if there is none.
     are_completed(|arguments| completed(&format!("base62 {arguments} \nbase62 {arguments} -")));
-    assert_eq!(completed("base62 decode --s"), "--strict\n");
+    assert_eq!(completed("base62 decode --c"), "--canonical\n");
     // In the place of a value there is no word, and no option twice.
     let line =
-        "base62 encode --width \nbase62 -a decode -s --s\nbase62 range -w5 --w\nbase62 range --w";
+        "base62 encode --width \nbase62 -a decode -c --c\nbase62 range -w5 --w\nbase62 range --w";
     assert_eq!(completed(line), "--width\n");
 }

@@ -7,6 +7,7 @@
 mod support;
 
 use base62::AlphabetError;
+use base62::DecodeError;
 use std::collections::BTreeSet;
 use std::io::Write;
 use std::process::{Command, Output, Stdio};
@@ -59,7 +60,15 @@ fn check(arguments: &str, lines: impl IntoIterator<Item = Line>) {
     assert_eq!(ended.status.code(), Some(i32::from(!errors.is_empty())));
 }
 
-/// The shared message of an error that Rust has no type of.
+/// The message of an error of decoding. That of an overflow is not the one of the library, which names a type of Rust.
+fn decode_message(fields: &[&str]) -> String {
+    match decode_error(fields).unwrap() {
+        DecodeError::ArithmeticOverflow => message("overflow"),
+        error => error.to_string(),
+    }
+}
+
+/// The shared message of an error.
 fn message(error: &str) -> String {
     let row = rows("message").into_iter().find(|row| row[1..] == [error]);
     String::from_utf8(bytes(row.unwrap()[0])).unwrap()
@@ -80,7 +89,7 @@ fn each(kind: &str, test: impl Fn(&str, &[Row])) {
         };
         let mut found = rows(kind);
         found.retain(|row| row[0] == alphabet[0]);
-        test(&format!("-l {letters}"), &found);
+        test(&format!("-A {letters}"), &found);
         match alphabet[0] {
             "standard" => test("", &found),
             "alternative" => test("-a", &found),
@@ -116,17 +125,17 @@ fn values_of_texts() {
     each("encode", |options, rows| {
         check(&format!("encode {options}"), pairs(rows, 1, 2));
         check(&format!("decode {options}"), pairs(rows, 2, 1));
-        check(&format!("decode --strict {options}"), pairs(rows, 2, 1));
+        check(&format!("decode --canonical {options}"), pairs(rows, 2, 1));
     });
     each("zeros", |options, rows| {
         check(&format!("decode {options}"), pairs(rows, 1, 2));
         let lines = errors(rows, |_| message("zero"));
-        check(&format!("decode -s {options}"), lines);
+        check(&format!("decode -c {options}"), lines);
     });
     each("refused", |options, rows| {
-        let lines = errors(rows, |row| decode_error(&row[2..]).unwrap().to_string());
+        let lines = errors(rows, |row| decode_message(&row[2..]));
         check(&format!("decode -u {options}"), lines.clone());
-        check(&format!("decode -s {options}"), lines);
+        check(&format!("decode -c {options}"), lines);
     });
 }
 
@@ -152,20 +161,21 @@ fn values_of_widths() {
 fn values_of_ranges() {
     each("range", |options, rows| {
         each_width(rows, 1, |width, rows| {
+            // It is the width without an option.
+            let (width, none) = if width == "22" {
+                let none = "no string of 22 characters begins with it; -w sets the width";
+                (String::new(), none.into())
+            } else {
+                (format!("-w {width}"), message("none"))
+            };
             let lines = rows.iter().map(|row| {
                 let range = match row[3..] {
                     ["numbers", least, greatest] => Ok(format!("{least} {greatest}").into()),
-                    ["none"] => Err(message("none")),
-                    _ => Err(decode_error(&row[3..]).unwrap().to_string()),
+                    ["none"] => Err(none.clone()),
+                    _ => Err(decode_message(&row[3..])),
                 };
                 (bytes(row[2]), range)
             });
-            // It is the width without an option.
-            let width = if width == "22" {
-                String::new()
-            } else {
-                format!("-w {width}")
-            };
             check(&format!("range {options} {width}"), lines);
         });
     });
@@ -213,7 +223,7 @@ fn values_of_repeated_letters() {
         if let Some(letters) = argument(row[0]) {
             let error = AlphabetError::Repeated(row[1].parse().unwrap(), row[2].parse().unwrap());
             let error = format!("base62: {error}: try base62 --help\n");
-            let ended = run(&format!("encode -l {letters}"), Vec::new());
+            let ended = run(&format!("encode -A {letters}"), Vec::new());
             assert_eq!(String::from_utf8(ended.stderr).unwrap(), error);
             assert_eq!(ended.status.code(), Some(2));
         }

@@ -34,13 +34,13 @@ fn the_caller_is_told() {
         let mut letters = support::high_letters();
         letters[place] = letters[place - 1];
         let said = "the alphabet repeats a character";
-        panics_here(said, || Alphabet::of(letters));
+        panics_here(said, || Alphabet::from_static(letters));
     }
     let said = "the alphabet has a non-ASCII character";
     for (place, byte) in (0..62).flat_map(|place| [128, 194, 255].map(|byte| (place, byte))) {
         let mut letters = *support::STANDARD;
         letters[place] = byte;
-        let own = Alphabet::of(letters);
+        let own = Alphabet::from_static(letters);
         panics_here(said, || base62::encode_with(&own, 7_u8));
         panics_here(said, || base62::encode_uuid_with(&own, [7; 16]));
         panics_here(said, || base62::encode_fmt_with(&own, 7_u8));

@@ -57,12 +57,12 @@ fn types() {
 fn constants() {
     const DIGITS: [usize; 2] = [base62::digit_count(61), base62::digit_count(u128::MAX)];
     const REPEATED: Result<Alphabet, AlphabetError> = Alphabet::new([7; 62]);
-    const OWN: Alphabet = Alphabet::of(*Alphabet::alternative().letters());
+    const OWN: Alphabet = Alphabet::from_static(*Alphabet::alternative().characters());
     const IS_ASCENDING: [bool; 2] = [OWN.is_ascending(), Alphabet::standard().is_ascending()];
     const IS_ASCII: bool = OWN.is_ascii();
     assert_eq!(DIGITS, [1, base62::MAX_DIGITS]);
     assert_eq!(REPEATED, Err(AlphabetError::Repeated(7, 1)));
-    assert_eq!(OWN.letters(), support::ALTERNATIVE);
+    assert_eq!(OWN.characters(), support::ALTERNATIVE);
     assert_eq!((IS_ASCENDING, IS_ASCII), ([false, true], true));
 }
 

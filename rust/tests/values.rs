@@ -5,7 +5,9 @@
 
 mod support;
 
-use base62::{Alphabet, AlphabetError, DecodeError, EncodeError, ParseAlphabetError};
+use base62::{
+    Alphabet, AlphabetError, CanonicalError, DecodeError, EncodeError, ParseAlphabetError,
+};
 use base62::{encode_fixed_str, encode_fixed_str_with, encode_key, encode_key_str};
 use std::fmt::Display;
 use std::hash::{DefaultHasher, Hash, Hasher};
@@ -22,9 +24,9 @@ struct Calls {
     encode_fixed: fn(&Alphabet, u128, &mut [u8]) -> Result<(), EncodeError>,
     encode_fmt: fn(&Alphabet, u128) -> Box<dyn Display>,
     decode: fn(&Alphabet, &[u8]) -> Decoded<u128>,
-    decode_canonical: fn(&Alphabet, &[u8]) -> Decoded<Option<u128>>,
+    decode_canonical: fn(&Alphabet, &[u8]) -> Result<u128, CanonicalError>,
     decode_uuid: fn(&Alphabet, &[u8]) -> Decoded<Uuid>,
-    decode_uuid_canonical: fn(&Alphabet, &[u8]) -> Decoded<Option<Uuid>>,
+    decode_uuid_canonical: fn(&Alphabet, &[u8]) -> Result<Uuid, CanonicalError>,
     #[cfg(feature = "alloc")]
     encode: fn(&Alphabet, u128) -> String,
     #[cfg(feature = "alloc")]
@@ -88,16 +90,16 @@ fn decoding() {
         each(kind, |calls, alphabet, row| {
             let error = || decode_error(&row[1..]).unwrap();
             let (text, num, canonical) = match kind {
-                "encode" => (row[1], Ok(number(row[0])), Ok(Some(number(row[0])))),
-                "zeros" => (row[0], Ok(number(row[1])), Ok(None)),
-                _ => (row[0], Err(error()), Err(error())),
+                "encode" => (row[1], Ok(number(row[0])), Ok(number(row[0]))),
+                "zeros" => (row[0], Ok(number(row[1])), Err(CanonicalError::LeadingZero)),
+                _ => (row[0], Err(error()), Err(error().into())),
             };
             let text = bytes(text);
             assert_eq!((calls.decode)(alphabet, &text), num);
             assert_eq!((calls.decode_canonical)(alphabet, &text), canonical);
             let uuid = num.map(u128::to_be_bytes);
             assert_eq!((calls.decode_uuid)(alphabet, &text), uuid);
-            let uuid = canonical.map(|num| num.map(u128::to_be_bytes));
+            let uuid = canonical.map(u128::to_be_bytes);
             assert_eq!((calls.decode_uuid_canonical)(alphabet, &text), uuid);
         });
     }
@@ -244,9 +246,12 @@ fn ranges() {
             ["none"] => Ok(None),
             _ => Err(decode_error(&row[3..]).unwrap()),
         };
-        assert_eq!(base62::fixed_range_with(alphabet, width, &prefix), expected);
+        assert_eq!(
+            base62::prefix_range_with(alphabet, &prefix, width),
+            expected
+        );
         if row[0] == "standard" {
-            assert_eq!(base62::fixed_range(width, &prefix), expected);
+            assert_eq!(base62::prefix_range(&prefix, width), expected);
             if width == 22 {
                 assert_eq!(base62::key_range(&prefix), expected);
             }
@@ -256,11 +261,21 @@ fn ranges() {
 
 #[test]
 fn messages() {
+    let overflow = DecodeError::ArithmeticOverflow;
+    assert_eq!(
+        overflow.to_string(),
+        "Decoded number cannot fit into a `u128`"
+    );
+    assert_eq!(
+        CanonicalError::Decode(overflow).to_string(),
+        overflow.to_string()
+    );
     for row in rows("message") {
         let text = String::from_utf8(bytes(row[0])).unwrap();
         match row[1..] {
-            // These two are no errors here.
-            ["zero" | "none"] => (),
+            // There is no such error, or its text is that of the crate `base62`.
+            ["none" | "overflow"] => (),
+            ["zero"] => assert_eq!(CanonicalError::LeadingZero.to_string(), text),
             ["narrow"] => assert_eq!(EncodeError::BufferTooSmall.to_string(), text),
             ["repeated", byte, index] => {
                 let fault = AlphabetError::Repeated(byte.parse().unwrap(), index.parse().unwrap());
@@ -269,6 +284,7 @@ fn messages() {
             _ => {
                 if let Some(fault) = decode_error(&row[1..]) {
                     assert_eq!(fault.to_string(), text);
+                    assert_eq!(CanonicalError::Decode(fault).to_string(), text);
                 }
             }
         }
@@ -286,7 +302,7 @@ fn letters() {
     for row in rows("alphabet") {
         let letters: [u8; 62] = bytes(row[1]).try_into().unwrap();
         let alphabet = Alphabet::new(letters).unwrap();
-        assert_eq!(alphabet.letters(), &letters);
+        assert_eq!(alphabet.characters(), &letters);
         assert_eq!(alphabet.as_ref(), &letters);
         assert_eq!(Alphabet::try_from(letters), Ok(alphabet));
         assert_eq!(Alphabet::try_from(&letters[..]), Ok(alphabet));

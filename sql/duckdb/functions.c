@@ -18,7 +18,7 @@ struct column {
 };
 
 /* What tells functions apart that share code. Its address is the extra information of a function. */
-static char canonical_tag, last_tag;
+static char canonical_tag, last_tag, try_tag;
 
 /* One call of a function, for up to some thousand rows. */
 struct chunk {
@@ -30,7 +30,7 @@ struct chunk {
     duckdb_vector output;
     /* The alphabet of an earlier row, since most queries have the same one in all rows. */
     bool has_alphabet;
-    char letters[BASE62_ALPHABET_LENGTH];
+    char characters[BASE62_ALPHABET_LENGTH];
     base62_alphabet alphabet;
 };
 
@@ -81,8 +81,8 @@ static bool skip_nulls(struct chunk *chunk) {
 
 /* Ends the query. Returns false. */
 static bool set_error(const struct chunk *chunk, const call_error *error) {
-    char message[sizeof "base62: " + sizeof error->message] = "base62: ";
-    memcpy(message + strlen(message), error->message, error->length);
+    char message[sizeof "base62: " + sizeof error->message];
+    snprintf(message, sizeof message, "base62: %s", error->message);
     duckdb_scalar_function_set_error(chunk->info, message);
     return false;
 }
@@ -91,6 +91,17 @@ static bool set_error(const struct chunk *chunk, const call_error *error) {
 
 /* DuckDB stores a UUID as a signed integer that sorts as the UUID does. */
 #define UUID_SIGN (UINT64_C(1) << 63)
+
+/* Returns false. */
+static bool set_negative(const struct chunk *chunk, duckdb_hugeint number) {
+    duckdb_value value = duckdb_create_hugeint(number);
+    char *digits = duckdb_get_varchar(value);
+    call_error error;
+    fail_with(&error, OUT_OF_RANGE, "the number is negative: %s", digits == NULL ? "" : digits);
+    duckdb_free(digits);
+    duckdb_destroy_value(&value);
+    return set_error(chunk, &error);
+}
 
 static bool number_at(const struct chunk *chunk, base62_number *number) {
     const struct column *column = &chunk->arguments[0];
@@ -104,8 +115,8 @@ static bool number_at(const struct chunk *chunk, base62_number *number) {
         return number_of_int64((int64_t)*words, number, &error) || set_error(chunk, &error);
     words += chunk->row;
     /* The upper half has the sign. */
-    if (column->type == DUCKDB_TYPE_HUGEINT && !number_of_int64((int64_t)words[1], number, &error))
-        return set_error(chunk, &error);
+    if (column->type == DUCKDB_TYPE_HUGEINT && (int64_t)words[1] < 0)
+        return set_negative(chunk, (duckdb_hugeint){words[0], (int64_t)words[1]});
     *number = (base62_number){words[1], words[0]};
     if (column->type == DUCKDB_TYPE_UUID)
         number->high ^= UUID_SIGN;
@@ -133,19 +144,20 @@ static bool width_at(const struct chunk *chunk, size_t *width) {
 /* Points *alphabet to the alphabet of an argument, or to NULL if there is no such argument. */
 static bool alphabet_at(struct chunk *chunk, idx_t argument, const base62_alphabet **alphabet) {
     size_t length;
-    const char *letters;
+    const char *characters;
     call_error error;
     *alphabet = NULL;
     if (argument >= chunk->argument_count)
         return true;
     *alphabet = &chunk->alphabet;
-    letters = text_at(chunk, argument, &length);
-    if (chunk->has_alphabet && length == sizeof chunk->letters && memcmp(letters, chunk->letters, length) == 0)
+    characters = text_at(chunk, argument, &length);
+    if (chunk->has_alphabet && length == sizeof chunk->characters &&
+        memcmp(characters, chunk->characters, length) == 0)
         return true;
-    chunk->has_alphabet = create_alphabet(letters, length, &chunk->alphabet, &error);
+    chunk->has_alphabet = create_alphabet(characters, length, &chunk->alphabet, &error);
     if (!chunk->has_alphabet)
         return set_error(chunk, &error);
-    memcpy(chunk->letters, letters, length);
+    memcpy(chunk->characters, characters, length);
     return true;
 }
 
@@ -202,63 +214,74 @@ static inline bool decode(struct chunk *chunk) {
     size_t length;
     const base62_alphabet *alphabet;
     const char *text = text_at(chunk, 0, &length);
+    bool canonical = chunk->tag == &canonical_tag, decoded;
     base62_number number;
-    call_error error;
+    call_error stored, *error = chunk->tag == &try_tag ? NULL : &stored;
     if (!alphabet_at(chunk, 1, &alphabet))
         return false;
-    if (!decode_text(alphabet, text, length, chunk->tag == &canonical_tag, &number, &error))
-        return set_error(chunk, &error);
-    set_number(chunk, number);
+    if (chunk->results.type == DUCKDB_TYPE_BIGINT)
+        decoded = decode_int64(alphabet, text, length, canonical, "base62_decode_uhugeint",
+                               (int64_t *)chunk->results.data + chunk->row, error);
+    else {
+        decoded = decode_text(alphabet, text, length, canonical, &number, error);
+        if (decoded)
+            set_number(chunk, number);
+    }
+    if (!decoded && error != NULL)
+        return set_error(chunk, error);
+    if (!decoded)
+        set_null(chunk);
     return true;
 }
 
-static inline bool is_text(struct chunk *chunk) {
+static inline bool is_valid(struct chunk *chunk) {
     size_t length;
     const base62_alphabet *alphabet;
     const char *text = text_at(chunk, 0, &length);
     base62_number number;
-    call_error error;
     if (!alphabet_at(chunk, 1, &alphabet))
         return false;
     ((bool *)chunk->results.data)[chunk->row] =
-        decode_text(alphabet, text, length, chunk->tag == &canonical_tag, &number, &error);
+        decode_text(alphabet, text, length, chunk->tag == &canonical_tag, &number, NULL);
     return true;
 }
 
-/* Finds the first or the last number whose string of the width begins with the prefix. If there is none, the row becomes
- * null. */
-static bool bound_at(struct chunk *chunk, size_t *width, bool *empty, base62_number *bound) {
+/* Finds the numbers whose strings of the width begin with the prefix. If there are none, the row becomes null. */
+static bool range_at(struct chunk *chunk, size_t *width, bool *empty, base62_range *range) {
     size_t length;
     const char *prefix = text_at(chunk, 0, &length);
     const base62_alphabet *alphabet;
-    base62_range range;
     call_error error;
     if (!width_at(chunk, width) || !alphabet_at(chunk, 2, &alphabet))
         return false;
-    if (!range_of_prefix(alphabet, prefix, length, *width, &range, empty, &error))
+    if (!range_of_prefix(alphabet, prefix, length, *width, range, empty, &error))
         return set_error(chunk, &error);
     if (*empty)
         set_null(chunk);
-    else
-        *bound = chunk->tag == &last_tag ? range.greatest : range.least;
     return true;
 }
 
-static inline bool key_bound(struct chunk *chunk) {
+static inline bool prefix_bound(struct chunk *chunk) {
     size_t width;
     bool empty;
-    base62_number bound;
-    return bound_at(chunk, &width, &empty, &bound) && (empty || set_fixed(chunk, NULL, bound, width));
+    base62_range range;
+    if (!range_at(chunk, &width, &empty, &range))
+        return false;
+    return empty || set_fixed(chunk, NULL, chunk->tag == &last_tag ? range.greatest : range.least, width);
 }
 
 static inline bool range_bound(struct chunk *chunk) {
     size_t width;
-    bool empty;
-    base62_number bound;
-    if (!bound_at(chunk, &width, &empty, &bound))
+    bool empty, last = chunk->tag == &last_tag;
+    base62_range range;
+    if (!range_at(chunk, &width, &empty, &range))
         return false;
-    if (!empty)
-        set_number(chunk, bound);
+    if (empty)
+        return true;
+    if (chunk->results.type != DUCKDB_TYPE_BIGINT)
+        set_number(chunk, last ? range.greatest : range.least);
+    else if (!int64_bound(range, last, (int64_t *)chunk->results.data + chunk->row))
+        set_null(chunk);
     return true;
 }
 
@@ -279,22 +302,24 @@ static inline bool version(struct chunk *chunk) {
 OVER_ROWS(encode)
 OVER_ROWS(encode_fixed)
 OVER_ROWS(decode)
-OVER_ROWS(is_text)
-OVER_ROWS(key_bound)
+OVER_ROWS(is_valid)
+OVER_ROWS(prefix_bound)
 OVER_ROWS(range_bound)
 OVER_ROWS(version)
 
 /* The extension */
 
-#define NUMBER DUCKDB_TYPE_UHUGEINT
+#define BIGINT DUCKDB_TYPE_BIGINT
+#define UHUGEINT DUCKDB_TYPE_UHUGEINT
 #define UUID DUCKDB_TYPE_UUID
 #define TEXT DUCKDB_TYPE_VARCHAR
-#define WIDTH DUCKDB_TYPE_BIGINT
+#define BOOLEAN DUCKDB_TYPE_BOOLEAN
 
 /* The types of a first parameter. DuckDB converts smaller integers to these. */
-static const duckdb_type number_types[] = {DUCKDB_TYPE_BIGINT, DUCKDB_TYPE_UBIGINT, DUCKDB_TYPE_HUGEINT, NUMBER, UUID, 0};
-static const duckdb_type no_types[] = {TEXT, 0};
-static const duckdb_type text_types[] = {TEXT, DUCKDB_TYPE_BLOB, 0};
+static const duckdb_type numbers[] = {BIGINT, DUCKDB_TYPE_UBIGINT, DUCKDB_TYPE_HUGEINT, UHUGEINT, 0};
+static const duckdb_type uuids[] = {UUID, 0};
+static const duckdb_type texts[] = {TEXT, DUCKDB_TYPE_BLOB, 0};
+static const duckdb_type nothing[] = {TEXT, 0};
 
 static const struct function {
     const char *name;
@@ -305,20 +330,29 @@ static const struct function {
     void *tag;
     duckdb_scalar_function_t call;
 } functions[] = {
-    {"base62_encode", 1, 2, number_types, {TEXT}, TEXT, NULL, encode_rows},
-    {"base62_decode", 1, 2, text_types, {TEXT}, NUMBER, NULL, decode_rows},
-    {"base62_decode_uuid", 1, 2, text_types, {TEXT}, UUID, NULL, decode_rows},
-    {"base62_decode_canonical", 1, 2, text_types, {TEXT}, NUMBER, &canonical_tag, decode_rows},
-    {"base62_decode_uuid_canonical", 1, 2, text_types, {TEXT}, UUID, &canonical_tag, decode_rows},
-    {"base62_is_text", 1, 2, text_types, {TEXT}, DUCKDB_TYPE_BOOLEAN, NULL, is_text_rows},
-    {"base62_is_canonical", 1, 2, text_types, {TEXT}, DUCKDB_TYPE_BOOLEAN, &canonical_tag, is_text_rows},
-    {"base62_encode_key", 1, 1, number_types, {0}, TEXT, NULL, encode_fixed_rows},
-    {"base62_encode_fixed", 2, 3, number_types, {WIDTH, TEXT}, TEXT, NULL, encode_fixed_rows},
-    {"base62_key_first", 1, 2, text_types, {WIDTH}, TEXT, NULL, key_bound_rows},
-    {"base62_key_last", 1, 2, text_types, {WIDTH}, TEXT, &last_tag, key_bound_rows},
-    {"base62_range_first", 2, 3, text_types, {WIDTH, TEXT}, NUMBER, NULL, range_bound_rows},
-    {"base62_range_last", 2, 3, text_types, {WIDTH, TEXT}, NUMBER, &last_tag, range_bound_rows},
-    {"base62_version", 0, 0, no_types, {0}, TEXT, NULL, version_rows},
+    {"base62_encode", 1, 2, numbers, {TEXT}, TEXT, NULL, encode_rows},
+    {"base62_encode_uuid", 1, 2, uuids, {TEXT}, TEXT, NULL, encode_rows},
+    {"base62_encode_key", 1, 1, numbers, {0}, TEXT, NULL, encode_fixed_rows},
+    {"base62_encode_key_uuid", 1, 1, uuids, {0}, TEXT, NULL, encode_fixed_rows},
+    {"base62_encode_fixed", 2, 3, numbers, {BIGINT, TEXT}, TEXT, NULL, encode_fixed_rows},
+    {"base62_encode_fixed_uuid", 2, 3, uuids, {BIGINT, TEXT}, TEXT, NULL, encode_fixed_rows},
+    {"base62_decode", 1, 2, texts, {TEXT}, BIGINT, NULL, decode_rows},
+    {"base62_decode_uhugeint", 1, 2, texts, {TEXT}, UHUGEINT, NULL, decode_rows},
+    {"base62_decode_uuid", 1, 2, texts, {TEXT}, UUID, NULL, decode_rows},
+    {"base62_decode_canonical", 1, 2, texts, {TEXT}, BIGINT, &canonical_tag, decode_rows},
+    {"base62_decode_uhugeint_canonical", 1, 2, texts, {TEXT}, UHUGEINT, &canonical_tag, decode_rows},
+    {"base62_decode_uuid_canonical", 1, 2, texts, {TEXT}, UUID, &canonical_tag, decode_rows},
+    {"base62_try_decode", 1, 2, texts, {TEXT}, BIGINT, &try_tag, decode_rows},
+    {"base62_try_decode_uuid", 1, 2, texts, {TEXT}, UUID, &try_tag, decode_rows},
+    {"base62_is_valid", 1, 2, texts, {TEXT}, BOOLEAN, NULL, is_valid_rows},
+    {"base62_is_canonical", 1, 2, texts, {TEXT}, BOOLEAN, &canonical_tag, is_valid_rows},
+    {"base62_prefix_first", 1, 2, texts, {BIGINT}, TEXT, NULL, prefix_bound_rows},
+    {"base62_prefix_last", 1, 2, texts, {BIGINT}, TEXT, &last_tag, prefix_bound_rows},
+    {"base62_range_first", 2, 3, texts, {BIGINT, TEXT}, BIGINT, NULL, range_bound_rows},
+    {"base62_range_last", 2, 3, texts, {BIGINT, TEXT}, BIGINT, &last_tag, range_bound_rows},
+    {"base62_range_first_uhugeint", 2, 3, texts, {BIGINT, TEXT}, UHUGEINT, NULL, range_bound_rows},
+    {"base62_range_last_uhugeint", 2, 3, texts, {BIGINT, TEXT}, UHUGEINT, &last_tag, range_bound_rows},
+    {"base62_version", 0, 0, nothing, {0}, TEXT, NULL, version_rows},
 };
 
 static void set_type(duckdb_scalar_function function, duckdb_type type,

@@ -25,7 +25,7 @@ static void raise_error(const call_error *error) {
         code = ERRCODE_NUMERIC_VALUE_OUT_OF_RANGE;
     if (error->kind == INVALID_PARAMETER)
         code = ERRCODE_INVALID_PARAMETER_VALUE;
-    ereport(ERROR, (errcode(code), errmsg("%.*s", (int)error->length, error->message)));
+    ereport(ERROR, (errcode(code), errmsg("%s", error->message)));
 }
 
 /* numeric is converted through decimal digits: PostgreSQL exports no conversion for integers of more than 64 bits. */
@@ -78,18 +78,21 @@ static base62_number get_int8(FunctionCallInfo fcinfo, int argument) {
 }
 
 static base62_number get_uuid(FunctionCallInfo fcinfo, int argument) {
-    return base62_number_of_uuid(PG_GETARG_UUID_P(argument)->data);
+    return base62_from_uuid(PG_GETARG_UUID_P(argument)->data);
 }
 
 /* numeric_normalize leaves out a fraction of zeros, so an integer has nothing but digits. */
 static base62_number get_numeric(FunctionCallInfo fcinfo, int argument) {
     char *digits = numeric_normalize(PG_GETARG_NUMERIC(argument)), *next = digits;
     base62_number number = {0, 0};
+    call_error error;
     while ('0' <= *next && *next <= '9' && append_digit(&number, (unsigned)(*next - '0')))
         next++;
-    if (*next != '\0')
-        ereport(ERROR, (errcode(ERRCODE_NUMERIC_VALUE_OUT_OF_RANGE),
-                        errmsg("a number is an integer from 0 to 2^128 - 1")));
+    if (*next != '\0') {
+        fail_with(&error, OUT_OF_RANGE, "the number is not an integer from 0 to 2^128 - 1");
+        show(&error, "", digits, strlen(digits));
+        raise_error(&error);
+    }
     return number;
 }
 
@@ -102,33 +105,34 @@ static size_t text_length(const text *value) {
 #pragma GCC diagnostic pop
 
 typedef struct {
-    char letters[BASE62_ALPHABET_LENGTH];
+    char characters[BASE62_ALPHABET_LENGTH];
     base62_alphabet alphabet;
 } cached_alphabet;
 
 /* The alphabet of an argument, or NULL if there is no such argument. It is cached for the next call of the same
- * expression. Each call compares the letters: PostgreSQL reports a variable of PL/pgSQL as a constant, although its
+ * expression. Each call compares the characters: PostgreSQL reports a variable of PL/pgSQL as a constant, although its
  * value can change. */
 static const base62_alphabet *get_alphabet(FunctionCallInfo fcinfo, int argument) {
     FmgrInfo *function = fcinfo->flinfo;
     cached_alphabet *cached;
     const text *given;
-    const char *letters;
+    const char *characters;
     size_t length;
     if (argument >= PG_NARGS())
         return NULL;
     cached = function->fn_extra;
     given = PG_GETARG_TEXT_PP(argument);
-    letters = VARDATA_ANY(given);
+    characters = VARDATA_ANY(given);
     length = text_length(given);
-    if (cached == NULL || length != sizeof cached->letters || memcmp(cached->letters, letters, length) != 0) {
+    if (cached == NULL || length != sizeof cached->characters ||
+        memcmp(cached->characters, characters, length) != 0) {
         base62_alphabet alphabet;
         call_error error;
-        if (!create_alphabet(letters, length, &alphabet, &error))
+        if (!create_alphabet(characters, length, &alphabet, &error))
             raise_error(&error);
         if (cached == NULL)
             cached = function->fn_extra = MemoryContextAlloc(function->fn_mcxt, sizeof *cached);
-        memcpy(cached->letters, letters, sizeof cached->letters);
+        memcpy(cached->characters, characters, sizeof cached->characters);
         cached->alphabet = alphabet;
         elog(DEBUG1, "base62 created an alphabet");
     }
@@ -173,6 +177,12 @@ static bool try_decode(FunctionCallInfo fcinfo, bool canonical, base62_number *n
     return decode_text(get_alphabet(fcinfo, 1), VARDATA_ANY(given), text_length(given), canonical, number, error);
 }
 
+static bool try_decode_int8(FunctionCallInfo fcinfo, bool canonical, int64_t *value, call_error *error) {
+    const text *given = PG_GETARG_TEXT_PP(0);
+    return decode_int64(get_alphabet(fcinfo, 1), VARDATA_ANY(given), text_length(given), canonical,
+                        "base62_decode_numeric", value, error);
+}
+
 static base62_number decode_or_raise(FunctionCallInfo fcinfo, bool canonical) {
     base62_number number;
     call_error error;
@@ -182,37 +192,36 @@ static base62_number decode_or_raise(FunctionCallInfo fcinfo, bool canonical) {
 }
 
 static Datum decode_int8(FunctionCallInfo fcinfo, bool canonical) {
-    const char *suffix = canonical ? "_canonical" : "";
     int64_t value;
-    if (!int64_of_number(decode_or_raise(fcinfo, canonical), &value))
-        ereport(ERROR, (errcode(ERRCODE_NUMERIC_VALUE_OUT_OF_RANGE), errmsg("bigint out of range"),
-                        errhint("base62_decode_uuid%s and base62_decode_numeric%s take numbers up to 2^128 - 1.",
-                                suffix, suffix)));
+    call_error error;
+    if (!try_decode_int8(fcinfo, canonical, &value, &error))
+        raise_error(&error);
     PG_RETURN_INT64(value);
 }
 
-static Datum decode_uuid(FunctionCallInfo fcinfo, bool canonical) {
-    base62_number number = decode_or_raise(fcinfo, canonical);
+static Datum decode_int8_or_null(FunctionCallInfo fcinfo) {
+    int64_t value;
+    if (!try_decode_int8(fcinfo, false, &value, NULL))
+        PG_RETURN_NULL();
+    PG_RETURN_INT64(value);
+}
+
+static Datum uuid_of_number(base62_number number) {
     pg_uuid_t *result = palloc(sizeof *result);
-    base62_uuid_of_number(number, result->data);
+    base62_to_uuid(number, result->data);
     PG_RETURN_UUID_P(result);
 }
 
-static Datum decode_numeric(FunctionCallInfo fcinfo, bool canonical) {
-    return numeric_of_number(decode_or_raise(fcinfo, canonical));
+static Datum decode_uuid_or_null(FunctionCallInfo fcinfo) {
+    base62_number number;
+    if (!try_decode(fcinfo, false, &number, NULL))
+        PG_RETURN_NULL();
+    return uuid_of_number(number);
 }
 
-static Datum is_text(FunctionCallInfo fcinfo, bool canonical) {
+static Datum is_valid(FunctionCallInfo fcinfo, bool canonical) {
     base62_number number;
-    call_error error;
-    PG_RETURN_BOOL(try_decode(fcinfo, canonical, &number, &error));
-}
-
-static Datum is_int8(FunctionCallInfo fcinfo) {
-    base62_number number;
-    int64_t value;
-    call_error error;
-    PG_RETURN_BOOL(try_decode(fcinfo, false, &number, &error) && int64_of_number(number, &value));
+    PG_RETURN_BOOL(try_decode(fcinfo, canonical, &number, NULL));
 }
 
 /* Ranges */
@@ -229,7 +238,7 @@ static bool get_range(FunctionCallInfo fcinfo, base62_range *range) {
     return !empty;
 }
 
-static Datum key_bound(FunctionCallInfo fcinfo, bool last) {
+static Datum prefix_bound(FunctionCallInfo fcinfo, bool last) {
     base62_range range;
     if (!get_range(fcinfo, &range))
         PG_RETURN_NULL();
@@ -251,7 +260,7 @@ static Datum range_bound_numeric(FunctionCallInfo fcinfo, bool last) {
     return numeric_of_number(last ? range.greatest : range.least);
 }
 
-/* The functions that the SQL scripts name, each with its result. Some functions of the library, such as base62_encode,
+/* The functions that the SQL script names, each with its result. Some functions of the library, such as base62_encode,
  * have the name of a function in SQL. So the names here begin with pg_. */
 
 #define SQL_FUNCTION(name, result) \
@@ -273,18 +282,19 @@ SQL_FUNCTION(pg_base62_encode_fixed_uuid, encode_fixed(fcinfo, get_uuid(fcinfo, 
 SQL_FUNCTION(pg_base62_encode_fixed_numeric, encode_fixed(fcinfo, get_numeric(fcinfo, 0)))
 
 SQL_FUNCTION(pg_base62_decode_int8, decode_int8(fcinfo, false))
-SQL_FUNCTION(pg_base62_decode_uuid, decode_uuid(fcinfo, false))
-SQL_FUNCTION(pg_base62_decode_numeric, decode_numeric(fcinfo, false))
+SQL_FUNCTION(pg_base62_decode_uuid, uuid_of_number(decode_or_raise(fcinfo, false)))
+SQL_FUNCTION(pg_base62_decode_numeric, numeric_of_number(decode_or_raise(fcinfo, false)))
 SQL_FUNCTION(pg_base62_decode_int8_canonical, decode_int8(fcinfo, true))
-SQL_FUNCTION(pg_base62_decode_uuid_canonical, decode_uuid(fcinfo, true))
-SQL_FUNCTION(pg_base62_decode_numeric_canonical, decode_numeric(fcinfo, true))
+SQL_FUNCTION(pg_base62_decode_uuid_canonical, uuid_of_number(decode_or_raise(fcinfo, true)))
+SQL_FUNCTION(pg_base62_decode_numeric_canonical, numeric_of_number(decode_or_raise(fcinfo, true)))
+SQL_FUNCTION(pg_base62_try_decode_int8, decode_int8_or_null(fcinfo))
+SQL_FUNCTION(pg_base62_try_decode_uuid, decode_uuid_or_null(fcinfo))
 
-SQL_FUNCTION(pg_base62_is_text, is_text(fcinfo, false))
-SQL_FUNCTION(pg_base62_is_canonical, is_text(fcinfo, true))
-SQL_FUNCTION(pg_base62_is_int8, is_int8(fcinfo))
+SQL_FUNCTION(pg_base62_is_valid, is_valid(fcinfo, false))
+SQL_FUNCTION(pg_base62_is_canonical, is_valid(fcinfo, true))
 
-SQL_FUNCTION(pg_base62_key_first, key_bound(fcinfo, false))
-SQL_FUNCTION(pg_base62_key_last, key_bound(fcinfo, true))
+SQL_FUNCTION(pg_base62_prefix_first, prefix_bound(fcinfo, false))
+SQL_FUNCTION(pg_base62_prefix_last, prefix_bound(fcinfo, true))
 SQL_FUNCTION(pg_base62_range_first_int8, range_bound_int8(fcinfo, false))
 SQL_FUNCTION(pg_base62_range_last_int8, range_bound_int8(fcinfo, true))
 SQL_FUNCTION(pg_base62_range_first_numeric, range_bound_numeric(fcinfo, false))

@@ -10,20 +10,30 @@ SQLITE_EXTENSION_INIT1
 
 /* Errors. Each function sets the error of the context, and returns 0. */
 
-static int set_error(sqlite3_context *context, const char *message) {
+static int set_error(sqlite3_context *context, const call_error *error) {
+    char message[sizeof "base62: " + sizeof error->message];
+    sqlite3_snprintf(sizeof message, message, "base62: %s", error->message);
     sqlite3_result_error(context, message, -1);
     return 0;
-}
-
-static int set_call_error(sqlite3_context *context, const call_error *error) {
-    char message[sizeof "base62: " + sizeof error->message];
-    sqlite3_snprintf(sizeof message, message, "base62: %.*s", (int)error->length, error->message);
-    return set_error(context, message);
 }
 
 static int set_out_of_memory(sqlite3_context *context) {
     sqlite3_result_error_nomem(context);
     return 0;
+}
+
+/* The message, such as "the width is not from 1 to 1000", and the value. */
+static int set_wrong_value(sqlite3_context *context, const char *message, sqlite3_value *value) {
+    int type = sqlite3_value_type(value);
+    const char *opening = type == SQLITE_TEXT ? "'" : type == SQLITE_BLOB ? "x'" : "";
+    const void *bytes = type == SQLITE_BLOB ? sqlite3_value_blob(value) : sqlite3_value_text(value);
+    size_t length = (size_t)sqlite3_value_bytes(value);
+    call_error error;
+    if (bytes == NULL && (type != SQLITE_BLOB || length != 0))
+        return set_out_of_memory(context);
+    fail_with(&error, INVALID_PARAMETER, "%s", message);
+    show(&error, opening, bytes, length);
+    return set_error(context, &error);
 }
 
 /* Arguments. Each function that reads one returns 1, or sets the error of the context and returns 0. */
@@ -35,27 +45,75 @@ static int any_null(int argc, sqlite3_value **argv) {
     return 0;
 }
 
-/* A number is a nonnegative integer, or a blob of 16 bytes such as a UUID. */
-static int read_number(sqlite3_context *context, sqlite3_value *value, base62_number *number) {
+/* The value of a hexadecimal digit, or -1. */
+static int digit_value(char digit) {
+    char lowercase = (char)(digit | ('a' - 'A'));
+    if ('0' <= digit && digit <= '9')
+        return digit - '0';
+    return 'a' <= lowercase && lowercase <= 'f' ? lowercase - 'a' + 10 : -1;
+}
+
+/* The length of a string for a UUID, with hyphens. */
+#define UUID_LENGTH (2 * BASE62_UUID_LENGTH + 4)
+
+static bool has_hyphen_before(int byte) {
+    return byte == 4 || byte == 6 || byte == 8 || byte == 10;
+}
+
+/* Reads a string for a UUID: 32 hexadecimal digits with hyphens or without, which may be in braces or after urn:uuid:.
+ * Returns whether it is one. */
+static bool parse_uuid(const char *text, size_t length, unsigned char uuid[BASE62_UUID_LENGTH]) {
+    static const char urn[] = "urn:uuid:";
+    bool has_hyphens;
+    if (length >= 2 && text[0] == '{' && text[length - 1] == '}') {
+        text++;
+        length -= 2;
+    } else if (length >= sizeof urn - 1 && sqlite3_strnicmp(text, urn, sizeof urn - 1) == 0) {
+        text += sizeof urn - 1;
+        length -= sizeof urn - 1;
+    }
+    has_hyphens = length == UUID_LENGTH;
+    if (!has_hyphens && length != 2 * BASE62_UUID_LENGTH)
+        return false;
+    for (int i = 0; i < BASE62_UUID_LENGTH; i++, text += 2) {
+        if (has_hyphens && has_hyphen_before(i) && *text++ != '-')
+            return false;
+        if (digit_value(text[0]) < 0 || digit_value(text[1]) < 0)
+            return false;
+        uuid[i] = (unsigned char)(digit_value(text[0]) << 4 | digit_value(text[1]));
+    }
+    return true;
+}
+
+/* A UUID is a blob of 16 bytes, or a string. */
+static int read_uuid(sqlite3_context *context, sqlite3_value *value, base62_number *number) {
     int type = sqlite3_value_type(value);
-    const unsigned char *uuid;
-    call_error error;
-    if (type == SQLITE_INTEGER)
-        return number_of_int64(sqlite3_value_int64(value), number, &error) || set_call_error(context, &error);
-    if (type != SQLITE_BLOB || sqlite3_value_bytes(value) != BASE62_UUID_LENGTH)
-        return set_error(context, "base62: a number is an integer or a blob of 16 bytes");
-    uuid = sqlite3_value_blob(value);
-    if (uuid == NULL)
+    unsigned char parsed[BASE62_UUID_LENGTH];
+    const void *bytes = type == SQLITE_BLOB ? sqlite3_value_blob(value) : sqlite3_value_text(value);
+    size_t length = (size_t)sqlite3_value_bytes(value);
+    if (bytes == NULL && (type != SQLITE_BLOB || length != 0))
         return set_out_of_memory(context);
-    *number = base62_number_of_uuid(uuid);
+    if (type == SQLITE_TEXT && parse_uuid(bytes, length, parsed))
+        bytes = parsed;
+    else if (type != SQLITE_BLOB || length != BASE62_UUID_LENGTH)
+        return set_wrong_value(context, "the UUID is not 32 hexadecimal digits or 16 bytes", value);
+    *number = base62_from_uuid(bytes);
     return 1;
+}
+
+static int read_number(sqlite3_context *context, sqlite3_value *value, base62_number *number) {
+    call_error error;
+    if (sqlite3_value_type(value) != SQLITE_INTEGER)
+        return set_wrong_value(context, "the number is not an integer", value);
+    return number_of_int64(sqlite3_value_int64(value), number, &error) || set_error(context, &error);
 }
 
 /* Converts no other type. This catches columns declared STRING, which have NUMERIC affinity: they store the text 1E5 as
  * 100000. */
-static int read_text(sqlite3_context *context, sqlite3_value *value, const char **text, size_t *length) {
+static int read_text(sqlite3_context *context, const char *message, sqlite3_value *value, const char **text,
+                     size_t *length) {
     if (sqlite3_value_type(value) != SQLITE_TEXT)
-        return set_error(context, "base62: the argument is no text");
+        return set_wrong_value(context, message, value);
     *text = (const char *)sqlite3_value_text(value);
     if (*text == NULL)
         return set_out_of_memory(context);
@@ -67,7 +125,7 @@ static int read_text(sqlite3_context *context, sqlite3_value *value, const char 
  * constant, SQLite caches the alphabet for the next call. If not, SQLite may free it at once, so this call uses *copy. */
 static int read_alphabet(sqlite3_context *context, int index, int argc, sqlite3_value **argv, base62_alphabet *copy,
                          const base62_alphabet **alphabet) {
-    const char *letters;
+    const char *characters;
     size_t length;
     base62_alphabet *cached;
     call_error error;
@@ -77,10 +135,10 @@ static int read_alphabet(sqlite3_context *context, int index, int argc, sqlite3_
     *alphabet = sqlite3_get_auxdata(context, index);
     if (*alphabet != NULL)
         return 1;
-    if (!read_text(context, argv[index], &letters, &length))
+    if (!read_text(context, "the alphabet is not text", argv[index], &characters, &length))
         return 0;
-    if (!create_alphabet(letters, length, copy, &error))
-        return set_call_error(context, &error);
+    if (!create_alphabet(characters, length, copy, &error))
+        return set_error(context, &error);
     cached = sqlite3_malloc(sizeof *cached);
     if (cached == NULL)
         return set_out_of_memory(context);
@@ -92,20 +150,26 @@ static int read_alphabet(sqlite3_context *context, int index, int argc, sqlite3_
 
 /* The width of the second argument, or that of a key if there is no such argument. */
 static int read_width(sqlite3_context *context, int argc, sqlite3_value **argv, size_t *width) {
-    sqlite3_int64 given = BASE62_KEY_LENGTH;
     call_error error;
-    /* 0 is not a width. */
-    if (argc > 1)
-        given = sqlite3_value_type(argv[1]) == SQLITE_INTEGER ? sqlite3_value_int64(argv[1]) : 0;
-    if (!check_width(given, &error))
-        return set_call_error(context, &error);
-    *width = (size_t)given;
+    *width = BASE62_KEY_LENGTH;
+    if (argc == 1)
+        return 1;
+    if (sqlite3_value_type(argv[1]) != SQLITE_INTEGER)
+        return set_wrong_value(context, "the width is not an integer", argv[1]);
+    if (!check_width(sqlite3_value_int64(argv[1]), &error))
+        return set_error(context, &error);
+    *width = (size_t)sqlite3_value_int64(argv[1]);
     return 1;
 }
 
-/* Functions. Those that share code are told apart by their user data: NULL, or the address of one of these. */
+/* Functions. Each reads a number or UUID, a width, an alphabet and a string in this order, so the first error of these
+ * is raised. Those that share code are told apart by their user data: NULL, or the address of one of these. */
 
-static char canonical_tag, integer_tag, last_tag;
+static char canonical_tag, last_tag, try_tag;
+
+static bool has_tag(sqlite3_context *context, const char *tag) {
+    return sqlite3_user_data(context) == tag;
+}
 
 static void result_fixed(sqlite3_context *context, const base62_alphabet *alphabet, base62_number number,
                          size_t width) {
@@ -114,92 +178,131 @@ static void result_fixed(sqlite3_context *context, const base62_alphabet *alphab
     if (encode_width(alphabet, number, text, width, &error))
         sqlite3_result_text(context, text, (int)width, SQLITE_TRANSIENT);
     else
-        set_call_error(context, &error);
+        set_error(context, &error);
 }
 
-static void encode(sqlite3_context *context, int argc, sqlite3_value **argv) {
-    base62_number number;
+static inline void encode_number(sqlite3_context *context, int argc, sqlite3_value **argv, base62_number number) {
     base62_alphabet copy;
     const base62_alphabet *alphabet;
     char text[BASE62_MAX_DIGITS];
     size_t length;
-    if (any_null(argc, argv) || !read_number(context, argv[0], &number) ||
-        !read_alphabet(context, 1, argc, argv, &copy, &alphabet))
+    if (!read_alphabet(context, 1, argc, argv, &copy, &alphabet))
         return;
     length = encode_shortest(alphabet, number, text);
     sqlite3_result_text(context, text, (int)length, SQLITE_TRANSIENT);
 }
 
-static int is_for_canonical(sqlite3_context *context) {
-    return sqlite3_user_data(context) == &canonical_tag;
+static void encode(sqlite3_context *context, int argc, sqlite3_value **argv) {
+    base62_number number;
+    if (!any_null(argc, argv) && read_number(context, argv[0], &number))
+        encode_number(context, argc, argv, number);
 }
 
-/* Returns 0 if the result is null or an error. */
-static int decode_or_set_error(sqlite3_context *context, int argc, sqlite3_value **argv, base62_number *number) {
-    const char *text;
-    size_t length;
+static void encode_uuid(sqlite3_context *context, int argc, sqlite3_value **argv) {
+    base62_number number;
+    if (!any_null(argc, argv) && read_uuid(context, argv[0], &number))
+        encode_number(context, argc, argv, number);
+}
+
+/* What a function that decodes has read. */
+typedef struct {
     base62_alphabet copy;
     const base62_alphabet *alphabet;
-    call_error error;
-    if (any_null(argc, argv) || !read_text(context, argv[0], &text, &length) ||
-        !read_alphabet(context, 1, argc, argv, &copy, &alphabet))
-        return 0;
-    return decode_text(alphabet, text, length, is_for_canonical(context), number, &error) ||
-           set_call_error(context, &error);
+    const char *text;
+    size_t length;
+} encoded;
+
+/* Returns 0 if the result is null or an error. */
+static int read_encoded(sqlite3_context *context, int argc, sqlite3_value **argv, encoded *given) {
+    return !any_null(argc, argv) && read_alphabet(context, 1, argc, argv, &given->copy, &given->alphabet) &&
+           !(sqlite3_value_type(argv[0]) != SQLITE_TEXT && has_tag(context, &try_tag)) &&
+           read_text(context, "the string is not text", argv[0], &given->text, &given->length);
 }
 
 static void decode(sqlite3_context *context, int argc, sqlite3_value **argv) {
-    base62_number number;
+    encoded given;
     int64_t value;
-    if (!decode_or_set_error(context, argc, argv, &number))
+    const void *tag = sqlite3_user_data(context);
+    call_error stored, *error = tag == &try_tag ? NULL : &stored;
+    if (!read_encoded(context, argc, argv, &given))
         return;
-    if (int64_of_number(number, &value))
+    if (decode_int64(given.alphabet, given.text, given.length, tag == &canonical_tag, "base62_decode_uuid", &value,
+                     error))
         sqlite3_result_int64(context, value);
-    else
-        set_error(context, is_for_canonical(context)
-                               ? "base62: the number is 2^63 or more, which base62_decode_blob_canonical takes"
-                               : "base62: the number is 2^63 or more, which base62_decode_blob takes");
+    else if (error != NULL)
+        set_error(context, error);
+}
+
+/* Decodes 16 bytes. Returns 0 if the result is null or an error. */
+static int decode_bytes(sqlite3_context *context, int argc, sqlite3_value **argv,
+                        unsigned char uuid[BASE62_UUID_LENGTH]) {
+    encoded given;
+    base62_number number;
+    const void *tag = sqlite3_user_data(context);
+    call_error stored, *error = tag == &try_tag ? NULL : &stored;
+    if (!read_encoded(context, argc, argv, &given))
+        return 0;
+    if (!decode_text(given.alphabet, given.text, given.length, tag == &canonical_tag, &number, error))
+        return error == NULL ? 0 : set_error(context, error);
+    base62_to_uuid(number, uuid);
+    return 1;
 }
 
 static void decode_blob(sqlite3_context *context, int argc, sqlite3_value **argv) {
-    base62_number number;
     unsigned char uuid[BASE62_UUID_LENGTH];
-    if (!decode_or_set_error(context, argc, argv, &number))
+    if (decode_bytes(context, argc, argv, uuid))
+        sqlite3_result_blob(context, uuid, sizeof uuid, SQLITE_TRANSIENT);
+}
+
+static void decode_uuid(sqlite3_context *context, int argc, sqlite3_value **argv) {
+    static const char digits[] = "0123456789abcdef";
+    unsigned char uuid[BASE62_UUID_LENGTH];
+    char text[UUID_LENGTH], *next = text;
+    if (!decode_bytes(context, argc, argv, uuid))
         return;
-    base62_uuid_of_number(number, uuid);
-    sqlite3_result_blob(context, uuid, sizeof uuid, SQLITE_TRANSIENT);
+    for (int i = 0; i < BASE62_UUID_LENGTH; i++) {
+        if (has_hyphen_before(i))
+            *next++ = '-';
+        *next++ = digits[uuid[i] >> 4];
+        *next++ = digits[uuid[i] & 15];
+    }
+    sqlite3_result_text(context, text, sizeof text, SQLITE_TRANSIENT);
 }
 
 /* Whether the value is a text that the decoding functions accept. */
-static void is_text(sqlite3_context *context, int argc, sqlite3_value **argv) {
-    const char *text;
-    size_t length;
-    base62_alphabet copy;
-    const base62_alphabet *alphabet;
-    const void *data = sqlite3_user_data(context);
+static void is_valid(sqlite3_context *context, int argc, sqlite3_value **argv) {
+    encoded given;
     base62_number number;
-    int64_t value;
-    call_error error;
     int accepted = 0;
-    if (any_null(argc, argv) || !read_alphabet(context, 1, argc, argv, &copy, &alphabet))
+    if (any_null(argc, argv) || !read_alphabet(context, 1, argc, argv, &given.copy, &given.alphabet))
         return;
     if (sqlite3_value_type(argv[0]) == SQLITE_TEXT) {
-        if (!read_text(context, argv[0], &text, &length))
+        if (!read_text(context, "", argv[0], &given.text, &given.length))
             return;
-        accepted = decode_text(alphabet, text, length, data == &canonical_tag, &number, &error) &&
-                   (data != &integer_tag || int64_of_number(number, &value));
+        accepted = decode_text(given.alphabet, given.text, given.length, has_tag(context, &canonical_tag), &number,
+                               NULL);
     }
     sqlite3_result_int(context, accepted);
 }
 
-static void encode_fixed(sqlite3_context *context, int argc, sqlite3_value **argv) {
-    base62_number number;
+static void encode_number_fixed(sqlite3_context *context, int argc, sqlite3_value **argv, base62_number number) {
     size_t width;
     base62_alphabet copy;
     const base62_alphabet *alphabet;
-    if (!any_null(argc, argv) && read_number(context, argv[0], &number) && read_width(context, argc, argv, &width) &&
-        read_alphabet(context, 2, argc, argv, &copy, &alphabet))
+    if (read_width(context, argc, argv, &width) && read_alphabet(context, 2, argc, argv, &copy, &alphabet))
         result_fixed(context, alphabet, number, width);
+}
+
+static void encode_fixed(sqlite3_context *context, int argc, sqlite3_value **argv) {
+    base62_number number;
+    if (!any_null(argc, argv) && read_number(context, argv[0], &number))
+        encode_number_fixed(context, argc, argv, number);
+}
+
+static void encode_fixed_uuid(sqlite3_context *context, int argc, sqlite3_value **argv) {
+    base62_number number;
+    if (!any_null(argc, argv) && read_uuid(context, argv[0], &number))
+        encode_number_fixed(context, argc, argv, number);
 }
 
 /* Finds the numbers whose strings of the width begin with the prefix. Returns 0 if the result is null or an error. */
@@ -210,27 +313,27 @@ static int read_range(sqlite3_context *context, int argc, sqlite3_value **argv, 
     const base62_alphabet *alphabet;
     bool empty;
     call_error error;
-    if (any_null(argc, argv) || !read_text(context, argv[0], &prefix, &length) ||
-        !read_width(context, argc, argv, width) || !read_alphabet(context, 2, argc, argv, &copy, &alphabet))
+    if (any_null(argc, argv) || !read_width(context, argc, argv, width) ||
+        !read_alphabet(context, 2, argc, argv, &copy, &alphabet) ||
+        !read_text(context, "the prefix is not text", argv[0], &prefix, &length))
         return 0;
     if (!range_of_prefix(alphabet, prefix, length, *width, range, &empty, &error))
-        return set_call_error(context, &error);
+        return set_error(context, &error);
     return !empty;
 }
 
-static void key_bound(sqlite3_context *context, int argc, sqlite3_value **argv) {
+static void prefix_bound(sqlite3_context *context, int argc, sqlite3_value **argv) {
     size_t width;
     base62_range range;
     if (read_range(context, argc, argv, &width, &range))
-        result_fixed(context, NULL, sqlite3_user_data(context) == &last_tag ? range.greatest : range.least, width);
+        result_fixed(context, NULL, has_tag(context, &last_tag) ? range.greatest : range.least, width);
 }
 
 static void range_bound(sqlite3_context *context, int argc, sqlite3_value **argv) {
     size_t width;
     base62_range range;
     int64_t value;
-    if (read_range(context, argc, argv, &width, &range) &&
-        int64_bound(range, sqlite3_user_data(context) == &last_tag, &value))
+    if (read_range(context, argc, argv, &width, &range) && int64_bound(range, has_tag(context, &last_tag), &value))
         sqlite3_result_int64(context, value);
 }
 
@@ -250,17 +353,23 @@ static int create_functions(sqlite3 *db) {
         void (*call)(sqlite3_context *, int, sqlite3_value **);
     } functions[] = {
         {"base62_encode", 1, 2, NULL, encode},
+        {"base62_encode_uuid", 1, 2, NULL, encode_uuid},
+        {"base62_encode_key", 1, 1, NULL, encode_fixed},
+        {"base62_encode_key_uuid", 1, 1, NULL, encode_fixed_uuid},
+        {"base62_encode_fixed", 2, 3, NULL, encode_fixed},
+        {"base62_encode_fixed_uuid", 2, 3, NULL, encode_fixed_uuid},
         {"base62_decode", 1, 2, NULL, decode},
+        {"base62_decode_uuid", 1, 2, NULL, decode_uuid},
         {"base62_decode_blob", 1, 2, NULL, decode_blob},
         {"base62_decode_canonical", 1, 2, &canonical_tag, decode},
+        {"base62_decode_uuid_canonical", 1, 2, &canonical_tag, decode_uuid},
         {"base62_decode_blob_canonical", 1, 2, &canonical_tag, decode_blob},
-        {"base62_is_text", 1, 2, NULL, is_text},
-        {"base62_is_integer", 1, 2, &integer_tag, is_text},
-        {"base62_is_canonical", 1, 2, &canonical_tag, is_text},
-        {"base62_encode_key", 1, 1, NULL, encode_fixed},
-        {"base62_encode_fixed", 2, 3, NULL, encode_fixed},
-        {"base62_key_first", 1, 2, NULL, key_bound},
-        {"base62_key_last", 1, 2, &last_tag, key_bound},
+        {"base62_try_decode", 1, 2, &try_tag, decode},
+        {"base62_try_decode_uuid", 1, 2, &try_tag, decode_uuid},
+        {"base62_is_valid", 1, 2, NULL, is_valid},
+        {"base62_is_canonical", 1, 2, &canonical_tag, is_valid},
+        {"base62_prefix_first", 1, 2, NULL, prefix_bound},
+        {"base62_prefix_last", 1, 2, &last_tag, prefix_bound},
         {"base62_range_first", 2, 3, NULL, range_bound},
         {"base62_range_last", 2, 3, &last_tag, range_bound},
         {"base62_version", 0, 0, NULL, version},

@@ -43,6 +43,7 @@ static void check(int holds, const char *condition) {
 #define CHECK(condition) check(condition, #condition)
 
 #define CUSTOM "'zyxwvutsrqponmlkjihgfedcbaZYXWVUTSRQPONMLKJIHGFEDCBA9876543210'"
+#define UUID "00000000-0000-0000-0000-000000000539"
 #define ALTERNATIVE "'0123456789abcdefghijklmnopqrstuvwxyzABCDEFGHIJKLMNOPQRSTUVWXYZ'"
 
 /* More bytes than a query below takes at once. */
@@ -54,22 +55,28 @@ static const struct {
     const char *query, *result;
 } queries[] = {
     {"SELECT base62_encode(1337)", "LZ"},
-    {"SELECT base62_encode(zeroblob(16))", "0"},
+    {"SELECT base62_encode_uuid(zeroblob(16))", "0"},
+    {"SELECT base62_encode_uuid(u) FROM stored", "LZ"},
+    {"SELECT base62_encode_uuid(t) FROM stored", NULL},
     {"SELECT base62_encode(n, own) FROM stored", "eQ"},
     {"SELECT base62_decode(t) FROM stored", "1337"},
     {"SELECT base62_decode('eQ', own) FROM stored", "1337"},
     {"SELECT hex(base62_decode_blob(t)) FROM stored", "00000000000000000000000000000539"},
+    {"SELECT base62_decode_uuid(t) FROM stored", UUID},
+    {"SELECT base62_try_decode(t) || base62_try_decode_uuid(t) FROM stored", "1337" UUID},
+    {"SELECT ifnull(base62_try_decode(u), 'none') FROM stored", "none"},
+    {"SELECT base62_decode(n) FROM stored", NULL},
     {"SELECT base62_encode_key(n) FROM stored", "00000000000000000000LZ"},
     {"SELECT base62_encode_fixed(n, 3) FROM stored", "0LZ"},
     {"SELECT base62_encode_fixed(n, 3, own) FROM stored", "zeQ"},
     {"SELECT base62_encode_fixed(n, 1) FROM stored", NULL},
     {"SELECT length(base62_encode_fixed(n, 1000)) FROM stored", "1000"},
     {"SELECT base62_decode_canonical('0' || t) FROM stored", NULL},
-    {"SELECT base62_is_text(t) FROM stored", "1"},
-    {"SELECT base62_is_text('-', own) FROM stored", "0"},
+    {"SELECT base62_is_valid(t) FROM stored", "1"},
+    {"SELECT base62_is_valid('-', own) FROM stored", "0"},
     {"SELECT base62_encode(n, " CUSTOM ") || base62_encode(61, " CUSTOM ") FROM stored", "eQ0"},
     {"SELECT group_concat(base62_encode_fixed(n, 3, own)) FROM stored", "zeQ,0lz"},
-    {"SELECT base62_key_first(t, 3) FROM stored", "LZ0"},
+    {"SELECT base62_prefix_first(t, 3) FROM stored", "LZ0"},
     {"SELECT base62_range_first(t, 3) FROM stored", "82894"},
     {"SELECT base62_range_last('e', 3, own) FROM stored", "84567"},
 };
@@ -149,8 +156,9 @@ int main(int argc, char **argv) {
         continue;
     db = open_database();
     CHECK(sqlite3_load_extension(db, argv[1], NULL, NULL) == SQLITE_OK);
-    CHECK(sqlite3_exec(db, "PRAGMA encoding = 'UTF-16'; CREATE TABLE stored (n, t, own);"
-                           "INSERT INTO stored VALUES (1337, 'LZ', " CUSTOM "), (1337, 'LZ', " ALTERNATIVE ")",
+    CHECK(sqlite3_exec(db, "PRAGMA encoding = 'UTF-16'; CREATE TABLE stored (n, t, own, u);"
+                           "INSERT INTO stored VALUES (1337, 'LZ', " CUSTOM ", '" UUID "'),"
+                           "(1337, 'LZ', " ALTERNATIVE ", '" UUID "')",
                        NULL, NULL, NULL) == SQLITE_OK);
     for (size_t i = 0; i < sizeof queries / sizeof *queries; i++)
         for (long before = 0; fail_query(db, queries[i].query, queries[i].result, before); before++)
@@ -158,7 +166,7 @@ int main(int argc, char **argv) {
     CHECK(sqlite3_exec(db, "CREATE TABLE many AS WITH RECURSIVE rows (n) AS"
                            "(SELECT 1 UNION ALL SELECT n + 1 FROM rows LIMIT 10000) SELECT n FROM rows",
                        NULL, NULL, NULL) == SQLITE_OK);
-    check_rows(db, "SELECT count(base62_is_text(n, " CUSTOM ")) FROM many");
+    check_rows(db, "SELECT count(base62_is_valid(n, " CUSTOM ")) FROM many");
     check_rows(db, "SELECT count(base62_range_first('A', 5 + n % 2, " CUSTOM ")) FROM many");
     CHECK(sqlite3_close(db) == SQLITE_OK);
     CHECK(sqlite3_shutdown() == SQLITE_OK && sqlite3_memory_used() == 0);

@@ -10,18 +10,23 @@ import json
 import os
 import re
 import subprocess
+import tempfile
 import unittest
+from collections import Counter
 from pathlib import Path
 from typing import Any
 from urllib.parse import unquote_to_bytes
 from uuid import UUID
 
-from values import ALPHABET, ALTERNATIVE, HEADER, NARROW, NEGATIVE, NO_ALPHABETS, OWN, README, REPEATED, STANDARD, WIDTH
-from values import functions_of, message, of_ascii, rows, text
+from values import ALTERNATIVE, HEADER, NEGATIVE, NO_ALPHABETS, OWN, README, STANDARD, TEXTS, WIDTH
+from values import functions_of, is_large, message, narrow, of_ascii, rows, shown, text
 
 SHELL = [os.environ.get("DUCKDB", "duckdb"), "-init", os.devnull, "-unsigned", "-json"]
 LOAD = f"LOAD '{os.environ['BASE62_DUCKDB']}';\n"
 WIDEST = 1000
+BIGINT = 2**63 - 1
+# A condition on the rows whose number is a BIGINT.
+BELOW = f"CASE WHEN n::UHUGEINT <= {BIGINT} THEN {{}} ELSE true END"
 
 
 def setUpModule() -> None:
@@ -88,38 +93,60 @@ class Values(Case):
         table = [(alphabet, number, UUID(int=int(number)), encoded) for alphabet, number, encoded in of_ascii("encode")]
         types = ("UHUGEINT", "HUGEINT", "UBIGINT", "BIGINT")
         numbers = [f"base62_encode(TRY_CAST(n AS {it}), letters) = s OR TRY_CAST(n AS {it}) IS NULL" for it in types]
-        calls = numbers + ["base62_encode(u, letters) = s", "base62_is_text(s, letters)", "base62_is_canonical(s, letters)"]
+        calls = numbers + ["base62_encode_uuid(u, letters) = s", "base62_is_canonical(s, letters)"]
         for given in ("s", "s::BLOB"):
-            for name in ("decode", "decode_canonical"):
-                calls.append(f"base62_{name}({given}, letters) = n::UHUGEINT")
-                calls.append(f"base62_{name.replace('decode', 'decode_uuid')}({given}, letters) = u")
+            calls += self.decodings(given) + [
+                f"base62_decode_uhugeint_canonical({given}, letters) = n::UHUGEINT",
+                f"base62_decode_uuid_canonical({given}, letters) = u",
+                BELOW.format(f"base62_decode_canonical({given}, letters) = n::BIGINT"),
+            ]
         self.check_rows("letters, n, u, s", table, calls)
 
+    def test_large(self) -> None:
+        """BIGINT ends at 2^63 - 1."""
+        large = [it for it in of_ascii("encode") if int(it[1]) > BIGINT and it[0] == STANDARD]
+        self.check_errors({f"base62_decode{it}({literal(s)})": is_large(s, f"decode_uhugeint{it}")
+                           for it, (_, _, s) in zip(itertools.cycle(("", "_canonical")), large)})
+
+    @staticmethod
+    def decodings(given: str) -> list[str]:
+        """What holds of each string s for n and u, also of one with leading zeros."""
+        return [
+            f"base62_is_valid({given}, letters)",
+            f"base62_decode_uhugeint({given}, letters) = n::UHUGEINT",
+            f"base62_decode_uuid({given}, letters) = u",
+            BELOW.format(f"base62_decode({given}, letters) = n::BIGINT"),
+            f"base62_try_decode({given}, letters) IS NOT DISTINCT FROM TRY_CAST(n AS BIGINT)",
+            f"base62_try_decode_uuid({given}, letters) = u",
+        ]
+
     def test_zeros(self) -> None:
-        calls = ["base62_decode(s, letters) = n::UHUGEINT", "base62_is_text(s, letters)"]
-        self.check_rows("letters, s, n", [(*it,) for it in of_ascii("zeros")], [*calls, "NOT base62_is_canonical(s, letters)"])
-        for name in ("decode_canonical", "decode_uuid_canonical"):
-            given = [f"base62_{name}({literal(s)}, {literal(letters)})" for letters, s, _ in of_ascii("zeros")]
-            self.check_errors(dict.fromkeys(given, message(["zero"])))
+        table = [(letters, s, n, UUID(int=int(n))) for letters, s, n in of_ascii("zeros")]
+        self.check_rows("letters, s, n, u", table, [*self.decodings("s"), "NOT base62_is_canonical(s, letters)"])
+        for name in ("decode_canonical", "decode_uhugeint_canonical", "decode_uuid_canonical"):
+            self.check_errors({f"base62_{name}({literal(s)}, {literal(letters)})": message(["zero"], s.encode())
+                               for letters, s, _, _ in table})
 
     def test_refused(self) -> None:
         """Strings that are not UTF-8, or contain a null byte, among them."""
         table = [(letters, unquote_to_bytes(field), error) for letters, field, *error in of_ascii("refused")]
-        calls = ["NOT base62_is_text(s, letters)", "NOT base62_is_canonical(s, letters)", "TRY(base62_decode(s, letters)) IS NULL"]
+        calls = ["NOT base62_is_valid(s, letters)", "NOT base62_is_canonical(s, letters)"]
+        calls += ["base62_try_decode(s, letters) IS NULL", "base62_try_decode_uuid(s, letters) IS NULL"]
         self.check_rows("letters, s", [it[:2] for it in table], calls)
         # The functions take turns, since each error takes DuckDB a millisecond.
-        names = itertools.cycle(("decode", "decode_uuid", "decode_canonical", "decode_uuid_canonical"))
+        names = itertools.cycle(f"decode{kind}{canonical}" for kind in ("", "_uhugeint", "_uuid") for canonical in ("", "_canonical"))
         last = {letters: "" if letters == STANDARD else ", " + literal(letters) for letters, _, _ in table}
-        self.check_errors({f"base62_{name}({literal(s)}{last[letters]})": message(error)
+        self.check_errors({f"base62_{name}({literal(s)}{last[letters]})": message(error, s)
                            for name, (letters, s, error) in zip(names, table)})
 
     def test_widths(self) -> None:
         fixed = [(letters, n, UUID(int=int(n)), int(width), s) for letters, n, width, s in of_ascii("fixed")]
-        calls = [f"base62_encode_fixed({it}, width, letters) = s" for it in ("n::UHUGEINT", "u")]
-        keys = [f"width <> 22 OR letters <> '{STANDARD}' OR base62_encode_key({it}) = s" for it in ("n::UHUGEINT", "u")]
+        given = (("", "n::UHUGEINT"), ("_uuid", "u"))
+        calls = [f"base62_encode_fixed{kind}({it}, width, letters) = s" for kind, it in given]
+        keys = [f"width <> 22 OR letters <> '{STANDARD}' OR base62_encode_key{kind}({it}) = s" for kind, it in given]
         self.check_rows("letters, n, u, width, s", fixed, calls + keys)
-        self.check_errors({f"base62_encode_fixed({n}, {width}, {literal(letters)})":
-                           WIDTH if width == "0" else NARROW for letters, n, width in of_ascii("narrow")})
+        self.check_errors({f"base62_encode_fixed({n}, {width}, {literal(letters)})": WIDTH.format(0) if width == "0"
+                           else narrow(int(n), int(width)) for letters, n, width in of_ascii("narrow")})
 
     def test_ranges(self) -> None:
         table: list[tuple[Any, ...]] = []
@@ -127,22 +154,27 @@ class Values(Case):
         for letters, width, field, kind, *found in (it for it in of_ascii("range") if 0 < int(it[1]) <= WIDEST):
             prefix = unquote_to_bytes(field)
             if kind == "byte":
-                bad |= {f"base62_range_{it}({literal(prefix)}, {width}, {literal(letters)})": message([kind, *found])
-                        for it in ("first", "last")}
+                bad |= {f"base62_range_{it}({literal(prefix)}, {width}, {literal(letters)})": message([kind, *found], prefix)
+                        for it in ("first", "last", "first_uhugeint", "last_uhugeint")}
             else:
                 table.append((letters, int(width), prefix, *(found or (None, None))))
+        # Enough ranges are below 2^63, across it, and above it.
+        places = Counter(sum(int(end) > BIGINT for end in ends) for *_, ends in ((*it[:3], it[3:]) for it in table) if ends[0])
+        self.assertTrue(all(places[it] > 50 for it in range(3)), places)
         ends = (("first", "least"), ("last", "greatest"))
-        ranges = [f"base62_range_{it}(prefix, width, letters) IS NOT DISTINCT FROM {end}::UHUGEINT" for it, end in ends]
-        keys = [f"base62_key_{it}(prefix, width) IS NOT DISTINCT FROM base62_encode_fixed({end}::UHUGEINT, width)"
+        ranges = [f"base62_range_{it}_uhugeint(prefix, width, letters) IS NOT DISTINCT FROM {end}::UHUGEINT" for it, end in ends]
+        below = [f"base62_range_{it}(prefix, width, letters) IS NOT DISTINCT FROM CASE WHEN least::UHUGEINT <= {BIGINT} THEN "
+                 f"least({end}::UHUGEINT, {BIGINT}) END" for it, end in ends]
+        keys = [f"base62_prefix_{it}(prefix, width) IS NOT DISTINCT FROM base62_encode_fixed({end}::UHUGEINT, width)"
                 for it, end in ends]
         keys += [f"width <> 22 OR {it.replace('(prefix, width)', '(prefix)')}" for it in keys]
-        self.check_rows("letters, width, prefix, least, greatest", table, ranges)
+        self.check_rows("letters, width, prefix, least, greatest", table, ranges + below)
         self.check_rows("letters, width, prefix, least, greatest", [it for it in table if it[0] == STANDARD], keys)
         self.check_errors(bad)
 
     def test_repeats(self) -> None:
         alphabets = [(unquote_to_bytes(field), error) for field, *error in rows("repeated")]
-        self.check_errors({f"base62_encode(1, {literal(it.decode())})": message(["repeated", *error])
+        self.check_errors({f"base62_encode(1, {literal(it.decode())})": message(["repeated", *error], it)
                            for it, error in alphabets if it.isascii() and b"\0" not in it})
 
 
@@ -191,19 +223,27 @@ class Arguments(Case):
         for call, wanted in (("base62_encode({})", "1z"), ("base62_encode_key({})", "1z".rjust(22, "0")),
                              ("base62_encode_fixed({}, 4)", "001z")):
             self.assertEqual(set(results("SELECT unnest([" + ", ".join(call.format(f"123::{it}") for it in types) + "]);")), {wanted})
-        self.check_errors({f"base62_encode((-1)::{it})": NEGATIVE for it in types if it[0] != "U"})
-        self.check_errors({f"base62_encode('{it}'::HUGEINT)": NEGATIVE for it in (-(2**127), -(2**64), -1)})
-        for given in ("'1337'", "1.5", "1337::DOUBLE", "true", "'1337'::VARCHAR"):
+        self.check_errors({f"base62_encode((-1)::{it})": NEGATIVE.format(-1) for it in types if it[0] != "U"})
+        self.check_errors({f"base62_encode('{it}'::HUGEINT)": NEGATIVE.format(it) for it in (-(2**127), -(2**64), -1)})
+        for given in ("'1337'", "1.5", "1337::DOUBLE", "true", "'1337'::VARCHAR", "uuid()"):
             self.assertIn("Binder Error: ", shell(f"SELECT base62_encode({given});").stderr, given)
 
     def test_alphabets(self) -> None:
-        calls = {f"base62_encode(1, {literal(it)})": ALPHABET for it in NO_ALPHABETS}
-        calls[f"base62_decode('1', {literal(REPEATED)})"] = "base62: Alphabet repeats the byte b'0' at index 1"
-        self.check_errors(calls)
+        calls = ("encode(1, {})", "decode('1', {})", "try_decode('1', {})", "is_valid('1', {})", "range_last('1', 1, {})")
+        self.check_errors({f"base62_{call.format(literal(it))}": error
+                           for call, (it, error) in itertools.product(calls, NO_ALPHABETS.items())})
+
+    def test_order(self) -> None:
+        """Of several errors, that of a number is raised, or else of a width, an alphabet, and a string."""
+        calls = {"encode(-1, '01')": "number", "encode_fixed(-1, 0, '01')": "number", "encode_fixed(62, 0, '01')": "width",
+                 "encode_fixed(62, 1, '01')": "alphabet", "decode('-', '01')": "alphabet", "try_decode('-', '01')": "alphabet",
+                 "range_first('-', 0, '01')": "width", "range_first('-', 1, '01')": "alphabet", "prefix_last('-', 0)": "width"}
+        found = [error.split()[2] for error in errors([f"base62_{it}" for it in calls])]
+        self.assertEqual(found, [*calls.values()])
 
     def test_widths(self) -> None:
-        calls = ("base62_encode_fixed(1, {})", "base62_key_first('1', {})", "base62_range_last('1', {})")
-        self.check_errors({call.format(width): WIDTH for call in calls for width in (0, -1, -(2**63), 1001, 2**63 - 1)})
+        calls = ("base62_encode_fixed(1, {})", "base62_prefix_first('1', {})", "base62_range_last('1', {})")
+        self.check_errors({call.format(width): WIDTH.format(width) for call in calls for width in (0, -1, 1001, BIGINT)})
         self.assertEqual(results("SELECT base62_encode_fixed(1337, 1000);"), ["LZ".rjust(WIDEST, "0")])
 
     def test_changing_letters(self) -> None:
@@ -213,25 +253,55 @@ class Arguments(Case):
         for call, padded in (("base62_encode(1337, letters)", 0), ("base62_encode_fixed(1337, 5, letters)", 5)):
             wanted = [letters and text(1337, letters).rjust(padded, letters[0]) for letters in chosen]
             self.assertEqual(results(f"SELECT {call} FROM (VALUES {values}) t(i, letters) ORDER BY i;"), wanted)
-        self.assertEqual(results(f"SELECT TRY(base62_encode(1, x)) FROM (VALUES (1, '01'), (2, '{STANDARD}')) t(i, x) ORDER BY i;"), [None, "1"])
+
+    def test_alphabet_after_a_valid_one(self) -> None:
+        """The alphabet of a row is compared whole with that of the row before it."""
+        self.assertEqual(results(f"SELECT base62_encode(61, unnest(['{OWN}', '{OWN[:61]}-']));"), ["0", "-"])
+        others = [OWN[:61], "", "zyx", OWN + "z"]
+        said = [f"{len(it)} characters, not 62" + shown(it.encode()) for it in others]
+        self.check_errors({f"base62_encode(61, unnest(['{OWN}', '{it}']))": f"base62: the alphabet has {error}"
+                           for it, error in zip(others, said)})
 
 
 class Queries(Case):
     def test_threads(self) -> None:
         """Random numbers of 64 and of 128 bits, by four threads."""
         made = "SET threads = 4; CREATE TABLE t AS SELECT hash(i) AS id, md5_number(i::VARCHAR) AS n FROM range(500000) r(i);\n"
-        trips = ("base62_decode(base62_encode(id)) = id", "base62_decode(base62_encode(n)) = n",
-                 f"base62_decode(base62_encode_fixed(n, 30, '{OWN}'), '{OWN}') = n")
+        trips = ("base62_decode_uhugeint(base62_encode(id)) = id", "base62_decode_uhugeint(base62_encode(n)) = n",
+                 "base62_decode(base62_encode(id // 2)) = id // 2",
+                 f"base62_decode_uhugeint(base62_encode_fixed(n, 30, '{OWN}'), '{OWN}') = n")
         counts = row("SELECT " + ", ".join(f"count(*) FILTER (WHERE {it}) AS \"{it}\"" for it in trips) + " FROM t;", made)
         self.assertEqual(counts, dict.fromkeys(trips, 500000))
 
+    def test_exact(self) -> None:
+        """Above 2^53 no number becomes a DOUBLE: compared with a column of 64 or 128 bits, summed, and in Parquet. A BIGINT
+        column is not cast, so that its statistics exclude rows."""
+        number = 2**53 + 1
+        string = TEXTS[number]
+        bounds = f"'{string}', {len(string)}"
+        made = f"CREATE TABLE strings AS SELECT '{string}' AS s;\n"
+        for condition in (f"= base62_decode('{string}')", f"IN (base62_decode('{string}'), base62_decode('LZ'))",
+                          f"BETWEEN base62_range_first({bounds}) AND base62_range_last({bounds})",
+                          "IN (SELECT base62_decode(s) FROM strings)"):
+            for kind in ("BIGINT", "UBIGINT", "HUGEINT"):
+                table = f"CREATE TABLE ids AS SELECT unnest([{number - 1}, {number}])::{kind} AS id;\n"
+                query = f"SELECT list(id::VARCHAR) AS ids FROM ids WHERE id {condition};"
+                self.assertEqual(row(query, made + table), {"ids": [str(number)]}, (kind, condition))
+                if kind == "BIGINT":
+                    self.assertNotIn("CAST(id AS", shell(made + table + "EXPLAIN " + query.replace("::VARCHAR", "")).stdout)
+        with tempfile.TemporaryDirectory() as folder:
+            made += f"COPY (SELECT base62_decode(s) AS id FROM strings) TO '{folder}/ids.parquet';\n"
+            found = row(f"SELECT id::VARCHAR AS id, sum(id)::VARCHAR AS sum FROM '{folder}/ids.parquet' GROUP BY id;", made)
+        self.assertEqual(found, {"id": str(number), "sum": str(number)})
+
     def test_error_in_a_row(self) -> None:
-        """A query ends with the error, and TRY makes it null in this row alone."""
-        made = "CREATE TABLE t AS SELECT CASE i WHEN 3000 THEN 'L-' ELSE base62_encode(i) END AS s FROM range(5000) r(i);\n"
-        counts = row("SELECT count(*) AS n, count(TRY(base62_decode(s))) AS numbers FROM t;", made)
-        self.assertEqual(counts, {"n": 5000, "numbers": 4999})
+        """A query ends with the first error of a chunk. TRY and a function that tries make null of such rows alone."""
+        made = "CREATE TABLE t AS SELECT CASE WHEN i >= 4990 THEN i || '-' ELSE base62_encode(i) END AS s FROM range(5000) r(i);\n"
+        counts = row("SELECT count(*) AS n, count(TRY(base62_decode(s))) AS numbers, count(base62_try_decode(s)) AS tried, "
+                     "count(base62_try_decode_uuid(s)) AS uuids FROM t;", made)
+        self.assertEqual(counts, {"n": 5000, "numbers": 4990, "tried": 4990, "uuids": 4990})
         ran = shell(made + "SELECT max(base62_decode(s)) FROM t;\nSELECT 1337 AS next;")
-        self.assertIn(message(["byte", "45", "1"]), ran.stderr)
+        self.assertIn(message(["byte", "45", "4"], b"4990-"), ran.stderr)
         self.assertIn("1337", ran.stdout)
 
     def test_memory(self) -> None:

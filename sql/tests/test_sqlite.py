@@ -13,19 +13,16 @@ import tempfile
 import unittest
 from typing import Any
 from urllib.parse import unquote_to_bytes
+from uuid import UUID
 
-from values import ALPHABET, ALTERNATIVE, HEADER, NARROW, NEGATIVE, NO_ALPHABETS, OWN, REPEATED, STANDARD, TEXTS, WIDTH
-from values import functions_of, message, of_ascii, rows, text
+from values import ALPHABET, ALTERNATIVE, HEADER, NEGATIVE, NO_ALPHABETS, OWN, REPEATED, STANDARD, TEXTS, WIDTH
+from values import functions_of, is_large, message, narrow, of_ascii, rows, shown, text
 
 if not hasattr(sqlite3.Connection, "enable_load_extension"):
     sys.exit(f"{sys.executable} can't load extensions of SQLite. Set PYTHON to one that can, such as Debian's.")
 
 MODULE = os.environ["BASE62_SQLITE"]
-NUMBER = "base62: a number is an integer or a blob of 16 bytes"
-TEXT = "base62: the argument is no text"
 TOO_BIG = "string or blob too big"
-LARGE = "base62: the number is 2^63 or more, which base62_decode_blob takes"
-LARGE_CANONICAL = LARGE.replace("base62_decode_blob", "base62_decode_blob_canonical")
 BIGINT = 2**63 - 1
 KEY = 22
 WIDEST = 1000
@@ -37,6 +34,13 @@ class Text(bytes):
 
 def blob(number: int) -> bytes:
     return number.to_bytes(16, "big")
+
+
+def literal(value: Any) -> str:
+    """What a message shows of a value that has another type than an argument."""
+    if isinstance(value, (Text, str)):
+        return shown(value if isinstance(value, Text) else value.encode())
+    return f": x'{value[:40].hex()}{'...' * (len(value) > 40)}'" if isinstance(value, bytes) else f": {value}"
 
 
 def opened() -> sqlite3.Connection:
@@ -73,25 +77,43 @@ class Values(Case):
     def test_encode(self) -> None:
         for letters, digits, encoded in of_ascii("encode"):
             number = int(digits)
-            for given in [blob(number)] + [number] * (number <= BIGINT):
-                self.expect(encoded, "encode", given, letters)
+            self.expect(encoded, "encode_uuid", blob(number), letters)
+            self.expect(encoded, "encode_uuid", str(UUID(int=number)), letters)
+            if number <= BIGINT:
+                self.expect(encoded, "encode", number, letters)
             self.check_decoding(letters, encoded, number)
+
+    def test_uuids(self) -> None:
+        """Strings for UUIDs, and others, in which a null byte may be."""
+        others = [["{" + "1" * 33, "none"], ["1" * 33 + "}", "none"], ["%ff" * 41, "none"]]
+        for field, uuid in rows("form") + others:
+            given = Text(unquote_to_bytes(field))
+            if uuid == "none":
+                wanted = "base62: the UUID is not 32 hexadecimal digits or 16 bytes" + shown(given)
+                self.assertEqual(self.result("encode_uuid", given), wanted)
+            else:
+                self.assertEqual(self.result("decode_uuid", self.result("encode_uuid", given)), uuid)
+                self.assertEqual(self.result("encode_key_uuid", given), self.result("encode_key_uuid", UUID(uuid).bytes))
 
     def test_zeros(self) -> None:
         for letters, encoded, digits in of_ascii("zeros"):
-            self.check_decoding(letters, encoded, int(digits), message(["zero"]))
+            self.check_decoding(letters, encoded, int(digits), message(["zero"], encoded.encode()))
 
     def check_decoding(self, letters: str, encoded: str, number: int, error: str | None = None) -> None:
         """The results for a text, and the error of canonical decoding."""
         fits = number <= BIGINT
+        uuid = str(UUID(int=number))
         wanted = {
-            "decode": number if fits else LARGE,
+            "decode": number if fits else is_large(encoded, "decode_uuid"),
             "decode_blob": blob(number),
-            "decode_canonical": error or (number if fits else LARGE_CANONICAL),
+            "decode_uuid": uuid,
+            "decode_canonical": error or (number if fits else is_large(encoded, "decode_uuid_canonical")),
             "decode_blob_canonical": error or blob(number),
-            "is_text": 1,
+            "decode_uuid_canonical": error or uuid,
+            "try_decode": number if fits else None,
+            "try_decode_uuid": uuid,
+            "is_valid": 1,
             "is_canonical": not error,
-            "is_integer": fits,
         }
         for name, result in wanted.items():
             self.expect(result, name, encoded, letters)
@@ -100,20 +122,22 @@ class Values(Case):
         """Strings that are not UTF-8, or contain a null byte, among them."""
         for letters, field, *error in of_ascii("refused"):
             given = Text(unquote_to_bytes(field))
-            for name in ("decode", "decode_blob", "decode_canonical", "decode_blob_canonical"):
-                self.expect(message(error), name, given, letters)
-            for name in ("is_text", "is_canonical", "is_integer"):
-                self.expect(0, name, given, letters)
+            for name in ("decode", "decode_blob", "decode_uuid"):
+                self.expect(message(error, given), name, given, letters)
+                self.expect(message(error, given), name + "_canonical", given, letters)
+            for name, wanted in (("is_valid", 0), ("is_canonical", 0), ("try_decode", None), ("try_decode_uuid", None)):
+                self.expect(wanted, name, given, letters)
 
     def test_widths(self) -> None:
         for letters, digits, width, encoded in of_ascii("fixed"):
             number = int(digits)
-            for given in [blob(number)] + [number] * (number <= BIGINT):
-                self.expect(encoded, "encode_fixed", given, int(width), letters)
+            for kind, given in [("_uuid", blob(number))] + [("", number)] * (number <= BIGINT):
+                self.expect(encoded, f"encode_fixed{kind}", given, int(width), letters)
                 if (letters, int(width)) == (STANDARD, KEY):
-                    self.assertEqual(self.result("encode_key", given), encoded)
+                    self.assertEqual(self.result(f"encode_key{kind}", given), encoded)
         for letters, digits, width in of_ascii("narrow"):
-            self.expect(WIDTH if width == "0" else NARROW, "encode_fixed", blob(int(digits)), int(width), letters)
+            wanted = WIDTH.format(0) if width == "0" else narrow(int(digits), int(width))
+            self.expect(wanted, "encode_fixed_uuid", blob(int(digits)), int(width), letters)
 
     def test_ranges(self) -> None:
         for letters, width, field, *found in of_ascii("range"):
@@ -121,28 +145,28 @@ class Values(Case):
                 self.check_range(letters, int(width), Text(unquote_to_bytes(field)), found)
 
     def check_range(self, letters: str, width: int, prefix: Text, found: list[str]) -> None:
-        error = message(found) if found[0] == "byte" else None
+        error = message(found, prefix) if found[0] == "byte" else None
         ends = [int(it) for it in found[1:]] if found[0] == "numbers" else []
         for end, number in itertools.zip_longest(("first", "last"), ends):
             integer = min(number, BIGINT) if ends and ends[0] <= BIGINT else error
             self.expect(integer, f"range_{end}", prefix, width, letters)
             if letters == STANDARD:
-                key = self.result("encode_fixed", blob(number), width) if ends else error
-                self.assertEqual(self.result(f"key_{end}", prefix, width), key)
+                string = self.result("encode_fixed_uuid", blob(number), width) if ends else error
+                self.assertEqual(self.result(f"prefix_{end}", prefix, width), string)
                 if width == KEY:
-                    self.assertEqual(self.result(f"key_{end}", prefix), key)
+                    self.assertEqual(self.result(f"prefix_{end}", prefix), string)
 
     def test_repeats(self) -> None:
         for field, *error in rows("repeated"):
             letters = unquote_to_bytes(field)
             if letters.isascii() and b"\0" not in letters:
-                self.assertEqual(self.result("encode", 1, letters.decode()), message(["repeated", *error]))
+                self.assertEqual(self.result("encode", 1, letters.decode()), message(["repeated", *error], letters))
 
 
 def sample(name: str, count: int) -> tuple[Any, ...]:
     """Arguments that a function accepts: a number or a string, then the width if it takes one, then the alphabet."""
-    first = 1337 if "encode" in name else "1"
-    width = [7] if re.search("fixed|key_|range", name) else []
+    first = {"encode": 1337, "encode_uuid": blob(1337)}.get(re.sub("_key|_fixed", "", name), "1")
+    width = [7] if re.search("fixed|prefix|range", name) else []
     return (first, *width, OWN)[:count]
 
 
@@ -175,20 +199,26 @@ class Arguments(Case):
                     self.assertIsNone(self.result(name, *other[:place], None, *other[place + 1 :]))
 
     def test_types(self) -> None:
-        """The errors of a first argument, by the type that the function accepts."""
-        rejected: dict[type, list[tuple[Any, str]]] = {
-            int: [(value, NUMBER) for value in (1337.0, 1e300, "1337", "", "1" * 16, b"", b"1" * 15, b"1" * 17)],
-            str: [(value, TEXT) for value in (1337, 13.5, b"LZ", b"1" * 62)],
+        """The errors of a first argument of another type, by the type that the function accepts."""
+        rejected: dict[type, tuple[str, list[Any]]] = {
+            int: ("the number is not an integer", [1337.0, "1337", "", b"", b"1" * 16, b"1" * 41]),
+            bytes: ("the UUID is not 32 hexadecimal digits or 16 bytes", [1337, 1.5, "1" * 16, b"", b"1" * 15, b"1" * 17]),
+            str: ("the {} is not text", [1337, 13.5, b"LZ", b"1" * 62]),
         }
-        rejected[int] += [(-1, NEGATIVE), (-(2**63), NEGATIVE)]
         for name, given in (call for call in CALLS if call[1]):
-            for value, wanted in rejected[type(given[0])]:
-                got = self.result(name, value, *given[1:])
-                self.assertEqual(got, 0 if name.startswith("is_") else wanted, (name, value))
+            said, values = rejected[type(given[0])]
+            for value in values:
+                wanted: Any = "base62: " + said.format("prefix" if re.match("prefix|range", name) else "string") + literal(value)
+                if re.match("is_|try_", name):
+                    wanted = 0 if name.startswith("is_") else None
+                self.assertEqual(self.result(name, value, *given[1:]), wanted, (name, value))
+        for number in (-1, -(2**63)):
+            for name, *others in (("encode",), ("encode_key",), ("encode_fixed", 7)):
+                self.assertEqual(self.result(name, number, *others), NEGATIVE.format(number))
 
     def test_alphabets(self) -> None:
-        errors: list[tuple[Any, str]] = [(value, ALPHABET) for value in NO_ALPHABETS]
-        errors += [(1, TEXT), (b"1" * 62, TEXT), (REPEATED, "base62: Alphabet repeats the byte b'0' at index 1")]
+        errors: list[tuple[Any, str]] = list(NO_ALPHABETS.items())
+        errors += [(value, "base62: the alphabet is not text" + literal(value)) for value in (1, 1.5, b"1" * 62)]
         for name, given in CALLS:
             if given[-1:] == (OWN,):
                 for value, wanted in errors:
@@ -196,17 +226,21 @@ class Arguments(Case):
         for last in (62, 127):
             alphabet = bytes(range(last - 61, last + 1))
             self.assertEqual(self.result("encode", 61, Text(alphabet)), chr(last))
-            for other in (0, 128, 255):
+            for other, said in ((0, "null"), (128, "non-ASCII"), (255, "non-ASCII")):
                 for letters in (bytes([other]) + alphabet[1:], alphabet[:61] + bytes([other])):
-                    self.assertEqual(self.result("encode", 61, Text(letters)), ALPHABET)
+                    wanted = f"{ALPHABET}a {said} character" + shown(letters)
+                    self.assertEqual(self.result("encode", 61, Text(letters)), wanted)
 
     def test_widths(self) -> None:
         for name, given in (call for call in CALLS if 7 in call[1]):
-            for value in (0, -1, -(2**63), WIDEST + 1, 2**32 + 7, BIGINT, 7.0, "7", b"7"):
-                self.assertEqual(self.result(name, given[0], value, *given[2:]), WIDTH)
+            for value in (0, -1, -(2**63), WIDEST + 1, 2**32 + 7, BIGINT):
+                self.assertEqual(self.result(name, given[0], value, *given[2:]), WIDTH.format(value))
+            for value in (7.0, "7", b"7"):
+                wanted = "base62: the width is not an integer" + literal(value)
+                self.assertEqual(self.result(name, given[0], value, *given[2:]), wanted)
         self.assertEqual(self.result("encode_fixed", 1337, WIDEST), "LZ".rjust(WIDEST, "0"))
         self.db.setlimit(sqlite3.SQLITE_LIMIT_LENGTH, 100)
-        for name, given in (("encode_fixed", (0, 101)), ("encode_fixed", (0, 101, OWN)), ("key_first", ("0", 101))):
+        for name, given in (("encode_fixed", (0, 101)), ("encode_fixed", (0, 101, OWN)), ("prefix_first", ("0", 101))):
             self.assertEqual(self.result(name, *given), TOO_BIG)
 
     def test_changing_letters(self) -> None:
@@ -224,7 +258,7 @@ class Arguments(Case):
             for number, letters in enumerate(chosen, 1)
         ]
         self.assertEqual(self.db.execute(query, (OWN,)).fetchall(), wanted)
-        errors = {REPEATED: "base62: Alphabet repeats the byte b'0' at index 1", OWN[1:]: ALPHABET}
+        errors = {REPEATED: NO_ALPHABETS[REPEATED], OWN[1:]: ALPHABET + "61 characters, not 62" + shown(OWN[1:].encode())}
         for letters in (*chosen, REPEATED, *chosen, OWN[1:], OWN):
             self.assertEqual(self.result("encode", 1337, letters), errors.get(letters) or text(1337, letters))
         both = "base62_encode(62, ?1), base62_encode(62, ?2), base62_decode(?3, ?1), base62_encode_fixed(62, 3, ?2)"
@@ -232,23 +266,50 @@ class Arguments(Case):
         self.assertEqual(self.row(both, OWN, ALTERNATIVE, text(62, OWN)), wanted_both)
 
 
+    def test_order(self) -> None:
+        """Of several errors, that of a number or UUID is raised, or else of a width, an alphabet, and a string."""
+        said = "the number is", "the width is", "the alphabet has", "the UUID is", "the string is", "Encoded input"
+        number, width, alphabet, uuid, string, encoded = said
+        for name, given, wanted in (
+            ("encode", (-1, "01"), number),
+            ("encode_uuid", ("", "01"), uuid),
+            ("encode_fixed", (1.5, 0, "01"), number),
+            ("encode_fixed", (62, 0, "01"), width),
+            ("encode_fixed", (62, 1, "01"), alphabet),
+            ("encode_fixed_uuid", (b"", 0, "01"), uuid),
+            ("decode", (1, "01"), alphabet),
+            ("decode", ("-", "01"), alphabet),
+            ("decode", (1, OWN), string),
+            ("decode_uuid", ("-", "01"), alphabet),
+            ("try_decode", ("-", "01"), alphabet),
+            ("is_valid", (1, "01"), alphabet),
+            ("prefix_last", (1, 0), width),
+            ("range_first", (1, 0, "01"), width),
+            ("range_first", (1, 1, "01"), alphabet),
+            ("range_first", (1, 1, OWN), "the prefix is"),
+            ("range_first", ("-", 1, OWN), encoded),
+        ):
+            self.assertTrue(str(self.result(name, *given)).startswith("base62: " + wanted), (name, given))
+
+
 TABLES = """
 CREATE TABLE link (id INTEGER PRIMARY KEY, slug TEXT AS (base62_encode(id)) UNIQUE CHECK (base62_is_canonical(slug)));
-CREATE TABLE item (u BLOB PRIMARY KEY, key TEXT AS (base62_encode_key(u)) STORED,
-    code TEXT AS (base62_encode_fixed(u, 23)) CHECK (base62_is_text(code) AND base62_decode_blob(code) = u));
+CREATE TABLE item (u BLOB PRIMARY KEY, key TEXT AS (base62_encode_key_uuid(u)) STORED,
+    code TEXT AS (base62_encode_fixed_uuid(u, 23)) CHECK (base62_is_valid(code) AND base62_decode_blob(code) = u));
 CREATE INDEX item_key ON item (key);
-CREATE INDEX item_text ON item (base62_encode(u));
-CREATE INDEX item_prefix ON item (u) WHERE key <= base62_key_last('3');
+CREATE INDEX item_text ON item (base62_encode_uuid(u));
+CREATE INDEX item_prefix ON item (u) WHERE key <= base62_prefix_last('3');
 """
 PLANS = [
     ("SELECT * FROM link WHERE slug = 'LZ'", "SEARCH link USING INDEX sqlite_autoindex_link_1 (slug=?)"),
     ("SELECT * FROM link WHERE id = base62_decode('LZ')", "SEARCH link USING INTEGER PRIMARY KEY (rowid=?)"),
     ("SELECT * FROM link WHERE id BETWEEN base62_range_first('A', 11) AND base62_range_last('A', 11)",
      "SEARCH link USING INTEGER PRIMARY KEY (rowid>? AND rowid<?)"),
+    ("SELECT * FROM link WHERE id = base62_try_decode('LZ')", "SEARCH link USING INTEGER PRIMARY KEY (rowid=?)"),
     ("SELECT u FROM item WHERE u = base62_decode_blob('LZ')",
      "SEARCH item USING COVERING INDEX sqlite_autoindex_item_1 (u=?)"),
-    ("SELECT code FROM item WHERE base62_encode(u) = 'LZ'", "SEARCH item USING INDEX item_text (<expr>=?)"),
-    ("SELECT u FROM item WHERE key BETWEEN base62_key_first('2a') AND base62_key_last('2a')",
+    ("SELECT code FROM item WHERE base62_encode_uuid(u) = 'LZ'", "SEARCH item USING INDEX item_text (<expr>=?)"),
+    ("SELECT u FROM item WHERE key BETWEEN base62_prefix_first('2a') AND base62_prefix_last('2a')",
      "SEARCH item USING INDEX item_key (key>? AND key<?)"),
     ("SELECT u FROM item WHERE key GLOB '2a*'", "SEARCH item USING INDEX item_key (key>? AND key<?)"),
 ]

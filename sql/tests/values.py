@@ -45,22 +45,49 @@ def text(number: int, letters: str = STANDARD) -> str:
     return TEXTS[number].translate(str.maketrans(STANDARD, letters))
 
 
-def message(error: list[str]) -> str:
-    return "base62: " + MESSAGES[tuple(error[:2])] + "".join(error[2:])
+def shown(value: bytes) -> str:
+    """What a message shows of a string: 40 bytes, of which each that is not printable ASCII is \\xff."""
+    characters = "".join(chr(byte) if 32 <= byte < 127 else f"\\x{byte:02x}" for byte in value[:40])
+    return f": '{characters}{'...' * (len(value) > 40)}'"
+
+
+def message(error: list[str], value: bytes) -> str:
+    """The message of an error of the file, for a value."""
+    return "base62: " + MESSAGES[tuple(error[:2])] + "".join(error[2:]) + shown(value)
 
 
 # The errors that the file has no rows for.
-ALPHABET = "base62: an alphabet has 62 ASCII characters"
-NEGATIVE = "base62: a negative number has no base62 string"
-WIDTH = "base62: a width is an integer from 1 to 1000"
-NARROW = "base62: the number needs more characters than the width"
-NO_ALPHABETS = ["", "01", STANDARD[:61], STANDARD + "-", "é" + STANDARD[2:], "é" * 31, "\0" + STANDARD[1:]]
+def is_large(value: str, wider: str) -> str:
+    return f"base62: the number is 2^63 or more, which base62_{wider} takes" + shown(value.encode())
+
+
+def narrow(number: int, width: int) -> str:
+    return f"base62: the number needs {len(TEXTS[number])} characters, and the width is {width}"
+
+
+NEGATIVE = "base62: the number is negative: {}"
+WIDTH = "base62: the width is not from 1 to 1000: {}"
+ALPHABET = "base62: the alphabet has "
+NO_ALPHABETS = {
+    value: ALPHABET + said + shown(value.encode())
+    for value, said in {
+        "": "0 characters, not 62",
+        "01": "2 characters, not 62",
+        STANDARD[:61]: "61 characters, not 62",
+        STANDARD + "-": "63 characters, not 62",
+        "é" + STANDARD[2:]: "a non-ASCII character",
+        STANDARD[2:] + "é": "a non-ASCII character",
+        "é" * 31: "a non-ASCII character",
+        "\0" + STANDARD[1:]: "a null character",
+    }.items()
+}
+NO_ALPHABETS[REPEATED] = message(["repeated", "48", "1"], REPEATED.encode())
 README = (HERE.parent / "README.md").read_text()
 HEADER = next(it for it in (HERE.parent / "base62.h", HERE.parents[1] / "c/base62.h") if it.exists()).read_text()
 
 
 def functions_of(database: str) -> set[str]:
-    """Those that the table in README has for a database."""
-    table = [line.split("|") for line in README.splitlines() if line.startswith("|")]
-    column = next(line.index(f" {database} ") for line in table if f" {database} " in line)
-    return set(re.findall(r"base62_\w+", "".join(line[column] for line in table if len(line) > column)))
+    """Those that the table in README has for all databases, and for this one."""
+    table = [line.split("|") for line in README.splitlines() if line.startswith("| ")]
+    column = next(line.index(f" only {database} ") for line in table if f" only {database} " in line)
+    return set(re.findall(r"base62_\w+", "".join(line[2] + line[column] for line in table if len(line) > column)))

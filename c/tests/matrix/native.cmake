@@ -30,13 +30,7 @@ if(gcc)
     # The static library fits into a shared one, by whatever flags.
     add_build(gcc-shared-alone "${c}" "-O2 -fno-pie" -DCMAKE_C_COMPILER=gcc -DBUILD_SHARED_LIBS=ON
         -DCMAKE_EXE_LINKER_FLAGS=-no-pie)
-    # The optimizer of -O2 leaves out writes that nothing reads, and the analyzer of a later version may then ask for them.
-    execute_process(COMMAND gcc -dumpversion OUTPUT_VARIABLE version)
-    set(levels -O1)
-    if(version VERSION_LESS 13)
-        list(APPEND levels -O2)
-    endif()
-    foreach(level IN LISTS levels)
+    foreach(level IN ITEMS -O1 -O2)
         add_build(gcc-analyzer${level} "${c}" "${level} -fanalyzer" -DCMAKE_C_COMPILER=gcc -DBUILD_SHARED_LIBS=OFF
             -DBASE62_TEST=OFF)
     endforeach()

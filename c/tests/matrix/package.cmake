@@ -49,9 +49,6 @@ foreach(way IN ITEMS subdirectory fetch)
     add_consumer(${way}-shared ${way} SHARED_LIBRARY -DBASE62=${c} -DBUILD_SHARED_LIBS=ON)
 endforeach()
 
-add_test(NAME package-change-version COMMAND "${CMAKE_COMMAND}" -DBASE62=${c} -DCOPY=${CMAKE_BINARY_DIR}/changed
-    -P "${CMAKE_CURRENT_SOURCE_DIR}/change_version.cmake")
-
 # Installed with a project that it is a part of: from here, and as a copy in a project that has a CHANGELOG too.
 set(copied "${CMAKE_BINARY_DIR}/project")
 file(REMOVE_RECURSE "${copied}")

@@ -44,9 +44,9 @@ fixed_by B w text n size some letters is = record { size = size; denotes = denot
 
 -- ---- what is encoded of 1337
 
--- not the text with a needless zero
-pub needless_1337 : IsCanonical standard (codes "0LZ") 1337 → ⊥
-needless_1337 h = let less : 3 ≤ 2 = h.shortest (codes "LZ") denotes_1337 in omega (arith, less)
+-- not the text with a leading zero
+pub leading_1337 : IsCanonical standard (codes "0LZ") 1337 → ⊥
+leading_1337 h = let less : 3 ≤ 2 = h.shortest (codes "LZ") denotes_1337 in omega (arith, less)
 
 -- its text has two letters, so it does not fit into one
 pub fits_1337 : CanonicalFits standard 1337 2

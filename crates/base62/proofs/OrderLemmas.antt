@@ -19,7 +19,7 @@ use Rattle.base62.specs.Fixed.{IsFixed}
 use Rattle.base62.specs.Order.{lexicographic_order, partial_order, IsNotAfter, shortlex_order, Ascends, is_ascending}
 use Rattle.base62.proofs.AlphabetLemmas.{IsLetter, letter-digit_of, digit_of-is, same_letter, alphabet_by_test, ascii_by_test}
 use Rattle.base62.proofs.ValueLemmas.{value-cons, value-lt, value-lt_most}
-use Rattle.base62.proofs.LengthLemmas.{no_needless_zero, needs_each}
+use Rattle.base62.proofs.LengthLemmas.{no_leading_zero, needs_each}
 
 -- the letter at a place is a lesser byte than the one after it
 abbrev rises : List ℕ → ℕ → Bool
@@ -83,7 +83,7 @@ module _ (B : List ℕ) (ok : IsAlphabet B) where
   -- the shorter of two canonical texts has the smaller number
   shorter-lt : (a b : List ℕ) (m n : ℕ) → IsCanonical B a m → IsCanonical B b n
       → length a < length b → m < n
-  shorter-lt a b m n p q less = elim (needs_each B ok b q.denotes.letters (no_needless_zero B ok b n q)) [
+  shorter-lt a b m n p q less = elim (needs_each B ok b q.denotes.letters (no_leading_zero B ok b n q)) [
     | inl one ↦ absurd (omega (arith, p.denotes.nonempty))
     | inr weighs ↦ let below = value-lt_most B ok a (length b - 1) (omega arith) in omega (arith, p.denotes.value_is, q.denotes.value_is)
   ]

@@ -235,7 +235,7 @@ module _ (B : List ℕ) (ok : IsAlphabet B) where
       let same : value B r ≡ n = sym (value-after_zeros B ok text) ∙ denotes.value_is in
       rw same at (canonical_of_value B ok r letters (some, inr (after_zeros_first B text some)))
 
-  -- a text without its needless zeros is canonical
+  -- a text without its leading zeros is canonical
   pub without_zeros_canonical : (text : List ℕ) (n : ℕ) → Denotes B text n
       → IsCanonical B (without_zeros B text) n
   without_zeros_canonical text n denotes = cond_both _ _ _ (λ xs. IsCanonical B xs n)

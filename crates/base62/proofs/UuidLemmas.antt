@@ -1,10 +1,13 @@
 -- The bytes of a number, and the number of bytes.
-use Rattle.std.proofs.Common.{◌≡◌, ℕ, zero, suc, ◌/◌, ◌%◌, ◌^◌, ◌<◌, List, length, get_or, Some, None, Ok, Err, refl, sym, ap, ◌∙◌, arith}
+use Rattle.std.proofs.Common.{◌≡◌, ℕ, zero, suc, ◌/◌, ◌%◌, ◌^◌, ◌<◌, List, length, get_or, Ok, Err, refl, sym, ap, ◌∙◌, arith}
 use Rattle.std.proofs.Math.Arith.{mod-mul}
 use Rattle.std.proofs.Math.Nat.{one-le-pow, pow-suc, pow-zero}
 use Rattle.std.specs.Int.{w128, byte_at, bytes_high_first, to_be_bytes, from_be_bytes}
 use Rattle.std.proofs.lemmas.List.Elements.{All-from_get_or}
+use Rattle.base62.specs.declared.fault.CanonicalError.{CanonicalError}
+use Rattle.base62.specs.declared.fault.CanonicalError.TheVariants.{LeadingZero, Decode}
 use Rattle.base62.specs.declared.fault.DecodeError.{DecodeError}
+use Rattle.base62.specs.declared.fault.DecodeError.TheVariants.{InvalidBase62Byte}
 use Rattle.base62.specs.Places.{sum_over_places}
 use Rattle.base62.specs.Alphabet.{IsAlphabet}
 use Rattle.base62.specs.Canonical.{Denotes}
@@ -86,45 +89,33 @@ module _ (B : List ℕ) (ok : IsAlphabet B) (text : List ℕ) where
   }
 
 module _ (B text : List ℕ) where
-  -- the result as a UUID of canonical decoding: a number, none, and an error
-  pub canonical_decoded : (n : ℕ) → n < 2 ^ 128 → DecodesCanonical B text (Ok (Some n))
-      → DecodesUuidCanonical B text (Ok (Some (to_be_bytes w128 n)))
+  -- the result as a UUID of canonical decoding: a number, and an error
+  pub canonical_decoded : (n : ℕ) → n < 2 ^ 128 → DecodesCanonical B text (Ok n)
+      → DecodesUuidCanonical B text (Ok (to_be_bytes w128 n))
   canonical_decoded n small is =
       let number : uuid_number (to_be_bytes w128 n) ≡ n = number_of_bytes n small in
       record {
         accepted = λ uuid ok canonical.
-            let same : Ok (Some n) ≡ Ok (Some (uuid_number uuid)) = is.accepted (uuid_number uuid) canonical (uuid_number-lt uuid ok) in
+            let same : Ok n ≡ Ok (uuid_number uuid) = is.accepted (uuid_number uuid) canonical (uuid_number-lt uuid ok) in
             let e : n ≡ uuid_number uuid = cc in
-            ap (λ uuid. Ok (Some uuid)) (same_uuid _ uuid (bytes_are_uuid n) ok (number ∙ e));
+            ap Ok (same_uuid _ uuid (bytes_are_uuid n) ok (number ∙ e));
         canonical = λ uuid e. let same : to_be_bytes w128 n ≡ uuid = cc in rw (sym number ∙ ap uuid_number same) at (is.canonical n refl);
         back = λ uuid e. let same : to_be_bytes w128 n ≡ uuid = cc in is.back n refl ∙ ap Ok (sym number ∙ ap uuid_number same);
-        needless = λ m decoded more zero. let none = is.needless m decoded more zero in cc;
+        leading = λ m decoded more zero. let none = is.leading m decoded more zero in cc;
         zeros = λ none. cc;
         refused = λ fault e. let none = is.refused fault e in cc;
         fault = λ fault e. cc;
-        named = tt;
+        named = λ byte index e. cc;
       }
 
-  pub needless_decoded : DecodesCanonical B text (Ok None) → DecodesUuidCanonical B text (Ok None)
-  needless_decoded is = record {
-    accepted = λ uuid ok canonical. let some = is.accepted (uuid_number uuid) canonical (uuid_number-lt uuid ok) in cc;
-    canonical = λ uuid e. cc;
-    back = λ uuid e. cc;
-    needless = λ m decoded more zero. refl;
-    zeros = λ _. is.zeros refl;
-    refused = λ fault e. let none = is.refused fault e in cc;
-    fault = λ fault e. cc;
-    named = tt;
-  }
-
-  pub canonical_refused : (e : DecodeError) → DecodesCanonical B text (Err e) → DecodesUuidCanonical B text (Err e)
+  pub canonical_refused : (e : CanonicalError) → DecodesCanonical B text (Err e) → DecodesUuidCanonical B text (Err e)
   canonical_refused e is = record {
     accepted = λ uuid ok canonical. let some = is.accepted (uuid_number uuid) canonical (uuid_number-lt uuid ok) in cc;
     canonical = λ uuid same. cc;
     back = λ uuid same. cc;
-    needless = λ m decoded more zero. let none = is.needless m decoded more zero in cc;
-    zeros = λ none. cc;
+    leading = λ m decoded more zero. let same = is.leading m decoded more zero in cc;
+    zeros = λ same. let equal : e ≡ LeadingZero = cc in is.zeros (ap Err equal);
     refused = λ fault same. let other = is.refused fault same in cc;
-    fault = λ fault same. let other = is.fault e refl in cc;
-    named = is.named;
+    fault = λ fault same. let equal : e ≡ Decode fault = cc in is.fault fault (ap Err equal);
+    named = λ byte index same. let equal : e ≡ Decode (InvalidBase62Byte byte index) = cc in is.named byte index (ap Err equal);
   }

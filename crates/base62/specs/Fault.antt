@@ -3,8 +3,11 @@ use Rattle.std.specs.Prelude.{ℕ, ◌==◌, ◌&&◌, nat_le, if◌then◌else�
 use Rattle.std.specs.Char.Escape.{hex_digit_at}
 use Rattle.std.specs.Ordering.{nat_cmp, ordering_then}
 use Rattle.std.specs.declared.cmp.Ordering.{Ordering}
+use Rattle.std.specs.declared.cmp.Ordering.TheVariants.{Less, Equal, Greater}
 use Rattle.base62.specs.declared.fault.AlphabetError.{AlphabetError}
 use Rattle.base62.specs.declared.fault.AlphabetError.TheVariants.{Repeated}
+use Rattle.base62.specs.declared.fault.CanonicalError.{CanonicalError}
+use Rattle.base62.specs.declared.fault.CanonicalError.TheVariants.{LeadingZero, Decode}
 use Rattle.base62.specs.declared.fault.DecodeError.{DecodeError}
 use Rattle.base62.specs.declared.fault.DecodeError.TheVariants.{ArithmeticOverflow, EmptyInput, InvalidBase62Byte}
 use Rattle.base62.specs.declared.fault.EncodeError.{EncodeError}
@@ -35,6 +38,11 @@ decode_error_text EmptyInput = codes "Encoded input is an empty string"
 decode_error_text (InvalidBase62Byte byte index) =
     codes "Encoded input contains the invalid " ++ byte_at_index byte index
 
+-- the message of an error of canonical decoding
+unfoldable pub canonical_error_text : CanonicalError → List ℕ
+canonical_error_text LeadingZero = codes "Encoded input has a leading zero"
+canonical_error_text (Decode fault) = decode_error_text fault
+
 -- the message of an error of encoding
 unfoldable pub encode_error_text : EncodeError → List ℕ
 encode_error_text BufferTooSmall = codes "Buffer too small to encode the number"
@@ -58,6 +66,13 @@ decode_error_rank (InvalidBase62Byte byte index) = 2
 abbrev pub decode_error_order : DecodeError → DecodeError → Ordering
 decode_error_order (InvalidBase62Byte b i) (InvalidBase62Byte c j) = byte_then_index b i c j
 decode_error_order d e = nat_cmp (decode_error_rank d) (decode_error_rank e)
+
+-- a leading zero is less than any error of decoding, and two of those compare as there
+abbrev pub canonical_error_order : CanonicalError → CanonicalError → Ordering
+canonical_error_order LeadingZero LeadingZero = Equal
+canonical_error_order LeadingZero (Decode e) = Less
+canonical_error_order (Decode d) LeadingZero = Greater
+canonical_error_order (Decode d) (Decode e) = decode_error_order d e
 
 -- the order of errors of alphabets
 abbrev pub alphabet_error_order : AlphabetError → AlphabetError → Ordering

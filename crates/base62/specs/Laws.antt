@@ -8,8 +8,8 @@ use Rattle.base62.specs.Canonical.{IsCanonical}
 use Rattle.base62.specs.Decoding.{decoding, after_zeros, IsFirstInvalid, Decodes}
 
 -- a nonempty text has one byte, or does not begin with the zero letter
-abbrev pub HasNoNeedlessZero : List ℕ → List ℕ → Type 0
-HasNoNeedlessZero B text =
+abbrev pub HasNoLeadingZero : List ℕ → List ℕ → Type 0
+HasNoLeadingZero B text =
     (0 < length text) × ((length text ≡ 1) ⊎ (slice_index text 0 ≢ zero_letter B))
 
 -- what follows the leading zeros of a text, or one zero letter if nothing does

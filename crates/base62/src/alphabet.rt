@@ -26,8 +26,8 @@ pub use work::Work;
 ///
 /// ```rust
 /// // Digits and letters, but none that look alike, and some punctuation.
-/// let letters = *b"23456789ABCDEFGHJKLMNPQRSTUVWXYZabcdefghijkmnpqrstuvwxyz-_.~!*";
-/// let alphabet = base62::Alphabet::of(letters);
+/// let characters = *b"23456789ABCDEFGHJKLMNPQRSTUVWXYZabcdefghijkmnpqrstuvwxyz-_.~!*";
+/// let alphabet = base62::Alphabet::from_static(characters);
 /// assert_eq!(rt; base62::decode_with(&alphabet, b"32"), Ok(62));
 /// ```
 ///
@@ -72,16 +72,16 @@ impl Alphabet {
     ///
     /// Returns `Repeated(byte, index)` if a byte is repeated. The index is the least one whose byte
     /// is also at an earlier index.
-    pub const fn new(letters: [u8; 62]) -> Result<Alphabet, AlphabetError>
-        ensures ok { IfOk result (λ alphabet. alphabet ≡ letters) }
-        ensures accepted { IsOk result ↔ IsAlphabet letters }
+    pub const fn new(characters: [u8; 62]) -> Result<Alphabet, AlphabetError>
+        ensures ok { IfOk result (λ alphabet. alphabet ≡ characters) }
+        ensures accepted { IsOk result ↔ IsAlphabet characters }
         ensures named { (byte index : ℕ) → result ≡ Err (Repeated byte index)
-            → RepeatsFirst letters byte index }
+            → RepeatsFirst characters byte index }
     {
         let mut digits = [255u8; 256];
         let mut index = 0;
-        while index < letters.len() {
-            let byte = letters[index];
+        while index < characters.len() {
+            let byte = characters[index];
             if digits[byte as usize] != 255 {
                 return Err(AlphabetError::Repeated(byte, index));
             }
@@ -89,7 +89,10 @@ impl Alphabet {
             index += 1;
         }
         Ok(Alphabet {
-            tables: Tables { letters, digits },
+            tables: Tables {
+                letters: characters,
+                digits,
+            },
         })
     }
 
@@ -98,18 +101,18 @@ impl Alphabet {
     /// Use [`new`](Alphabet::new) for characters that come from input. Does not allocate.
     ///
     /// ```rust
-    /// let letters = *b"ABCDEFGHIJKLMNOPQRSTUVWXYZabcdefghijklmnopqrstuvwxyz0123456789";
-    /// let alphabet = base62::Alphabet::of(letters);
+    /// let characters = *b"ABCDEFGHIJKLMNOPQRSTUVWXYZabcdefghijklmnopqrstuvwxyz0123456789";
+    /// let alphabet = base62::Alphabet::from_static(characters);
     /// assert_eq!(rt; base62::decode_with(&alphabet, b"BA"), Ok(62));
     /// ```
     #[tactic(auto, using(crate::proofs::OrderLemmas::letters_by_test))]
-    pub const fn of(letters: [u8; 62]) -> Alphabet
-        requires { IsTrue (is_alphabet letters) }
-        ensures letters { result ≡ letters }
-        ensures ascends { IsTrue (is_ascending letters) → Ascends result }
-        ensures ascii { IsTrue (is_ascii letters) → IsAscii result }
+    pub const fn from_static(characters: [u8; 62]) -> Alphabet
+        requires { IsTrue (is_alphabet characters) }
+        ensures characters { result ≡ characters }
+        ensures ascends { IsTrue (is_ascending characters) → Ascends result }
+        ensures ascii { IsTrue (is_ascii characters) → IsAscii result }
     {
-        match Alphabet::new(letters) {
+        match Alphabet::new(characters) {
             Ok(alphabet) => alphabet,
             Err(_) => unreachable!("the alphabet repeats a character"),
         }
@@ -146,10 +149,10 @@ impl Alphabet {
     /// Returns the 62 characters: the one at index d has the digit d.
     ///
     /// ```rust
-    /// assert_eq!(rt; base62::Alphabet::standard().letters()[10], b'A');
+    /// assert_eq!(rt; base62::Alphabet::standard().characters()[10], b'A');
     /// ```
-    pub const fn letters(&self) -> &[u8; 62]
-        ensures letters { result.now ≡ self.now }
+    pub const fn characters(&self) -> &[u8; 62]
+        ensures characters { result.now ≡ self.now }
         ensures alphabet { IsAlphabet self.now }
     {
         &self.tables.letters
@@ -165,12 +168,12 @@ impl Alphabet {
     pub const fn is_ascii(&self) -> bool
         ensures { IsTrue result ↔ IsAscii self.now }
     {
-        let letters = self.letters();
+        let characters = self.characters();
         let mut is_ascii = true;
         let mut index = 0;
-        while index < letters.len() {
+        while index < characters.len() {
             // Without a branch, the compiler vectorizes the loop.
-            is_ascii &= letters[index] < 128;
+            is_ascii &= characters[index] < 128;
             index += 1;
         }
         is_ascii
@@ -187,10 +190,10 @@ impl Alphabet {
     pub const fn is_ascending(&self) -> bool
         ensures { IsTrue result ↔ Ascends self.now }
     {
-        let letters = self.letters();
+        let characters = self.characters();
         let mut index = 1;
-        while index < letters.len() {
-            if letters[index] <= letters[index - 1] {
+        while index < characters.len() {
+            if characters[index] <= characters[index - 1] {
                 return false;
             }
             index += 1;

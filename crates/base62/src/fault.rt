@@ -5,8 +5,9 @@ ghost use Rattle.std.specs.Char.{digit_char};
 ghost use Rattle.std.specs.Str.{IsAscii};
 ghost use Rattle.std.specs.Fmt.{WritesOnOk, WritesStyledOnOk};
 ghost use Rattle.std.specs.Fmt.InlineText.{inline_text};
+ghost use Rattle.base62.specs.declared.fault.CanonicalError.TheVariants.{Decode};
 ghost use Rattle.base62.specs.declared.fault.TheConstants.{MAX_FAULT_TEXT};
-ghost use Rattle.base62.specs.Fault.{alphabet_error_text, byte_at_index, decode_error_text, encode_error_text, escaped};
+ghost use Rattle.base62.specs.Fault.{alphabet_error_text, byte_at_index, canonical_error_text, decode_error_text, encode_error_text, escaped};
 
 use std::fmt::InlineText;
 use std::{error, fmt, str};
@@ -23,6 +24,15 @@ pub enum DecodeError {
     /// A byte is not in the alphabet: the first such byte, and its index in the string, leading
     /// zeros included.
     InvalidBase62Byte(u8, usize),
+}
+
+/// An error that can be returned when decoding a string that has to be canonical.
+#[derive(Clone, Copy, Debug, PartialEq, Eq, PartialOrd, Ord, Hash)]
+pub enum CanonicalError {
+    /// The string decodes to a number, but begins with a zero that other characters follow.
+    LeadingZero,
+    /// The string does not decode to a number.
+    Decode(DecodeError),
 }
 
 /// An error that can be returned when encoding to a buffer.
@@ -87,6 +97,49 @@ impl fmt::Display for DecodeError {
 }
 
 impl error::Error for DecodeError {}
+
+impl From<DecodeError> for CanonicalError {
+    ghost from_gives = { λ fault error. error ≡ Decode fault };
+
+    fn from(error: DecodeError) -> CanonicalError {
+        CanonicalError::Decode(error)
+    }
+}
+
+impl CanonicalError {
+    /// Returns the error's message, at most 77 ASCII characters: of an error of decoding its own.
+    ///
+    /// Never fails, and does not allocate.
+    ///
+    /// ```rust
+    /// let error = base62::decode_canonical(b"0LZ").unwrap_err();
+    /// assert_eq!(rt; error.text().as_str(), "Encoded input has a leading zero");
+    /// ```
+    #[tactic(auto, unfolding(crate::specs::Fault::canonical_error_text))]
+    pub fn text(&self) -> InlineText<MAX_FAULT_TEXT>
+        ensures { inline_text result ≡ canonical_error_text self.now }
+    {
+        match *self {
+            CanonicalError::LeadingZero => {
+                append(InlineText::new(), "Encoded input has a leading zero")
+            }
+            CanonicalError::Decode(error) => error.text(),
+        }
+    }
+}
+
+/// Writes the error's message, and ignores the formatter's options.
+impl fmt::Display for CanonicalError {
+    ghost output = { λ e. Some (canonical_error_text e) };
+
+    ghost styled_output = { λ e _. Some (canonical_error_text e) };
+
+    fn fmt<W: fmt::Write>(&self, f: &mut fmt::Formatter<W>) -> fmt::Result {
+        write_unpadded(self.text(), f)
+    }
+}
+
+impl error::Error for CanonicalError {}
 
 impl EncodeError {
     /// Returns the error's message, 37 ASCII characters. Never fails, and does not allocate.

@@ -8,7 +8,7 @@ ghost use Rattle.base62.specs.Uuid.{DecodesUuid, DecodesUuidCanonical};
 use crate::alphabet::Alphabet;
 use crate::canonical::{decode_alternative_canonical, decode_canonical, decode_canonical_with};
 use crate::codec::{decode, decode_alternative, decode_with};
-use crate::fault::DecodeError;
+use crate::fault::{CanonicalError, DecodeError};
 use crate::laws::letters_are_distinct;
 
 /// Decodes `input` in the standard alphabet, and returns the number as the sixteen bytes of a UUID.
@@ -70,25 +70,25 @@ pub fn decode_uuid_with(alphabet: &Alphabet, input: &[u8]) -> Result<[u8; 16], D
 
 /// Decodes `input` in the standard alphabet if it is canonical, and returns the UUID.
 ///
-/// It is the number that [`decode_canonical`] returns, as big-endian bytes. The result is
-/// `Ok(Some(uuid))` exactly for the string that [`encode_bytes`] writes for the UUID's number, so
-/// only one string decodes to it. It is `Ok(None)` exactly if [`decode_uuid`] returns a UUID, but
-/// `input` begins with a zero that other characters follow. Does not allocate.
+/// It is the number that [`decode_canonical`] returns, as big-endian bytes. The result is a UUID
+/// exactly for the string that [`encode_bytes`] writes for its number, so only one string decodes to
+/// it. Does not allocate.
 ///
 /// ```rust
+/// use base62::CanonicalError;
+///
 /// let uuid = base62::decode_uuid_canonical(b"LZ").unwrap();
-/// assert_eq!(rt; uuid, Some([0, 0, 0, 0, 0, 0, 0, 0, 0, 0, 0, 0, 0, 0, 5, 57]));
-/// assert_eq!(rt; base62::decode_uuid_canonical(b"0LZ"), Ok(None));
+/// assert_eq!(rt; uuid, [0, 0, 0, 0, 0, 0, 0, 0, 0, 0, 0, 0, 0, 0, 5, 57]);
+/// assert_eq!(rt; base62::decode_uuid_canonical(b"0LZ"), Err(CanonicalError::LeadingZero));
 /// ```
 ///
-/// [`decode`]: crate::decode
 /// [`decode_canonical`]: crate::decode_canonical
 /// [`encode_bytes`]: crate::encode_bytes
 ///
 /// # Errors
 ///
-/// Returns the errors of [`decode`].
-pub fn decode_uuid_canonical(input: &[u8]) -> Result<Option<[u8; 16]>, DecodeError>
+/// Returns the errors of [`decode_canonical`].
+pub fn decode_uuid_canonical(input: &[u8]) -> Result<[u8; 16], CanonicalError>
     ensures { DecodesUuidCanonical standard input.now result }
 {
     bytes_of_canonical(decode_canonical(input))
@@ -97,13 +97,14 @@ pub fn decode_uuid_canonical(input: &[u8]) -> Result<Option<[u8; 16]>, DecodeErr
 /// Like [`decode_uuid_canonical`], but uses the alternative alphabet.
 ///
 /// ```rust
-/// assert_eq!(rt; base62::decode_alternative_uuid_canonical(b"0lz"), Ok(None));
+/// let uuid = base62::decode_alternative_uuid_canonical(b"lz").unwrap();
+/// assert_eq!(rt; uuid, [0, 0, 0, 0, 0, 0, 0, 0, 0, 0, 0, 0, 0, 0, 5, 57]);
 /// ```
 ///
 /// # Errors
 ///
-/// Returns the errors of [`decode`](crate::decode).
-pub fn decode_alternative_uuid_canonical(input: &[u8]) -> Result<Option<[u8; 16]>, DecodeError>
+/// Returns the errors of [`decode_canonical`](crate::decode_canonical).
+pub fn decode_alternative_uuid_canonical(input: &[u8]) -> Result<[u8; 16], CanonicalError>
     ensures { DecodesUuidCanonical alternative input.now result }
 {
     bytes_of_canonical(decode_alternative_canonical(input))
@@ -113,16 +114,17 @@ pub fn decode_alternative_uuid_canonical(input: &[u8]) -> Result<Option<[u8; 16]
 ///
 /// ```rust
 /// let alphabet = base62::Alphabet::alternative();
-/// assert_eq!(rt; base62::decode_uuid_canonical_with(&alphabet, b"0lz"), Ok(None));
+/// let uuid = base62::decode_uuid_canonical_with(&alphabet, b"lz").unwrap();
+/// assert_eq!(rt; uuid, [0, 0, 0, 0, 0, 0, 0, 0, 0, 0, 0, 0, 0, 0, 5, 57]);
 /// ```
 ///
 /// # Errors
 ///
-/// Returns the errors of [`decode`](crate::decode).
+/// Returns the errors of [`decode_canonical`](crate::decode_canonical).
 pub fn decode_uuid_canonical_with(
     alphabet: &Alphabet,
     input: &[u8],
-) -> Result<Option<[u8; 16]>, DecodeError>
+) -> Result<[u8; 16], CanonicalError>
     ensures { DecodesUuidCanonical alphabet.now input.now result }
 {
     bytes_of_canonical(decode_canonical_with(alphabet, input))
@@ -141,16 +143,13 @@ fn bytes_of(decoded: Result<u128, DecodeError>) -> Result<[u8; 16], DecodeError>
 }
 
 // Returns the number of a canonical text as big-endian bytes.
-#[tactic(auto, using(crate::proofs::UuidLemmas::needless_decoded, crate::proofs::UuidLemmas::canonical_refused))]
-fn bytes_of_canonical(
-    decoded: Result<Option<u128>, DecodeError>,
-) -> Result<Option<[u8; 16]>, DecodeError>
+#[tactic(auto, using(crate::proofs::UuidLemmas::canonical_refused))]
+fn bytes_of_canonical(decoded: Result<u128, CanonicalError>) -> Result<[u8; 16], CanonicalError>
     ensures { (B text : List ℕ) → DecodesCanonical B text decoded
         → DecodesUuidCanonical B text result }
 {
     match decoded {
-        Ok(Some(number)) => Ok(Some(number.to_be_bytes())),
-        Ok(None) => Ok(None),
+        Ok(value) => Ok(value.to_be_bytes()),
         Err(fault) => Err(fault),
     }
 }

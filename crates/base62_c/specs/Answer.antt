@@ -1,6 +1,8 @@
 -- How C gets a result: a length or a status is returned, and values are stored through pointers. A
 -- primed name is the value after the call.
 use Rattle.std.specs.Prelude.{◌≡◌, ◌≢◌, ◌≤◌, ◌<◌, ◌==◌, if◌then◌else◌, ◌++◌, ℕ, List, length, drop, Option, Some, None, Result, Ok, Err}
+use Rattle.base62.specs.declared.fault.CanonicalError.{CanonicalError}
+use Rattle.base62.specs.declared.fault.CanonicalError.TheVariants.{LeadingZero, Decode}
 use Rattle.base62.specs.declared.fault.DecodeError.{DecodeError}
 use Rattle.base62.specs.declared.fault.DecodeError.TheVariants.{ArithmeticOverflow, EmptyInput, InvalidBase62Byte}
 use Rattle.base62.specs.declared.fault.EncodeError.TheVariants.{BufferTooSmall}
@@ -44,14 +46,14 @@ TellsNumber (Ok n) status number number' bad bad' =
 TellsNumber (Err fault) status number number' bad bad' =
     TellsFault fault status bad bad' × (number' ≡ number)
 
--- the same for canonical decoding; for a text with a needless zero no number is stored
+-- the same for canonical decoding; a leading zero has a status of its own
 abbrev pub TellsCanonical :
-    Result (Option ℕ) DecodeError → ℕ → Number → Number → BadByte → BadByte → Type 0
-TellsCanonical (Ok (Some n)) status number number' bad bad' =
+    Result ℕ CanonicalError → ℕ → Number → Number → BadByte → BadByte → Type 0
+TellsCanonical (Ok n) status number number' bad bad' =
     TellsNumber (Ok n) status number number' bad bad'
-TellsCanonical (Ok None) status number number' bad bad' =
+TellsCanonical (Err LeadingZero) status number number' bad bad' =
     (status ≡ 7) × (number' ≡ number) × (bad' ≡ bad)
-TellsCanonical (Err fault) status number number' bad bad' =
+TellsCanonical (Err (Decode fault)) status number number' bad bad' =
     TellsNumber (Err fault) status number number' bad bad'
 
 -- two ends, the lesser first

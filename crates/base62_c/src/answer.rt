@@ -5,7 +5,7 @@ ghost use Rattle.base62.specs.declared.fault.AlphabetError.TheVariants.{Repeated
 ghost use Rattle.base62_c.specs.Answer.{TellsFault, TellsNumber, TellsCanonical, TellsEnds, WritesText};
 
 use crate::number::{Number, halves};
-use base62::{AlphabetError, DecodeError, EncodeError};
+use base62::{AlphabetError, CanonicalError, DecodeError, EncodeError};
 
 pub(crate) const OK: u32 = 0;
 
@@ -17,9 +17,9 @@ pub(crate) const INVALID_BYTE: u32 = 3;
 
 pub(crate) const OVERFLOW: u32 = 4;
 
-pub(crate) const NO_KEY: u32 = 5;
+pub(crate) const NO_MATCH: u32 = 5;
 
-pub(crate) const REPEATED_LETTER: u32 = 6;
+pub(crate) const REPEATED_CHARACTER: u32 = 6;
 
 pub(crate) const NOT_CANONICAL: u32 = 7;
 
@@ -67,19 +67,19 @@ pub(crate) fn store_number(
 }
 
 pub(crate) fn store_canonical(
-    answer: Result<Option<u128>, DecodeError>,
+    answer: Result<u128, CanonicalError>,
     number: &mut Number,
     bad: &mut BadByte,
 ) -> u32
     ensures { TellsCanonical answer result number.old number.new bad.old bad.new }
 {
     match answer {
-        Ok(Some(n)) => {
+        Ok(n) => {
             *number = halves(n);
             OK
         }
-        Ok(None) => NOT_CANONICAL,
-        Err(fault) => store_error(fault, bad),
+        Err(CanonicalError::LeadingZero) => NOT_CANONICAL,
+        Err(CanonicalError::Decode(fault)) => store_error(fault, bad),
     }
 }
 
@@ -98,7 +98,7 @@ pub(crate) fn store_range(
             };
             OK
         }
-        Ok(None) => NO_KEY,
+        Ok(None) => NO_MATCH,
         Err(fault) => store_error(fault, bad),
     }
 }
@@ -122,7 +122,7 @@ pub(crate) fn store_repeat(fault: AlphabetError, bad: &mut BadByte) -> u32
 {
     let AlphabetError::Repeated(byte, index) = fault;
     *bad = BadByte { index, byte };
-    REPEATED_LETTER
+    REPEATED_CHARACTER
 }
 
 pub(crate) fn copy_text(text: &[u8], buf: &mut [u8]) -> usize

@@ -6,10 +6,10 @@ ghost use Rattle.base62.specs.declared.fault.TheConstants.{MAX_FAULT_TEXT};
 ghost use Rattle.base62_c.specs.Fault.{status_text};
 
 use crate::answer::{
-    BUFFER_TOO_SMALL, BadByte, EMPTY_INPUT, INVALID_BYTE, NO_KEY, NOT_CANONICAL, OVERFLOW,
-    REPEATED_LETTER,
+    BUFFER_TOO_SMALL, BadByte, EMPTY_INPUT, INVALID_BYTE, NO_MATCH, NOT_CANONICAL, OVERFLOW,
+    REPEATED_CHARACTER,
 };
-use base62::{AlphabetError, DecodeError, EncodeError, MAX_FAULT_TEXT};
+use base62::{AlphabetError, CanonicalError, DecodeError, EncodeError, MAX_FAULT_TEXT};
 use std::fmt::InlineText;
 
 #[tactic(auto, unfolding(crate::specs::Fault::status_text))]
@@ -20,10 +20,10 @@ pub(crate) fn text_of(status: u32, bad: BadByte) -> InlineText<MAX_FAULT_TEXT>
         BUFFER_TOO_SMALL => EncodeError::BufferTooSmall.text(),
         EMPTY_INPUT => DecodeError::EmptyInput.text(),
         INVALID_BYTE => DecodeError::InvalidBase62Byte(bad.byte, bad.index).text(),
-        OVERFLOW => DecodeError::ArithmeticOverflow.text(),
-        NO_KEY => fixed_text("No string of this width begins with the prefix"),
-        REPEATED_LETTER => AlphabetError::Repeated(bad.byte, bad.index).text(),
-        NOT_CANONICAL => fixed_text("Encoded input has a leading zero"),
+        OVERFLOW => fixed_text("Decoded number is 2^128 or more"),
+        NO_MATCH => fixed_text("No string of this width begins with the prefix"),
+        REPEATED_CHARACTER => AlphabetError::Repeated(bad.byte, bad.index).text(),
+        NOT_CANONICAL => CanonicalError::LeadingZero.text(),
         _ => InlineText::new(),
     }
 }

@@ -2,8 +2,10 @@
 
 ghost use Rattle.std.specs.Prelude.{◌≡◌, ◌≢◌, ◌<◌, ◌^◌, ℕ, List, take, Option, Result};
 ghost use Rattle.base62.specs.Alphabet.{IsAlphabet, RepeatsFirst};
-ghost use Rattle.base62.specs.Fault.{alphabet_error_text, decode_error_text, encode_error_text};
+ghost use Rattle.base62.specs.Fault.{alphabet_error_text, canonical_error_text, decode_error_text, encode_error_text};
 ghost use Rattle.base62.specs.declared.fault.AlphabetError.TheVariants.{Repeated};
+ghost use Rattle.base62.specs.declared.fault.CanonicalError.{CanonicalError};
+ghost use Rattle.base62.specs.declared.fault.CanonicalError.TheVariants.{LeadingZero};
 ghost use Rattle.base62.specs.declared.fault.DecodeError.{DecodeError};
 ghost use Rattle.base62.specs.declared.fault.EncodeError.TheVariants.{BufferTooSmall};
 ghost use Rattle.base62_c.specs.Answer.{Encodes, Fills, TellsFault, TellsNumber, TellsCanonical, TellsEnds, WritesText};
@@ -32,7 +34,7 @@ pub fn one_answer()
         (bad other bad' : BadByte)
         → TellsNumber a status number number' bad bad' → TellsNumber b status m number' other bad'
         → a ≡ b }
-    ensures canonical { (a b : Result (Option ℕ) DecodeError) (status : ℕ)
+    ensures canonical { (a b : Result ℕ CanonicalError) (status : ℕ)
         (number m number' : Number) (bad other bad' : BadByte)
         → TellsCanonical a status number number' bad bad'
         → TellsCanonical b status m number' other bad' → a ≡ b }
@@ -58,7 +60,7 @@ pub fn one_telling()
         (bad a b : BadByte) → AreHalves m → AreHalves n
         → TellsNumber answer s number m bad a → TellsNumber answer t number n bad b
         → (s ≡ t) × (m ≡ n) × (a ≡ b) }
-    ensures canonical { (answer : Result (Option ℕ) DecodeError) (s t : ℕ) (number m n : Number)
+    ensures canonical { (answer : Result ℕ CanonicalError) (s t : ℕ) (number m n : Number)
         (bad a b : BadByte) → AreHalves m → AreHalves n
         → TellsCanonical answer s number m bad a → TellsCanonical answer t number n bad b
         → (s ≡ t) × (m ≡ n) × (a ≡ b) }
@@ -82,13 +84,15 @@ pub fn one_telling()
 }
 
 /// The status of an error of decoding, with the stored byte and index, has the message of that
-/// error. Status 1 has the message of a buffer that is too small, and status 6 that of a repeated
-/// letter.
+/// error, except that the one of an overflow does not name a type of Rust. Status 1 has the message of a buffer that is too small, status 6 that of a repeated letter,
+/// and status 7 that of a leading zero.
 #[tactic(auto, unfolding(crate::specs::Fault::status_text))]
 pub fn text_of_told_fault()
     ensures decoding { (fault : DecodeError) (status : ℕ) (bad bad' : BadByte)
-        → TellsFault fault status bad bad'
+        → TellsFault fault status bad bad' → status ≢ 4
         → status_text status bad'.byte bad'.index ≡ decode_error_text fault }
+    ensures canonical { (byte index : ℕ)
+        → status_text 7 byte index ≡ canonical_error_text LeadingZero }
     ensures encoding { (byte index : ℕ)
         → status_text 1 byte index ≡ encode_error_text BufferTooSmall }
     ensures alphabets { (byte index : ℕ)

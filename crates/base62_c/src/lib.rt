@@ -32,7 +32,7 @@ use fault::text_of;
 use number::{Number, halves, joined};
 
 /// The version: major times 10000, plus minor times 100, plus patch.
-const VERSION_NUMBER: u32 = 30400;
+const VERSION_NUMBER: u32 = 40000;
 
 #[unsafe(no_mangle)]
 pub extern "C" fn base62_encode(number: Number, buf: &mut [u8]) -> usize
@@ -181,23 +181,23 @@ pub extern "C" fn base62_key_range(prefix: &[u8], range: &mut Range, bad: &mut B
 }
 
 #[unsafe(no_mangle)]
-pub extern "C" fn base62_fixed_range(
-    width: usize,
+pub extern "C" fn base62_prefix_range(
     prefix: &[u8],
+    width: usize,
     range: &mut Range,
     bad: &mut BadByte,
 ) -> u32
     ensures { TellsEnds (range_of standard width prefix.now) result range.old range.new
         bad.old bad.new }
 {
-    store_range(base62::fixed_range(width, prefix), range, bad)
+    store_range(base62::prefix_range(prefix, width), range, bad)
 }
 
 #[unsafe(no_mangle)]
-pub extern "C" fn base62_fixed_range_with(
+pub extern "C" fn base62_prefix_range_with(
     alphabet: &Alphabet,
-    width: usize,
     prefix: &[u8],
+    width: usize,
     range: &mut Range,
     bad: &mut BadByte,
 ) -> u32
@@ -205,7 +205,7 @@ pub extern "C" fn base62_fixed_range_with(
         bad.old bad.new }
 {
     store_range(
-        base62::fixed_range_with(alphabet, width, prefix),
+        base62::prefix_range_with(alphabet, prefix, width),
         range,
         bad,
     )
@@ -213,19 +213,19 @@ pub extern "C" fn base62_fixed_range_with(
 
 // What `alphabet` points to is not read, so callers can pass uninitialized memory.
 #[unsafe(no_mangle)]
-pub extern "C" fn base62_make_alphabet(
-    letters: &[u8; 62],
+pub extern "C" fn base62_alphabet_init(
     alphabet: &mut Alphabet,
+    characters: &[u8; 62],
     bad: &mut BadByte,
 ) -> u32
-    ensures accepted { IsAlphabet letters.now
-        → (result ≡ 0) × (alphabet.new ≡ letters.now) × (bad.new ≡ bad.old) }
-    ensures refused { (IsAlphabet letters.now → ⊥)
-        → (result ≡ 6) × RepeatsFirst letters.now bad.new.byte bad.new.index
+    ensures accepted { IsAlphabet characters.now
+        → (result ≡ 0) × (alphabet.new ≡ characters.now) × (bad.new ≡ bad.old) }
+    ensures refused { (IsAlphabet characters.now → ⊥)
+        → (result ≡ 6) × RepeatsFirst characters.now bad.new.byte bad.new.index
         × (alphabet.new ≡ alphabet.old) }
-    ensures alphabet { result ≢ 6 → IsAlphabet letters.now }
+    ensures alphabet { result ≢ 6 → IsAlphabet characters.now }
 {
-    match Alphabet::new(*letters) {
+    match Alphabet::new(*characters) {
         Ok(made) => {
             *alphabet = made;
             OK
@@ -235,21 +235,21 @@ pub extern "C" fn base62_make_alphabet(
 }
 
 #[unsafe(no_mangle)]
-pub extern "C" fn base62_number_of_uuid(uuid: &[u8; 16]) -> Number
+pub extern "C" fn base62_from_uuid(uuid: &[u8; 16]) -> Number
     ensures { number_of result ≡ uuid_number uuid.now }
 {
     halves(base62::Number::number(*uuid))
 }
 
 #[unsafe(no_mangle)]
-pub extern "C" fn base62_uuid_of_number(number: Number, uuid: &mut [u8; 16])
+pub extern "C" fn base62_to_uuid(number: Number, uuid: &mut [u8; 16])
     ensures { uuid_number uuid.new ≡ number_of number }
 {
     *uuid = joined(number).to_be_bytes();
 }
 
 #[unsafe(no_mangle)]
-pub extern "C" fn base62_fault_text(status: u32, bad: BadByte, buf: &mut [u8]) -> usize
+pub extern "C" fn base62_error_message(status: u32, bad: BadByte, buf: &mut [u8]) -> usize
     ensures written { WritesText (status_text status bad.byte bad.index) buf.old buf.new result }
     ensures most { length (status_text status bad.byte bad.index) ≤ MAX_FAULT_TEXT }
 {

@@ -3,6 +3,7 @@
 #![tactic(auto)]
 
 ghost use Rattle.std.specs.Prelude.{◌≡◌, ◌+◌, ◌-◌, ◌^◌, ℕ, List, [], codes, Ok, Err, Some, None};
+ghost use Rattle.base62.specs.declared.fault.CanonicalError.TheVariants.{LeadingZero, Decode};
 ghost use Rattle.base62.specs.declared.fault.DecodeError.TheVariants.{ArithmeticOverflow, EmptyInput, InvalidBase62Byte};
 ghost use Rattle.base62_c.specs.Answer.{Encodes, Fills, TellsFault, TellsNumber, TellsCanonical, TellsEnds, WritesText, bad_byte, ends};
 ghost use Rattle.base62_c.specs.Fault.{status_text};
@@ -79,21 +80,21 @@ pub fn results_by_example()
 /// How results of canonical decoding are returned.
 pub fn canonical_by_example()
     ensures number { (n : Number) (bad : BadByte)
-        → TellsCanonical (Ok (Some 5)) 0 n (pair 0 5) bad bad }
+        → TellsCanonical (Ok 5) 0 n (pair 0 5) bad bad }
     ensures number_by_another_status { (n : Number) (bad : BadByte)
-        → TellsCanonical (Ok (Some 5)) 7 n (pair 0 5) bad bad → ⊥ }
+        → TellsCanonical (Ok 5) 7 n (pair 0 5) bad bad → ⊥ }
     ensures number_left { (bad : BadByte)
-        → TellsCanonical (Ok (Some 5)) 0 (pair 3 4) (pair 3 4) bad bad → ⊥ }
-    ensures needless_zero { (n : Number) (bad : BadByte) → TellsCanonical (Ok None) 7 n n bad bad }
-    ensures needless_zero_with_a_number { (bad : BadByte)
-        → TellsCanonical (Ok None) 7 (pair 3 4) (pair 0 5) bad bad → ⊥ }
-    ensures needless_zero_with_an_index { (n : Number)
-        → TellsCanonical (Ok None) 7 n n (bad_byte 7 8) (bad_byte 7 0) → ⊥ }
-    ensures needless_zero_by_another_status { (n : Number) (bad : BadByte)
-        → TellsCanonical (Ok None) 0 n n bad bad → ⊥ }
-    ensures fault { (n : Number) (bad : BadByte) → TellsCanonical (Err EmptyInput) 2 n n bad bad }
+        → TellsCanonical (Ok 5) 0 (pair 3 4) (pair 3 4) bad bad → ⊥ }
+    ensures leading_zero { (n : Number) (bad : BadByte) → TellsCanonical (Err LeadingZero) 7 n n bad bad }
+    ensures leading_zero_with_a_number { (bad : BadByte)
+        → TellsCanonical (Err LeadingZero) 7 (pair 3 4) (pair 0 5) bad bad → ⊥ }
+    ensures leading_zero_with_an_index { (n : Number)
+        → TellsCanonical (Err LeadingZero) 7 n n (bad_byte 7 8) (bad_byte 7 0) → ⊥ }
+    ensures leading_zero_by_another_status { (n : Number) (bad : BadByte)
+        → TellsCanonical (Err LeadingZero) 0 n n bad bad → ⊥ }
+    ensures fault { (n : Number) (bad : BadByte) → TellsCanonical (Err (Decode EmptyInput)) 2 n n bad bad }
     ensures fault_with_a_half { (bad : BadByte)
-        → TellsCanonical (Err EmptyInput) 2 (pair 3 4) (pair 3 0) bad bad → ⊥ }
+        → TellsCanonical (Err (Decode EmptyInput)) 2 (pair 3 4) (pair 3 0) bad bad → ⊥ }
 {}
 
 /// How ranges are returned, whatever was stored before, or if the halves of an end were 3 and 4.
@@ -149,7 +150,7 @@ pub fn texts_by_example()
 // the text of a status
 crate::specs::Fault::status_text,
 // what each fault says
-base62::specs::Fault::decode_error_text, base62::specs::Fault::encode_error_text, base62::specs::Fault::alphabet_error_text,
+base62::specs::Fault::decode_error_text, base62::specs::Fault::canonical_error_text, base62::specs::Fault::encode_error_text, base62::specs::Fault::alphabet_error_text,
 // a byte and its index
 base62::specs::Fault::byte_at_index, base62::specs::Fault::escaped))]
 pub fn status_texts_by_example()
@@ -158,9 +159,9 @@ pub fn status_texts_by_example()
     ensures empty_input { status_text 2 33 5 ≡ codes "Encoded input is an empty string" }
     ensures invalid_byte { status_text 3 33 5
         ≡ codes "Encoded input contains the invalid byte b'!' at index 5" }
-    ensures overflow { status_text 4 33 5 ≡ codes "Decoded number cannot fit into a `u128`" }
-    ensures no_key { status_text 5 33 5 ≡ codes "No string of this width begins with the prefix" }
-    ensures repeated_letter { status_text 6 33 5
+    ensures overflow { status_text 4 33 5 ≡ codes "Decoded number is 2^128 or more" }
+    ensures no_match { status_text 5 33 5 ≡ codes "No string of this width begins with the prefix" }
+    ensures repeated_character { status_text 6 33 5
         ≡ codes "Alphabet repeats the byte b'!' at index 5" }
     ensures not_canonical { status_text 7 33 5 ≡ codes "Encoded input has a leading zero" }
     ensures no_status { status_text 8 33 5 ≡ [] }

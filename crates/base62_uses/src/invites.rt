@@ -4,57 +4,44 @@ ghost use Rattle.std.specs.Prelude.{◌≡◌, ◌<◌, ◌^◌, ◌↔◌, ℕ,
 ghost use Rattle.base62.specs.Alphabet.{standard, zero_letter};
 ghost use Rattle.base62.specs.Canonical.{IsCanonical};
 ghost use Rattle.base62.specs.Decoding.{decoding, IsFirstInvalid};
+ghost use Rattle.base62.specs.declared.fault.CanonicalError.{CanonicalError};
 ghost use Rattle.base62.specs.declared.fault.DecodeError.{DecodeError};
 
-use base62::DecodeError;
+use base62::CanonicalError;
 
-/// Whether a code with needless zeros is accepted.
+/// Whether a code with leading zeros is accepted.
 #[derive(Clone, Copy)]
 pub enum LeadingZeros {
     Accepted,
     Rejected,
 }
 
-/// Why a code is rejected.
-#[derive(Clone, Copy)]
-pub enum InviteFault {
-    /// It has needless leading zeros.
-    LeadingZero,
-    /// It is no number below 2^128. A byte that is no letter is named with its place.
-    Text(DecodeError),
-}
-
 /// Decodes a code that a user typed.
-pub fn invite_number(code: &[u8], zeros: LeadingZeros) -> Result<u128, InviteFault>
+pub fn invite_number(code: &[u8], zeros: LeadingZeros) -> Result<u128, CanonicalError>
     ensures accepted { (n : ℕ) → zeros ≡ LeadingZeros.Accepted
         → (result ≡ Ok n ↔ (decoding standard code.now ≡ Ok n)) }
     ensures own { (n : ℕ) → zeros ≡ LeadingZeros.Rejected → n < 2 ^ 128
         → IsCanonical standard code.now n → result ≡ Ok n }
     ensures canonical { (n : ℕ) → zeros ≡ LeadingZeros.Rejected → result ≡ Ok n
         → (decoding standard code.now ≡ Ok n) × IsCanonical standard code.now n }
-    ensures fault { (fault : DecodeError) → result ≡ Err (InviteFault.Text fault)
+    ensures fault { (fault : DecodeError) → result ≡ Err (CanonicalError.Decode fault)
         ↔ (decoding standard code.now ≡ Err fault) }
     ensures place { (byte index : ℕ)
-        → result ≡ Err (InviteFault.Text (DecodeError.InvalidBase62Byte byte index))
+        → result ≡ Err (CanonicalError.Decode (DecodeError.InvalidBase62Byte byte index))
         → IsFirstInvalid standard code.now byte index }
 {
-    let answer = match zeros {
-        LeadingZeros::Accepted => base62::decode(code).map(Some),
+    match zeros {
+        LeadingZeros::Accepted => Ok(base62::decode(code)?),
         LeadingZeros::Rejected => base62::decode_canonical(code),
-    };
-    match answer {
-        Ok(Some(number)) => Ok(number),
-        Ok(None) => Err(InviteFault::LeadingZero),
-        Err(fault) => Err(InviteFault::Text(fault)),
     }
 }
 
-/// Returns whether a code decodes to a number but has needless zeros.
-pub fn has_needless_zeros(code: &[u8]) -> bool
+/// Returns whether a code decodes to a number but has leading zeros.
+pub fn has_leading_zeros(code: &[u8]) -> bool
     ensures number { IsTrue result → IsOk (decoding standard code.now) }
     ensures zero { IsTrue result → slice_index code.now 0 ≡ zero_letter standard }
 {
-    base62::decode_canonical(code) == Ok(None)
+    base62::decode_canonical(code) == Err(CanonicalError::LeadingZero)
 }
 
 /// Decodes a code to an id, or returns `None` if it is not canonical, or does not denote a number
@@ -63,6 +50,6 @@ pub fn id_of_code(code: &[u8]) -> Option<u64>
     ensures canonical { (id : ℕ) → result ≡ Some id → IsCanonical standard code.now id }
     ensures back { (id : ℕ) → result ≡ Some id → decoding standard code.now ≡ Ok id }
 {
-    let number = base62::decode_canonical(code).ok()??;
+    let number = base62::decode_canonical(code).ok()?;
     u64::try_from(number).ok()
 }

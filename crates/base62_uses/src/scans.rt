@@ -40,7 +40,7 @@ pub fn scan_ends(prefix: &[u8]) -> Option<([u8; 22], [u8; 22])>
         → BeginsWith prefix.now key → ⊥ }
 {
     base62::laws::built_in_alphabets();
-    let Ok(Some(ends)) = base62::fixed_range(22, prefix) else {
+    let Ok(Some(ends)) = base62::prefix_range(prefix, 22) else {
         return None;
     };
     let low = base62::encode_key(ends.0);
@@ -53,7 +53,7 @@ pub fn scan_ends(prefix: &[u8]) -> Option<([u8; 22], [u8; 22])>
 pub fn is_prefix(prefix: &[u8]) -> bool
     ensures { IsTrue result ↔ AreLetters standard prefix.now }
 {
-    base62::fixed_range(22, prefix).is_ok()
+    base62::prefix_range(prefix, 22).is_ok()
 }
 
 /// Returns how many texts of a request denote an id, for a server that has to bound its work. Each

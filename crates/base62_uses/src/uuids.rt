@@ -38,7 +38,7 @@ pub fn uuid_of_short(text: &[u8]) -> Option<[u8; 16]>
     ensures own { (uuid : List ℕ) → IsUuid uuid → IsCanonical standard text.now (uuid_number uuid)
         → result ≡ Some uuid }
 {
-    base62::decode_uuid_canonical(text).ok()?
+    base62::decode_uuid_canonical(text).ok()
 }
 
 /// Like [`uuid_of_short`], but decodes to the number first.
@@ -49,7 +49,7 @@ pub fn uuid_of_link(text: &[u8]) -> Option<[u8; 16]>
         → result ≡ Some uuid }
 {
     base62::laws::numbers_of_uuids();
-    base62::decode_canonical(text).ok()??;
+    base62::decode_canonical(text).ok()?;
     base62::decode_uuid(text).ok()
 }
 

@@ -9,14 +9,14 @@ use Rattle.base62.specs.declared.fault.EncodeError.TheVariants.{BufferTooSmall}
 use Rattle.base62.specs.Alphabet.{IsAlphabet, is_letter, standard}
 use Rattle.base62.specs.Value.{value}
 use Rattle.base62.specs.Canonical.{Denotes, IsCanonical}
-use Rattle.base62.specs.Laws.{HasNoNeedlessZero}
+use Rattle.base62.specs.Laws.{HasNoLeadingZero}
 use Rattle.base62.specs.Steps.{EncodesCounted, encoding_steps}
 
 -- by the laws of canonical texts
 module _ (ok : IsAlphabet standard)
     (only : (B : List ℕ) → IsAlphabet B → (n : ℕ) (a b : List ℕ) → IsCanonical B a n → IsCanonical B b n → a ≡ b)
-    (plain : (B : List ℕ) → IsAlphabet B → (text : List ℕ) (n : ℕ) → Denotes B text n → HasNoNeedlessZero B text → IsCanonical B text n)
-    (text : List ℕ) (letters : list_all (is_letter standard) text ≡ true) (shape : HasNoNeedlessZero standard text)
+    (plain : (B : List ℕ) → IsAlphabet B → (text : List ℕ) (n : ℕ) → Denotes B text n → HasNoLeadingZero B text → IsCanonical B text n)
+    (text : List ℕ) (letters : list_all (is_letter standard) text ≡ true) (shape : HasNoLeadingZero standard text)
     (old new : List ℕ) (before after : ℕ) (start : before ≡ 0) where
   canonical : IsCanonical standard text (value standard text)
   canonical =

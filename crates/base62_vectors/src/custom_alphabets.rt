@@ -31,8 +31,8 @@ fn descending(rt: &impl Abort) -> Alphabet {
 #[test]
 fn properties_of_alphabets(rt: HostRuntime) {
     let (standard, alternative) = (Alphabet::standard(), Alphabet::alternative());
-    let have_letters = *standard.letters() == STANDARD_LETTERS
-        && *alternative.letters() == ALTERNATIVE_LETTERS;
+    let have_letters = *standard.characters() == STANDARD_LETTERS
+        && *alternative.characters() == ALTERNATIVE_LETTERS;
     assert!(rt; have_letters, "the built-in alphabets");
     for (alphabet, is_ascii, is_ascending) in [
         (standard, true, true),

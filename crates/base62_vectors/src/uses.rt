@@ -60,7 +60,7 @@ fn show_over(alloc: Global, alphabet: &Alphabet) -> Result<bool, AllocError> {
 fn texts_over_own_letters(rt: HostRuntime) -> Result<(), AllocError> {
     let standard = Alphabet::standard();
     assert!(rt; show_over(rt.alloc(), &standard)?);
-    own_text(rt.alloc(), *standard.letters(), 1337)?;
+    own_text(rt.alloc(), *standard.characters(), 1337)?;
     widened(rt.alloc(), &standard, 5, b"LZ")?;
     // `shelf_mark` has no clause.
     assert!(rt; shelf_mark(rt.alloc(), 1337)?.as_str() == "KY");

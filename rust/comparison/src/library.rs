@@ -1,6 +1,6 @@
 //! The calls of a library for C, with the names and types of this crate.
 
-use proved::{AlphabetError, DecodeError, EncodeError};
+use proved::{AlphabetError, CanonicalError, DecodeError, EncodeError};
 use std::ops::RangeInclusive;
 
 #[repr(C)]
@@ -43,10 +43,10 @@ pub struct Alphabet([u8; 318]);
 extern "C" {
     fn base62_encode_key(number: Number, key: &mut [u8; 22]);
     fn base62_digit_count(number: Number) -> usize;
-    fn base62_make_alphabet(letters: &[u8; 62], made: &mut Alphabet, bad: &mut BadByte) -> u32;
-    fn base62_uuid_of_number(number: Number, uuid: &mut [u8; 16]);
-    fn base62_number_of_uuid(uuid: &[u8; 16]) -> Number;
-    fn base62_fault_text(status: u32, bad: BadByte, buffer: *mut u8, size: usize) -> usize;
+    fn base62_alphabet_init(alphabet: &mut Alphabet, characters: &[u8; 62], bad: &mut BadByte) -> u32;
+    fn base62_to_uuid(number: Number, uuid: &mut [u8; 16]);
+    fn base62_from_uuid(uuid: &[u8; 16]) -> Number;
+    fn base62_error_message(status: u32, bad: BadByte, buffer: *mut u8, size: usize) -> usize;
 }
 
 /// Calls with a buffer. They answer how many bytes they wrote, or 0 if it is too small.
@@ -79,49 +79,50 @@ encoders! {
     encode_fixed_with base62_encode_fixed_with own,
 }
 
-/// Calls with a text. They write a number or a range, and answer a status.
+/// Calls with a text, and in `$width` what follows it. They write a number or a range, and answer a status.
 macro_rules! decoders {
     ($type:ty: $found:ident, $answer:expr; $($call:ident $name:ident $($own:ident)? $(($width:ident))?,)*) => {
         extern "C" {
             $(fn $name(
-                $($own: &Alphabet,)? $($width: usize,)? start: *const u8, length: usize, found: &mut $found,
+                $($own: &Alphabet,)? start: *const u8, length: usize, $($width: usize,)? found: &mut $found,
                 bad: &mut BadByte,
             ) -> u32;)*
         }
-        $(pub fn $call($($own: &Alphabet,)? $($width: usize,)? text: &[u8]) -> Result<$type, DecodeError> {
+        $(pub fn $call($($own: &Alphabet,)? text: &[u8] $(, $width: usize)?) -> $type {
             let (mut found, mut bad) = ($found::default(), BadByte::default());
             let (start, length) = (text.as_ptr(), text.len());
             // SAFETY: a slice is valid for reads of its length, and `Alphabet::new` has made each alphabet.
-            match unsafe { $name($($own,)? $($width,)? start, length, &mut found, &mut bad) } {
-                2 => Err(DecodeError::EmptyInput),
-                3 => Err(DecodeError::InvalidBase62Byte(bad.byte, bad.index)),
-                4 => Err(DecodeError::ArithmeticOverflow),
-                status => Ok($answer(status, found)),
+            match unsafe { $name($($own,)? start, length, $($width,)? &mut found, &mut bad) } {
+                2 => Err(DecodeError::EmptyInput.into()),
+                3 => Err(DecodeError::InvalidBase62Byte(bad.byte, bad.index).into()),
+                4 => Err(DecodeError::ArithmeticOverflow.into()),
+                status => $answer(status, found),
             }
         })*
     };
 }
 
 decoders! {
-    u128: Number, |status, number: Number| (status == 0).then(|| number.value()).unwrap();
+    Result<u128, DecodeError>: Number, |status, number: Number| (status == 0).then(|| Ok(number.value())).unwrap();
     decode base62_decode,
     decode_alternative base62_decode_alternative,
     decode_with base62_decode_with own,
 }
 
 decoders! {
-    Option<u128>: Number, |status, number: Number| found(status, 7, number.value());
+    Result<u128, CanonicalError>: Number,
+    |status, number: Number| found(status, 7, number.value()).ok_or(CanonicalError::LeadingZero);
     decode_canonical base62_decode_canonical,
     decode_alternative_canonical base62_decode_alternative_canonical,
     decode_canonical_with base62_decode_canonical_with own,
 }
 
 decoders! {
-    Option<RangeInclusive<u128>>: Range,
-    |status, range: Range| found(status, 5, range.least.value()..=range.greatest.value());
+    Result<Option<RangeInclusive<u128>>, DecodeError>: Range,
+    |status, range: Range| Ok(found(status, 5, range.least.value()..=range.greatest.value()));
     key_range base62_key_range,
-    fixed_range base62_fixed_range (width),
-    fixed_range_with base62_fixed_range_with own (width),
+    prefix_range base62_prefix_range (width),
+    prefix_range_with base62_prefix_range_with own (width),
 }
 
 /// What was found, by a status that may say that there is none.
@@ -133,13 +134,13 @@ fn found<T>(status: u32, none: u32, found: T) -> Option<T> {
 pub fn decode_uuid(text: &[u8]) -> Result<[u8; 16], DecodeError> {
     let (number, mut uuid) = (Number::new(decode(text)?), [0; 16]);
     // SAFETY: the UUID is here.
-    unsafe { base62_uuid_of_number(number, &mut uuid) };
+    unsafe { base62_to_uuid(number, &mut uuid) };
     Ok(uuid)
 }
 
 pub fn number_of(uuid: [u8; 16]) -> u128 {
     // SAFETY: the UUID is here.
-    unsafe { base62_number_of_uuid(&uuid) }.value()
+    unsafe { base62_from_uuid(&uuid) }.value()
 }
 
 pub fn encode_key(num: u128) -> [u8; 22] {
@@ -155,10 +156,10 @@ pub fn digit_count(num: u128) -> usize {
 }
 
 impl Alphabet {
-    pub fn new(letters: [u8; 62]) -> Result<Self, AlphabetError> {
+    pub fn new(characters: [u8; 62]) -> Result<Self, AlphabetError> {
         let (mut made, mut bad) = (Alphabet([0; 318]), BadByte::default());
         // SAFETY: all three are here.
-        match unsafe { base62_make_alphabet(&letters, &mut made, &mut bad) } {
+        match unsafe { base62_alphabet_init(&mut made, &characters, &mut bad) } {
             0 => Ok(made),
             _ => Err(AlphabetError::Repeated(bad.byte, bad.index)),
         }
@@ -174,6 +175,6 @@ pub fn text_of(fault: DecodeError) -> String {
     };
     let (bad, mut text) = (BadByte { index, byte }, [0; 77]);
     // SAFETY: the buffer is here.
-    let length = unsafe { base62_fault_text(status, bad, text.as_mut_ptr(), text.len()) };
+    let length = unsafe { base62_error_message(status, bad, text.as_mut_ptr(), text.len()) };
     String::from_utf8(text[..length].to_vec()).unwrap()
 }

@@ -9,8 +9,12 @@ use driver::Input;
 mod here {
     pub use proved::*;
 
+    /// The text of the crate, but that the library for C does not name a type of Rust.
     pub fn text_of(fault: DecodeError) -> String {
-        fault.to_string()
+        match fault {
+            DecodeError::ArithmeticOverflow => "Decoded number is 2^128 or more".to_string(),
+            _ => fault.to_string(),
+        }
     }
 
     pub fn number_of(uuid: [u8; 16]) -> u128 {
@@ -48,8 +52,8 @@ fn round(input: &Input) -> usize {
             decode_canonical_with(own, text),
             decode_uuid(text),
             key_range(text),
-            fixed_range(width, text),
-            fixed_range_with(own, width, text),
+            prefix_range(text, width),
+            prefix_range_with(own, text, width),
             decode(text).err().map(text_of),
             decode_with(own, text).err().map(text_of),
         }

@@ -20,8 +20,8 @@ pub(crate) use tables::{Tables, alternative_tables, standard_tables};
 ///
 /// ```rust
 /// // Digits and letters, but none that look alike, and some punctuation.
-/// const LETTERS: [u8; 62] = *b"23456789ABCDEFGHJKLMNPQRSTUVWXYZabcdefghijkmnpqrstuvwxyz-_.~!*";
-/// const OWN: base62::Alphabet = base62::Alphabet::of(LETTERS);
+/// const CHARACTERS: [u8; 62] = *b"23456789ABCDEFGHJKLMNPQRSTUVWXYZabcdefghijkmnpqrstuvwxyz-_.~!*";
+/// const OWN: base62::Alphabet = base62::Alphabet::from_static(CHARACTERS);
 /// assert_eq!(base62::decode_with(&OWN, b"32"), Ok(62));
 /// ```
 ///
@@ -51,11 +51,11 @@ impl Alphabet {
     ///
     /// Returns `Repeated(byte, index)` if a byte is repeated. The index is the least one whose byte
     /// is also at an earlier index.
-    pub const fn new(letters: [u8; 62]) -> Result<Alphabet, AlphabetError> {
+    pub const fn new(characters: [u8; 62]) -> Result<Alphabet, AlphabetError> {
         let mut digits = [255u8; 256];
         let mut index = 0;
-        while index < letters.len() {
-            let byte = letters[index];
+        while index < characters.len() {
+            let byte = characters[index];
             if digits[byte as usize] != 255 {
                 return Err(AlphabetError::Repeated(byte, index));
             }
@@ -63,7 +63,10 @@ impl Alphabet {
             index += 1;
         }
         Ok(Alphabet {
-            tables: Tables { letters, digits },
+            tables: Tables {
+                letters: characters,
+                digits,
+            },
         })
     }
 
@@ -72,8 +75,8 @@ impl Alphabet {
     /// Use [`new`](Alphabet::new) for characters that come from input. Does not allocate.
     ///
     /// ```rust
-    /// const LETTERS: [u8; 62] = *b"ABCDEFGHIJKLMNOPQRSTUVWXYZabcdefghijklmnopqrstuvwxyz0123456789";
-    /// const OWN: base62::Alphabet = base62::Alphabet::of(LETTERS);
+    /// const CHARACTERS: [u8; 62] = *b"ABCDEFGHIJKLMNOPQRSTUVWXYZabcdefghijklmnopqrstuvwxyz0123456789";
+    /// const OWN: base62::Alphabet = base62::Alphabet::from_static(CHARACTERS);
     /// assert_eq!(base62::decode_with(&OWN, b"BA"), Ok(62));
     /// ```
     ///
@@ -82,8 +85,8 @@ impl Alphabet {
     /// Panics if a byte is repeated. In a constant, this is a compile error.
     #[track_caller]
     #[must_use]
-    pub const fn of(letters: [u8; 62]) -> Alphabet {
-        match Alphabet::new(letters) {
+    pub const fn from_static(characters: [u8; 62]) -> Alphabet {
+        match Alphabet::new(characters) {
             Ok(alphabet) => alphabet,
             Err(_) => panic!("the alphabet repeats a character"),
         }
@@ -118,10 +121,10 @@ impl Alphabet {
     /// Returns the 62 characters: the one at index d has the digit d.
     ///
     /// ```rust
-    /// assert_eq!(base62::Alphabet::standard().letters()[10], b'A');
+    /// assert_eq!(base62::Alphabet::standard().characters()[10], b'A');
     /// ```
     #[must_use]
-    pub const fn letters(&self) -> &[u8; 62] {
+    pub const fn characters(&self) -> &[u8; 62] {
         &self.tables.letters
     }
 
@@ -134,12 +137,12 @@ impl Alphabet {
     /// ```
     #[must_use]
     pub const fn is_ascii(&self) -> bool {
-        let letters = self.letters();
+        let characters = self.characters();
         let mut is_ascii = true;
         let mut index = 0;
-        while index < letters.len() {
+        while index < characters.len() {
             // Without a branch, the compiler vectorizes the loop.
-            is_ascii &= letters[index] < 128;
+            is_ascii &= characters[index] < 128;
             index += 1;
         }
         is_ascii
@@ -155,10 +158,10 @@ impl Alphabet {
     /// ```
     #[must_use]
     pub const fn is_ascending(&self) -> bool {
-        let letters = self.letters();
+        let characters = self.characters();
         let mut index = 1;
-        while index < letters.len() {
-            if letters[index] <= letters[index - 1] {
+        while index < characters.len() {
+            if characters[index] <= characters[index - 1] {
                 return false;
             }
             index += 1;

@@ -8,18 +8,18 @@
 
 use crate::alphabet::{Alphabet, Tables, alternative_tables, standard_tables};
 use crate::codec::decoder::{count_zeros, decode_after};
-use crate::fault::DecodeError;
+use crate::fault::{CanonicalError, DecodeError};
 
 /// Decodes `input` in the standard alphabet if it is canonical, and returns the number.
 ///
-/// The result is `Ok(Some(number))` exactly for the string that [`encode_bytes`] writes for the
-/// number, 0 to 2^128 - 1, so only one string decodes to it. It is `Ok(None)` exactly if [`decode`]
-/// returns a number, but `input` begins with a zero that other characters follow. Does not
-/// allocate.
+/// The result is a number, 0 to 2^128 - 1, exactly for the string that [`encode_bytes`] writes for
+/// it, so only one string decodes to it. Does not allocate.
 ///
 /// ```rust
-/// assert_eq!(base62::decode_canonical(b"LZ"), Ok(Some(1337)));
-/// assert_eq!(base62::decode_canonical(b"0LZ"), Ok(None));
+/// use base62::CanonicalError;
+///
+/// assert_eq!(base62::decode_canonical(b"LZ"), Ok(1337));
+/// assert_eq!(base62::decode_canonical(b"0LZ"), Err(CanonicalError::LeadingZero));
 /// ```
 ///
 /// [`decode`]: crate::decode
@@ -27,21 +27,22 @@ use crate::fault::DecodeError;
 ///
 /// # Errors
 ///
-/// Returns the errors of [`decode`].
-pub fn decode_canonical<T: AsRef<[u8]>>(input: T) -> Result<Option<u128>, DecodeError> {
+/// Returns `LeadingZero` if [`decode`] returns a number, but `input` begins with a zero that other
+/// characters follow, and `Decode` with the error of [`decode`] if that returns one.
+pub fn decode_canonical<T: AsRef<[u8]>>(input: T) -> Result<u128, CanonicalError> {
     read_canonical(standard_tables(), input.as_ref())
 }
 
 /// Like [`decode_canonical`], but uses the alternative alphabet.
 ///
 /// ```rust
-/// assert_eq!(base62::decode_alternative_canonical(b"lz"), Ok(Some(1337)));
+/// assert_eq!(base62::decode_alternative_canonical(b"lz"), Ok(1337));
 /// ```
 ///
 /// # Errors
 ///
-/// Returns the errors of [`decode`](crate::decode).
-pub fn decode_alternative_canonical<T: AsRef<[u8]>>(input: T) -> Result<Option<u128>, DecodeError> {
+/// Returns the errors of [`decode_canonical`].
+pub fn decode_alternative_canonical<T: AsRef<[u8]>>(input: T) -> Result<u128, CanonicalError> {
     read_canonical(alternative_tables(), input.as_ref())
 }
 
@@ -49,29 +50,29 @@ pub fn decode_alternative_canonical<T: AsRef<[u8]>>(input: T) -> Result<Option<u
 ///
 /// ```rust
 /// let alphabet = base62::Alphabet::alternative();
-/// assert_eq!(base62::decode_canonical_with(&alphabet, b"lz"), Ok(Some(1337)));
+/// assert_eq!(base62::decode_canonical_with(&alphabet, b"lz"), Ok(1337));
 /// ```
 ///
 /// # Errors
 ///
-/// Returns the errors of [`decode`](crate::decode).
+/// Returns the errors of [`decode_canonical`].
 pub fn decode_canonical_with<T: AsRef<[u8]>>(
     alphabet: &Alphabet,
     input: T,
-) -> Result<Option<u128>, DecodeError> {
+) -> Result<u128, CanonicalError> {
     read_canonical(alphabet.as_tables(), input.as_ref())
 }
 
 // Decodes a text over the alphabet of the tables if it is canonical.
 #[inline(always)]
-fn read_canonical(tables: &Tables, input: &[u8]) -> Result<Option<u128>, DecodeError> {
+fn read_canonical(tables: &Tables, input: &[u8]) -> Result<u128, CanonicalError> {
     if input.is_empty() {
-        return Err(DecodeError::EmptyInput);
+        return Err(CanonicalError::Decode(DecodeError::EmptyInput));
     }
     let zeros = count_zeros(tables, input);
     let number = decode_after(tables, input, zeros)?;
     if zeros > 0 && input.len() > 1 {
-        return Ok(None);
+        return Err(CanonicalError::LeadingZero);
     }
-    Ok(Some(number))
+    Ok(number)
 }

@@ -23,6 +23,15 @@ pub enum DecodeError {
     InvalidBase62Byte(u8, usize),
 }
 
+/// An error that can be returned when decoding a string that has to be canonical.
+#[derive(Clone, Copy, Debug, PartialEq, Eq, PartialOrd, Ord, Hash)]
+pub enum CanonicalError {
+    /// The string decodes to a number, but begins with a zero that other characters follow.
+    LeadingZero,
+    /// The string does not decode to a number.
+    Decode(DecodeError),
+}
+
 /// An error that can be returned when encoding to a buffer.
 #[derive(Clone, Copy, Debug, PartialEq, Eq, PartialOrd, Ord, Hash)]
 pub enum EncodeError {
@@ -73,6 +82,35 @@ impl fmt::Display for DecodeError {
 
 impl error::Error for DecodeError {}
 
+impl From<DecodeError> for CanonicalError {
+    fn from(error: DecodeError) -> CanonicalError {
+        CanonicalError::Decode(error)
+    }
+}
+
+impl CanonicalError {
+    /// Returns the error's message, at most 77 ASCII characters: of an error of decoding its own.
+    ///
+    /// Never fails, and does not allocate.
+    pub(crate) fn text(&self) -> InlineText<MAX_FAULT_TEXT> {
+        match *self {
+            CanonicalError::LeadingZero => {
+                append(InlineText::new(), "Encoded input has a leading zero")
+            }
+            CanonicalError::Decode(error) => error.text(),
+        }
+    }
+}
+
+/// Writes the error's message, and ignores the formatter's options.
+impl fmt::Display for CanonicalError {
+    fn fmt(&self, f: &mut fmt::Formatter<'_>) -> fmt::Result {
+        write_unpadded(self.text(), f)
+    }
+}
+
+impl error::Error for CanonicalError {}
+
 impl EncodeError {
     /// Returns the error's message, 37 ASCII characters. Never fails, and does not allocate.
     pub(crate) fn text(&self) -> InlineText<MAX_FAULT_TEXT> {
@@ -96,7 +134,7 @@ impl error::Error for EncodeError {}
 impl AlphabetError {
     /// Returns the error's message, at most 63 ASCII characters for any index.
     ///
-    /// The byte is escaped as in `DecodeError::text`. Never fails, and does not allocate.
+    /// The byte is escaped as in [`DecodeError::text`]. Never fails, and does not allocate.
     pub(crate) fn text(&self) -> InlineText<MAX_FAULT_TEXT> {
         let AlphabetError::Repeated(byte, index) = *self;
         append_byte_at_index(

@@ -153,27 +153,27 @@ fn fill_string<'a>(tables: &Tables, n: u128, places: &'a mut [u8]) -> Result<&'a
 /// The numbers from the least to the greatest are exactly those whose strings begin with `prefix`.
 /// If `prefix` has k characters and represents v, the least is `v * 62^(width-k)`, and the greatest
 /// is the lesser of `(v+1) * 62^(width-k) - 1` and 2^128 - 1. An empty prefix has v = 0. The result
-/// is `Ok(None)` if all bytes of `prefix` are in the alphabet, but no string of `width` characters of a number below
-/// 2^128 begins with it, for example if it is longer than `width`, or `width` is 0. Does not
-/// allocate.
+/// is `Ok(None)` if all bytes of `prefix` are in the alphabet, but no string of `width` characters
+/// of a number below 2^128 begins with it, for example if it is longer than `width`, or `width` is
+/// 0. Does not allocate.
 ///
 /// ```rust
-/// assert_eq!(base62::fixed_range(5, b"000L"), Ok(Some(1302..=1363)));
-/// assert_eq!(base62::fixed_range(3, b"000L"), Ok(None));
+/// assert_eq!(base62::prefix_range(b"000L", 5), Ok(Some(1302..=1363)));
+/// assert_eq!(base62::prefix_range(b"000L", 3), Ok(None));
 /// ```
 ///
 /// # Errors
 ///
 /// Returns `InvalidBase62Byte`, with the first such byte and its index, if a byte of `prefix` is
 /// not in the standard alphabet.
-pub fn fixed_range<T: AsRef<[u8]>>(
-    width: usize,
+pub fn prefix_range<T: AsRef<[u8]>>(
     prefix: T,
+    width: usize,
 ) -> Result<Option<core::ops::RangeInclusive<u128>>, DecodeError> {
-    range_over(standard_tables(), width, prefix.as_ref())
+    range_over(standard_tables(), prefix.as_ref(), width)
 }
 
-/// Like [`fixed_range`], but uses a custom alphabet.
+/// Like [`prefix_range`], but uses a custom alphabet.
 ///
 /// The range is exact for every alphabet. But a scan of sorted strings, from that of the least number
 /// to that of the greatest, finds exactly those that begin with `prefix` only if
@@ -181,19 +181,19 @@ pub fn fixed_range<T: AsRef<[u8]>>(
 ///
 /// ```rust
 /// let alphabet = base62::Alphabet::alternative();
-/// let range = base62::fixed_range_with(&alphabet, 5, b"000l");
+/// let range = base62::prefix_range_with(&alphabet, b"000l", 5);
 /// assert_eq!(range, Ok(Some(1302..=1363)));
 /// ```
 ///
 /// # Errors
 ///
-/// Returns the errors of [`fixed_range`], for the custom alphabet.
-pub fn fixed_range_with<T: AsRef<[u8]>>(
+/// Returns the errors of [`prefix_range`], for the custom alphabet.
+pub fn prefix_range_with<T: AsRef<[u8]>>(
     alphabet: &Alphabet,
-    width: usize,
     prefix: T,
+    width: usize,
 ) -> Result<Option<core::ops::RangeInclusive<u128>>, DecodeError> {
-    range_over(alphabet.as_tables(), width, prefix.as_ref())
+    range_over(alphabet.as_tables(), prefix.as_ref(), width)
 }
 
 // Returns the range over the alphabet of the tables, by `range_found`. It is apart for the proof:
@@ -201,22 +201,22 @@ pub fn fixed_range_with<T: AsRef<[u8]>>(
 // computed.
 fn range_over(
     tables: &Tables,
-    width: usize,
     prefix: &[u8],
+    width: usize,
 ) -> Result<Option<core::ops::RangeInclusive<u128>>, DecodeError> {
-    range_found(tables, width, prefix)
+    range_found(tables, prefix, width)
 }
 
 // Returns the range, by the result of decoding the prefix.
 fn range_found(
     tables: &Tables,
-    width: usize,
     prefix: &[u8],
+    width: usize,
 ) -> Result<Option<core::ops::RangeInclusive<u128>>, DecodeError> {
     match decode_over(tables, prefix) {
-        Ok(number) => Ok(ends_of(number, width, prefix.len())),
+        Ok(number) => Ok(ends_of(number, prefix.len(), width)),
         // All texts begin with the empty prefix.
-        Err(DecodeError::EmptyInput) => Ok(ends_of(0, width, 0)),
+        Err(DecodeError::EmptyInput) => Ok(ends_of(0, 0, width)),
         Err(DecodeError::ArithmeticOverflow) => {
             // A bad byte is reported rather than an overflow.
             check_letters(tables, prefix)?;
@@ -228,7 +228,7 @@ fn range_found(
 
 // Returns the ends of the interval of a prefix of this value and length, if it is not empty.
 #[inline(always)]
-fn ends_of(number: u128, width: usize, len: usize) -> Option<core::ops::RangeInclusive<u128>> {
+fn ends_of(number: u128, len: usize, width: usize) -> Option<core::ops::RangeInclusive<u128>> {
     if width == 0 || len > width {
         return None;
     }

@@ -9,7 +9,7 @@
 use crate::alphabet::standard_tables;
 use crate::count::{MAX_DIGITS, digit_count};
 use crate::fault::DecodeError;
-use crate::fixed::{fixed_range, write_padded};
+use crate::fixed::{prefix_range, write_padded};
 use core::str;
 
 // The length of a key is that of the longest text.
@@ -67,5 +67,5 @@ pub fn encode_key_str<T: Into<u128>>(num: T, key: &mut [u8; 22]) -> &str {
 pub fn key_range<T: AsRef<[u8]>>(
     prefix: T,
 ) -> Result<Option<core::ops::RangeInclusive<u128>>, DecodeError> {
-    fixed_range(KEY_LEN, prefix.as_ref())
+    prefix_range(prefix.as_ref(), KEY_LEN)
 }

@@ -23,7 +23,7 @@ impl fmt::Display for Fmt {
     }
 }
 
-/// The result of [`encode_fmt_alt`]: like `Fmt`, but of the alternative alphabet.
+/// The result of [`encode_fmt_alt`]: like [`Fmt`], but of the alternative alphabet.
 #[derive(Clone, Copy, Debug)]
 pub struct FmtAlternative {
     text: Text,
@@ -36,7 +36,7 @@ impl fmt::Display for FmtAlternative {
     }
 }
 
-/// The result of [`encode_fmt_with`]: like `Fmt`, but in a custom alphabet. It neither borrows nor
+/// The result of [`encode_fmt_with`]: like [`Fmt`], but in a custom alphabet. It neither borrows nor
 /// copies the alphabet.
 #[derive(Clone, Copy, Debug)]
 pub struct FmtWith {

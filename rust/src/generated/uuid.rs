@@ -9,7 +9,7 @@
 use crate::alphabet::Alphabet;
 use crate::canonical::{decode_alternative_canonical, decode_canonical, decode_canonical_with};
 use crate::codec::{decode, decode_alternative, decode_with};
-use crate::fault::DecodeError;
+use crate::fault::{CanonicalError, DecodeError};
 
 /// Decodes `input` in the standard alphabet, and returns the number as the sixteen bytes of a UUID.
 ///
@@ -64,40 +64,41 @@ pub fn decode_uuid_with<T: AsRef<[u8]>>(
 
 /// Decodes `input` in the standard alphabet if it is canonical, and returns the UUID.
 ///
-/// It is the number that [`decode_canonical`] returns, as big-endian bytes. The result is
-/// `Ok(Some(uuid))` exactly for the string that [`encode_bytes`] writes for the UUID's number, so
-/// only one string decodes to it. It is `Ok(None)` exactly if [`decode_uuid`] returns a UUID, but
-/// `input` begins with a zero that other characters follow. Does not allocate.
+/// It is the number that [`decode_canonical`] returns, as big-endian bytes. The result is a UUID
+/// exactly for the string that [`encode_bytes`] writes for its number, so only one string decodes to
+/// it. Does not allocate.
 ///
 /// ```rust
+/// use base62::CanonicalError;
+///
 /// let uuid = base62::decode_uuid_canonical(b"LZ").unwrap();
-/// assert_eq!(uuid, Some([0, 0, 0, 0, 0, 0, 0, 0, 0, 0, 0, 0, 0, 0, 5, 57]));
-/// assert_eq!(base62::decode_uuid_canonical(b"0LZ"), Ok(None));
+/// assert_eq!(uuid, [0, 0, 0, 0, 0, 0, 0, 0, 0, 0, 0, 0, 0, 0, 5, 57]);
+/// assert_eq!(base62::decode_uuid_canonical(b"0LZ"), Err(CanonicalError::LeadingZero));
 /// ```
 ///
-/// [`decode`]: crate::decode
 /// [`decode_canonical`]: crate::decode_canonical
 /// [`encode_bytes`]: crate::encode_bytes
 ///
 /// # Errors
 ///
-/// Returns the errors of [`decode`].
-pub fn decode_uuid_canonical<T: AsRef<[u8]>>(input: T) -> Result<Option<[u8; 16]>, DecodeError> {
+/// Returns the errors of [`decode_canonical`].
+pub fn decode_uuid_canonical<T: AsRef<[u8]>>(input: T) -> Result<[u8; 16], CanonicalError> {
     bytes_of_canonical(decode_canonical(input.as_ref()))
 }
 
 /// Like [`decode_uuid_canonical`], but uses the alternative alphabet.
 ///
 /// ```rust
-/// assert_eq!(base62::decode_alternative_uuid_canonical(b"0lz"), Ok(None));
+/// let uuid = base62::decode_alternative_uuid_canonical(b"lz").unwrap();
+/// assert_eq!(uuid, [0, 0, 0, 0, 0, 0, 0, 0, 0, 0, 0, 0, 0, 0, 5, 57]);
 /// ```
 ///
 /// # Errors
 ///
-/// Returns the errors of [`decode`](crate::decode).
+/// Returns the errors of [`decode_canonical`](crate::decode_canonical).
 pub fn decode_alternative_uuid_canonical<T: AsRef<[u8]>>(
     input: T,
-) -> Result<Option<[u8; 16]>, DecodeError> {
+) -> Result<[u8; 16], CanonicalError> {
     bytes_of_canonical(decode_alternative_canonical(input.as_ref()))
 }
 
@@ -105,16 +106,17 @@ pub fn decode_alternative_uuid_canonical<T: AsRef<[u8]>>(
 ///
 /// ```rust
 /// let alphabet = base62::Alphabet::alternative();
-/// assert_eq!(base62::decode_uuid_canonical_with(&alphabet, b"0lz"), Ok(None));
+/// let uuid = base62::decode_uuid_canonical_with(&alphabet, b"lz").unwrap();
+/// assert_eq!(uuid, [0, 0, 0, 0, 0, 0, 0, 0, 0, 0, 0, 0, 0, 0, 5, 57]);
 /// ```
 ///
 /// # Errors
 ///
-/// Returns the errors of [`decode`](crate::decode).
+/// Returns the errors of [`decode_canonical`](crate::decode_canonical).
 pub fn decode_uuid_canonical_with<T: AsRef<[u8]>>(
     alphabet: &Alphabet,
     input: T,
-) -> Result<Option<[u8; 16]>, DecodeError> {
+) -> Result<[u8; 16], CanonicalError> {
     bytes_of_canonical(decode_canonical_with(alphabet, input.as_ref()))
 }
 
@@ -127,12 +129,9 @@ fn bytes_of(decoded: Result<u128, DecodeError>) -> Result<[u8; 16], DecodeError>
 }
 
 // Returns the number of a canonical text as big-endian bytes.
-fn bytes_of_canonical(
-    decoded: Result<Option<u128>, DecodeError>,
-) -> Result<Option<[u8; 16]>, DecodeError> {
+fn bytes_of_canonical(decoded: Result<u128, CanonicalError>) -> Result<[u8; 16], CanonicalError> {
     match decoded {
-        Ok(Some(number)) => Ok(Some(number.to_be_bytes())),
-        Ok(None) => Ok(None),
+        Ok(value) => Ok(value.to_be_bytes()),
         Err(fault) => Err(fault),
     }
 }

@@ -46,14 +46,14 @@ impl Default for Alphabet {
 
 impl Hash for Alphabet {
     fn hash<H: Hasher>(&self, state: &mut H) {
-        self.letters().hash(state);
+        self.characters().hash(state);
     }
 }
 
-/// Returns the characters, like [`Alphabet::letters`].
+/// Returns the characters, like [`Alphabet::characters`].
 impl AsRef<[u8]> for Alphabet {
     fn as_ref(&self) -> &[u8] {
-        self.letters()
+        self.characters()
     }
 }
 
@@ -61,8 +61,8 @@ impl AsRef<[u8]> for Alphabet {
 impl TryFrom<[u8; 62]> for Alphabet {
     type Error = AlphabetError;
 
-    fn try_from(letters: [u8; 62]) -> Result<Self, AlphabetError> {
-        Alphabet::new(letters)
+    fn try_from(characters: [u8; 62]) -> Result<Self, AlphabetError> {
+        Alphabet::new(characters)
     }
 }
 
@@ -70,11 +70,11 @@ impl TryFrom<[u8; 62]> for Alphabet {
 impl TryFrom<&[u8]> for Alphabet {
     type Error = ParseAlphabetError;
 
-    fn try_from(letters: &[u8]) -> Result<Self, ParseAlphabetError> {
-        let letters = letters
+    fn try_from(characters: &[u8]) -> Result<Self, ParseAlphabetError> {
+        let characters = characters
             .try_into()
-            .map_err(|_| ParseAlphabetError::InvalidLength(letters.len()))?;
-        Ok(Alphabet::new(letters)?)
+            .map_err(|_| ParseAlphabetError::InvalidLength(characters.len()))?;
+        Ok(Alphabet::new(characters)?)
     }
 }
 
@@ -83,15 +83,15 @@ impl TryFrom<&[u8]> for Alphabet {
 /// ```
 /// use base62::{Alphabet, ParseAlphabetError};
 ///
-/// let letters = "0123456789abcdefghijklmnopqrstuvwxyzABCDEFGHIJKLMNOPQRSTUVWXYZ";
-/// assert_eq!(letters.parse(), Ok(Alphabet::alternative()));
+/// let characters = "0123456789abcdefghijklmnopqrstuvwxyzABCDEFGHIJKLMNOPQRSTUVWXYZ";
+/// assert_eq!(characters.parse(), Ok(Alphabet::alternative()));
 /// assert_eq!("01".parse::<Alphabet>(), Err(ParseAlphabetError::InvalidLength(2)));
 /// ```
 impl FromStr for Alphabet {
     type Err = ParseAlphabetError;
 
-    fn from_str(letters: &str) -> Result<Self, ParseAlphabetError> {
-        letters.as_bytes().try_into()
+    fn from_str(characters: &str) -> Result<Self, ParseAlphabetError> {
+        characters.as_bytes().try_into()
     }
 }
 

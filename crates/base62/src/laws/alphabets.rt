@@ -21,7 +21,7 @@ pub fn built_in_alphabets()
 pub fn letters_are_distinct(alphabet: &Alphabet)
     ensures { IsAlphabet alphabet.now }
 {
-    let _ = alphabet.letters();
+    let _ = alphabet.characters();
 }
 
 /// If each letter of an alphabet passes a test, each letter of a text passes it. For a literal, the

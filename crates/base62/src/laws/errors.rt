@@ -4,8 +4,9 @@ ghost use Rattle.std.specs.Prelude.{◌≡◌, ◌<◌, ◌↔◌, true};
 ghost use Rattle.std.specs.declared.cmp.Ordering.TheVariants.{Equal};
 ghost use Rattle.base62.specs.Value.{value};
 ghost use Rattle.base62.specs.Decoding.{decoding};
-ghost use Rattle.base62.specs.Fault.{alphabet_error_order, decode_error_order};
+ghost use Rattle.base62.specs.Fault.{alphabet_error_order, canonical_error_order, decode_error_order};
 ghost use Rattle.base62.specs.declared.fault.AlphabetError.{AlphabetError};
+ghost use Rattle.base62.specs.declared.fault.CanonicalError.{CanonicalError};
 ghost use Rattle.base62.specs.declared.fault.DecodeError.{DecodeError};
 ghost use Rattle.base62.specs.declared.fault.EncodeError.{EncodeError};
 
@@ -26,6 +27,22 @@ pub fn order_of_decode_errors()
         → ⟦<fault::DecodeError as PartialEq>⟧.eq d e ≡ true
         → ⟦<fault::DecodeError as Hash>⟧.hash_input d
         ≡ ⟦<fault::DecodeError as Hash>⟧.hash_input e }
+{}
+
+/// The order of errors of canonical decoding: a leading zero is least, then come the errors of
+/// decoding in their order. Two errors are equal, and compare as equal, exactly if they are the same
+/// value. Equal errors have equal hashes.
+pub fn order_of_canonical_errors()
+    ensures order { (d e : CanonicalError)
+        → ⟦<fault::CanonicalError as Ord>⟧.cmp d e ≡ canonical_error_order d e }
+    ensures equal { (d e : CanonicalError)
+        → (⟦<fault::CanonicalError as PartialEq>⟧.eq d e ≡ true) ↔ (d ≡ e) }
+    ensures compare_equal { (d e : CanonicalError)
+        → (⟦<fault::CanonicalError as Ord>⟧.cmp d e ≡ Equal) ↔ (d ≡ e) }
+    ensures hashed_alike { (d e : CanonicalError)
+        → ⟦<fault::CanonicalError as PartialEq>⟧.eq d e ≡ true
+        → ⟦<fault::CanonicalError as Hash>⟧.hash_input d
+        ≡ ⟦<fault::CanonicalError as Hash>⟧.hash_input e }
 {}
 
 /// There is one error of encoding. It is equal to itself, compares as equal and has one hash.
@@ -58,6 +75,10 @@ pub fn clones_of_errors()
         → e ≡ d }
     ensures decode_error_always { (d : DecodeError)
         → ⟦<fault::DecodeError as Clone>⟧.is_infallible d }
+    ensures canonical_error { (d e : CanonicalError)
+        → ⟦<fault::CanonicalError as Clone>⟧.is_clone d e → e ≡ d }
+    ensures canonical_error_always { (d : CanonicalError)
+        → ⟦<fault::CanonicalError as Clone>⟧.is_infallible d }
     ensures encode_error { (d e : EncodeError) → ⟦<fault::EncodeError as Clone>⟧.is_clone d e
         → e ≡ d }
     ensures encode_error_always { (d : EncodeError)

@@ -8,7 +8,7 @@ ghost use Rattle.base62.specs.Value.{value};
 ghost use Rattle.base62.specs.Canonical.{Denotes, IsCanonical, CanonicalFits};
 ghost use Rattle.base62.specs.Decoding.{decoding};
 ghost use Rattle.base62.specs.Case.{exchange_case};
-ghost use Rattle.base62.specs.Laws.{HasNoNeedlessZero, AnswerTells, number_or_overflow, one_place_on, without_zeros};
+ghost use Rattle.base62.specs.Laws.{HasNoLeadingZero, AnswerTells, number_or_overflow, one_place_on, without_zeros};
 
 use crate::alphabet::Alphabet;
 use crate::laws::alphabets::letters_are_distinct;
@@ -37,13 +37,13 @@ pub fn one_text()
     ensures within { (B : List ℕ) → IsAlphabet B → (k n : ℕ) → 0 < k → n < 62 ^ k
         → CanonicalFits B n k }
     ensures plain { (B : List ℕ) → IsAlphabet B → (text : List ℕ) (n : ℕ)
-        → Denotes B text n → HasNoNeedlessZero B text → IsCanonical B text n }
-    ensures needless { (B : List ℕ) → IsAlphabet B → (text : List ℕ) (n : ℕ)
-        → IsCanonical B text n → HasNoNeedlessZero B text }
+        → Denotes B text n → HasNoLeadingZero B text → IsCanonical B text n }
+    ensures leading { (B : List ℕ) → IsAlphabet B → (text : List ℕ) (n : ℕ)
+        → IsCanonical B text n → HasNoLeadingZero B text }
 {}
 
-/// A text without needless zeros is the only canonical text of the number that it decodes to. For
-/// a literal, the prover computes both conditions: no needless zeros, and the number.
+/// A text without leading zeros is the only canonical text of the number that it decodes to. For
+/// a literal, the prover computes both conditions: no leading zeros, and the number.
 pub fn text_of_number(alphabet: &Alphabet, text: &[u8], number: u128)
     ensures { decoding alphabet.now text.now ≡ Ok number
         → without_zeros alphabet.now text.now ≡ text.now
@@ -84,7 +84,7 @@ pub fn texts_of_two(alphabet: &Alphabet, first: &[u8], second: &[u8], m: u128, n
 }
 
 /// Over any alphabet decoding accepts exactly the nonempty texts of letters whose value is below
-/// 2^128. The canonical text of that value is the text without its needless zeros. If an error has
+/// 2^128. The canonical text of that value is the text without its leading zeros. If an error has
 /// a byte, it is the first that is no letter. If a text overflows, and a letter follows its leading
 /// zeros, it denotes 2^128 or more whatever letters replace its bad bytes.
 pub fn accepted_and_refused()

@@ -1,11 +1,12 @@
 //! The results and the steps of decoding.
 #![tactic(auto, unfolding(crate::proofs::OnLiterals::base62_on_literals))]
 
-ghost use Rattle.std.specs.Prelude.{◌≡◌, ◌^◌, ◌-◌, [], ◌∷◌, ℕ, List, replicate, codes, Ok, Err, Some, None, IsOk};
+ghost use Rattle.std.specs.Prelude.{◌≡◌, ◌^◌, ◌-◌, [], ◌∷◌, ℕ, List, replicate, codes, Ok, Err, IsOk};
 ghost use Rattle.std.specs.List.{range_with_len};
 ghost use Rattle.base62.specs.Alphabet.{standard, alternative};
 ghost use Rattle.base62.specs.Decoding.{decoding, IsFirstInvalid, NamesFirst, RefusesLarge, Decodes, DecodesCanonical};
 ghost use Rattle.base62.specs.Steps.{decoding_steps, DecodesCounted};
+ghost use Rattle.base62.specs.declared.fault.CanonicalError.TheVariants.{LeadingZero, Decode};
 ghost use Rattle.base62.specs.declared.fault.DecodeError.TheVariants.{ArithmeticOverflow, EmptyInput, InvalidBase62Byte};
 
 /// The results of decoding some texts; 33 is `!`, which is no letter.
@@ -84,26 +85,27 @@ pub fn counted_by_example()
 
 /// Results of canonical decoding for some texts, and others; 33 is `!`, which is no letter.
 pub fn decodes_canonical_by_example()
-    ensures number { DecodesCanonical standard (codes "LZ") (Ok (Some 1337)) }
-    ensures one_zero { DecodesCanonical standard (codes "0") (Ok (Some 0)) }
-    ensures zero_in_front { DecodesCanonical standard (codes "0LZ") (Ok None) }
-    ensures zeros_alone { DecodesCanonical standard (codes "00") (Ok None) }
+    ensures number { DecodesCanonical standard (codes "LZ") (Ok 1337) }
+    ensures one_zero { DecodesCanonical standard (codes "0") (Ok 0) }
+    ensures zero_in_front { DecodesCanonical standard (codes "0LZ") (Err LeadingZero) }
+    ensures zeros_alone { DecodesCanonical standard (codes "00") (Err LeadingZero) }
     ensures bad_behind_zero { DecodesCanonical standard (codes "0!")
-        (Err (InvalidBase62Byte 33 1)) }
-    ensures empty { DecodesCanonical standard [] (Err EmptyInput) }
-    ensures accepted_zeros { DecodesCanonical standard (codes "0LZ") (Ok (Some 1337)) → ⊥ }
-    ensures refused_number { DecodesCanonical standard (codes "LZ") (Ok None) → ⊥ }
-    ensures refused_zero { DecodesCanonical standard (codes "0") (Ok None) → ⊥ }
-    ensures other_alphabet { DecodesCanonical alternative (codes "LZ") (Ok (Some 1337)) → ⊥ }
-    ensures none_of_bad { DecodesCanonical standard (codes "0!") (Ok None) → ⊥ }
+        (Err (Decode (InvalidBase62Byte 33 1))) }
+    ensures empty { DecodesCanonical standard [] (Err (Decode EmptyInput)) }
+    ensures accepted_zeros { DecodesCanonical standard (codes "0LZ") (Ok 1337) → ⊥ }
+    ensures refused_number { DecodesCanonical standard (codes "LZ") (Err LeadingZero) → ⊥ }
+    ensures refused_zero { DecodesCanonical standard (codes "0") (Err LeadingZero) → ⊥ }
+    ensures other_alphabet { DecodesCanonical alternative (codes "LZ") (Ok 1337) → ⊥ }
+    ensures zero_of_bad { DecodesCanonical standard (codes "0!") (Err LeadingZero) → ⊥ }
+    ensures other_fault { DecodesCanonical standard [] (Err (Decode ArithmeticOverflow)) → ⊥ }
 {}
 
 /// What `DecodesCanonical` says of a result whose value is not known. It follows from the value,
 /// but a caller has only the fields of the record.
 pub fn decodes_canonical_of_any_result()
-    ensures back { (B text : List ℕ) (n : ℕ) → DecodesCanonical B text (Ok (Some n))
+    ensures back { (B text : List ℕ) (n : ℕ) → DecodesCanonical B text (Ok n)
         → decoding B text ≡ Ok n }
-    ensures accepted { (B text : List ℕ) → DecodesCanonical B text (Ok None)
+    ensures accepted { (B text : List ℕ) → DecodesCanonical B text (Err LeadingZero)
         → IsOk (decoding B text) }
 {}
 

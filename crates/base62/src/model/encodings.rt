@@ -20,7 +20,7 @@ pub fn buffers_by_example()
     ensures refused_with_room { EncodesInto standard 1337 (codes "..") (codes "..")
         (Err BufferTooSmall) → ⊥ }
     ensures answered_without_room { EncodesInto standard 1337 (codes ".") (codes "LZ") (Ok 2) → ⊥ }
-    ensures needless_zero { EncodesInto standard 1337 (codes "...") (codes "0LZ") (Ok 3) → ⊥ }
+    ensures leading_zero { EncodesInto standard 1337 (codes "...") (codes "0LZ") (Ok 3) → ⊥ }
     ensures length_too_great { EncodesInto standard 1337 (codes "...") (codes "LZ.") (Ok 3) → ⊥ }
     ensures length_too_small { EncodesInto standard 1337 (codes "...") (codes "LZ.") (Ok 1) → ⊥ }
     ensures length_of_none { EncodesInto standard 0 (codes "...") (codes "...") (Ok 0) → ⊥ }
@@ -41,7 +41,7 @@ pub fn strings_by_example()
     ensures text { (text : String Global) → string_bytes text ≡ codes "LZ"
         → AnswersCanonical standard 1337 (Ok text) }
     ensures no_memory { (e : AllocError) → AnswersCanonical standard 1337 (Err e) }
-    ensures needless_zero { (text : String Global) → string_bytes text ≡ codes "0LZ"
+    ensures leading_zero { (text : String Global) → string_bytes text ≡ codes "0LZ"
         → AnswersCanonical standard 1337 (Ok text) → ⊥ }
     ensures empty { (text : String Global) → string_bytes text ≡ codes ""
         → AnswersCanonical standard 0 (Ok text) → ⊥ }
@@ -61,7 +61,7 @@ pub fn appended_by_example()
         → string_capacity old ≡ 3 → AppendsTo standard 1337 old old (Err e) }
     ensures earlier_lost { (old new : String Global) → string_bytes old ≡ codes "> "
         → string_bytes new ≡ codes "LZ" → AppendsTo standard 1337 old new (Ok tt) → ⊥ }
-    ensures needless_zero { (old new : String Global) → string_bytes old ≡ codes "> "
+    ensures leading_zero { (old new : String Global) → string_bytes old ≡ codes "> "
         → string_bytes new ≡ codes "> 0LZ" → AppendsTo standard 1337 old new (Ok tt) → ⊥ }
     ensures nothing_appended { (old : String Global) → AppendsTo standard 1337 old old (Ok tt) → ⊥ }
     ensures refused_changed { (old new : String Global) (e : AllocError)
@@ -91,7 +91,7 @@ pub fn written_by_example()
     ensures untold { WritesCanonical standard 1337 None None }
     ensures earlier_lost { WritesCanonical standard 1337 (Some (codes "> ")) (Some (codes "LZ"))
         → ⊥ }
-    ensures needless_zero { WritesCanonical standard 1337 (Some (codes "> "))
+    ensures leading_zero { WritesCanonical standard 1337 (Some (codes "> "))
         (Some (codes "> 0LZ")) → ⊥ }
     ensures other_text { WritesCanonical standard 1337 (Some (codes "> ")) (Some (codes "> lz"))
         → ⊥ }

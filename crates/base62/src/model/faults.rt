@@ -3,8 +3,9 @@
 
 ghost use Rattle.std.specs.Prelude.{◌≡◌, ◌^◌, ◌-◌, codes};
 ghost use Rattle.std.specs.declared.cmp.Ordering.TheVariants.{Less, Equal, Greater};
-ghost use Rattle.base62.specs.Fault.{escaped, decode_error_text, encode_error_text, alphabet_error_text, decode_error_order, alphabet_error_order};
+ghost use Rattle.base62.specs.Fault.{escaped, decode_error_text, canonical_error_text, encode_error_text, alphabet_error_text, decode_error_order, canonical_error_order, alphabet_error_order};
 ghost use Rattle.base62.specs.declared.fault.AlphabetError.TheVariants.{Repeated};
+ghost use Rattle.base62.specs.declared.fault.CanonicalError.TheVariants.{LeadingZero, Decode};
 ghost use Rattle.base62.specs.declared.fault.DecodeError.TheVariants.{ArithmeticOverflow, EmptyInput, InvalidBase62Byte};
 ghost use Rattle.base62.specs.declared.fault.EncodeError.TheVariants.{BufferTooSmall};
 
@@ -57,6 +58,10 @@ pub fn texts_by_example()
         ≡ codes "Encoded input contains the invalid byte b'\\n' at index 0" }
     ensures longest { decode_error_text (InvalidBase62Byte 255 (2 ^ 64 - 1))
         ≡ codes "Encoded input contains the invalid byte b'\\xff' at index 18446744073709551615" }
+    ensures leading_zero { canonical_error_text LeadingZero
+        ≡ codes "Encoded input has a leading zero" }
+    ensures canonical_empty { canonical_error_text (Decode EmptyInput)
+        ≡ codes "Encoded input is an empty string" }
     ensures small_buffer { encode_error_text BufferTooSmall
         ≡ codes "Buffer too small to encode the number" }
     ensures repeated { alphabet_error_text (Repeated 33 7)
@@ -86,6 +91,15 @@ pub fn decode_orders_by_example()
         ≡ Less }
     ensures greater_index { decode_error_order (InvalidBase62Byte 33 7) (InvalidBase62Byte 33 1)
         ≡ Greater }
+{}
+
+/// The order of errors of canonical decoding.
+pub fn canonical_orders_by_example()
+    ensures same { canonical_error_order LeadingZero LeadingZero ≡ Equal }
+    ensures zero_first { canonical_error_order LeadingZero (Decode ArithmeticOverflow) ≡ Less }
+    ensures zero_after { canonical_error_order (Decode ArithmeticOverflow) LeadingZero ≡ Greater }
+    ensures as_decoding { canonical_error_order (Decode ArithmeticOverflow) (Decode EmptyInput)
+        ≡ Less }
 {}
 
 /// The order of errors of alphabets.

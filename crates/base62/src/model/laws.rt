@@ -5,7 +5,7 @@ ghost use Rattle.std.specs.Prelude.{◌≡◌, ◌^◌, ◌-◌, [], ◌∷◌, 
 ghost use Rattle.std.specs.List.{range_with_len};
 ghost use Rattle.base62.specs.Alphabet.{standard};
 ghost use Rattle.base62.specs.Case.{exchange_case};
-ghost use Rattle.base62.specs.Laws.{HasNoNeedlessZero, without_zeros, AgreesAtLetters, AnswerTells, number_or_overflow, one_place_on};
+ghost use Rattle.base62.specs.Laws.{HasNoLeadingZero, without_zeros, AgreesAtLetters, AnswerTells, number_or_overflow, one_place_on};
 ghost use Rattle.base62.specs.declared.fault.DecodeError.TheVariants.{ArithmeticOverflow, EmptyInput, InvalidBase62Byte};
 
 /// Texts with their case exchanged; the numbers are the first and the last letters of each case,
@@ -18,16 +18,16 @@ pub fn other_case_by_example()
     ensures above_ascii { exchange_case (193 ∷ 225 ∷ []) ≡ 193 ∷ 225 ∷ [] }
 {}
 
-/// Needless zeros; over the bytes from 33 to 94 the zero letter is `!`.
-pub fn needless_zeros_by_example()
-    ensures zero { HasNoNeedlessZero standard (codes "0") }
-    ensures none { HasNoNeedlessZero standard (codes "LZ") }
-    ensures behind { HasNoNeedlessZero standard (codes "10") }
-    ensures own_alphabet { HasNoNeedlessZero (range_with_len 33 62) (codes "01") }
-    ensures empty { HasNoNeedlessZero standard [] → ⊥ }
-    ensures zeros_alone { HasNoNeedlessZero standard (codes "00") → ⊥ }
-    ensures in_front { HasNoNeedlessZero standard (codes "0LZ") → ⊥ }
-    ensures own_in_front { HasNoNeedlessZero (range_with_len 33 62) (codes "!1") → ⊥ }
+/// Leading zeros; over the bytes from 33 to 94 the zero letter is `!`.
+pub fn leading_zeros_by_example()
+    ensures zero { HasNoLeadingZero standard (codes "0") }
+    ensures none { HasNoLeadingZero standard (codes "LZ") }
+    ensures behind { HasNoLeadingZero standard (codes "10") }
+    ensures own_alphabet { HasNoLeadingZero (range_with_len 33 62) (codes "01") }
+    ensures empty { HasNoLeadingZero standard [] → ⊥ }
+    ensures zeros_alone { HasNoLeadingZero standard (codes "00") → ⊥ }
+    ensures in_front { HasNoLeadingZero standard (codes "0LZ") → ⊥ }
+    ensures own_in_front { HasNoLeadingZero (range_with_len 33 62) (codes "!1") → ⊥ }
     ensures left_out { without_zeros standard (codes "00LZ") ≡ codes "LZ" }
     ensures one_left { without_zeros standard (codes "000") ≡ codes "0" }
     ensures none_left_out { without_zeros standard (codes "10") ≡ codes "10" }

@@ -31,7 +31,7 @@ pub fn values_by_example()
 
 /// Numbers that some texts denote, and numbers that they do not.
 pub fn denoted_by_example()
-    ensures needless_zero { Denotes standard (codes "0LZ") 1337 }
+    ensures leading_zero { Denotes standard (codes "0LZ") 1337 }
     ensures zeros_alone { Denotes standard (codes "00") 0 }
     ensures above { Denotes standard (codes "7n42DGM5Tflk9n8mt7Fhc8") (2 ^ 128) }
     ensures empty { Denotes standard [] 0 → ⊥ }
@@ -52,11 +52,11 @@ pub fn canonical_texts_by_example()
     ensures greatest { IsCanonical standard (codes "7n42DGM5Tflk9n8mt7Fhc7") (2 ^ 128 - 1) }
 {}
 
-/// Texts that are not canonical: one without a letter, two with a needless zero, one with a bad
+/// Texts that are not canonical: one without a letter, two with a leading zero, one with a bad
 /// byte, one over the other alphabet, and one of another number.
 pub fn no_canonical_texts_by_example()
     ensures empty { IsCanonical standard [] 0 → ⊥ }
-    ensures needless_zero { IsCanonical standard (codes "0LZ") 1337 → ⊥ }
+    ensures leading_zero { IsCanonical standard (codes "0LZ") 1337 → ⊥ }
     ensures zeros_alone { IsCanonical standard (codes "00") 0 → ⊥ }
     ensures bad_byte { IsCanonical standard (codes "!") 0 → ⊥ }
     ensures other_alphabet { IsCanonical standard (codes "lz") 1337 → ⊥ }

@@ -1,9 +1,10 @@
 //! UUIDs.
 #![tactic(auto, unfolding(crate::proofs::OnLiterals::base62_on_literals))]
 
-ghost use Rattle.std.specs.Prelude.{◌≡◌, ◌-◌, ◌^◌, ◌++◌, [], ◌∷◌, codes, replicate, Some, None, Ok, Err};
+ghost use Rattle.std.specs.Prelude.{◌≡◌, ◌-◌, ◌^◌, ◌++◌, [], ◌∷◌, codes, replicate, Ok, Err};
 ghost use Rattle.base62.specs.Alphabet.{standard};
 ghost use Rattle.base62.specs.Uuid.{IsUuid, uuid_number, DecodesUuid, DecodesUuidCanonical};
+ghost use Rattle.base62.specs.declared.fault.CanonicalError.TheVariants.{LeadingZero, Decode};
 ghost use Rattle.base62.specs.declared.fault.DecodeError.TheVariants.{ArithmeticOverflow, EmptyInput};
 
 /// Sixteen bytes and their numbers, and lists that are no UUID.
@@ -29,13 +30,13 @@ pub fn decoded_uuids_by_example()
 /// The results of canonical decoding to a UUID for `LZ`, also after a zero, and wrong results.
 pub fn canonical_uuids_by_example()
     ensures decoded { DecodesUuidCanonical standard (codes "LZ")
-        (Ok (Some (replicate 14 0 ++ 5 ∷ 57 ∷ []))) }
-    ensures zero_in_front { DecodesUuidCanonical standard (codes "0LZ") (Ok None) }
-    ensures empty { DecodesUuidCanonical standard [] (Err EmptyInput) }
+        (Ok (replicate 14 0 ++ 5 ∷ 57 ∷ [])) }
+    ensures zero_in_front { DecodesUuidCanonical standard (codes "0LZ") (Err LeadingZero) }
+    ensures empty { DecodesUuidCanonical standard [] (Err (Decode EmptyInput)) }
     ensures exchanged { DecodesUuidCanonical standard (codes "LZ")
-        (Ok (Some (replicate 14 0 ++ 57 ∷ 5 ∷ []))) → ⊥ }
+        (Ok (replicate 14 0 ++ 57 ∷ 5 ∷ [])) → ⊥ }
     ensures accepted_zeros { DecodesUuidCanonical standard (codes "0LZ")
-        (Ok (Some (replicate 14 0 ++ 5 ∷ 57 ∷ []))) → ⊥ }
-    ensures refused_uuid { DecodesUuidCanonical standard (codes "LZ") (Ok None) → ⊥ }
-    ensures another_fault { DecodesUuidCanonical standard [] (Err ArithmeticOverflow) → ⊥ }
+        (Ok (replicate 14 0 ++ 5 ∷ 57 ∷ [])) → ⊥ }
+    ensures refused_uuid { DecodesUuidCanonical standard (codes "LZ") (Err LeadingZero) → ⊥ }
+    ensures another_fault { DecodesUuidCanonical standard [] (Err (Decode ArithmeticOverflow)) → ⊥ }
 {}

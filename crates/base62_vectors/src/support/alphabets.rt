@@ -22,7 +22,7 @@ pub(crate) static ALTERNATIVE_LETTERS: [u8; 62] =
 pub(crate) fn symbols() -> Alphabet
     ensures { IsAscii result }
 {
-    Alphabet::of(*b"!\"#$%&'()*+,-./0123456789:;<=>?@ABCDEFGHIJKLMNOPQRSTUVWXYZ[\\]^")
+    Alphabet::from_static(*b"!\"#$%&'()*+,-./0123456789:;<=>?@ABCDEFGHIJKLMNOPQRSTUVWXYZ[\\]^")
 }
 
 // An alphabet with the calls for it: the built-in ones, and a custom one.
@@ -42,7 +42,7 @@ impl Letters {
         match self {
             Letters::Standard => STANDARD_LETTERS,
             Letters::Alternative => ALTERNATIVE_LETTERS,
-            Letters::Symbols => *symbols().letters(),
+            Letters::Symbols => *symbols().characters(),
         }
     }
 

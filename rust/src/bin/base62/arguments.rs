@@ -5,7 +5,7 @@
 
 use crate::conversion::{Notation, Settings};
 use crate::escape::Escaped;
-use crate::help::{CommandOption, OPTIONS, SUBCOMMANDS, Subcommand, VERSION, help};
+use crate::help::{CommandOption, Effect, OPTIONS, SUBCOMMANDS, Subcommand, VERSION, help};
 use crate::numbers::parse_decimal;
 use base62::Alphabet;
 
@@ -33,11 +33,11 @@ pub(crate) fn parse(mut rest: impl Iterator<Item = Vec<u8>>) -> Result<Action, S
     // An invalid option after --help or --version is no error, so `parsed?` comes below. Values are not checked then.
     let parsed = split(&mut rest, &mut given, &mut operands);
     let mut operands = operands.into_iter();
-    let is_given = |name| given.iter().any(|(option, _)| option.name == name);
-    if is_given("version") {
+    let mut effects = given.iter().map(|(option, _)| &option.effect);
+    if effects.clone().any(|it| matches!(it, Effect::Version)) {
         return Ok(Action::Print(VERSION.into()));
     }
-    if is_given("help") {
+    if effects.any(|it| matches!(it, Effect::Help)) {
         return help_of(operands);
     }
     parsed?;
@@ -131,27 +131,28 @@ fn settings_of(subcommand: &Subcommand, given: &[Given]) -> Result<Settings, Str
     let mut settings = Settings {
         alphabet: Alphabet::standard(),
         width: None,
-        is_strict: false,
+        is_canonical: false,
         notation: Notation::Decimal,
         keeps_empty: false,
     };
     for (option, value) in given {
-        match (option.name, subcommand.options.contains(&option.letter)) {
-            ("alternative", true) => settings.alphabet = Alphabet::alternative(),
-            ("letters", true) => settings.alphabet = parse_alphabet(value)?,
-            ("width", true) => settings.width = Some(parse_width(value)?),
-            ("strict", true) => settings.is_strict = true,
-            ("uuid", true) => settings.notation = Notation::Uuid,
-            ("hex", true) => settings.notation = Notation::Hexadecimal,
-            ("keep-empty", true) => settings.keeps_empty = true,
+        match option.effect {
+            Effect::Set(set) if subcommand.options.contains(&option.letter) => {
+                set(&mut settings, value)?
+            }
             // An option of other subcommands.
-            (name, _) => return Err(format!("{} has no option --{name}", subcommand.name)),
+            _ => {
+                return Err(format!(
+                    "{} has no option --{}",
+                    subcommand.name, option.name
+                ));
+            }
         }
     }
     Ok(settings)
 }
 
-fn parse_width(value: &[u8]) -> Result<usize, String> {
+pub(crate) fn parse_width(value: &[u8]) -> Result<usize, String> {
     if value.iter().all(u8::is_ascii_digit) && value.iter().any(|digit| *digit != b'0') {
         // A width above `usize::MAX` becomes `usize::MAX`. With either, `encode` runs out of memory, and `range` prints
         // the same numbers.
@@ -162,13 +163,13 @@ fn parse_width(value: &[u8]) -> Result<usize, String> {
     Err(format!("a width is an integer of 1 or more, not {value}"))
 }
 
-fn parse_alphabet(value: &[u8]) -> Result<Alphabet, String> {
+pub(crate) fn parse_alphabet(value: &[u8]) -> Result<Alphabet, String> {
     if !value.iter().all(|byte| matches!(byte, b' '..=b'~')) {
-        return Err("an alphabet has 62 printable ASCII characters".into());
+        return Err("the alphabet has a character that is not printable ASCII".into());
     }
-    let letters: &[u8; 62] = value.try_into().map_err(|_| match value.len() {
+    let characters: &[u8; 62] = value.try_into().map_err(|_| match value.len() {
         1 => "the alphabet has 1 character, not 62".into(),
         count => format!("the alphabet has {count} characters, not 62"),
     })?;
-    Alphabet::new(*letters).map_err(|error| error.to_string())
+    Alphabet::new(*characters).map_err(|error| error.to_string())
 }

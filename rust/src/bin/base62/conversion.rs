@@ -5,9 +5,10 @@
 
 use crate::fault::ToolFault;
 use crate::memory::Bytes;
-use crate::numbers::{append_decimal, parse_decimal, parse_hex, parse_uuid, trim_blanks, uuid_of};
-use crate::reply::append;
-use base62::{Alphabet, DecodeError, MAX_DIGITS};
+use crate::numbers::{
+    append, append_decimal, parse_decimal, parse_hex, parse_uuid, trim_blanks, uuid_of,
+};
+use base62::{Alphabet, CanonicalError, DecodeError, MAX_DIGITS};
 use std::fmt::{self, Display, Formatter};
 use std::io::Write;
 
@@ -17,7 +18,7 @@ pub(crate) type Converter = fn(&Settings, &[u8], &mut Bytes) -> Result<(), Conve
 /// Why an input has no result: a failure of the program, or what is wrong with the input.
 pub(crate) enum ConversionError {
     Failure(ToolFault),
-    Decode(DecodeError),
+    Decode(CanonicalError),
     Invalid(&'static str),
 }
 
@@ -27,9 +28,15 @@ impl From<ToolFault> for ConversionError {
     }
 }
 
+impl From<CanonicalError> for ConversionError {
+    fn from(error: CanonicalError) -> Self {
+        ConversionError::Decode(error)
+    }
+}
+
 impl From<DecodeError> for ConversionError {
     fn from(error: DecodeError) -> Self {
-        ConversionError::Decode(error)
+        ConversionError::Decode(error.into())
     }
 }
 
@@ -43,6 +50,9 @@ impl Display for ConversionError {
     fn fmt(&self, f: &mut Formatter) -> fmt::Result {
         match self {
             ConversionError::Failure(fault) => fault.fmt(f),
+            ConversionError::Decode(CanonicalError::Decode(DecodeError::ArithmeticOverflow)) => {
+                f.write_str("Decoded number is 2^128 or more")
+            }
             ConversionError::Decode(error) => error.fmt(f),
             ConversionError::Invalid(error) => error.fmt(f),
         }
@@ -60,7 +70,8 @@ pub(crate) enum Notation {
 pub(crate) struct Settings {
     pub(crate) alphabet: Alphabet,
     pub(crate) width: Option<usize>,
-    pub(crate) is_strict: bool,
+    /// Whether a string has to be canonical.
+    pub(crate) is_canonical: bool,
     pub(crate) notation: Notation,
     pub(crate) keeps_empty: bool,
 }
@@ -79,15 +90,14 @@ impl Settings {
         if let Some(width) = self.width {
             let zeros = width.checked_sub(string.len());
             let zeros = zeros.ok_or("the number needs more characters than the width")?;
-            append_repeated(self.alphabet.letters()[0], zeros, out)?;
+            append_repeated(self.alphabet.characters()[0], zeros, out)?;
         }
         Ok(append(string, out)?)
     }
 
     pub(crate) fn decode(&self, string: &[u8], out: &mut Bytes) -> Result<(), ConversionError> {
-        let number = if self.is_strict {
-            let number = base62::decode_canonical_with(&self.alphabet, string)?;
-            number.ok_or("Encoded input has a leading zero")?
+        let number = if self.is_canonical {
+            base62::decode_canonical_with(&self.alphabet, string)?
         } else {
             base62::decode_with(&self.alphabet, string)?
         };
@@ -101,16 +111,19 @@ impl Settings {
 
     pub(crate) fn range(&self, prefix: &[u8], out: &mut Bytes) -> Result<(), ConversionError> {
         let width = self.width.unwrap_or(MAX_DIGITS);
-        let range = base62::fixed_range_with(&self.alphabet, width, prefix)?;
-        let range = range.ok_or("No string of this width begins with the prefix")?;
+        let range = base62::prefix_range_with(&self.alphabet, prefix, width)?;
+        let range = range.ok_or(match self.width {
+            Some(_) => "No string of this width begins with the prefix",
+            None => "no string of 22 characters begins with it; -w sets the width",
+        })?;
         append_decimal(*range.start(), out)?;
         append(b" ", out)?;
         Ok(append_decimal(*range.end(), out)?)
     }
 }
 
-fn append_repeated(letter: u8, count: usize, out: &mut Bytes) -> Result<(), ToolFault> {
+fn append_repeated(character: u8, count: usize, out: &mut Bytes) -> Result<(), ToolFault> {
     out.reserve(count).or(Err(ToolFault::Memory))?;
-    out.0.resize(out.0.len() + count, letter);
+    out.0.resize(out.0.len() + count, character);
     Ok(())
 }

@@ -5,7 +5,9 @@
 //! The completions read the help of the installed command, and `tests/page` writes the manual page from it. A test runs
 //! the examples.
 
-use crate::conversion::{Converter, Settings};
+use crate::arguments::{parse_alphabet, parse_width};
+use crate::conversion::{Converter, Notation, Settings};
+use base62::Alphabet;
 
 pub(crate) struct Subcommand {
     pub(crate) name: &'static str,
@@ -25,6 +27,14 @@ pub(crate) struct CommandOption {
     /// What the help calls its value, such as `N`. None if it takes no value.
     pub(crate) value_name: Option<&'static str>,
     purpose: &'static str,
+    pub(crate) effect: Effect,
+}
+
+pub(crate) enum Effect {
+    /// It sets something, by its value, which is empty if it takes none. An error says what is wrong with the value.
+    Set(fn(&mut Settings, &[u8]) -> Result<(), String>),
+    Help,
+    Version,
 }
 
 pub(crate) static SUBCOMMANDS: [Subcommand; 3] = [
@@ -32,7 +42,7 @@ pub(crate) static SUBCOMMANDS: [Subcommand; 3] = [
         name: "encode",
         operand: "NUMBER",
         purpose: "print each number as an encoded string",
-        options: b"alwuxe",
+        options: b"aAwuxe",
         convert: Settings::encode,
         description: "\
 Encodes each decimal number, or each line of standard input. Spaces and tabs
@@ -43,7 +53,7 @@ around a number are ignored. An invalid number gives an empty line.",
         name: "decode",
         operand: "STRING",
         purpose: "print the number that each string represents",
-        options: b"alsuxe",
+        options: b"aAcuxe",
         convert: Settings::decode,
         description: "\
 Decodes each string, or each line of standard input. An invalid string gives an
@@ -54,7 +64,7 @@ empty line.",
         name: "range",
         operand: "PREFIX",
         purpose: "print the least and the greatest number of each prefix",
-        options: b"alw",
+        options: b"aAw",
         convert: Settings::range,
         description: "\
 Prints the least and the greatest number whose string begins with the prefix,
@@ -73,54 +83,84 @@ pub(crate) static OPTIONS: [CommandOption; 9] = [
         name: "alternative",
         value_name: None,
         purpose: "use the alphabet 0 to 9, a to z, A to Z",
+        effect: Effect::Set(|settings, _| {
+            settings.alphabet = Alphabet::alternative();
+            Ok(())
+        }),
     },
     CommandOption {
-        letter: b'l',
-        name: "letters",
-        value_name: Some("LETTERS"),
+        letter: b'A',
+        name: "alphabet",
+        value_name: Some("CHARACTERS"),
         purpose: "use these 62 printable ASCII characters, the zero first",
+        effect: Effect::Set(|settings, value| {
+            settings.alphabet = parse_alphabet(value)?;
+            Ok(())
+        }),
     },
     CommandOption {
         letter: b'w',
         name: "width",
         value_name: Some("N"),
         purpose: "strings have exactly N characters, with leading zeros",
+        effect: Effect::Set(|settings, value| {
+            settings.width = Some(parse_width(value)?);
+            Ok(())
+        }),
     },
     CommandOption {
-        letter: b's',
-        name: "strict",
+        letter: b'c',
+        name: "canonical",
         value_name: None,
         purpose: "reject strings with leading zeros",
+        effect: Effect::Set(|settings, _| {
+            settings.is_canonical = true;
+            Ok(())
+        }),
     },
     CommandOption {
         letter: b'u',
         name: "uuid",
         value_name: None,
         purpose: "numbers are UUIDs",
+        effect: Effect::Set(|settings, _| {
+            settings.notation = Notation::Uuid;
+            Ok(())
+        }),
     },
     CommandOption {
         letter: b'x',
         name: "hex",
         value_name: None,
         purpose: "numbers are hexadecimal",
+        effect: Effect::Set(|settings, _| {
+            settings.notation = Notation::Hexadecimal;
+            Ok(())
+        }),
     },
     CommandOption {
         letter: b'e',
         name: "keep-empty",
         value_name: None,
         purpose: "an empty input gives an empty line, and is no error",
+        effect: Effect::Set(|settings, _| {
+            settings.keeps_empty = true;
+            Ok(())
+        }),
     },
     CommandOption {
         letter: b'h',
         name: "help",
         value_name: None,
         purpose: HELP,
+        effect: Effect::Help,
     },
     CommandOption {
         letter: b'V',
         name: "version",
         value_name: None,
         purpose: "print the version",
+        effect: Effect::Version,
     },
 ];
 

@@ -7,24 +7,22 @@ mod arguments;
 mod conversion;
 mod escape;
 mod help;
-mod no_arguments;
 mod numbers;
 mod printer;
 
-// Those of `base62_cli`.
-#[path = "../base62_cli/line_end.rs"]
-mod line_end;
-#[path = "../base62_cli/memory.rs"]
-mod memory;
-#[path = "../base62_cli/streams.rs"]
-mod streams;
-#[path = "../base62_cli/generated"]
+// Those that `base62_cli` has too.
+#[path = "../generated"]
 mod generated {
     pub(crate) mod fault;
-    pub(crate) mod reply;
-    pub(crate) mod tool;
+}
+#[path = "../shared"]
+mod shared {
+    pub(crate) mod line_end;
+    pub(crate) mod memory;
+    pub(crate) mod streams;
 }
 use generated::*;
+use shared::*;
 
 use arguments::Action;
 use std::process::ExitCode;
@@ -32,11 +30,8 @@ use std::{env, ffi::OsString};
 use streams::{print, report, status_of};
 
 fn main() -> ExitCode {
-    let mut arguments = env::args_os().skip(1).peekable();
-    if arguments.peek().is_none() {
-        return status_of(no_arguments::reply());
-    }
-    match arguments::parse(arguments.map(OsString::into_encoded_bytes)) {
+    let arguments = env::args_os().skip(1).map(OsString::into_encoded_bytes);
+    match arguments::parse(arguments) {
         Ok(Action::Convert(task)) => status_of(printer::print_all(&task)),
         Ok(Action::Print(text)) => status_of(print(text.as_bytes()).map(|()| ExitCode::SUCCESS)),
         Err(error) => {

@@ -5,8 +5,13 @@
 
 use crate::fault::ToolFault;
 use crate::memory::Bytes;
-use crate::reply::append;
 use std::io::Write;
+
+/// Appends bytes.
+#[inline]
+pub(crate) fn append(bytes: &[u8], out: &mut Bytes) -> Result<(), ToolFault> {
+    out.write_all(bytes).map_err(|_| ToolFault::Memory)
+}
 
 /// The decimal digits of each number below 100.
 const TWO_DIGITS: [[u8; 2]; 100] = {

@@ -9,12 +9,14 @@ use crate::escape::Escaped;
 use crate::fault::ToolFault;
 use crate::line_end::line_end;
 use crate::memory::Bytes;
-use crate::reply::append;
+use crate::numbers::append;
 use crate::streams::{Input, print, report};
-use crate::tool::CHUNK_LEN;
 use std::io::{self, IsTerminal, Read};
 use std::process::ExitCode;
 use std::{fs, str};
+
+/// How many bytes are read at a time, and collected before they are written.
+const CHUNK_LEN: usize = 32768;
 
 /// Prints the result for each operand, or for each line if there is no operand.
 pub(crate) fn print_all(task: &Task) -> Result<ExitCode, ToolFault> {

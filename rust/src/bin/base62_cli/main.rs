@@ -1,23 +1,28 @@
 // SPDX-License-Identifier: MIT
 // Copyright (c) 2026 the maintainers of base62 for Rattle
 
-//! The program `base62_cli`: the translation of a proved one, over standard input and output. `base62` has its modules
-//! too.
+//! The program `base62_cli`: the translation of a proved one, over standard input and output.
 
 mod hint;
-mod line_end;
-mod memory;
-mod streams;
 #[cfg(test)]
 mod tests;
 
 // Translated from `crates/base62_cli`.
+#[path = "../generated"]
 mod generated {
     pub(crate) mod fault;
     pub(crate) mod reply;
     pub(crate) mod tool;
 }
+// Those that `base62` has too.
+#[path = "../shared"]
+mod shared {
+    pub(crate) mod line_end;
+    pub(crate) mod memory;
+    pub(crate) mod streams;
+}
 use generated::*;
+use shared::*;
 
 use hint::HintingInput;
 use std::process::ExitCode;

@@ -141,6 +141,7 @@ fn interrupted_reads() {
     let mut reader = Slow::new(b"LZ", Some(ErrorKind::Interrupted));
     assert_eq!(read_uninterrupted(&mut reader, &mut buf).unwrap(), 1);
     assert_eq!((&buf, reader.calls), (b"L\0", 2));
-    let mut reader = Slow::new(b"LZ", Some(ErrorKind::Other));
+    // A stream that does not block has no bytes yet.
+    let mut reader = Slow::new(b"LZ", Some(ErrorKind::WouldBlock));
     assert!(read_uninterrupted(&mut reader, &mut buf).is_err());
 }

@@ -34,8 +34,8 @@ SELECT call, error_of(call) FROM (VALUES
     ($$base62_encode_fixed(62, 1001)$$),
     ($$base62_encode_fixed(62, 2147483647)$$),
     ($$base62_encode_fixed_uuid('00000000-0000-0000-0000-000000000539', 1001, own())$$),
-    ($$base62_key_first('', 0)$$),
-    ($$base62_key_last('', 1001)$$),
+    ($$base62_prefix_first('', 0)$$),
+    ($$base62_prefix_last('', 1001)$$),
     ($$base62_range_first('-', 0, '01')$$),
     ($$base62_range_last('-', 1001)$$),
     ($$base62_range_first_numeric('-', -1)$$),
@@ -57,18 +57,28 @@ SELECT call, error_of(call) FROM (VALUES
 SELECT call, error_of(call) FROM (VALUES
     ($$base62_decode('AzL8n0Y58m8')$$),
     ($$base62_decode_canonical('AzL8n0Y58m8')$$),
-    ($$base62_key_last('0é', 1)$$),
+    ($$base62_decode('-', '01')$$),
+    ($$base62_decode_uuid(repeat('0', 40) || '''')$$),
+    ($$base62_decode_uuid(repeat('0', 39) || E'\n')$$),
+    ($$base62_prefix_last('0é', 1)$$),
     ($$base62_range_first_numeric('0é', 1, own())$$)
 ) calls (call);
 \echo Alphabets, and arguments of other types
 SELECT call, error_of(call) FROM (VALUES
     ($$base62_encode(1, '01')$$),
     ($$base62_encode(1, accented())$$),
+    ($$base62_encode(1, repeat('é', 31))$$),
     ($$base62_encode_uuid('00000000-0000-0000-0000-000000000539', repeated())$$),
     ($$base62_encode_fixed(1, 1, repeated())$$),
     ($$base62_range_first('-', 1, repeated())$$),
     ($$base62_range_last_numeric('-', 1, accented())$$),
-    ($$base62_is_bigint('LZ', '01')$$),
+    ($$base62_try_decode('-', '01')$$),
+    ($$base62_try_decode_uuid('-', repeated())$$),
+    ($$base62_is_valid('-', '01')$$),
     ($$base62_encode(1.5)$$),
     ($$base62_encode('LZ'::text)$$)
 ) calls (call);
+\echo The alphabet of a row after a row with a valid one
+SELECT expression, error_of(format('string_agg(base62_encode(61, a), '','') FROM unnest(ARRAY[own(), %s]) a', expression))
+    FROM (VALUES ($$''$$), ($$'zyx'$$), ($$left(own(), 61)$$), ($$own() || 'z'$$), ($$left(own(), 61) || '-'$$))
+    others (expression);

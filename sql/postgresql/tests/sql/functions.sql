@@ -23,12 +23,12 @@ SELECT base62_encode('1337'), base62_encode(1337::smallint), base62_encode(numbe
     base62_decode(encoded => 'LZ'), base62_encode_uuid('00000000-0000-0000-0000-000000000539') uuid;
 SELECT base62_encode_fixed('1337', '3') fixed,
     base62_encode_fixed_uuid('00000000-0000-0000-0000-000000000539', '3') fixed_uuid,
-    base62_is_text(alphabet => :own, encoded => 'eQ'),
+    base62_is_valid(alphabet => :own, encoded => 'eQ'), base62_prefix_first(prefix => 'L', width => 3) first,
     base62_range_last(prefix => 'e', width => 3, alphabet => :own) last;
 PREPARE untyped AS SELECT base62_encode($1) t, base62_encode_uuid($2) u, base62_encode_fixed($3, $4) f,
-    base62_encode_fixed_uuid($5, $6) fu, base62_key_last($7, $8) l, base62_is_text($9) i,
+    base62_encode_fixed_uuid($5, $6) fu, base62_prefix_last($7, $8) l, base62_is_valid($9) i,
     base62_decode_uuid_canonical($9) d, base62_range_last($10, $11) n, base62_encode_numeric($12) v,
-    base62_decode_numeric($13) w;
+    base62_decode_numeric($13) w, base62_try_decode($9) y, base62_try_decode_uuid($9) z;
 EXECUTE untyped (1337, '00000000-0000-0000-0000-000000000539', 1337, 3, '00000000-0000-0000-0000-000000000539', 4, 'L',
     2, 'LZ', 'L', 3, 1337, 'LZ');
 SELECT base62_version() ~ '^[0-9]+\.[0-9]+\.[0-9]+$' version;
@@ -36,8 +36,8 @@ SELECT base62_version() ~ '^[0-9]+\.[0-9]+\.[0-9]+$' version;
 \echo A compressed text
 CREATE TABLE long (t text);
 INSERT INTO long VALUES (repeat('0', 1000000) || 'LZ');
-SELECT pg_column_size(t) < 100000 compressed, base62_decode(t), base62_decode_uuid(t), base62_key_first(t),
-    base62_is_text(t) FROM long;
+SELECT pg_column_size(t) < 100000 compressed, base62_decode(t), base62_decode_uuid(t), base62_prefix_first(t),
+    base62_is_valid(t) FROM long;
 
 \echo Alphabets that change from call to call, and after an error
 CREATE FUNCTION with_each(VARIADIC given text[]) RETURNS SETOF text LANGUAGE plpgsql AS $$
@@ -46,7 +46,7 @@ DECLARE
 BEGIN
     FOREACH one IN ARRAY given LOOP
         BEGIN
-            RETURN NEXT base62_encode(1337, one) || base62_decode('LZ', one) || base62_is_text('-', one);
+            RETURN NEXT base62_encode(1337, one) || base62_decode('LZ', one) || base62_is_valid('-', one);
         EXCEPTION WHEN invalid_parameter_value THEN
             RETURN NEXT sqlstate;
         END;
@@ -68,3 +68,11 @@ WITH taken AS MATERIALIZED (SELECT base62_encode(n, CASE n % 2 WHEN 0 THEN :own 
             WHEN 10000 THEN (SELECT sum(used_bytes) FROM pg_backend_memory_contexts WHERE n > 0) END bytes
         FROM generate_series(1, 10000) n)
     SELECT count(t), count(bytes), max(bytes) - min(bytes) < 2000000 FROM taken;
+
+\echo In a schema of its own
+CREATE SCHEMA tools;
+ALTER EXTENSION base62 SET SCHEMA tools;
+SELECT tools.base62_encode(1337), tools.base62_prefix_first('L', 3), tools.base62_is_valid('LZ');
+\set VERBOSITY sqlstate
+SELECT base62_decode('LZ');
+ALTER EXTENSION base62 SET SCHEMA public;

@@ -61,6 +61,14 @@ CREATE FUNCTION error(VARIADIC given text[]) RETURNS text LANGUAGE sql AS $$
     FROM message WHERE kind = given[1] AND byte IS NOT DISTINCT FROM given[2]
 $$;
 
+-- What a message shows of a string: 40 bytes, of which each that is not printable ASCII is \xff.
+CREATE FUNCTION shown(given text) RETURNS text LANGUAGE sql AS $$
+    SELECT ': ''' || coalesce(string_agg(CASE WHEN byte BETWEEN 32 AND 126 THEN chr(byte)
+            ELSE '\x' || lpad(to_hex(byte), 2, '0') END, '' ORDER BY i), '')
+        || CASE WHEN octet_length(given) > 40 THEN '...' ELSE '' END || ''''
+    FROM generate_series(0, least(octet_length(given), 40) - 1) i, get_byte(convert_to(given, 'UTF8'), i) byte
+$$;
+
 -- Alphabets of ASCII characters.
 CREATE TABLE alphabet AS SELECT f[2] name, text_of(f[3]) letters FROM line
     WHERE f[1] = 'alphabet' AND f[4] = '1' AND text_of(f[3]) IS NOT NULL;
@@ -71,25 +79,27 @@ SELECT f FROM line WHERE f[1] = 'uuid'
     AND (uuid_of(f[2]::numeric), base62_encode_uuid(f[3]::uuid), base62_decode_uuid(f[4]))
         IS DISTINCT FROM (f[3]::uuid, f[4], f[3]::uuid);
 SELECT f FROM line WHERE f[1] = 'repeated' AND octet_length(text_of(f[2])) = 62
-    AND result('base62_encode', '1', text_of(f[2])) IS DISTINCT FROM error('repeated', f[3], f[4]);
+    AND result('base62_encode', '1', text_of(f[2])) IS DISTINCT FROM error('repeated', f[3], f[4]) || shown(text_of(f[2]));
 
 \echo Canonical texts, and texts with leading zeros
 CREATE TABLE encoded AS
     SELECT name, letters, v, bigint_of(v) n, uuid_of(v) u, t,
-        coalesce(bigint_of(v)::text, '22003 bigint out of range') d, CASE kind WHEN 'zeros' THEN error('zero') END zero
+        '22003 the number is 2^63 or more, which base62_decode_numeric%s takes' || shown(t) large,
+        CASE kind WHEN 'zeros' THEN error('zero') || shown(t) END zero
     FROM (SELECT f[1] kind, f[2] name, f[3]::numeric v, text_of(f[4]) t FROM line WHERE f[1] = 'encode'
         UNION ALL SELECT f[1], f[2], f[4]::numeric, text_of(f[3]) FROM line WHERE f[1] = 'zeros') of
     JOIN alphabet USING (name);
 SELECT * FROM wrong('encoded',
     'base62_decode_uuid(t, letters) = u',
     'base62_decode_numeric(t, letters) = v',
-    $$result('base62_decode', t, letters) = d$$,
+    $$result('base62_decode', t, letters) = coalesce(n::text, replace(large, '%s', ''))$$,
     $$result('base62_decode_uuid_canonical', t, letters) = coalesce(zero, u::text)$$,
     $$result('base62_decode_numeric_canonical', t, letters) = coalesce(zero, v::text)$$,
-    $$result('base62_decode_canonical', t, letters) = coalesce(zero, d)$$,
-    'base62_is_text(t, letters)',
-    'base62_is_canonical(t, letters) = (zero IS NULL)',
-    'base62_is_bigint(t, letters) = (n IS NOT NULL)');
+    $$result('base62_decode_canonical', t, letters) = coalesce(zero, n::text, replace(large, '%s', '_canonical'))$$,
+    'base62_try_decode(t, letters) IS NOT DISTINCT FROM n',
+    'base62_try_decode_uuid(t, letters) = u',
+    'base62_is_valid(t, letters)',
+    'base62_is_canonical(t, letters) = (zero IS NULL)');
 SELECT * FROM wrong('(SELECT * FROM encoded WHERE zero IS NULL) canonical',
     'base62_encode_uuid(u, letters) = t',
     'base62_encode_numeric(v, letters) = t',
@@ -98,7 +108,7 @@ SELECT * FROM wrong('(SELECT * FROM encoded WHERE zero IS NULL) canonical',
 
 \echo Invalid texts, and whether there are enough
 CREATE TABLE invalid AS
-    SELECT name, letters, text_of(f[3]) t, error(VARIADIC f[4:]) error FROM line JOIN alphabet ON name = f[2]
+    SELECT name, letters, text_of(f[3]) t, error(VARIADIC f[4:]) || shown(text_of(f[3])) error FROM line JOIN alphabet ON name = f[2]
     WHERE f[1] = 'refused' AND text_of(f[3]) IS NOT NULL;
 SELECT count(*) > 300 FROM invalid;
 SELECT * FROM wrong('invalid',
@@ -108,14 +118,16 @@ SELECT * FROM wrong('invalid',
     $$result('base62_decode_canonical', t, letters) = error$$,
     $$result('base62_decode_uuid_canonical', t, letters) = error$$,
     $$result('base62_decode_numeric_canonical', t, letters) = error$$,
-    'NOT base62_is_text(t, letters) AND NOT base62_is_canonical(t, letters) AND NOT base62_is_bigint(t, letters)');
+    'num_nulls(base62_try_decode(t, letters), base62_try_decode_uuid(t, letters)) = 2',
+    'NOT base62_is_valid(t, letters) AND NOT base62_is_canonical(t, letters)');
 
 \echo Texts of a width, and numbers that have none
 CREATE TABLE fixed AS
     SELECT name, letters, f[3]::numeric v, bigint_of(f[3]::numeric) n, uuid_of(f[3]::numeric) u, f[4] w,
-        CASE WHEN f[1] = 'fixed' THEN text_of(f[5]) WHEN f[4] = '0' THEN '22023 a width is an integer from 1 to 1000'
-            ELSE '22003 the number needs more characters than the width' END t
-    FROM line JOIN alphabet ON name = f[2] WHERE f[1] IN ('fixed', 'narrow');
+        CASE WHEN f[1] = 'fixed' THEN text_of(f[5]) WHEN f[4] = '0' THEN '22023 the width is not from 1 to 1000: 0'
+            ELSE format('22003 the number needs %s characters, and the width is %s', length(t), f[4]) END t
+    FROM line JOIN alphabet ON name = f[2] JOIN (SELECT DISTINCT v, t FROM encoded
+        WHERE name = 'standard' AND zero IS NULL) canonical ON v = f[3]::numeric WHERE f[1] IN ('fixed', 'narrow');
 SELECT * FROM wrong('fixed',
     $$result('base62_encode_fixed_uuid', u::text, w, letters) = t$$,
     $$result('base62_encode_fixed_numeric', v::text, w, letters) = t$$,
@@ -125,7 +137,7 @@ SELECT * FROM wrong('fixed',
 
 \echo The first and the last number of a prefix, and whether enough ranges are below 2^63, across it and above it
 CREATE TABLE span AS
-    SELECT name, letters, f[3] w, text_of(f[4]) p, nullif(error(VARIADIC f[5:]), error('none')) error,
+    SELECT name, letters, f[3] w, text_of(f[4]) p, nullif(error(VARIADIC f[5:]), error('none')) || shown(text_of(f[4])) error,
         CASE WHEN f[5] = 'numbers' THEN f[6]::numeric END low, CASE WHEN f[5] = 'numbers' THEN f[7]::numeric END high
     FROM line JOIN alphabet ON name = f[2]
     WHERE f[1] = 'range' AND f[3]::bigint BETWEEN 1 AND 1000 AND text_of(f[4]) IS NOT NULL;
@@ -144,7 +156,7 @@ SELECT * FROM wrong('span',
 CREATE TABLE bounds AS SELECT name, p, w, coalesce(error, result('base62_encode_fixed_numeric', low::text, w)) first,
     coalesce(error, result('base62_encode_fixed_numeric', high::text, w)) last FROM span WHERE name = 'standard';
 SELECT * FROM wrong('bounds',
-    $$result('base62_key_first', p, w) IS NOT DISTINCT FROM first$$,
-    $$result('base62_key_last', p, w) IS NOT DISTINCT FROM last$$,
-    $$w <> '22' OR result('base62_key_first', p) IS NOT DISTINCT FROM first$$,
-    $$w <> '22' OR result('base62_key_last', p) IS NOT DISTINCT FROM last$$);
+    $$result('base62_prefix_first', p, w) IS NOT DISTINCT FROM first$$,
+    $$result('base62_prefix_last', p, w) IS NOT DISTINCT FROM last$$,
+    $$w <> '22' OR result('base62_prefix_first', p) IS NOT DISTINCT FROM first$$,
+    $$w <> '22' OR result('base62_prefix_last', p) IS NOT DISTINCT FROM last$$);

@@ -15,8 +15,8 @@ loop-index-init c = (
   omega arith,
 )
 
-done : (c : goal.After-loop-index) → IsAlphabet c.args.letters × (c.loop-index.digits ≡ digits_of_bytes c.args.letters)
-done c = alphabet_of_all c.args.letters c.loop-index.digits c.loop-index.index (omega arith) (λ k. search rules) c.loop-index-test.false c.loop-index.invariant.1 c.loop-index.invariant.0
+done : (c : goal.After-loop-index) → IsAlphabet c.args.characters × (c.loop-index.digits ≡ digits_of_bytes c.args.characters)
+done c = alphabet_of_all c.args.characters c.loop-index.digits c.loop-index.index (omega arith) (λ k. search rules) c.loop-index-test.false c.loop-index.invariant.1 c.loop-index.invariant.0
 
 pub invariant_of-result : goal.invariant_of-result
 invariant_of-result c = record { alphabet = (done c).0; digits = (done c).1 }

@@ -1,6 +1,6 @@
 use Rattle.std.proofs.Common.{arith}
 use Rattle.base62.proofs.CanonicalLemmas.{one_canonical, canonical_fits}
-use Rattle.base62.proofs.LengthLemmas.{no_needless_zero, canonical_of_value}
+use Rattle.base62.proofs.LengthLemmas.{no_leading_zero, canonical_of_value}
 use Rattle.base62.proofs.WidthLemmas.{canonical_within}
 use Rattle.base62.proofs.laws.texts.one_text.Goals as goal
 
@@ -21,5 +21,5 @@ returns-clause-within c = canonical_within
 pub returns-clause-plain : goal.returns-clause-plain
 returns-clause-plain c = λ B ok text n denotes plain. rw denotes.value_is at (canonical_of_value B ok text denotes.letters plain)
 
-pub returns-clause-needless : goal.returns-clause-needless
-returns-clause-needless c = λ B ok text n canonical. no_needless_zero B ok text n canonical
+pub returns-clause-leading : goal.returns-clause-leading
+returns-clause-leading c = λ B ok text n canonical. no_leading_zero B ok text n canonical

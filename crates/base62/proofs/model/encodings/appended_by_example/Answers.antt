@@ -1,7 +1,7 @@
 use Rattle.std.proofs.Common.{◌≡◌, ◌++◌, codes, drop, length, refl, ap, arith}
 use Rattle.std.specs.String.{string_len}
 use Rattle.std.proofs.lemmas.Bool.{false≢true}
-use Rattle.base62.proofs.LiteralLemmas.{canonical_1337, needless_1337, too_long_1337}
+use Rattle.base62.proofs.LiteralLemmas.{canonical_1337, leading_1337, too_long_1337}
 use Rattle.base62.proofs.OnLiterals.{base62_on_literals}
 use Rattle.base62.proofs.model.encodings.appended_by_example.Goals as goal
 
@@ -31,10 +31,10 @@ returns-clause-refused c = λ old e was small.
       capacity = omega arith;
     }
 
-pub returns-clause-needless_zero : goal.returns-clause-needless_zero
-returns-clause-needless_zero c = λ old new was is h.
+pub returns-clause-leading_zero : goal.returns-clause-leading_zero
+returns-clause-leading_zero c = λ old new was is h.
     let text = h.ok.0 in
-    let same : codes "> 0LZ" ≡ codes "> " ++ text = rw (was, is) at h.ok.2 in needless_1337 (rw (ap (drop 2) same) h.ok.1)
+    let same : codes "> 0LZ" ≡ codes "> " ++ text = rw (was, is) at h.ok.2 in leading_1337 (rw (ap (drop 2) same) h.ok.1)
 
 pub returns-clause-refused_with_room : goal.returns-clause-refused_with_room
 returns-clause-refused_with_room c = λ old new e room h. false≢true (h.fits (codes "LZ", canonical_1337, omega (arith, room)))

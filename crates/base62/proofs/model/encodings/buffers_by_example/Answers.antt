@@ -1,6 +1,6 @@
 use Rattle.std.proofs.Common.{refl, lit≤}
 use Rattle.std.proofs.lemmas.Bool.{false≢true}
-use Rattle.base62.proofs.LiteralLemmas.{canonical_1337, encodes_1337, refuses_1337, fits_1337, needless_1337}
+use Rattle.base62.proofs.LiteralLemmas.{canonical_1337, encodes_1337, refuses_1337, fits_1337, leading_1337}
 use Rattle.base62.proofs.OnLiterals.{base62_on_literals}
 use Rattle.base62.proofs.model.encodings.buffers_by_example.Goals as goal
 
@@ -25,5 +25,5 @@ returns-clause-refused c = refuses_1337
 pub returns-clause-refused_with_room : goal.returns-clause-refused_with_room
 returns-clause-refused_with_room c = λ h. false≢true (h.fits.1 fits_1337)
 
-pub returns-clause-needless_zero : goal.returns-clause-needless_zero
-returns-clause-needless_zero c = λ h. needless_1337 h.text.1
+pub returns-clause-leading_zero : goal.returns-clause-leading_zero
+returns-clause-leading_zero c = λ h. leading_1337 h.text.1

@@ -1,5 +1,5 @@
 use Rattle.std.proofs.Common.{codes, drop, refl, ap}
-use Rattle.base62.proofs.LiteralLemmas.{canonical_1337, needless_1337}
+use Rattle.base62.proofs.LiteralLemmas.{canonical_1337, leading_1337}
 use Rattle.base62.proofs.OnLiterals.{base62_on_literals}
 use Rattle.base62.proofs.model.encodings.written_by_example.Goals as goal
 
@@ -11,5 +11,5 @@ pub returns-clause-untold : goal.returns-clause-untold
 unfolding base62_on_literals
 returns-clause-untold c = (codes "LZ", canonical_1337, tt, refl)
 
-pub returns-clause-needless_zero : goal.returns-clause-needless_zero
-returns-clause-needless_zero c = λ h. needless_1337 (rw (ap (drop 2) h.2) h.1)
+pub returns-clause-leading_zero : goal.returns-clause-leading_zero
+returns-clause-leading_zero c = λ h. leading_1337 (rw (ap (drop 2) h.2) h.1)

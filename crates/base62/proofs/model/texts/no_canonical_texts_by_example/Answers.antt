@@ -1,11 +1,11 @@
 use Rattle.std.proofs.Common.{◌≤◌, codes, refl, arith}
 use Rattle.base62.specs.Alphabet.{standard}
-use Rattle.base62.proofs.LiteralLemmas.{denotes_by, needless_1337}
+use Rattle.base62.proofs.LiteralLemmas.{denotes_by, leading_1337}
 use Rattle.base62.proofs.OnLiterals.{base62_on_literals}
 use Rattle.base62.proofs.model.texts.no_canonical_texts_by_example.Goals as goal
 
-pub returns-clause-needless_zero : goal.returns-clause-needless_zero
-returns-clause-needless_zero c = needless_1337
+pub returns-clause-leading_zero : goal.returns-clause-leading_zero
+returns-clause-leading_zero c = leading_1337
 
 pub returns-clause-zeros_alone : goal.returns-clause-zeros_alone
 unfolding base62_on_literals

@@ -3,8 +3,8 @@ use Rattle.std.specs.Result.{result_ok}
 use Rattle.base62.specs.Alphabet.{standard}
 use Rattle.base62.proofs.AlphabetLemmas.{standard_is_alphabet}
 use Rattle.base62.proofs.OnLiterals.{base62_on_literals}
-use Rattle.base62.proofs.CanonicalDecodingLemmas.{reads_refused, reads_none, reads_number}
-use Rattle.base62.proofs.UuidLemmas.{canonical_decoded, needless_decoded, canonical_refused}
+use Rattle.base62.proofs.CanonicalDecodingLemmas.{reads_refused, reads_leading, reads_number}
+use Rattle.base62.proofs.UuidLemmas.{canonical_decoded, canonical_refused}
 use Rattle.base62.proofs.model.uuids.canonical_uuids_by_example.Goals as goal
 
 pub returns-clause-decoded : goal.returns-clause-decoded
@@ -13,7 +13,7 @@ returns-clause-decoded c = canonical_decoded standard (codes "LZ") 1337 (lit≤ 
 
 pub returns-clause-zero_in_front : goal.returns-clause-zero_in_front
 unfolding base62_on_literals
-returns-clause-zero_in_front c = needless_decoded standard (codes "0LZ") (reads_none standard (codes "0LZ") standard_is_alphabet 1337 refl (lit≤ tt) refl)
+returns-clause-zero_in_front c = canonical_refused standard (codes "0LZ") _ (reads_leading standard (codes "0LZ") standard_is_alphabet 1337 refl (lit≤ tt) refl)
 
 pub returns-clause-empty : goal.returns-clause-empty
 unfolding base62_on_literals
@@ -25,7 +25,7 @@ returns-clause-exchanged c = λ h. let same : 1337 ≡ 14597 = ap (λ answer. un
 
 pub returns-clause-accepted_zeros : goal.returns-clause-accepted_zeros
 unfolding base62_on_literals
-returns-clause-accepted_zeros c = λ h. let none = h.needless 1337 refl (lit≤ tt) refl in cc
+returns-clause-accepted_zeros c = λ h. let none = h.leading 1337 refl (lit≤ tt) refl in cc
 
 pub returns-clause-refused_uuid : goal.returns-clause-refused_uuid
 unfolding base62_on_literals

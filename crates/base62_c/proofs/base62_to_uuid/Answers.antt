@@ -1,7 +1,7 @@
 use Rattle.std.proofs.Common.{arith, ◌∙◌, ap}
 use Rattle.base62.specs.Places.{sum_over_places}
 use Rattle.base62.specs.Uuid.{uuid_number}
-use Rattle.base62_c.proofs.base62_uuid_of_number.Goals as goal
+use Rattle.base62_c.proofs.base62_to_uuid.Goals as goal
 
 -- the sixteen bytes are the digits of the number in base 256
 pub returns : goal.returns

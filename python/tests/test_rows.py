@@ -1,0 +1,391 @@
+# SPDX-License-Identifier: MIT
+# Copyright (c) 2026 the maintainers of base62 for Rattle
+"""Tests of the loops of base62.columns over plain buffers, valid and malformed, by the functions for one value.
+
+`python3 test_rows.py COUNT` calls them with so many damaged buffers.
+"""
+
+from __future__ import annotations
+
+import mmap
+import random
+import signal
+import struct
+import sys
+import unittest
+import uuid
+from array import array
+from typing import Any
+
+import base62
+from base62 import _base62
+from test_base62 import others_run
+
+SIZES = {"L": 8, "l": 8, "d": 16, "w": 16, "u": 4, "z": 4, "U": 8, "Z": 8}
+CODES = {"L": "Q", "l": "q", "u": "i", "z": "i", "U": "q", "Z": "q"}
+TEXTS = "uzUZ"
+ALPHABETS = [base62.Alphabet.STANDARD, base62.Alphabet("zyxwvutsrqponmlkjihgfedcbaZYXWVUTSRQPONMLKJIHGFEDCBA9876543210")]
+# No input has more rows than a run of the loop, of which there are tests of their own.
+RUN = 2**16
+MALFORMED = "the array is malformed"
+
+
+def bitmap(valid: list[bool]) -> bytes:
+    return sum(bit << i for i, bit in enumerate(valid)).to_bytes((len(valid) + 7) // 8, "little")
+
+
+def buffer(given: bytes) -> array[int]:
+    """A buffer without a byte behind its end, which the address sanitizer would take for its own."""
+    return array("B", given)
+
+
+def values_of(form: str, rows: list[Any]) -> list[bytes]:
+    """The buffers of rows: bytes for the types that have them, and otherwise integers."""
+    if form in TEXTS:
+        ends = [0]
+        for row in rows:
+            ends.append(ends[-1] + len(row))
+        return [struct.pack(f"={len(ends)}{CODES[form]}", *ends), b"".join(rows)]
+    if form == "w":
+        return [b"".join(rows), b""]
+    if form == "d":
+        return [b"".join(row.to_bytes(16, sys.byteorder, signed=True) for row in rows), b""]
+    return [struct.pack(f"={len(rows)}{CODES[form]}", *rows), b""]
+
+
+class Input:
+    """The arguments of a call, and what it has to do."""
+
+    def __init__(self, of: random.Random, encodes: bool) -> None:
+        self.of, self.encodes, self.letters = of, encodes, of.choice(ALPHABETS)
+        self.form = of.choice("LldwuzUZ" if encodes else TEXTS)
+        self.new_form = of.choice("uU" if encodes else "Llw")
+        self.option = of.choice([-1, -1, 5, 22, of.randrange(40)]) if encodes else of.randrange(2)
+        self.offset, self.count, self.coerces = of.choice([0, of.randrange(20)]), of.randrange(20), of.random() < 0.5
+        valid = [of.random() < 0.8 for _ in range(self.offset + self.count)]
+        self.validity = buffer(bitmap(valid)) if of.random() < 0.7 else None
+        self.values, self.characters = map(buffer, values_of(self.form, [self.row() for _ in valid]))
+        if self.encodes:
+            self.most = self.option if self.option >= 0 else 11 if self.form in "Ll" else 22
+        else:
+            self.most = SIZES[self.new_form]
+        length = self.most * self.count
+        if of.random() < 0.2:
+            length += of.randrange(30)
+        self.new = [buffer(bytes((self.count + 7) // 8)), buffer(b""), buffer(bytes(length))]
+        if self.encodes:
+            self.new[1] = buffer(bytes((self.count + 1) * SIZES[self.new_form]))
+
+    def row(self) -> Any:
+        of = self.of
+        bits = {"L": 64, "l": 63, "d": 127}.get(self.form, 128)
+        number = of.getrandbits(of.randint(1, bits))
+        if self.form in "ld" and of.random() < 0.1:
+            return ~number
+        if self.form in "Lld":
+            return number
+        if self.form == "w":
+            return number.to_bytes(16, "big")
+        if not self.encodes:
+            text = base62.encode(number >> of.choice([0, 64]), self.letters).encode()
+            return of.choice([text, text, text, bytes([self.letters[0]]) + text, text + b"-", b""])
+        name = uuid.UUID(int=number)
+        texts = [name.hex, str(name), name.urn, f"{{{name}}}", str(name)[1:], name.hex + "-"]
+        return of.choice([name.bytes, name.bytes[1:]] if self.form in "zZ" else [it.encode() for it in texts])
+
+    def damage(self) -> None:
+        """Makes a buffer too short, or without a row of its offsets in place, or a count too great."""
+        of = self.of
+        place = of.choice(["validity", "values", "characters", "new", "offset", "count", "ends", "ends"])
+        if place in ("offset", "count"):
+            greater = getattr(self, place) + of.randint(1, 9)
+            setattr(self, place, of.choice([-1, -(2**63), 2**63 - 1, 2**62, 2**60, 2**32, greater]))
+        elif place == "ends" and self.form in TEXTS:
+            code = CODES[self.form]
+            ends = array(code, self.values.tobytes())
+            great = [2**31 - 1, -(2**31)] if code == "i" else [2**32, 2**63 - 1, -(2**63)]
+            ends[of.randrange(len(ends))] = of.choice([-1, 0, len(self.characters), len(self.characters) + 1, *great])
+            self.values = buffer(ends.tobytes())
+        else:
+            short = of.choice(self.new) if place == "new" else getattr(self, place, None)
+            if short:
+                del short[-of.choice([1, 1, 1, of.randrange(20) + 1]) :]
+
+    def has_rows(self) -> bool:
+        last = self.offset + self.count
+        if self.offset < 0 or self.count < 0 or last > 2**40:
+            return False
+        return (
+            len(self.values) >= (last + (self.form in TEXTS)) * SIZES[self.form]
+            and (self.validity is None or len(self.validity) * 8 >= last)
+            and len(self.new[0]) * 8 >= self.count
+            and (not self.encodes or len(self.new[1]) >= (self.count + 1) * SIZES[self.new_form])
+            and len(self.new[2]) >= self.count * self.most
+        )
+
+    def value(self, row: int) -> Any:
+        """A row as the function for one value takes it, or its bytes if it is malformed."""
+        i = self.offset + row
+        if self.validity is not None and not self.validity[i // 8] >> i % 8 & 1:
+            return None
+        if self.form not in TEXTS:
+            size = SIZES[self.form]
+            given = self.values[i * size : i * size + size].tobytes()
+            if self.form == "w":
+                return int.from_bytes(given, "big")
+            return int.from_bytes(given, sys.byteorder, signed=self.form != "L")
+        size = SIZES[self.form]
+        ends = struct.unpack(f"=2{CODES[self.form]}", self.values[i * size : i * size + 2 * size].tobytes())
+        if not 0 <= ends[0] <= ends[1] <= len(self.characters):
+            raise LookupError
+        text = self.characters[ends[0] : ends[1]].tobytes()
+        return text.decode() if self.encodes and self.form in "uU" else text
+
+    def convert(self, value: Any) -> Any:
+        if not self.encodes:
+            number = (base62.decode_canonical if self.option else base62.decode)(value, self.letters)
+            if number >> {"l": 63, "L": 64, "w": 128}[self.new_form]:
+                raise ValueError
+            return number
+        if self.form in TEXTS:
+            value = base62.decode(base62.encode_uuid(value))
+        if self.option < 0:
+            return base62.encode(value, self.letters).encode()
+        return base62.encode_fixed(value, self.option, self.letters).encode()
+
+    def expected(self) -> list[Any] | None:
+        """The rows of the result before the first invalid one, or None if the array is malformed."""
+        rows: list[Any] = []
+        if not self.has_rows():
+            return None
+        for row in range(self.count):
+            try:
+                value = self.value(row)
+                rows.append(None if value is None else self.convert(value))
+            except LookupError:
+                return None
+            except ValueError:
+                if not self.coerces:
+                    break
+                rows.append(None)
+        return rows
+
+    def call(self) -> Any:
+        # An array lacks the buffer of its characters if it has none.
+        source = self.form, self.offset, self.count, self.validity, self.values, self.characters or None
+        call: Any = _base62.encode_rows if self.encodes else _base62.decode_rows
+        return call(self.letters, self.option, source, (self.new_form, *self.new), self.coerces)
+
+    def result(self, row: int, used: int, nulls: int) -> list[Any]:
+        valid = [bool(self.new[0][i // 8] >> i % 8 & 1) for i in range(row)]
+        assert valid.count(False) == nulls, (valid, nulls)
+        if self.encodes:
+            ends = array(CODES[self.new_form], self.new[1].tobytes())
+            assert (ends[0], ends[row]) == (0, used), (ends, used)
+            found: list[Any] = [self.new[2][ends[i] : ends[i + 1]].tobytes() for i in range(row)]
+            assert not any(text for text, is_valid in zip(found, valid) if not is_valid)
+        else:
+            size, order = SIZES[self.new_form], "big" if self.new_form == "w" else sys.byteorder
+            found = [int.from_bytes(self.new[2][i * size : i * size + size].tobytes(), order) for i in range(row)]
+        return [text if is_valid else None for text, is_valid in zip(found, valid)]
+
+    def check(self) -> bool:
+        """Whether the array is well-formed."""
+        expected = self.expected()
+        try:
+            row, used, nulls = self.call()
+        except ValueError as error:
+            assert expected is None and str(error) == MALFORMED, (vars(self), expected, error)
+        else:
+            assert expected is not None and self.result(row, used, nulls) == expected, (vars(self), expected)
+        # A buffer that is not released cannot grow.
+        for each in (self.validity, self.values, self.characters, *self.new):
+            if each is not None:
+                each.append(0)
+        return expected is not None
+
+
+def check_inputs(count: int, seed: int) -> int:
+    """Returns how many are well-formed."""
+    of = random.Random(seed)
+    found = 0
+    for _ in range(count):
+        given = Input(of, of.random() < 0.5)
+        if of.random() < 0.5:
+            given.damage()
+        found += given.check()
+    return found
+
+
+def damage_inputs(count: int, seed: int) -> int:
+    """Calls with so many damaged inputs, of which the sanitizers see what memory is read and written. Returns how many
+    end well."""
+    of, ended = random.Random(seed), 0
+    for number in range(count):
+        if number % 200 == 0:
+            given = Input(of, of.random() < 0.5)
+            call: Any = _base62.encode_rows if given.encodes else _base62.decode_rows
+            whole = [given.offset, given.count, given.option, given.validity, given.values, given.characters, *given.new]
+        parts: list[Any] = whole.copy()
+        for _ in range(of.randrange(1, 3)):
+            i = of.randrange(len(parts))
+            if i < 3:
+                parts[i] = of.choice((of.randrange(-2, 30), of.randrange(-2, 30), of.getrandbits(64) - 2**63))
+            elif parts[i]:
+                parts[i] = parts[i][: of.randrange(len(parts[i]) + 1)]
+            if given.form in TEXTS and len(parts[4]) >= SIZES[given.form] and of.random() < 0.5:
+                parts[4] = parts[4][:]
+                place = of.randrange(len(parts[4]) // SIZES[given.form]) * SIZES[given.form]
+                end = of.choice((of.randrange(-3, 500), of.getrandbits(31), ~of.getrandbits(31)))
+                struct.pack_into("=" + CODES[given.form].lower(), parts[4], place, end)
+        try:
+            call(given.letters, parts[2], (given.form, *parts[:2], *parts[3:6]), (given.new_form, *parts[6:]), given.coerces)
+            ended += 1
+        except ValueError as error:
+            assert str(error) == MALFORMED, error
+    return ended
+
+
+class Inputs(unittest.TestCase):
+    def test_random(self) -> None:
+        self.assertLess(3_000, check_inputs(5_000, 62))
+
+    def test_damaged(self) -> None:
+        self.assertLess(3_000, damage_inputs(20_000, 62))
+
+    def test_arguments(self) -> None:
+        """No type of which the loop would take another size."""
+        bytes_of = [bytearray(64) for _ in range(5)]
+        calls: list[Any] = [(_base62.encode_rows, "LldwuzUZ", "uU"), (_base62.decode_rows, TEXTS, "Llw")]
+        for call, types, new_types in calls:
+            for form in map(chr, range(128)):
+                for source, result in ((form, new_types[0]), (types[0], form)):
+                    given: Any = ((source, 0, 1, None, *bytes_of[:2]), (result, *bytes_of[2:]), True)
+                    if source in types and result in new_types:
+                        self.assertEqual(call(ALPHABETS[0], 1, *given)[0], 1)
+                    else:
+                        self.assertRaisesRegex(ValueError, MALFORMED, call, ALPHABETS[0], 1, *given)
+
+
+class Runs(unittest.TestCase):
+    """Columns of more than one run of rows. Each third row is null."""
+
+    def encoded(self, rows: list[int], bad: int | None = None) -> Any:
+        """The buffers of the result, and what encodes rows, of which one may be invalid."""
+        values = array("q", rows)
+        if bad is not None:
+            values[bad] = -1
+        new = bytearray((len(rows) + 7) // 8), bytearray(4 * len(rows) + 4), bytearray(11 * len(rows))
+        validity = bitmap([row % 3 != 0 for row in range(24)]) * (len(rows) // 24 + 1)
+        source = "l", 0, len(rows), validity, values, None
+        return new, lambda: _base62.encode_rows(ALPHABETS[0], -1, source, ("u", *new), False)
+
+    def test_rows(self) -> None:
+        rows = [row % 100 for row in range(3 * RUN + 9)]
+        new, call = self.encoded(rows)
+        strings = [b"" if row % 3 == 0 else base62.encode(number).encode() for row, number in enumerate(rows)]
+        text, nulls = b"".join(strings), strings.count(b"")
+        self.assertEqual(call(), (len(rows), len(text), nulls))
+        self.assertEqual(new[2][: len(text)], text)
+        values = bytearray(8 * len(rows))
+        source = "u", 0, len(rows), new[0], new[1], new[2]
+        result = "L", bytearray(len(new[0])), bytearray(), values
+        self.assertEqual(_base62.decode_rows(ALPHABETS[0], True, source, result, False), (len(rows), 0, nulls))
+        self.assertEqual(result[1], new[0])
+        self.assertEqual([*memoryview(values).cast("Q")], [0 if row % 3 == 0 else it for row, it in enumerate(rows)])
+
+    def test_invalid(self) -> None:
+        for bad in (RUN - 2, RUN, 2 * RUN + 5):
+            nulls = (bad + 2) // 3
+            self.assertEqual(self.encoded([5] * 3 * RUN, bad)[1](), (bad, bad - nulls, nulls))
+
+    def test_gil(self) -> None:
+        self.assertTrue(others_run(self.encoded([5] * 3 * RUN)[1]))
+
+    def test_signals(self) -> None:
+        """A signal is handled between runs: the last one is not begun."""
+
+        def interrupt(*unused: object) -> None:
+            raise KeyboardInterrupt
+
+        new, call = self.encoded([5] * 60 * RUN)
+        before = signal.signal(signal.SIGALRM, interrupt)
+        try:
+            with self.assertRaises(KeyboardInterrupt):
+                signal.setitimer(signal.ITIMER_REAL, 0.001)
+                call()
+        finally:
+            signal.signal(signal.SIGALRM, before)
+        self.assertEqual((new[0][0], new[0][-1]), (0b10110110, 0))
+        # The buffers are released.
+        for each in new:
+            each.append(0)
+
+
+class Far(unittest.TestCase):
+    """Rows whose bytes and bits have indexes of 2^31 and more, among pages of zeros that take no memory."""
+
+    def pages(self, size: int) -> mmap.mmap:
+        private = mmap.MAP_PRIVATE | mmap.MAP_ANONYMOUS
+        try:
+            return mmap.mmap(-1, size, flags=private | getattr(mmap, "MAP_NORESERVE", 0x4000))
+        except OSError as error:
+            self.skipTest(f"no {size} bytes of address space: {error}")
+
+    def test_offset(self) -> None:
+        offset = 2**32 + 2**31 + 11
+        validity = self.pages(offset // 8 + 8)
+        validity[(offset + 1) // 8] = 1 << (offset + 1) % 8
+        for form, size in SIZES.items():
+            values = self.pages((offset + 4) * size)
+            new = bytearray(1), bytearray(32), bytearray(64)
+            place = (offset + 1) * size
+            number: dict[str, Any] = {"w": (15 * b"\0" + b"\7"), "d": (7).to_bytes(16, sys.byteorder)}
+            values[place : place + size] = number.get(form, (7).to_bytes(size, sys.byteorder))
+            # The strings are of 7 characters before the row, and of 7 fewer in it.
+            if form in TEXTS:
+                values[place : place + size] = bytes(size)
+                values[place + size : place + 2 * size] = (2).to_bytes(size, sys.byteorder)
+                call: Any = lambda valid: _base62.decode_rows(
+                    ALPHABETS[0], False, (form, offset, 2, valid, values, b"LZ"), ("L", *new), True
+                )
+                self.assertEqual(call(validity), (2, 0, 1))
+                self.assertEqual(memoryview(new[2]).cast("Q")[1], 1337)
+            else:
+                call = lambda valid: _base62.encode_rows(
+                    ALPHABETS[0], -1, (form, offset, 2, valid, values, None), ("u", *new), True
+                )
+                self.assertEqual(call(None), (2, 2, 0))
+                self.assertEqual(new[2][:2], b"07")
+                self.assertEqual(call(validity), (2, 1, 1))
+                self.assertEqual(new[2][:1], b"7")
+            values.close()
+
+    def test_small_offsets(self) -> None:
+        """Offsets of 32 bits are for fewer than 2^31 characters."""
+        for size in (2**31 - 1, 2**31):
+            given = ("l", 0, 1, b"\0", bytes(8), None), ("u", bytearray(1), bytearray(8), self.pages(size)), False
+            if size < 2**31:
+                self.assertEqual(_base62.encode_rows(ALPHABETS[0], -1, *given), (1, 0, 1))
+            else:
+                self.assertRaisesRegex(ValueError, MALFORMED, _base62.encode_rows, ALPHABETS[0], -1, *given)
+
+    def test_characters(self) -> None:
+        first = 2**32 + 2**31
+        characters = self.pages(first + 2)
+        characters[first:] = b"LZ"
+        source = "U", 0, 1, None, struct.pack("=2q", first, first + 2), characters
+        values = bytearray(8)
+        result = "L", bytearray(1), bytearray(), values
+        self.assertEqual(_base62.decode_rows(ALPHABETS[0], False, source, result, False), (1, 0, 0))
+        self.assertEqual(int.from_bytes(values, sys.byteorder), 1337)
+        # A string of more than 2^31 characters, of which nearly all are the zero of this alphabet.
+        characters[first:] = b"\1\2"
+        source = "U", 0, 1, None, struct.pack("=2q", first - 2**31, first + 2), characters
+        letters = base62.Alphabet(bytes(range(62)))
+        self.assertEqual(_base62.decode_rows(letters, False, source, result, False), (1, 0, 0))
+        self.assertEqual(int.from_bytes(values, sys.byteorder), 64)
+
+
+if __name__ == "__main__":
+    print(damage_inputs(int(sys.argv[1]), random.SystemRandom().getrandbits(64)), "calls end well")

@@ -1,0 +1,181 @@
+-- SPDX-License-Identifier: MIT
+-- Copyright (c) 2026 the maintainers of base62 for Rattle
+-- Never changes once it is released: a later version has a script of its own.
+\echo Use "CREATE EXTENSION base62" to load this file. \quit
+
+-- Keys sort as their numbers by bytes alone, so they have the collation that compares bytes.
+CREATE DOMAIN base62_key AS text COLLATE pg_catalog."C";
+COMMENT ON DOMAIN base62_key IS 'text that is compared byte by byte, as keys are';
+
+CREATE FUNCTION base62_encode(number bigint) RETURNS text
+    AS 'MODULE_PATHNAME', 'pg_base62_encode_int8' LANGUAGE c IMMUTABLE STRICT PARALLEL SAFE;
+COMMENT ON FUNCTION base62_encode(bigint) IS 'the shortest base62 string of a number';
+CREATE FUNCTION base62_encode(number bigint, alphabet text) RETURNS text
+    AS 'MODULE_PATHNAME', 'pg_base62_encode_int8' LANGUAGE c IMMUTABLE STRICT PARALLEL SAFE;
+COMMENT ON FUNCTION base62_encode(bigint, text) IS 'the shortest string of a number in a custom alphabet';
+CREATE FUNCTION base62_encode_uuid(id uuid) RETURNS text
+    AS 'MODULE_PATHNAME', 'pg_base62_encode_uuid' LANGUAGE c IMMUTABLE STRICT PARALLEL SAFE;
+COMMENT ON FUNCTION base62_encode_uuid(uuid) IS 'the shortest base62 string of a UUID';
+CREATE FUNCTION base62_encode_uuid(id uuid, alphabet text) RETURNS text
+    AS 'MODULE_PATHNAME', 'pg_base62_encode_uuid' LANGUAGE c IMMUTABLE STRICT PARALLEL SAFE;
+COMMENT ON FUNCTION base62_encode_uuid(uuid, text) IS 'the shortest string of a UUID in a custom alphabet';
+CREATE FUNCTION base62_encode_numeric(number numeric) RETURNS text
+    AS 'MODULE_PATHNAME', 'pg_base62_encode_numeric' LANGUAGE c IMMUTABLE STRICT PARALLEL SAFE;
+COMMENT ON FUNCTION base62_encode_numeric(numeric) IS 'the shortest base62 string of a numeric';
+CREATE FUNCTION base62_encode_numeric(number numeric, alphabet text) RETURNS text
+    AS 'MODULE_PATHNAME', 'pg_base62_encode_numeric' LANGUAGE c IMMUTABLE STRICT PARALLEL SAFE;
+COMMENT ON FUNCTION base62_encode_numeric(numeric, text) IS 'the shortest string of a numeric in a custom alphabet';
+
+CREATE FUNCTION base62_encode_key(number bigint) RETURNS base62_key
+    AS 'MODULE_PATHNAME', 'pg_base62_encode_key_int8' LANGUAGE c IMMUTABLE STRICT PARALLEL SAFE;
+COMMENT ON FUNCTION base62_encode_key(bigint) IS 'the base62 string of a number, 22 characters wide';
+CREATE FUNCTION base62_encode_key_uuid(id uuid) RETURNS base62_key
+    AS 'MODULE_PATHNAME', 'pg_base62_encode_key_uuid' LANGUAGE c IMMUTABLE STRICT PARALLEL SAFE;
+COMMENT ON FUNCTION base62_encode_key_uuid(uuid) IS 'the base62 string of a UUID, 22 characters wide';
+-- The alphabet is of the domain, as a prefix is below: a result has the collation of its arguments.
+CREATE FUNCTION base62_encode_fixed(number bigint, width integer) RETURNS base62_key
+    AS 'MODULE_PATHNAME', 'pg_base62_encode_fixed_int8' LANGUAGE c IMMUTABLE STRICT PARALLEL SAFE;
+COMMENT ON FUNCTION base62_encode_fixed(bigint, integer) IS 'the base62 string of a number at a fixed width';
+CREATE FUNCTION base62_encode_fixed(number bigint, width integer, alphabet base62_key) RETURNS base62_key
+    AS 'MODULE_PATHNAME', 'pg_base62_encode_fixed_int8' LANGUAGE c IMMUTABLE STRICT PARALLEL SAFE;
+COMMENT ON FUNCTION base62_encode_fixed(bigint, integer, base62_key)
+    IS 'the string of a number at a fixed width in a custom alphabet';
+CREATE FUNCTION base62_encode_fixed_uuid(id uuid, width integer) RETURNS base62_key
+    AS 'MODULE_PATHNAME', 'pg_base62_encode_fixed_uuid' LANGUAGE c IMMUTABLE STRICT PARALLEL SAFE;
+COMMENT ON FUNCTION base62_encode_fixed_uuid(uuid, integer) IS 'the base62 string of a UUID at a fixed width';
+CREATE FUNCTION base62_encode_fixed_uuid(id uuid, width integer, alphabet base62_key) RETURNS base62_key
+    AS 'MODULE_PATHNAME', 'pg_base62_encode_fixed_uuid' LANGUAGE c IMMUTABLE STRICT PARALLEL SAFE;
+COMMENT ON FUNCTION base62_encode_fixed_uuid(uuid, integer, base62_key)
+    IS 'the string of a UUID at a fixed width in a custom alphabet';
+CREATE FUNCTION base62_encode_fixed_numeric(number numeric, width integer) RETURNS base62_key
+    AS 'MODULE_PATHNAME', 'pg_base62_encode_fixed_numeric' LANGUAGE c IMMUTABLE STRICT PARALLEL SAFE;
+COMMENT ON FUNCTION base62_encode_fixed_numeric(numeric, integer) IS 'the base62 string of a numeric at a fixed width';
+CREATE FUNCTION base62_encode_fixed_numeric(number numeric, width integer, alphabet base62_key) RETURNS base62_key
+    AS 'MODULE_PATHNAME', 'pg_base62_encode_fixed_numeric' LANGUAGE c IMMUTABLE STRICT PARALLEL SAFE;
+COMMENT ON FUNCTION base62_encode_fixed_numeric(numeric, integer, base62_key)
+    IS 'the string of a numeric at a fixed width in a custom alphabet';
+
+CREATE FUNCTION base62_decode(encoded text) RETURNS bigint
+    AS 'MODULE_PATHNAME', 'pg_base62_decode_int8' LANGUAGE c IMMUTABLE STRICT PARALLEL SAFE;
+COMMENT ON FUNCTION base62_decode(text) IS 'the number that a base62 string represents';
+CREATE FUNCTION base62_decode(encoded text, alphabet text) RETURNS bigint
+    AS 'MODULE_PATHNAME', 'pg_base62_decode_int8' LANGUAGE c IMMUTABLE STRICT PARALLEL SAFE;
+COMMENT ON FUNCTION base62_decode(text, text) IS 'the number that a string in a custom alphabet represents';
+CREATE FUNCTION base62_decode_uuid(encoded text) RETURNS uuid
+    AS 'MODULE_PATHNAME', 'pg_base62_decode_uuid' LANGUAGE c IMMUTABLE STRICT PARALLEL SAFE;
+COMMENT ON FUNCTION base62_decode_uuid(text) IS 'the UUID that a base62 string represents';
+CREATE FUNCTION base62_decode_uuid(encoded text, alphabet text) RETURNS uuid
+    AS 'MODULE_PATHNAME', 'pg_base62_decode_uuid' LANGUAGE c IMMUTABLE STRICT PARALLEL SAFE;
+COMMENT ON FUNCTION base62_decode_uuid(text, text) IS 'the UUID that a string in a custom alphabet represents';
+CREATE FUNCTION base62_decode_numeric(encoded text) RETURNS numeric
+    AS 'MODULE_PATHNAME', 'pg_base62_decode_numeric' LANGUAGE c IMMUTABLE STRICT PARALLEL SAFE;
+COMMENT ON FUNCTION base62_decode_numeric(text) IS 'the numeric that a base62 string represents';
+CREATE FUNCTION base62_decode_numeric(encoded text, alphabet text) RETURNS numeric
+    AS 'MODULE_PATHNAME', 'pg_base62_decode_numeric' LANGUAGE c IMMUTABLE STRICT PARALLEL SAFE;
+COMMENT ON FUNCTION base62_decode_numeric(text, text) IS 'the numeric that a string in a custom alphabet represents';
+CREATE FUNCTION base62_decode_canonical(encoded text) RETURNS bigint
+    AS 'MODULE_PATHNAME', 'pg_base62_decode_int8_canonical' LANGUAGE c IMMUTABLE STRICT PARALLEL SAFE;
+COMMENT ON FUNCTION base62_decode_canonical(text) IS 'the number that a base62 string without leading zeros represents';
+CREATE FUNCTION base62_decode_canonical(encoded text, alphabet text) RETURNS bigint
+    AS 'MODULE_PATHNAME', 'pg_base62_decode_int8_canonical' LANGUAGE c IMMUTABLE STRICT PARALLEL SAFE;
+COMMENT ON FUNCTION base62_decode_canonical(text, text)
+    IS 'the number that a string without leading zeros in a custom alphabet represents';
+CREATE FUNCTION base62_decode_uuid_canonical(encoded text) RETURNS uuid
+    AS 'MODULE_PATHNAME', 'pg_base62_decode_uuid_canonical' LANGUAGE c IMMUTABLE STRICT PARALLEL SAFE;
+COMMENT ON FUNCTION base62_decode_uuid_canonical(text)
+    IS 'the UUID that a base62 string without leading zeros represents';
+CREATE FUNCTION base62_decode_uuid_canonical(encoded text, alphabet text) RETURNS uuid
+    AS 'MODULE_PATHNAME', 'pg_base62_decode_uuid_canonical' LANGUAGE c IMMUTABLE STRICT PARALLEL SAFE;
+COMMENT ON FUNCTION base62_decode_uuid_canonical(text, text)
+    IS 'the UUID that a string without leading zeros in a custom alphabet represents';
+CREATE FUNCTION base62_decode_numeric_canonical(encoded text) RETURNS numeric
+    AS 'MODULE_PATHNAME', 'pg_base62_decode_numeric_canonical' LANGUAGE c IMMUTABLE STRICT PARALLEL SAFE;
+COMMENT ON FUNCTION base62_decode_numeric_canonical(text)
+    IS 'the numeric that a base62 string without leading zeros represents';
+CREATE FUNCTION base62_decode_numeric_canonical(encoded text, alphabet text) RETURNS numeric
+    AS 'MODULE_PATHNAME', 'pg_base62_decode_numeric_canonical' LANGUAGE c IMMUTABLE STRICT PARALLEL SAFE;
+COMMENT ON FUNCTION base62_decode_numeric_canonical(text, text)
+    IS 'the numeric that a string without leading zeros in a custom alphabet represents';
+CREATE FUNCTION base62_try_decode(encoded text) RETURNS bigint
+    AS 'MODULE_PATHNAME', 'pg_base62_try_decode_int8' LANGUAGE c IMMUTABLE STRICT PARALLEL SAFE;
+COMMENT ON FUNCTION base62_try_decode(text)
+    IS 'the number that a base62 string represents, or null if it is invalid or too large';
+CREATE FUNCTION base62_try_decode(encoded text, alphabet text) RETURNS bigint
+    AS 'MODULE_PATHNAME', 'pg_base62_try_decode_int8' LANGUAGE c IMMUTABLE STRICT PARALLEL SAFE;
+COMMENT ON FUNCTION base62_try_decode(text, text)
+    IS 'the number that a string in a custom alphabet represents, or null if it is invalid or too large';
+CREATE FUNCTION base62_try_decode_uuid(encoded text) RETURNS uuid
+    AS 'MODULE_PATHNAME', 'pg_base62_try_decode_uuid' LANGUAGE c IMMUTABLE STRICT PARALLEL SAFE;
+COMMENT ON FUNCTION base62_try_decode_uuid(text)
+    IS 'the UUID that a base62 string represents, or null if it is invalid or too large';
+CREATE FUNCTION base62_try_decode_uuid(encoded text, alphabet text) RETURNS uuid
+    AS 'MODULE_PATHNAME', 'pg_base62_try_decode_uuid' LANGUAGE c IMMUTABLE STRICT PARALLEL SAFE;
+COMMENT ON FUNCTION base62_try_decode_uuid(text, text)
+    IS 'the UUID that a string in a custom alphabet represents, or null if it is invalid or too large';
+CREATE FUNCTION base62_is_valid(encoded text) RETURNS boolean
+    AS 'MODULE_PATHNAME', 'pg_base62_is_valid' LANGUAGE c IMMUTABLE STRICT PARALLEL SAFE;
+COMMENT ON FUNCTION base62_is_valid(text) IS 'whether base62_decode_uuid accepts a string';
+CREATE FUNCTION base62_is_valid(encoded text, alphabet text) RETURNS boolean
+    AS 'MODULE_PATHNAME', 'pg_base62_is_valid' LANGUAGE c IMMUTABLE STRICT PARALLEL SAFE;
+COMMENT ON FUNCTION base62_is_valid(text, text) IS 'whether base62_decode_uuid accepts a string in a custom alphabet';
+CREATE FUNCTION base62_is_canonical(encoded text) RETURNS boolean
+    AS 'MODULE_PATHNAME', 'pg_base62_is_canonical' LANGUAGE c IMMUTABLE STRICT PARALLEL SAFE;
+COMMENT ON FUNCTION base62_is_canonical(text) IS 'whether base62_decode_uuid_canonical accepts a string';
+CREATE FUNCTION base62_is_canonical(encoded text, alphabet text) RETURNS boolean
+    AS 'MODULE_PATHNAME', 'pg_base62_is_canonical' LANGUAGE c IMMUTABLE STRICT PARALLEL SAFE;
+COMMENT ON FUNCTION base62_is_canonical(text, text)
+    IS 'whether base62_decode_uuid_canonical accepts a string in a custom alphabet';
+
+-- The strings with a prefix are those from the first to the last, and both are null if there is none. If a prefix were
+-- text, a column under the order of a language would silently be searched in that order.
+CREATE FUNCTION base62_prefix_first(prefix base62_key) RETURNS base62_key
+    AS 'MODULE_PATHNAME', 'pg_base62_prefix_first' LANGUAGE c IMMUTABLE STRICT PARALLEL SAFE;
+COMMENT ON FUNCTION base62_prefix_first(base62_key) IS 'the first string of 22 characters that begins with a prefix';
+CREATE FUNCTION base62_prefix_first(prefix base62_key, width integer) RETURNS base62_key
+    AS 'MODULE_PATHNAME', 'pg_base62_prefix_first' LANGUAGE c IMMUTABLE STRICT PARALLEL SAFE;
+COMMENT ON FUNCTION base62_prefix_first(base62_key, integer) IS 'the first string of a width that begins with a prefix';
+CREATE FUNCTION base62_prefix_last(prefix base62_key) RETURNS base62_key
+    AS 'MODULE_PATHNAME', 'pg_base62_prefix_last' LANGUAGE c IMMUTABLE STRICT PARALLEL SAFE;
+COMMENT ON FUNCTION base62_prefix_last(base62_key) IS 'the last string of 22 characters that begins with a prefix';
+CREATE FUNCTION base62_prefix_last(prefix base62_key, width integer) RETURNS base62_key
+    AS 'MODULE_PATHNAME', 'pg_base62_prefix_last' LANGUAGE c IMMUTABLE STRICT PARALLEL SAFE;
+COMMENT ON FUNCTION base62_prefix_last(base62_key, integer) IS 'the last string of a width that begins with a prefix';
+
+-- The numbers whose strings of a width begin with a prefix are those from the first to the last, and both are null if
+-- there is none. Those of bigint end at 2^63 - 1.
+CREATE FUNCTION base62_range_first(prefix text, width integer) RETURNS bigint
+    AS 'MODULE_PATHNAME', 'pg_base62_range_first_int8' LANGUAGE c IMMUTABLE STRICT PARALLEL SAFE;
+COMMENT ON FUNCTION base62_range_first(text, integer)
+    IS 'the first number below 2^63 whose base62 string of a width begins with a prefix';
+CREATE FUNCTION base62_range_first(prefix text, width integer, alphabet text) RETURNS bigint
+    AS 'MODULE_PATHNAME', 'pg_base62_range_first_int8' LANGUAGE c IMMUTABLE STRICT PARALLEL SAFE;
+COMMENT ON FUNCTION base62_range_first(text, integer, text)
+    IS 'the first number below 2^63 whose string of a width in a custom alphabet begins with a prefix';
+CREATE FUNCTION base62_range_last(prefix text, width integer) RETURNS bigint
+    AS 'MODULE_PATHNAME', 'pg_base62_range_last_int8' LANGUAGE c IMMUTABLE STRICT PARALLEL SAFE;
+COMMENT ON FUNCTION base62_range_last(text, integer)
+    IS 'the last number below 2^63 whose base62 string of a width begins with a prefix';
+CREATE FUNCTION base62_range_last(prefix text, width integer, alphabet text) RETURNS bigint
+    AS 'MODULE_PATHNAME', 'pg_base62_range_last_int8' LANGUAGE c IMMUTABLE STRICT PARALLEL SAFE;
+COMMENT ON FUNCTION base62_range_last(text, integer, text)
+    IS 'the last number below 2^63 whose string of a width in a custom alphabet begins with a prefix';
+CREATE FUNCTION base62_range_first_numeric(prefix text, width integer) RETURNS numeric
+    AS 'MODULE_PATHNAME', 'pg_base62_range_first_numeric' LANGUAGE c IMMUTABLE STRICT PARALLEL SAFE;
+COMMENT ON FUNCTION base62_range_first_numeric(text, integer)
+    IS 'the first number whose base62 string of a width begins with a prefix';
+CREATE FUNCTION base62_range_first_numeric(prefix text, width integer, alphabet text) RETURNS numeric
+    AS 'MODULE_PATHNAME', 'pg_base62_range_first_numeric' LANGUAGE c IMMUTABLE STRICT PARALLEL SAFE;
+COMMENT ON FUNCTION base62_range_first_numeric(text, integer, text)
+    IS 'the first number whose string of a width in a custom alphabet begins with a prefix';
+CREATE FUNCTION base62_range_last_numeric(prefix text, width integer) RETURNS numeric
+    AS 'MODULE_PATHNAME', 'pg_base62_range_last_numeric' LANGUAGE c IMMUTABLE STRICT PARALLEL SAFE;
+COMMENT ON FUNCTION base62_range_last_numeric(text, integer)
+    IS 'the last number whose base62 string of a width begins with a prefix';
+CREATE FUNCTION base62_range_last_numeric(prefix text, width integer, alphabet text) RETURNS numeric
+    AS 'MODULE_PATHNAME', 'pg_base62_range_last_numeric' LANGUAGE c IMMUTABLE STRICT PARALLEL SAFE;
+COMMENT ON FUNCTION base62_range_last_numeric(text, integer, text)
+    IS 'the last number whose string of a width in a custom alphabet begins with a prefix';
+
+CREATE FUNCTION base62_version() RETURNS text
+    AS 'MODULE_PATHNAME', 'pg_base62_version' LANGUAGE c STABLE STRICT PARALLEL SAFE;
+COMMENT ON FUNCTION base62_version() IS 'the version of the library that is installed';

@@ -5,41 +5,35 @@
 #include "_base62.h"
 #include "_docstrings.h"
 
-static int init_alphabet_or_raise(struct state *state, const char *characters, struct alphabet *alphabet) {
+static int init_alphabet_or_raise(struct state *state, struct text characters, struct alphabet *alphabet) {
+    if (characters.length != BASE62_ALPHABET_LENGTH) {
+        const char *plural = characters.length == 1 ? "" : "s";
+        PyErr_Format(PyExc_ValueError, "the alphabet has %zd character%s, not 62", characters.length, plural);
+        return -1;
+    }
     base62_bad_byte bad = {0, 0};
-    base62_status status = base62_alphabet_init(&alphabet->tables, characters, &bad);
+    base62_status status = base62_alphabet_init(&alphabet->tables, characters.bytes, &bad);
     if (status != BASE62_OK) {
         raise_status(state, status, bad);
         return -1;
     }
     alphabet->is_ascii = 1;
     for (int i = 0; i < BASE62_ALPHABET_LENGTH; i++)
-        if ((unsigned char)characters[i] > 127)
+        if ((unsigned char)characters.bytes[i] > 127)
             alphabet->is_ascii = 0;
     return 0;
 }
 
-/* The characters of an argument that is not an Alphabet. */
-static int characters_or_raise(struct state *state, PyObject *argument, struct text *characters) {
-    PyObject *bytes = PyBytes_Check(argument) ? new_ref(argument) : convert(state, TO_CHARACTERS, argument);
-    if (steal_bytes_or_raise(bytes, characters) != 0)
-        return -1;
-    if (characters->length == BASE62_ALPHABET_LENGTH)
-        return 0;
-    const char *plural = characters->length == 1 ? "" : "s";
-    PyErr_Format(PyExc_ValueError, "the alphabet has %zd character%s, not 62", characters->length, plural);
-    Py_DecRef(characters->owner);
-    return -1;
-}
-
-/* Creates the fields of an alphabet from an argument that is not an Alphabet. */
-int alphabet_of_characters_or_raise(struct state *state, PyObject *argument, struct alphabet *alphabet) {
+/* Creates the fields of an alphabet from an argument that is not an Alphabet. Returns its characters. */
+PyObject *characters_or_raise(struct state *state, PyObject *argument, struct alphabet *alphabet) {
     struct text characters;
-    if (characters_or_raise(state, argument, &characters) != 0)
-        return -1;
-    int failed = init_alphabet_or_raise(state, characters.bytes, alphabet);
-    Py_DecRef(characters.owner);
-    return failed;
+    PyObject *bytes = PyBytes_Check(argument) ? new_ref(argument) : convert(state, TO_CHARACTERS, argument);
+    if (steal_bytes_or_raise(bytes, &characters) != 0)
+        return NULL;
+    if (init_alphabet_or_raise(state, characters, alphabet) == 0)
+        return bytes;
+    Py_DecRef(bytes);
+    return NULL;
 }
 
 static PyObject *new_bytes(PyObject *bytes) {
@@ -70,13 +64,10 @@ static PyObject *alphabet_new(PyTypeObject *type, PyObject *tuple, PyObject *dic
     PyObject *argument;
     if (state == NULL || !PyArg_ParseTupleAndKeywords(tuple, dict, "O:Alphabet", (char **)names, &argument))
         return NULL;
-    struct text characters;
-    if (characters_or_raise(state, argument, &characters) != 0)
-        return NULL;
     struct alphabet fields;
-    int failed = init_alphabet_or_raise(state, characters.bytes, &fields);
-    PyObject *object = failed ? NULL : new_alphabet_of(state, type, characters.owner, &fields);
-    Py_DecRef(characters.owner);
+    PyObject *characters = characters_or_raise(state, argument, &fields);
+    PyObject *object = characters == NULL ? NULL : new_alphabet_of(state, type, characters, &fields);
+    Py_DecRef(characters);
     return object;
 }
 

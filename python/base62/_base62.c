@@ -173,7 +173,9 @@ static const struct alphabet *alphabet_or_raise(struct state *state, PyObject *a
         return NULL;
     if ((PyObject *)Py_TYPE(object) == state->objects[ALPHABET])
         return fields_of(state, object);
-    return alphabet_of_characters_or_raise(state, object, storage) != 0 ? NULL : storage;
+    PyObject *characters = characters_or_raise(state, object, storage);
+    Py_DecRef(characters);
+    return characters == NULL ? NULL : storage;
 }
 
 static const struct alphabet *ascii_alphabet_or_raise(struct state *state, PyObject *argument,
@@ -223,25 +225,15 @@ PyObject *raise_status(struct state *state, base62_status status, base62_bad_byt
     return NULL;
 }
 
-static PyObject *new_range_or_raise(struct state *state, base62_status status, base62_range range,
-                                    base62_bad_byte bad) {
-    if (status == BASE62_NO_MATCH)
-        return new_ref(Py_None);
-    if (status != BASE62_OK)
-        return raise_status(state, status, bad);
-    return Py_BuildValue("NN", new_int(state, range.least), new_int(state, range.greatest));
-}
-
 /* Calls */
 
-/* Defines a call that takes an alphabet too: a function does it, given these arguments, the state and what is found. */
-#define DEFINE_CALL(name, parameter, function, ...)                                                                    \
+/* Defines a call with these parameters. The expression of its result has the state and the arguments that are found. */
+#define DEFINE_CALL(name, format, least, most, result, ...)                                                            \
     static PyObject *name(PyObject *module, PyObject *const *args, Py_ssize_t nargs, PyObject *kwnames) {              \
-        static const struct parameters signature = {"O|O:" #name, {parameter, "alphabet", NULL}, 1, 2};                \
+        static const struct parameters signature = {format ":" #name, {__VA_ARGS__, NULL}, least, most};               \
+        struct state *state = state_of(module);                                                                        \
         PyObject *found[3];                                                                                            \
-        if (unpack(&signature, args, nargs, kwnames, found) != 0)                                                      \
-            return NULL;                                                                                               \
-        return function(__VA_ARGS__, state_of(module), found);                                                         \
+        return unpack(&signature, args, nargs, kwnames, found) == 0 ? result : NULL;                                   \
     }
 
 typedef int read_number(struct state *, PyObject *, base62_number *);
@@ -260,8 +252,8 @@ static inline PyObject *encode_or_raise(read_number *read, struct state *state, 
     return PyUnicode_DecodeASCII(text, (Py_ssize_t)length, NULL);
 }
 
-DEFINE_CALL(encode, "number", encode_or_raise, number_or_raise)
-DEFINE_CALL(encode_uuid, "value", encode_or_raise, uuid_or_raise)
+DEFINE_CALL(encode, "O|O", 1, 2, encode_or_raise(number_or_raise, state, found), "number", "alphabet")
+DEFINE_CALL(encode_uuid, "O|O", 1, 2, encode_or_raise(uuid_or_raise, state, found), "value", "alphabet")
 
 static PyObject *new_fixed_or_raise(struct state *state, const base62_alphabet *tables, base62_number number,
                                     size_t width) {
@@ -281,41 +273,35 @@ static PyObject *new_fixed_or_raise(struct state *state, const base62_alphabet *
     return result;
 }
 
-static PyObject *encode_fixed(PyObject *module, PyObject *const *args, Py_ssize_t nargs, PyObject *kwnames) {
-    static const struct parameters signature = {"OO|O:encode_fixed", {"number", "width", "alphabet", NULL}, 2, 3};
-    struct state *state = state_of(module);
-    PyObject *found[3];
+static PyObject *fixed_or_raise(struct state *state, PyObject *const found[3]) {
     base62_number number;
     size_t width;
     struct alphabet storage;
-    if (unpack(&signature, args, nargs, kwnames, found) != 0 || number_or_raise(state, found[0], &number) != 0 ||
-        width_or_raise(found[1], &width) != 0)
+    if (number_or_raise(state, found[0], &number) != 0 || width_or_raise(found[1], &width) != 0)
         return NULL;
     const struct alphabet *alphabet = ascii_alphabet_or_raise(state, found[2], &storage);
     return alphabet == NULL ? NULL : new_fixed_or_raise(state, &alphabet->tables, number, width);
 }
 
-static PyObject *encode_key(PyObject *module, PyObject *const *args, Py_ssize_t nargs, PyObject *kwnames) {
-    static const struct parameters signature = {"O:encode_key", {"number", NULL}, 1, 1};
-    struct state *state = state_of(module);
-    PyObject *found[3];
+DEFINE_CALL(encode_fixed, "OO|O", 2, 3, fixed_or_raise(state, found), "number", "width", "alphabet")
+
+static PyObject *key_or_raise(struct state *state, PyObject *argument) {
     base62_number number;
-    if (unpack(&signature, args, nargs, kwnames, found) != 0 || number_or_raise(state, found[0], &number) != 0)
+    if (number_or_raise(state, argument, &number) != 0)
         return NULL;
     char key[BASE62_KEY_LENGTH];
     base62_encode_key(number, key);
     return PyUnicode_DecodeASCII(key, sizeof key, NULL);
 }
 
-static PyObject *digit_count(PyObject *module, PyObject *const *args, Py_ssize_t nargs, PyObject *kwnames) {
-    static const struct parameters signature = {"O:digit_count", {"number", NULL}, 1, 1};
-    struct state *state = state_of(module);
-    PyObject *found[3];
+DEFINE_CALL(encode_key, "O", 1, 1, key_or_raise(state, found[0]), "number")
+
+static PyObject *digit_count_or_raise(struct state *state, PyObject *argument) {
     base62_number number;
-    if (unpack(&signature, args, nargs, kwnames, found) != 0 || number_or_raise(state, found[0], &number) != 0)
-        return NULL;
-    return PyLong_FromSize_t(base62_digit_count(number));
+    return number_or_raise(state, argument, &number) == 0 ? PyLong_FromSize_t(base62_digit_count(number)) : NULL;
 }
+
+DEFINE_CALL(digit_count, "O", 1, 1, digit_count_or_raise(state, found[0]), "number")
 
 typedef PyObject *new_result(struct state *, base62_number);
 
@@ -341,49 +327,44 @@ static inline PyObject *decode_or_raise(decode_with *decode, new_result *new, st
     return status == BASE62_OK ? new(state, number) : raise_status(state, status, bad);
 }
 
-DEFINE_CALL(decode, "text", decode_or_raise, base62_decode_with, new_int)
-DEFINE_CALL(decode_canonical, "text", decode_or_raise, base62_decode_canonical_with, new_int)
-DEFINE_CALL(decode_uuid, "text", decode_or_raise, base62_decode_with, new_uuid)
-DEFINE_CALL(decode_uuid_canonical, "text", decode_or_raise, base62_decode_canonical_with, new_uuid)
+DEFINE_CALL(decode, "O|O", 1, 2, decode_or_raise(base62_decode_with, new_int, state, found), "text", "alphabet")
+DEFINE_CALL(decode_canonical, "O|O", 1, 2, decode_or_raise(base62_decode_canonical_with, new_int, state, found),
+            "text", "alphabet")
+DEFINE_CALL(decode_uuid, "O|O", 1, 2, decode_or_raise(base62_decode_with, new_uuid, state, found), "text", "alphabet")
+DEFINE_CALL(decode_uuid_canonical, "O|O", 1, 2, decode_or_raise(base62_decode_canonical_with, new_uuid, state, found),
+            "text", "alphabet")
 
-static PyObject *key_range(PyObject *module, PyObject *const *args, Py_ssize_t nargs, PyObject *kwnames) {
-    static const struct parameters signature = {"O:key_range", {"prefix", NULL}, 1, 1};
-    struct state *state = state_of(module);
-    PyObject *found[3];
+static PyObject *range_or_raise(struct state *state, PyObject *argument, size_t width, PyObject *characters) {
     struct text prefix;
-    if (unpack(&signature, args, nargs, kwnames, found) != 0 || text_or_raise(state, found[0], &prefix) != 0)
-        return NULL;
-    base62_range range = {{0, 0}, {0, 0}};
-    base62_bad_byte bad = {0, 0};
-    PyThreadState *saved = release_gil_if_long((size_t)prefix.length);
-    base62_status status = base62_key_range(prefix.bytes, (size_t)prefix.length, &range, &bad);
-    restore_gil(saved);
-    Py_DecRef(prefix.owner);
-    return new_range_or_raise(state, status, range, bad);
-}
-
-static PyObject *prefix_range(PyObject *module, PyObject *const *args, Py_ssize_t nargs, PyObject *kwnames) {
-    static const struct parameters signature = {"OO|O:prefix_range", {"prefix", "width", "alphabet", NULL}, 2, 3};
-    struct state *state = state_of(module);
-    PyObject *found[3];
-    size_t width;
-    struct text prefix;
-    if (unpack(&signature, args, nargs, kwnames, found) != 0 || width_or_raise(found[1], &width) != 0 ||
-        text_or_raise(state, found[0], &prefix) != 0)
+    if (text_or_raise(state, argument, &prefix) != 0)
         return NULL;
     base62_range range = {{0, 0}, {0, 0}};
     base62_bad_byte bad = {0, 0};
     base62_status status = BASE62_OK;
     struct alphabet storage;
-    const struct alphabet *alphabet = alphabet_or_raise(state, found[2], &storage);
+    const struct alphabet *alphabet = alphabet_or_raise(state, characters, &storage);
     if (alphabet != NULL) {
         PyThreadState *saved = release_gil_if_long((size_t)prefix.length);
         status = base62_prefix_range_with(&alphabet->tables, prefix.bytes, (size_t)prefix.length, width, &range, &bad);
         restore_gil(saved);
     }
     Py_DecRef(prefix.owner);
-    return alphabet == NULL ? NULL : new_range_or_raise(state, status, range, bad);
+    if (alphabet == NULL)
+        return NULL;
+    if (status == BASE62_NO_MATCH)
+        return new_ref(Py_None);
+    if (status != BASE62_OK)
+        return raise_status(state, status, bad);
+    return Py_BuildValue("NN", new_int(state, range.least), new_int(state, range.greatest));
 }
+
+static PyObject *prefix_range_or_raise(struct state *state, PyObject *const found[3]) {
+    size_t width;
+    return width_or_raise(found[1], &width) == 0 ? range_or_raise(state, found[0], width, found[2]) : NULL;
+}
+
+DEFINE_CALL(prefix_range, "OO|O", 2, 3, prefix_range_or_raise(state, found), "prefix", "width", "alphabet")
+DEFINE_CALL(key_range, "O", 1, 1, range_or_raise(state, found[0], BASE62_KEY_LENGTH, NULL), "prefix")
 
 /* The module */
 
@@ -418,21 +399,7 @@ static int add_calls(PyObject *module) {
 }
 
 static int import_types(PyObject **objects) {
-    static const char *const names[TYPES_END] = {
-        "to_int",
-        "to_bytes",
-        "to_characters",
-        "uuid_to_int",
-        "int_to_uuid",
-        "UUID",
-        "UNKNOWN",
-        "EmptyInputError",
-        "InvalidByteError",
-        "TooLargeError",
-        "NotCanonicalError",
-        "AlphabetError",
-        "OutOfRangeError",
-    };
+    static const char *const names[TYPES_END] = {FOR_EACH_TYPE(NAME_OF_TYPE)};
     PyObject *types = PyImport_ImportModule("base62._types");
     int ok = types != NULL;
     for (int i = 0; ok && i < TYPES_END; i++) {

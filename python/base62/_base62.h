@@ -15,21 +15,28 @@
 #endif
 #include <base62.h>
 
-/* The objects that the module owns. Those before TYPES_END come from base62._types. */
+/* The objects of base62._types that the module owns, by their names there. */
+#define FOR_EACH_TYPE(DO)                                                                                              \
+    DO(TO_INT, "to_int")                                                                                               \
+    DO(TO_BYTES, "to_bytes")                                                                                           \
+    DO(TO_CHARACTERS, "to_characters")                                                                                 \
+    DO(UUID_TO_INT, "uuid_to_int")                                                                                     \
+    DO(INT_TO_UUID, "int_to_uuid")                                                                                     \
+    DO(UUID, "UUID")                                                                                                   \
+    DO(UNKNOWN, "UNKNOWN")                                                                                             \
+    DO(EMPTY_INPUT_ERROR, "EmptyInputError")                                                                           \
+    DO(INVALID_BYTE_ERROR, "InvalidByteError")                                                                         \
+    DO(TOO_LARGE_ERROR, "TooLargeError")                                                                               \
+    DO(NOT_CANONICAL_ERROR, "NotCanonicalError")                                                                       \
+    DO(ALPHABET_ERROR, "AlphabetError")                                                                                \
+    DO(OUT_OF_RANGE_ERROR, "OutOfRangeError")
+
+#define CONSTANT_OF_TYPE(constant, name) constant,
+#define NAME_OF_TYPE(constant, name) name,
+
+/* The objects that the module owns. */
 enum {
-    TO_INT,
-    TO_BYTES,
-    TO_CHARACTERS,
-    UUID_TO_INT,
-    INT_TO_UUID,
-    UUID,
-    UNKNOWN,
-    EMPTY_INPUT_ERROR,
-    INVALID_BYTE_ERROR,
-    TOO_LARGE_ERROR,
-    NOT_CANONICAL_ERROR,
-    ALPHABET_ERROR,
-    OUT_OF_RANGE_ERROR,
+    FOR_EACH_TYPE(CONSTANT_OF_TYPE)
     TYPES_END,
     /* The names of the attributes of a UUID. */
     INT = TYPES_END,
@@ -84,7 +91,7 @@ PyObject *new_int(struct state *state, base62_number number);
 PyObject *raise_status(struct state *state, base62_status status, base62_bad_byte bad);
 
 /* In _alphabet.c. */
-int alphabet_of_characters_or_raise(struct state *state, PyObject *argument, struct alphabet *alphabet);
+PyObject *characters_or_raise(struct state *state, PyObject *argument, struct alphabet *alphabet);
 int add_alphabets(PyObject *module);
 
 /* In _columns.c. */
@@ -92,7 +99,7 @@ PyObject *encode_rows(PyObject *module, PyObject *args);
 PyObject *decode_rows(PyObject *module, PyObject *args);
 
 /* In _uuid.c. */
-int read_uuid(struct text text, unsigned char uuid[BASE62_UUID_LENGTH]);
+int read_uuid(struct text text, int is_string, base62_number *number);
 PyObject *int_of_uuid(struct state *state, PyObject *uuid);
 int uuid_or_raise(struct state *state, PyObject *argument, base62_number *number);
 PyObject *new_uuid(struct state *state, base62_number number);

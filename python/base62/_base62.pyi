@@ -57,9 +57,6 @@ def encode_uuid(value: AnyUUID, alphabet: AnyAlphabet = Alphabet.STANDARD) -> st
     Raises ValueError for any other str or bytes, and what encode raises for the alphabet.
 
     >>> import base62
-    >>> import uuid
-    >>> base62.encode_uuid(uuid.UUID("12345678-1234-5678-1234-567812345678"))
-    'YLmNWW2NwaipfRR50HIPA'
     >>> base62.encode_uuid("{12345678-1234-5678-1234-567812345678}")
     'YLmNWW2NwaipfRR50HIPA'
     """
@@ -143,10 +140,6 @@ def decode_uuid_canonical(text: EncodedString, alphabet: AnyAlphabet = Alphabet.
     """Like decode_uuid, but accept only canonical strings: those that encode_uuid returns.
 
     Raises what decode_canonical raises.
-
-    >>> import base62
-    >>> base62.decode_uuid_canonical("YLmNWW2NwaipfRR50HIPA")
-    UUID('12345678-1234-5678-1234-567812345678')
     """
 
 def key_range(prefix: EncodedString) -> tuple[int, int] | None:

@@ -25,8 +25,8 @@ struct conversion {
     struct source source;
     struct result result;
     const base62_alphabet *alphabet;
-    /* Of encoding: the width, or -1 for strings without leading zeros. */
-    Py_ssize_t width;
+    /* Of encoding: the width, or -1 for no leading zeros. Of decoding: whether leading zeros are invalid. */
+    Py_ssize_t option;
     decode_with *decode;
     /* Invalid rows become null. Otherwise the first one ends the conversion. */
     int coerces;
@@ -80,23 +80,12 @@ static inline enum outcome read_text(const struct source *source, Py_ssize_t ind
     return VALID;
 }
 
-/* A string for a UUID, or its 16 bytes. */
 static enum outcome read_uuid_text(const struct source *source, Py_ssize_t index, base62_number *number) {
     struct text text;
-    unsigned char uuid[BASE62_UUID_LENGTH];
     enum outcome outcome = read_text(source, index, has_large_offsets(source->type), &text);
     if (outcome != VALID)
         return outcome;
-    if (source->type == 'u' || source->type == 'U') {
-        if (read_uuid(text, uuid) != 0)
-            return INVALID;
-    } else {
-        if (text.length != BASE62_UUID_LENGTH)
-            return INVALID;
-        memcpy(uuid, text.bytes, sizeof uuid);
-    }
-    *number = base62_from_uuid(uuid);
-    return VALID;
+    return read_uuid(text, source->type == 'u' || source->type == 'U', number) == 0 ? VALID : INVALID;
 }
 
 static enum outcome read_number(const struct source *source, Py_ssize_t index, base62_number *number) {
@@ -159,9 +148,9 @@ static enum outcome encode_row(const struct conversion *conversion, Py_ssize_t r
     if (outcome != VALID)
         return outcome;
     char *place = (char *)result->values.buf + result->used;
-    size_t left = (size_t)(result->values.len - result->used), width = (size_t)conversion->width;
-    *length = conversion->width < 0 ? base62_encode_with(conversion->alphabet, number, place, left)
-                                    : base62_encode_fixed_with(conversion->alphabet, number, place, width);
+    size_t left = (size_t)(result->values.len - result->used), width = (size_t)conversion->option;
+    *length = conversion->option < 0 ? base62_encode_with(conversion->alphabet, number, place, left)
+                                     : base62_encode_fixed_with(conversion->alphabet, number, place, width);
     return *length == 0 ? INVALID : VALID;
 }
 
@@ -261,17 +250,16 @@ static enum outcome convert_rows(struct conversion *conversion,
     return VALID;
 }
 
-/* The option is the width, or whether strings have to be canonical. */
-static int parse_conversion(PyObject *module, PyObject *args, struct conversion *conversion, Py_ssize_t *option) {
+static int parse_conversion(PyObject *module, PyObject *args, struct conversion *conversion) {
     struct state *state = PyModule_GetState(module);
     struct source *source = &conversion->source;
     struct result *result = &conversion->result;
     PyObject *alphabet, *type = borrow(state, ALPHABET);
     *conversion = (struct conversion){.row = 0};
     if (type == NULL ||
-        !PyArg_ParseTuple(args, "O!n(Cnnz*z*z*)(Cw*w*w*)p", type, &alphabet, option, &source->type, &source->offset,
-                          &source->count, &source->validity, &source->values, &source->characters, &result->type,
-                          &result->validity, &result->offsets, &result->values, &conversion->coerces))
+        !PyArg_ParseTuple(args, "O!n(Cnnz*z*z*)(Cw*w*w*)p", type, &alphabet, &conversion->option, &source->type,
+                          &source->offset, &source->count, &source->validity, &source->values, &source->characters,
+                          &result->type, &result->validity, &result->offsets, &result->values, &conversion->coerces))
         return -1;
     conversion->alphabet = &fields_of(state, alphabet)->tables;
     if (source->characters.buf == NULL)
@@ -296,12 +284,12 @@ static PyObject *finish(struct conversion *conversion, enum outcome outcome) {
 
 PyObject *encode_rows(PyObject *module, PyObject *args) {
     struct conversion conversion;
-    Py_ssize_t width;
-    if (parse_conversion(module, args, &conversion, &width) != 0)
+    if (parse_conversion(module, args, &conversion) != 0)
         return NULL;
-    conversion.width = width;
     int type = conversion.source.type;
-    Py_ssize_t most = width >= 0 ? width : type == 'L' || type == 'l' ? MAX_DIGITS_OF_64_BITS : BASE62_MAX_DIGITS;
+    Py_ssize_t most = type == 'L' || type == 'l' ? MAX_DIGITS_OF_64_BITS : BASE62_MAX_DIGITS;
+    if (conversion.option >= 0)
+        most = conversion.option;
     enum outcome outcome = MALFORMED;
     if (is_type(type, "LldwuzUZ") && is_type(conversion.result.type, "uU") && has_rows(&conversion, most))
         outcome = convert_rows(&conversion, encode_until);
@@ -310,10 +298,9 @@ PyObject *encode_rows(PyObject *module, PyObject *args) {
 
 PyObject *decode_rows(PyObject *module, PyObject *args) {
     struct conversion conversion;
-    Py_ssize_t is_canonical;
-    if (parse_conversion(module, args, &conversion, &is_canonical) != 0)
+    if (parse_conversion(module, args, &conversion) != 0)
         return NULL;
-    conversion.decode = is_canonical ? base62_decode_canonical_with : base62_decode_with;
+    conversion.decode = conversion.option ? base62_decode_canonical_with : base62_decode_with;
     enum outcome outcome = MALFORMED;
     if (is_type(conversion.source.type, "uzUZ") && is_type(conversion.result.type, "Llw") &&
         has_rows(&conversion, size_of(conversion.result.type)))

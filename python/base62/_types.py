@@ -56,27 +56,11 @@ class TooLargeError(DecodeError):
 
 
 class NotCanonicalError(DecodeError):
-    """A string represents a number, but has a leading zero.
-
-    >>> import base62
-    >>> base62.decode("00LZ")
-    1337
-    >>> base62.decode_canonical("00LZ")
-    Traceback (most recent call last):
-    base62.NotCanonicalError: Encoded input has a leading zero
-    """
+    """A string represents a number, but has a leading zero."""
 
 
 class InvalidByteError(_BadByteError, DecodeError):
-    """A byte of a string is not a character of the alphabet.
-
-    >>> import base62
-    >>> try:
-    ...     base62.decode("00LZ-")
-    ... except base62.InvalidByteError as error:
-    ...     print(error, error.byte, error.index, sep="; ")
-    Encoded input contains the invalid byte b'-' at index 4; 45; 4
-    """
+    """A byte of a string is not a character of the alphabet."""
 
     byte: int
     """The first invalid byte. The bytes of a str are those of its UTF-8."""
@@ -86,13 +70,7 @@ class InvalidByteError(_BadByteError, DecodeError):
 
 
 class OutOfRangeError(OverflowError, ValueError):
-    """A number is negative, or 2**128 or more, or has more characters than the width.
-
-    >>> import base62
-    >>> base62.encode(-1)
-    Traceback (most recent call last):
-    base62.OutOfRangeError: the number is not from 0 to 2**128 - 1
-    """
+    """A number is negative, or 2**128 or more, or has more characters than the width."""
 
 
 # Where users find them.

@@ -25,7 +25,7 @@ static void remove_frame(struct text *text) {
 }
 
 /* Reads a string for a UUID, as docs/DEFINITIONS.md defines it. Returns -1 if it is none. */
-int read_uuid(struct text text, unsigned char uuid[BASE62_UUID_LENGTH]) {
+static int read_string(struct text text, unsigned char uuid[BASE62_UUID_LENGTH]) {
     remove_frame(&text);
     int has_hyphens = text.length == 2 * BASE62_UUID_LENGTH + 4;
     if (!has_hyphens && text.length != 2 * BASE62_UUID_LENGTH)
@@ -42,30 +42,25 @@ int read_uuid(struct text text, unsigned char uuid[BASE62_UUID_LENGTH]) {
     return 0;
 }
 
-static int number_of_string_or_raise(struct state *state, PyObject *argument, base62_number *number) {
-    struct text text;
+/* Reads a string for a UUID, or its 16 bytes. Returns -1 if it is neither. */
+int read_uuid(struct text text, int is_string, base62_number *number) {
     unsigned char uuid[BASE62_UUID_LENGTH];
-    if (text_or_raise(state, argument, &text) != 0)
+    if (is_string ? read_string(text, uuid) != 0 : text.length != BASE62_UUID_LENGTH)
         return -1;
-    int failed = read_uuid(text, uuid);
-    Py_DecRef(text.owner);
-    if (failed)
-        PyErr_SetString(PyExc_ValueError, "badly formed hexadecimal UUID string");
-    else
-        *number = base62_from_uuid(uuid);
-    return failed;
+    *number = base62_from_uuid(is_string ? uuid : (const unsigned char *)text.bytes);
+    return 0;
 }
 
-static int number_of_bytes_or_raise(PyObject *argument, base62_number *number) {
+static int number_of_text_or_raise(struct state *state, PyObject *argument, base62_number *number) {
     struct text text;
-    if (steal_bytes_or_raise(new_ref(argument), &text) != 0)
+    int is_string = PyUnicode_Check(argument);
+    if (text_or_raise(state, argument, &text) != 0)
         return -1;
-    int failed = text.length == BASE62_UUID_LENGTH ? 0 : -1;
-    if (failed)
-        PyErr_SetString(PyExc_ValueError, "bytes is not a 16-char string");
-    else
-        *number = base62_from_uuid((const unsigned char *)text.bytes);
+    int failed = read_uuid(text, is_string, number);
     Py_DecRef(text.owner);
+    if (failed != 0)
+        PyErr_SetString(PyExc_ValueError,
+                        is_string ? "badly formed hexadecimal UUID string" : "bytes is not a 16-char string");
     return failed;
 }
 
@@ -78,10 +73,8 @@ PyObject *int_of_uuid(struct state *state, PyObject *uuid) {
 }
 
 int uuid_or_raise(struct state *state, PyObject *argument, base62_number *number) {
-    if (PyUnicode_Check(argument))
-        return number_of_string_or_raise(state, argument, number);
-    if (PyBytes_Check(argument))
-        return number_of_bytes_or_raise(argument, number);
+    if (PyUnicode_Check(argument) || PyBytes_Check(argument))
+        return number_of_text_or_raise(state, argument, number);
     int is_uuid = (PyObject *)Py_TYPE(argument) == state->objects[UUID];
     PyObject *integer = is_uuid ? int_of_uuid(state, argument) : convert(state, UUID_TO_INT, argument);
     int failed = integer == NULL ? -1 : number_or_raise(state, integer, number);

@@ -444,9 +444,5 @@ def decode_uuid_canonical(
     """Like decode_uuid, but accept only canonical strings: those that encode_uuid returns.
 
     Raises what base62.decode_canonical raises.
-
-    >>> from base62 import columns
-    >>> columns.decode_uuid_canonical(["YLmNWW2NwaipfRR50HIPA"]).to_pylist()
-    [UUID('12345678-1234-5678-1234-567812345678')]
     """
     return _decode(column, base62.decode_uuid_canonical, alphabet, errors, pa.uuid())

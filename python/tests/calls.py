@@ -1,12 +1,14 @@
 # SPDX-License-Identifier: MIT
 # Copyright (c) 2026 the maintainers of base62 for Rattle
-"""Valid and invalid calls with their arguments, for the memory tests."""
+"""What several tests share: arguments, and valid and invalid calls with them."""
 
 from __future__ import annotations
 
+import unittest
 import uuid
 from array import array
 from collections.abc import Callable, Iterator
+from dataclasses import dataclass
 from typing import Any
 
 import base62
@@ -18,14 +20,51 @@ REPEATED = "0" * 62
 HIGH = bytes(range(194, 256))
 WIDE = 2**128 - 1
 TEXT = "7n42DGM5Tflk9n8mt7Fhc7"
+NAME = uuid.UUID("550e8400-e29b-41d4-a716-446655440000")
+# What the extension owns of base62._types.
+ERRORS = [base62.AlphabetError, base62.OutOfRangeError, *base62.DecodeError.__subclasses__()]
+
+Call = Callable[..., Any]
+Invocation = tuple[Call, tuple[Any, ...], dict[str, Any]]
+# Calls that take an alphabet.
+OF_ALPHABETS: list[Call] = [
+    base62.Alphabet,
+    lambda letters: base62.encode(1, letters),
+    lambda letters: base62.encode_uuid(NAME, letters),
+    lambda letters: base62.encode_fixed(1, 5, letters),
+    lambda letters: base62.decode("9", letters),
+    lambda letters: base62.decode_canonical("9", letters),
+    lambda letters: base62.decode_uuid("", letters),
+    lambda letters: base62.decode_uuid_canonical("9", letters),
+    lambda letters: base62.prefix_range("9", 5, letters),
+]
 
 
 class OtherUUID(uuid.UUID):
     """A subclass, which goes another way than uuid.UUID."""
 
+    def __index__(self) -> int:
+        return 0
 
-Call = Callable[..., object]
-Invocation = tuple[Call, tuple[Any, ...], dict[str, Any]]
+
+@dataclass
+class Indexed:
+    number: int
+
+    def __index__(self) -> int:
+        return self.number
+
+    def __int__(self) -> int:
+        return 0
+
+
+class RaisesTestCase(unittest.TestCase):
+    def raised(self, kind: type[BaseException], call: Call, *given: object, **named: object) -> Any:
+        """The exception of exactly this type that a call raises."""
+        with self.assertRaises(kind) as caught:
+            call(*given, **named)
+        self.assertIs(type(caught.exception), kind)
+        return caught.exception
 
 
 def invocation(call: Call, *given: Any, **named: Any) -> Invocation:

@@ -16,17 +16,13 @@ import time
 import unittest
 import uuid
 from array import array
-from collections.abc import Callable
 from typing import Any, SupportsIndex
 
 import base62
 from base62 import Alphabet
+from calls import CUSTOM, HIGH, NAME, OF_ALPHABETS, TEXT, WIDE, Call, Indexed, OtherUUID, RaisesTestCase
 
-LARGEST = 2**128 - 1
-LARGEST_TEXT = "7n42DGM5Tflk9n8mt7Fhc7"
-STANDARD = "0123456789ABCDEFGHIJKLMNOPQRSTUVWXYZabcdefghijklmnopqrstuvwxyz"
-CUSTOM = STANDARD[::-1]
-HIGH = bytes(range(194, 256))
+STANDARD = CUSTOM[::-1]
 
 # Stores a byte that is no letter in a bytes object of zeros, behind its header.
 FAR = """
@@ -39,7 +35,6 @@ except base62.InvalidByteError as error:
     print(error.byte, error.index)
 """
 
-Call = Callable[..., Any]
 # The alternative alphabet has the standard letters, so that both have the same bad bytes.
 OF_NUMBERS: list[Call] = [
     base62.encode,
@@ -93,33 +88,31 @@ def copies(of: Any) -> list[Any]:
     return [copy.copy(of), copy.deepcopy(of), *map(pickle.loads, pickled)]
 
 
-class RaisesTestCase(unittest.TestCase):
-    def raised(self, kind: type[BaseException], call: Call, *arguments: object) -> Any:
-        """The exception of exactly this type that a call raises."""
-        with self.assertRaises(kind) as caught:
-            call(*arguments)
-        self.assertIs(type(caught.exception), kind)
-        return caught.exception
+class OtherStr(str):
+    """A subclass, whose methods are not called."""
+
+    encode: Any = lambda *given: 5
+    replace: Any = None
+
+
+class OtherInt(int):
+    """A subclass, whose methods are not called."""
+
+    def __rshift__(self, width: int) -> int:
+        return 0
 
 
 class Texts(unittest.TestCase):
     def test_kinds_of_texts(self) -> None:
-        class Subclass(str):
-            pass
-
         views = [memoryview(b"x1a")[1:], memoryview(b"1xa")[::2], memoryview(b"a1")[::-1]]
         items: list[Any] = [array("B", b"1a"), array("b", b"1a")]
-        for text in ("1a", Subclass("1a"), b"1a", bytearray(b"1a"), *views, *items):
+        for text in ("1a", OtherStr("1a"), b"1a", bytearray(b"1a"), *views, *items):
             self.assertEqual(base62.decode(text), 98)
             self.assertEqual(base62.key_range(text), (98 * 62**20, 99 * 62**20 - 1))
 
     def test_nothing_is_left(self) -> None:
         """A str keeps no UTF-8 that a call has asked for."""
-
-        class Subclass(str):
-            pass
-
-        for text in ("é", "é" * 5000, Subclass("é" * 30), "\u20ac" * 30, "\U0001f600" * 30, "\ud800" * 30):
+        for text in ("é", "é" * 5000, OtherStr("é" * 30), "\u20ac" * 30, "\U0001f600" * 30, "\ud800" * 30):
             for call in OF_TEXTS:
                 copy = type(text)(text[:1] + text[1:])
                 size = sys.getsizeof(copy)
@@ -128,58 +121,30 @@ class Texts(unittest.TestCase):
                 self.assertEqual(sys.getsizeof(copy), size)
 
     def test_overridden_encode(self) -> None:
-        """A method that a subclass of str overrides is not called."""
-
-        class Subclass(str):
-            encode: Any = lambda *given: 5
-
         for call in OF_TEXTS:
-            self.assertRaisesRegex(base62.InvalidByteError, "xed' at index 0$", call, Subclass("\ud800"))
-        self.assertEqual(base62.encode(1337, Subclass(STANDARD)), "LZ")
-        self.assertEqual(base62.decode(Subclass("9"), Subclass(CUSTOM)), CUSTOM.index("9"))
+            self.assertRaisesRegex(base62.InvalidByteError, "xed' at index 0$", call, OtherStr("\ud800"))
+        self.assertEqual(base62.encode(1337, OtherStr(STANDARD)), "LZ")
+        self.assertEqual(base62.decode(OtherStr("9"), OtherStr(CUSTOM)), CUSTOM.index("9"))
 
     def test_kinds_of_numbers(self) -> None:
-        class Subclass(int):
-            def __rshift__(self, width: int) -> int:
-                return 0
-
-        class Indexed:
-            def __index__(self) -> int:
-                return LARGEST
-
-            def __int__(self) -> int:
-                return 0
-
         kinds = enum.IntEnum("kinds", {"one": 1337})
         self.assertEqual((base62.encode(False), base62.encode(True)), ("0", "1"))
         self.assertEqual(base62.encode(kinds(1337)), "LZ")
-        largest: list[SupportsIndex] = [Subclass(LARGEST), Indexed()]
+        largest: list[SupportsIndex] = [OtherInt(WIDE), Indexed(WIDE)]
         for number in largest:
-            self.assertEqual((base62.encode(number), base62.encode_key(number)), (LARGEST_TEXT, LARGEST_TEXT))
+            self.assertEqual((base62.encode(number), base62.encode_key(number)), (TEXT, TEXT))
             self.assertEqual(base62.digit_count(number), 22)
 
     def test_kinds_of_uuids(self) -> None:
-        class Subclass(str):
-            replace: Any = None
-
-        class IntSubclass(int):
-            def __rshift__(self, width: int) -> int:
-                return 0
-
-        class Indexed(uuid.UUID):
-            def __index__(self) -> int:
-                return 0
-
-        name = uuid.UUID("550e8400-e29b-41d4-a716-446655440000")
-        given: list[Any] = [name, uuid.UUID(int=IntSubclass(name.int)), Indexed(int=name.int)]
+        given: list[Any] = [NAME, uuid.UUID(int=OtherInt(NAME.int)), OtherUUID(int=NAME.int)]
         for one in given:
             self.assertEqual(base62.encode(one), "2aUyqjCzEIiEcYMKj7TZtw")
-        for one in (*given, str(name), Subclass(name), name.bytes):
+        for one in (*given, str(NAME), OtherStr(NAME), NAME.bytes):
             self.assertEqual(base62.encode_uuid(one), "2aUyqjCzEIiEcYMKj7TZtw")
 
     def test_uuids_of_programs(self) -> None:
         """A program can store any object as the int of a UUID."""
-        for stored, kind in ((-1, base62.OutOfRangeError), (LARGEST + 1, base62.OutOfRangeError), ("1", TypeError)):
+        for stored, kind in ((-1, base62.OutOfRangeError), (WIDE + 1, base62.OutOfRangeError), ("1", TypeError)):
             name = uuid.UUID(int=1)
             object.__setattr__(name, "int", stored)
             self.assertRaises(kind, base62.encode, name)
@@ -189,7 +154,7 @@ class Texts(unittest.TestCase):
 
     def test_created_uuids(self) -> None:
         """A UUID has all that UUID(int=..) gives it."""
-        for number, text in ((0, "0"), (1337, "LZ"), (LARGEST, LARGEST_TEXT)):
+        for number, text in ((0, "0"), (1337, "LZ"), (WIDE, TEXT)):
             for decode in (base62.decode_uuid, base62.decode_uuid_canonical):
                 name, expected = decode(text), uuid.UUID(int=number)
                 self.assertIs(type(name), uuid.UUID)
@@ -264,14 +229,12 @@ class Alphabets(RaisesTestCase):
         lengths: list[tuple[Any, str]] = [("", "0 characters"), ("0", "1 character"), (b"0", "1 character")]
         lengths += [(STANDARD[:-1], "61 characters"), (STANDARD.encode() + b"-", "63 characters")]
         for letters, count in lengths:
-            error = self.raised(ValueError, Alphabet, letters)
-            self.assertEqual(str(error), f"the alphabet has {count}, not 62")
-            self.raised(ValueError, base62.encode, 1, letters)
-            self.raised(ValueError, base62.decode, "9", letters)
+            for call in OF_ALPHABETS:
+                error = self.raised(ValueError, call, letters)
+                self.assertEqual(str(error), f"the alphabet has {count}, not 62")
         for letters in ("é" + STANDARD[1:], "é" + STANDARD[2:], "\ud800" + STANDARD[1:]):
-            self.raised(UnicodeEncodeError, Alphabet, letters)
-            self.raised(UnicodeEncodeError, base62.encode, 1, letters)
-            self.raised(UnicodeEncodeError, base62.decode, "9", letters)
+            for call in OF_ALPHABETS:
+                self.raised(UnicodeEncodeError, call, letters)
 
     def test_encoding_wants_ascii(self) -> None:
         mixed = STANDARD[:61].encode() + b"\x80"
@@ -283,16 +246,8 @@ class Alphabets(RaisesTestCase):
         self.assertEqual(base62.prefix_range(b"\x80", 3, Alphabet(mixed)), (61 * 62**2, 62**3 - 1))
 
     def test_types(self) -> None:
-        calls: list[Call] = [
-            Alphabet,
-            lambda custom: base62.encode(1, custom),
-            lambda custom: base62.encode_fixed(1, 5, custom),
-            lambda custom: base62.decode("1", custom),
-            lambda custom: base62.decode_canonical("1", custom),
-            lambda custom: base62.prefix_range("1", 5, custom),
-        ]
         for letters in (None, 62, [*STANDARD], bytearray(STANDARD.encode()), Alphabet):
-            for call in calls:
+            for call in OF_ALPHABETS:
                 error = self.raised(TypeError, call, letters)
                 self.assertRegex(str(error), "an alphabet is an Alphabet, a str or bytes, not <class '[a-zA-Z]+'>")
 
@@ -301,23 +256,19 @@ class Widths(RaisesTestCase):
     def test_wide(self) -> None:
         for width in (64, 65, 4095, 4096, 5000):
             self.assertEqual(base62.encode_fixed(61, width, CUSTOM), CUSTOM[0] * (width - 1) + CUSTOM[61])
-        self.assertEqual(base62.decode("0" * 5000 + LARGEST_TEXT), LARGEST)
+        self.assertEqual(base62.decode("0" * 5000 + TEXT), WIDE)
         for width in (sys.maxsize, sys.maxsize + 1, 2**64 + 4, 2**70):
-            self.assertEqual(base62.prefix_range(CUSTOM[0] * 5000, width, CUSTOM), (0, LARGEST))
+            self.assertEqual(base62.prefix_range(CUSTOM[0] * 5000, width, CUSTOM), (0, WIDE))
             self.assertIsNone(base62.prefix_range(CUSTOM[1], width, CUSTOM))
             self.raised(MemoryError, base62.encode_fixed, 1, width)
 
     def test_widths(self) -> None:
-        class Indexed:
-            def __index__(self) -> int:
-                return 4
-
         calls: list[tuple[Call, object]] = [
             (lambda width: base62.encode_fixed(1337, width), "00LZ"),
             (lambda width: base62.prefix_range("00L", width), (1302, 1363)),
         ]
         for call, answer in calls:
-            self.assertEqual(call(Indexed()), answer)
+            self.assertEqual(call(Indexed(4)), answer)
             for width in (-1, -22, -sys.maxsize - 1, -(2**64) + 4):
                 self.assertEqual(str(self.raised(ValueError, call, width)), "the width is negative")
             for other in (4.0, "4", None, b"4"):
@@ -332,7 +283,7 @@ class Faults(RaisesTestCase):
 
         for call in OF_NUMBERS:
             self.raised(LookupError, call, Failing())
-            for number in (-1, -(2**63) - 1, -(2**64), -(10**100), LARGEST + 1, 10**100):
+            for number in (-1, -(2**63) - 1, -(2**64), -(10**100), WIDE + 1, 10**100):
                 error = self.raised(base62.OutOfRangeError, call, number)
                 self.assertEqual(str(error), "the number is not from 0 to 2**128 - 1")
             for other in (1.0, "1", None, b"1", uuid.UUID):
@@ -391,7 +342,6 @@ class Faults(RaisesTestCase):
         for kind, above in kinds:
             names = [kind.__name__, *above, "ValueError", "Exception", "BaseException", "object"]
             self.assertEqual([base.__name__ for base in kind.__mro__], names)
-            self.assertEqual(kind.__module__, "base62")
             self.assertEqual(vars(kind("said")), {"byte": 0, "index": 0} if bad_byte in above else {})
 
     def test_by_hand(self) -> None:

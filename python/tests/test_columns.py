@@ -8,18 +8,18 @@ import doctest
 import gc
 import importlib.util
 import io
-import pickle
 import random
 import sys
 import types
 import unittest
 import uuid
-from collections.abc import Callable, Iterator
+from collections.abc import Iterator
 from decimal import Decimal
 from typing import Any
 from urllib.parse import unquote_to_bytes
 
 import base62
+from calls import HIGH, NAME, WIDE, Call, Indexed, RaisesTestCase
 from paths import readme
 from test_base62 import others_run
 from test_values import ALPHABETS, KINDS, OF_ASCII, forms_of_text, rows
@@ -32,17 +32,9 @@ except ImportError as error:
 np: Any = importlib.import_module("numpy")
 columns: Any = importlib.import_module("base62.columns")
 
-LARGEST = 2**128 - 1
-NAME = uuid.UUID("550e8400-e29b-41d4-a716-446655440000")
 TEXT = "2aUyqjCzEIiEcYMKj7TZtw"
 NUMBER_TYPES = [getattr(pa, f"{sign}int{bits}")() for bits in (8, 16, 32, 64) for sign in ("", "u")]
 TEXT_TYPES = [pa.string(), pa.large_string(), pa.string_view(), pa.binary(), pa.large_binary(), pa.binary_view()]
-Call = Callable[..., Any]
-
-
-class Index:
-    def __index__(self) -> int:
-        return 1337
 
 
 def dictionary(array: Any) -> Any:
@@ -64,7 +56,7 @@ def forms_of(array: Any) -> Iterator[Any]:
     yield types.SimpleNamespace(__arrow_c_stream__=chunks.__arrow_c_stream__)
 
 
-class ColumnsTestCase(unittest.TestCase):
+class ColumnsTestCase(RaisesTestCase):
     def check(self, call: Call, column: Any, expected: list[Any], of_result: Any = None) -> Any:
         """The result is valid, has the type if one is given, and chunks if the column has them."""
         result = call(column)
@@ -75,12 +67,6 @@ class ColumnsTestCase(unittest.TestCase):
         has_chunks = stream or isinstance(column, (pa.ChunkedArray, pa.Table))
         self.assertIsInstance(result, pa.ChunkedArray if has_chunks else pa.Array)
         return result
-
-    def raised(self, kind: type[Exception], call: Call, *given: Any, **named: Any) -> Any:
-        with self.assertRaises(kind) as caught:
-            call(*given, **named)
-        self.assertIs(type(caught.exception), kind)
-        return caught.exception
 
 
 class Values(ColumnsTestCase):
@@ -255,7 +241,7 @@ class Objects(ColumnsTestCase):
             [np.int8(1), np.uint64(2**63), pd.NA],
             [True, 2, None],
             [NAME, 2**128 - 1, None],
-            [Index(), None],
+            [Indexed(1337), None],
         ]
         for numbers in lists:
             texts = [None if it is None or it is pd.NA or it != it else base62.encode(it) for it in numbers]
@@ -283,7 +269,7 @@ class Objects(ColumnsTestCase):
         zeros = bytes([1]) + bytes(15)
         for form in ("S16", "V16"):
             self.check(columns.encode_uuid, np.array([NAME.bytes, zeros], form), [TEXT, base62.encode_uuid(zeros)])
-        self.check(columns.encode, [NAME, uuid.UUID(int=LARGEST)], [TEXT, "7n42DGM5Tflk9n8mt7Fhc7"])
+        self.check(columns.encode, [NAME, uuid.UUID(int=WIDE)], [TEXT, "7n42DGM5Tflk9n8mt7Fhc7"])
 
     def test_strings(self) -> None:
         texts: list[Any] = ["LZ", None, "z"]
@@ -323,12 +309,7 @@ class Objects(ColumnsTestCase):
         frame["code"] = columns.encode(frame["id"])
         self.assertEqual(frame["code"].where(frame["code"].notna(), None).tolist(), ["LZ", None, "AzL8n0Y58m9"])
         frame["back"] = pd.array(columns.decode(frame["code"]), "uint64[pyarrow]")
-        self.assertTrue((frame["back"] == frame["id"]).all())
         self.assertEqual(frame["back"].tolist(), [1337, pd.NA, 2**63 + 1])
-
-    def test_pickle(self) -> None:
-        for result in (columns.encode([1, None]), columns.decode(["LZ"]), columns.decode_uuid([TEXT])):
-            self.assertEqual(pickle.loads(pickle.dumps(result)), result)
 
 
 CUSTOM = ALPHABETS["standard"][::-1]
@@ -420,16 +401,16 @@ class Arguments(ColumnsTestCase):
             if not call.__name__.startswith("decode_uuid"):
                 for of_type in (None, "string", pa.int32(), pa.uuid(), pa.binary()):
                     self.raised(TypeError, call, [value], *given, type=of_type)
-        high = bytes(range(194, 256))
         for call in (columns.encode, columns.encode_uuid, lambda it, letters: columns.encode_fixed(it, 5, letters)):
-            error = self.raised(ValueError, call, [NAME], high)
+            error = self.raised(ValueError, call, [NAME], HIGH)
             self.assertEqual(str(error), "an alphabet for encoding has ASCII characters")
-        self.check(lambda it: columns.decode(it, high), [high[5:6]], [5])
+        self.check(lambda it: columns.decode(it, HIGH), [HIGH[5:6]], [5])
         for width, kind in ((-1, ValueError), (-(2**70), ValueError), ("1", TypeError), (0, base62.OutOfRangeError)):
             self.raised(kind, columns.encode_fixed, [1], width)
         for width in (2**62, 2**70):
             self.assertRaises(MemoryError, columns.encode_fixed, [1, 2], width)
-        self.check(lambda it: columns.encode_fixed(it, Index(), errors="coerce"), [None, 5], [None, "0" * 1336 + "5"])
+        index = Indexed(1337)
+        self.check(lambda it: columns.encode_fixed(it, index, errors="coerce"), [None, 5], [None, "0" * 1336 + "5"])
 
     def test_types(self) -> None:
         """A column of another type is named, with what to pass instead."""

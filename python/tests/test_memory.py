@@ -16,15 +16,14 @@ from typing import Any
 import base62
 import calls
 from base62 import _types
-from calls import LETTERS, WIDE, Call
+from calls import ERRORS, LETTERS, WIDE, Call
 
 # A call has made its allocations if it succeeds although each of the next ones would fail. No call makes so many.
 NEXT_ALLOCATIONS = 25
 MAX_ALLOCATIONS = 240
 # What calls borrow, besides what they are given. WIDE is the int of UUIDs.
-BORROWED: list[object] = [None, False, True, 0, 64, WIDE, uuid.UUID, base62.Alphabet, base62.Alphabet.STANDARD]
-BORROWED += [base62.Alphabet.ALTERNATIVE, base62.AlphabetError, base62.EmptyInputError, base62.InvalidByteError]
-BORROWED += [base62.TooLargeError, base62.NotCanonicalError, base62.OutOfRangeError]
+BORROWED: list[object] = [None, False, True, 0, 64, WIDE, uuid.UUID, *ERRORS]
+BORROWED += [base62.Alphabet, base62.Alphabet.STANDARD, base62.Alphabet.ALTERNATIVE]
 
 try:
     memory: Any = importlib.import_module("_testcapi")

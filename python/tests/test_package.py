@@ -23,7 +23,7 @@ from typing import Any
 
 import base62
 from base62 import _base62, _types
-from calls import CUSTOM
+from calls import CUSTOM, ERRORS
 from paths import PACKAGE, TOP, readme
 
 # The calls, and the type that is called too.
@@ -145,12 +145,10 @@ class Modules(unittest.TestCase):
     def test_gc_traverse(self) -> None:
         """The collector finds the objects that the module and an alphabet refer to."""
         found = gc.get_referents(_base62)
-        errors = [base62.AlphabetError, base62.EmptyInputError, base62.InvalidByteError]
-        errors += [base62.NotCanonicalError, base62.OutOfRangeError, base62.TooLargeError]
         alphabets = [base62.Alphabet, base62.Alphabet.STANDARD, base62.Alphabet.ALTERNATIVE]
         conversions = [_types.to_int, _types.to_bytes, _types.to_characters]
         of_uuids = [_types.uuid_to_int, _types.int_to_uuid, uuid.UUID, uuid.SafeUUID.unknown, "int", "is_safe"]
-        for owned in (*errors, *alphabets, *conversions, *of_uuids):
+        for owned in (*ERRORS, *alphabets, *conversions, *of_uuids):
             self.assertTrue(any(one is owned for one in found), owned)
         self.assertEqual(gc.get_referents(base62.Alphabet(CUSTOM)), [base62.Alphabet])
 

@@ -2,7 +2,7 @@
 # Copyright (c) 2026 the maintainers of base62 for Rattle
 """Tests of the loops of base62.columns over plain buffers, valid and malformed, by the functions for one value.
 
-`python3 test_rows.py COUNT` calls them with so many damaged buffers.
+`python3 test_rows.py COUNT` calls them with so many other buffers.
 """
 
 from __future__ import annotations
@@ -19,12 +19,13 @@ from typing import Any
 
 import base62
 from base62 import _base62
+from calls import LETTERS
 from test_base62 import others_run
 
 SIZES = {"L": 8, "l": 8, "d": 16, "w": 16, "u": 4, "z": 4, "U": 8, "Z": 8}
 CODES = {"L": "Q", "l": "q", "u": "i", "z": "i", "U": "q", "Z": "q"}
 TEXTS = "uzUZ"
-ALPHABETS = [base62.Alphabet.STANDARD, base62.Alphabet("zyxwvutsrqponmlkjihgfedcbaZYXWVUTSRQPONMLKJIHGFEDCBA9876543210")]
+ALPHABETS = [base62.Alphabet.STANDARD, LETTERS]
 # No input has more rows than a run of the loop, of which there are tests of their own.
 RUN = 2**16
 MALFORMED = "the array is malformed"
@@ -65,16 +66,15 @@ class Input:
         valid = [of.random() < 0.8 for _ in range(self.offset + self.count)]
         self.validity = buffer(bitmap(valid)) if of.random() < 0.7 else None
         self.values, self.characters = map(buffer, values_of(self.form, [self.row() for _ in valid]))
-        if self.encodes:
-            self.most = self.option if self.option >= 0 else 11 if self.form in "Ll" else 22
-        else:
-            self.most = SIZES[self.new_form]
-        length = self.most * self.count
-        if of.random() < 0.2:
-            length += of.randrange(30)
-        self.new = [buffer(bytes((self.count + 7) // 8)), buffer(b""), buffer(bytes(length))]
-        if self.encodes:
-            self.new[1] = buffer(bytes((self.count + 1) * SIZES[self.new_form]))
+        ends = (self.count + 1) * SIZES[self.new_form] if encodes else 0
+        length = self.most() * self.count + of.choice([0, 0, 0, 0, of.randrange(30)])
+        self.new = [buffer(bytes(size)) for size in ((self.count + 7) // 8, ends, length)]
+
+    def most(self) -> int:
+        """The bytes that a row of the result may need."""
+        if not self.encodes:
+            return SIZES[self.new_form]
+        return self.option if self.option >= 0 else 11 if self.form in "Ll" else 22
 
     def row(self) -> Any:
         of = self.of
@@ -91,25 +91,26 @@ class Input:
             return of.choice([text, text, text, bytes([self.letters[0]]) + text, text + b"-", b""])
         name = uuid.UUID(int=number)
         texts = [name.hex, str(name), name.urn, f"{{{name}}}", str(name)[1:], name.hex + "-"]
-        return of.choice([name.bytes, name.bytes[1:]] if self.form in "zZ" else [it.encode() for it in texts])
+        sixteen = [name.bytes, name.bytes[1:], name.bytes + b"-"]
+        return of.choice(sixteen if self.form in "zZ" else [it.encode() for it in texts])
 
     def damage(self) -> None:
-        """Makes a buffer too short, or without a row of its offsets in place, or a count too great."""
+        """Makes a buffer too short, or an offset of its strings wrong, or a number negative or too great."""
         of = self.of
-        place = of.choice(["validity", "values", "characters", "new", "offset", "count", "ends", "ends"])
-        if place in ("offset", "count"):
-            greater = getattr(self, place) + of.randint(1, 9)
-            setattr(self, place, of.choice([-1, -(2**63), 2**63 - 1, 2**62, 2**60, 2**32, greater]))
-        elif place == "ends" and self.form in TEXTS:
-            code = CODES[self.form]
-            ends = array(code, self.values.tobytes())
-            great = [2**31 - 1, -(2**31)] if code == "i" else [2**32, 2**63 - 1, -(2**63)]
-            ends[of.randrange(len(ends))] = of.choice([-1, 0, len(self.characters), len(self.characters) + 1, *great])
-            self.values = buffer(ends.tobytes())
-        else:
-            short = of.choice(self.new) if place == "new" else getattr(self, place, None)
-            if short:
-                del short[-of.choice([1, 1, 1, of.randrange(20) + 1]) :]
+        place = of.choice(["option", "offset", "count", "validity", "values", "characters", "new", "ends", "ends"])
+        parts: Any = self.new if place == "new" else vars(self)
+        key: Any = of.randrange(3) if place == "new" else place
+        if place in ("option", "offset", "count"):
+            other = of.choice([of.randrange(30), of.getrandbits(64) - 2**63])
+            parts[key] = of.choice([-1, -2, -(2**63), 2**63 - 1, 2**62, 2**60, 2**32, other])
+        elif place != "ends":
+            # A slice has no byte behind its end either.
+            parts[key] = parts[key] and parts[key][: -of.choice([1, 1, 1, of.randint(1, 20)])]
+        elif self.form in TEXTS and len(self.values) >= SIZES[self.form]:
+            code, size = CODES[self.form], SIZES[self.form]
+            length, great = len(self.characters), [2**31 - 1, -(2**31)] if code == "i" else [2**32, 2**63 - 1, -(2**63)]
+            end = of.choice([-1, 0, of.randrange(length + 1), length, length + 1, *great])
+            struct.pack_into(f"={code}", self.values, of.randrange(len(self.values) // size) * size, end)
 
     def has_rows(self) -> bool:
         last = self.offset + self.count
@@ -120,7 +121,7 @@ class Input:
             and (self.validity is None or len(self.validity) * 8 >= last)
             and len(self.new[0]) * 8 >= self.count
             and (not self.encodes or len(self.new[1]) >= (self.count + 1) * SIZES[self.new_form])
-            and len(self.new[2]) >= self.count * self.most
+            and len(self.new[2]) >= self.count * self.most()
         )
 
     def value(self, row: int) -> Any:
@@ -180,7 +181,7 @@ class Input:
         valid = [bool(self.new[0][i // 8] >> i % 8 & 1) for i in range(row)]
         assert valid.count(False) == nulls, (valid, nulls)
         if self.encodes:
-            ends = array(CODES[self.new_form], self.new[1].tobytes())
+            ends = memoryview(self.new[1])[: (row + 1) * SIZES[self.new_form]].cast(CODES[self.new_form])
             assert (ends[0], ends[row]) == (0, used), (ends, used)
             found: list[Any] = [self.new[2][ends[i] : ends[i + 1]].tobytes() for i in range(row)]
             assert not any(text for text, is_valid in zip(found, valid) if not is_valid)
@@ -211,47 +212,15 @@ def check_inputs(count: int, seed: int) -> int:
     found = 0
     for _ in range(count):
         given = Input(of, of.random() < 0.5)
-        if of.random() < 0.5:
+        for _ in range(of.randrange(3)):
             given.damage()
         found += given.check()
     return found
 
 
-def damage_inputs(count: int, seed: int) -> int:
-    """Calls with so many damaged inputs, of which the sanitizers see what memory is read and written. Returns how many
-    end well."""
-    of, ended = random.Random(seed), 0
-    for number in range(count):
-        if number % 200 == 0:
-            given = Input(of, of.random() < 0.5)
-            call: Any = _base62.encode_rows if given.encodes else _base62.decode_rows
-            whole = [given.offset, given.count, given.option, given.validity, given.values, given.characters, *given.new]
-        parts: list[Any] = whole.copy()
-        for _ in range(of.randrange(1, 3)):
-            i = of.randrange(len(parts))
-            if i < 3:
-                parts[i] = of.choice((of.randrange(-2, 30), of.randrange(-2, 30), of.getrandbits(64) - 2**63))
-            elif parts[i]:
-                parts[i] = parts[i][: of.randrange(len(parts[i]) + 1)]
-            if given.form in TEXTS and len(parts[4]) >= SIZES[given.form] and of.random() < 0.5:
-                parts[4] = parts[4][:]
-                place = of.randrange(len(parts[4]) // SIZES[given.form]) * SIZES[given.form]
-                end = of.choice((of.randrange(-3, 500), of.getrandbits(31), ~of.getrandbits(31)))
-                struct.pack_into("=" + CODES[given.form].lower(), parts[4], place, end)
-        try:
-            call(given.letters, parts[2], (given.form, *parts[:2], *parts[3:6]), (given.new_form, *parts[6:]), given.coerces)
-            ended += 1
-        except ValueError as error:
-            assert str(error) == MALFORMED, error
-    return ended
-
-
 class Inputs(unittest.TestCase):
     def test_random(self) -> None:
-        self.assertLess(3_000, check_inputs(5_000, 62))
-
-    def test_damaged(self) -> None:
-        self.assertLess(3_000, damage_inputs(20_000, 62))
+        self.assertLess(3_500, check_inputs(8_000, 62))
 
     def test_arguments(self) -> None:
         """No type of which the loop would take another size."""
@@ -388,4 +357,4 @@ class Far(unittest.TestCase):
 
 
 if __name__ == "__main__":
-    print(damage_inputs(int(sys.argv[1]), random.SystemRandom().getrandbits(64)), "calls end well")
+    print(check_inputs(int(sys.argv[1]), random.SystemRandom().getrandbits(64)), "arrays are well-formed")

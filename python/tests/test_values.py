@@ -5,14 +5,12 @@
 from __future__ import annotations
 
 import sys
-import unittest
 import uuid
-from collections.abc import Callable
-from typing import Any
 from urllib.parse import unquote_to_bytes
 
 import base62
 from base62 import Alphabet
+from calls import OF_ALPHABETS, Call, RaisesTestCase
 from paths import VALUES
 
 
@@ -35,12 +33,7 @@ KINDS: dict[str, type[ValueError]] = {
     "zero": base62.NotCanonicalError,
     "repeated": base62.AlphabetError,
 }
-DECODINGS: list[Callable[..., object]] = [
-    base62.decode,
-    base62.decode_canonical,
-    base62.decode_uuid,
-    base62.decode_uuid_canonical,
-]
+DECODINGS: list[Call] = [base62.decode, base62.decode_canonical, base62.decode_uuid, base62.decode_uuid_canonical]
 
 
 def forms_of_text(escaped: str) -> list[str | bytes]:
@@ -64,13 +57,10 @@ def numbers_of_bounds(prefix: str | bytes) -> tuple[int, int] | None:
     return bounds and (base62.decode(bounds[0]), base62.decode(bounds[1]))
 
 
-class Values(unittest.TestCase):
-    def raises(self, expected: list[str], call: Callable[..., object], *given: object) -> None:
+class Values(RaisesTestCase):
+    def raises(self, expected: list[str], call: Call, *given: object) -> None:
         """A call raises exactly this error, with the message of its row if there is one."""
-        with self.assertRaises(KINDS[expected[0]]) as caught:
-            call(*given)
-        error: Any = caught.exception
-        self.assertIs(type(error), KINDS[expected[0]])
+        error = self.raised(KINDS[expected[0]], call, *given)
         self.assertEqual(vars(error), dict(zip(("byte", "index"), map(int, expected[1:]))))
         self.assertEqual(str(error), MESSAGES.get(tuple(expected), str(error)))
 
@@ -130,7 +120,7 @@ class Values(unittest.TestCase):
             if int(width) > sys.maxsize:
                 continue
             for prefix in forms_of_text(escaped):
-                calls: list[Callable[..., object]] = [lambda of: base62.prefix_range(of, int(width), ALPHABETS[name])]
+                calls: list[Call] = [lambda of: base62.prefix_range(of, int(width), ALPHABETS[name])]
                 if (name, width) == ("standard", "22"):
                     calls += [base62.key_range, numbers_of_bounds]
                 for call in calls:
@@ -148,20 +138,9 @@ class Values(unittest.TestCase):
                 self.assertEqual(base62.encode_uuid(string), base62.encode_uuid(uuid.UUID(name)))
 
     def test_repeated(self) -> None:
-        calls: list[Callable[..., object]] = [
-            Alphabet,
-            lambda letters: base62.encode(1, letters),
-            lambda letters: base62.decode("9", letters),
-            lambda letters: base62.encode_uuid(uuid.UUID(int=1), letters),
-            lambda letters: base62.decode_uuid("", letters),
-            lambda letters: base62.encode_fixed(1, 5, letters),
-            lambda letters: base62.decode_canonical("9", letters),
-            lambda letters: base62.decode_uuid_canonical("9", letters),
-            lambda letters: base62.prefix_range("9", 5, letters),
-        ]
         for escaped, *expected in rows("repeated"):
             for letters in forms_of_text(escaped):
-                for call in calls:
+                for call in OF_ALPHABETS:
                     self.raises(["repeated", *expected], call, letters)
 
     def test_messages(self) -> None:

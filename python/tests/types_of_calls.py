@@ -11,36 +11,28 @@ import base62
 from base62 import Alphabet, AlphabetError, DecodeError, InvalidByteError
 
 
-def right(number: SupportsIndex | UUID, name: UUID | str | bytes, width: SupportsIndex) -> None:
-    assert_type(base62.encode(number), str)
-    assert_type(base62.encode_uuid(name), str)
-    assert_type(base62.encode_fixed(number, width), str)
+Custom = Alphabet | str | bytes
+
+
+def right(number: SupportsIndex | UUID, name: UUID | str | bytes, width: SupportsIndex, custom: Custom) -> None:
+    assert_type((Alphabet(custom), Alphabet.STANDARD, Alphabet.ALTERNATIVE), tuple[Alphabet, Alphabet, Alphabet])
+    assert_type(base62.encode(number, custom), str)
+    assert_type(base62.encode_uuid(name, custom), str)
+    assert_type(base62.encode_fixed(number, width, custom), str)
     assert_type(base62.encode_key(number), str)
     assert_type(base62.digit_count(number), int)
     assert_type(base62.__version__, str)
 
 
-def right_texts(text: str | bytes | bytearray | memoryview, width: SupportsIndex) -> None:
+def right_texts(text: str | bytes | bytearray | memoryview, width: SupportsIndex, custom: Custom) -> None:
     """No buffer is taken for bytes: mypy runs without its promotions."""
-    assert_type(base62.decode(text), int)
-    assert_type(base62.decode_canonical(text), int)
-    assert_type(base62.decode_uuid(text), UUID)
-    assert_type(base62.decode_uuid_canonical(text), UUID)
-    assert_type(base62.key_range(text), tuple[int, int] | None)
-    assert_type(base62.key_bounds(text), tuple[str, str] | None)
-    assert_type(base62.prefix_range(text, width), tuple[int, int] | None)
-
-
-def right_alphabets(number: int, name: UUID, text: str, custom: Alphabet | str | bytes) -> None:
-    assert_type((Alphabet(custom), Alphabet.STANDARD, Alphabet.ALTERNATIVE), tuple[Alphabet, Alphabet, Alphabet])
-    assert_type(base62.encode(number, custom), str)
-    assert_type(base62.encode_uuid(name, custom), str)
-    assert_type(base62.encode_fixed(number, number, custom), str)
     assert_type(base62.decode(text, custom), int)
     assert_type(base62.decode_canonical(text, custom), int)
     assert_type(base62.decode_uuid(text, custom), UUID)
     assert_type(base62.decode_uuid_canonical(text, custom), UUID)
-    assert_type(base62.prefix_range(text, number, custom), tuple[int, int] | None)
+    assert_type(base62.key_range(text), tuple[int, int] | None)
+    assert_type(base62.key_bounds(text), tuple[str, str] | None)
+    assert_type(base62.prefix_range(text, width, custom), tuple[int, int] | None)
 
 
 def attributes(invalid: InvalidByteError, repeated: AlphabetError) -> None:
@@ -66,13 +58,10 @@ def wrong(number: int, name: UUID, text: str, custom: Alphabet, view: memoryview
     base62.encode_fixed(number, number, None)  # type: ignore[arg-type]
     base62.encode_key(text)  # type: ignore[arg-type]
     base62.key_range(number)  # type: ignore[arg-type]
-    base62.key_range(text)[0]  # type: ignore[index]
     base62.prefix_range(text, text)  # type: ignore[arg-type]
     base62.prefix_range(number, number)  # type: ignore[arg-type]
     base62.prefix_range(text, number, None)  # type: ignore[arg-type]
-    base62.prefix_range(text, number)[0]  # type: ignore[index]
     base62.key_bounds(number)  # type: ignore[arg-type]
-    base62.key_bounds(text)[0]  # type: ignore[index]
     base62.encode_uuid(number)  # type: ignore[arg-type]
     base62.encode_uuid(bytearray(16))  # type: ignore[arg-type]
     base62.encode_uuid(view)  # type: ignore[arg-type]

@@ -24,15 +24,14 @@ pub(crate) struct Subcommand {
 pub(crate) struct CommandOption {
     pub(crate) letter: u8,
     pub(crate) name: &'static str,
-    /// What the help calls its value, such as `N`. None if it takes no value.
-    pub(crate) value_name: Option<&'static str>,
     purpose: &'static str,
     pub(crate) effect: Effect,
 }
 
 pub(crate) enum Effect {
-    /// It sets something, by its value, which is empty if it takes none. An error says what is wrong with the value.
-    Set(fn(&mut Settings, &[u8]) -> Result<(), String>),
+    Set(fn(&mut Settings)),
+    /// It takes a value, which the help calls by this name. An error says what is wrong with the value.
+    SetTo(&'static str, fn(&mut Settings, &[u8]) -> Result<(), String>),
     Help,
     Version,
 }
@@ -81,19 +80,14 @@ pub(crate) static OPTIONS: [CommandOption; 9] = [
     CommandOption {
         letter: b'a',
         name: "alternative",
-        value_name: None,
         purpose: "use the alphabet 0 to 9, a to z, A to Z",
-        effect: Effect::Set(|settings, _| {
-            settings.alphabet = Alphabet::alternative();
-            Ok(())
-        }),
+        effect: Effect::Set(|settings| settings.alphabet = Alphabet::alternative()),
     },
     CommandOption {
         letter: b'A',
         name: "alphabet",
-        value_name: Some("CHARACTERS"),
         purpose: "use these 62 printable ASCII characters, the zero first",
-        effect: Effect::Set(|settings, value| {
+        effect: Effect::SetTo("CHARACTERS", |settings, value| {
             settings.alphabet = parse_alphabet(value)?;
             Ok(())
         }),
@@ -101,9 +95,8 @@ pub(crate) static OPTIONS: [CommandOption; 9] = [
     CommandOption {
         letter: b'w',
         name: "width",
-        value_name: Some("N"),
         purpose: "strings have exactly N characters, with leading zeros",
-        effect: Effect::Set(|settings, value| {
+        effect: Effect::SetTo("N", |settings, value| {
             settings.width = Some(parse_width(value)?);
             Ok(())
         }),
@@ -111,54 +104,36 @@ pub(crate) static OPTIONS: [CommandOption; 9] = [
     CommandOption {
         letter: b'c',
         name: "canonical",
-        value_name: None,
         purpose: "reject strings with leading zeros",
-        effect: Effect::Set(|settings, _| {
-            settings.is_canonical = true;
-            Ok(())
-        }),
+        effect: Effect::Set(|settings| settings.is_canonical = true),
     },
     CommandOption {
         letter: b'u',
         name: "uuid",
-        value_name: None,
         purpose: "numbers are UUIDs",
-        effect: Effect::Set(|settings, _| {
-            settings.notation = Notation::Uuid;
-            Ok(())
-        }),
+        effect: Effect::Set(|settings| settings.notation = Some(Notation::Uuid)),
     },
     CommandOption {
         letter: b'x',
         name: "hex",
-        value_name: None,
         purpose: "numbers are hexadecimal",
-        effect: Effect::Set(|settings, _| {
-            settings.notation = Notation::Hexadecimal;
-            Ok(())
-        }),
+        effect: Effect::Set(|settings| settings.notation = Some(Notation::Hexadecimal)),
     },
     CommandOption {
         letter: b'e',
         name: "keep-empty",
-        value_name: None,
         purpose: "an empty input gives an empty line, and is no error",
-        effect: Effect::Set(|settings, _| {
-            settings.keeps_empty = true;
-            Ok(())
-        }),
+        effect: Effect::Set(|settings| settings.keeps_empty = true),
     },
     CommandOption {
         letter: b'h',
         name: "help",
-        value_name: None,
         purpose: HELP,
         effect: Effect::Help,
     },
     CommandOption {
         letter: b'V',
         name: "version",
-        value_name: None,
         purpose: "print the version",
         effect: Effect::Version,
     },
@@ -205,8 +180,11 @@ pub(crate) fn help(subcommand: Option<&Subcommand>) -> String {
 fn rows_of_options(letters: &[u8]) -> String {
     let options = OPTIONS.iter().filter(|it| letters.contains(&it.letter));
     let rows = options.map(|it| {
-        let (letter, value_name) = (char::from(it.letter), it.value_name.unwrap_or_default());
-        let names = format!("-{letter}, --{} {value_name}", it.name);
+        let value_name = match it.effect {
+            Effect::SetTo(name, _) => name,
+            _ => "",
+        };
+        let names = format!("-{}, --{} {value_name}", char::from(it.letter), it.name);
         row(names.trim_end(), it.purpose)
     });
     rows.collect()

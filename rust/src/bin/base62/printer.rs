@@ -10,8 +10,8 @@ use crate::fault::ToolFault;
 use crate::line_end::line_end;
 use crate::memory::Bytes;
 use crate::numbers::append;
-use crate::streams::{Input, print, report};
-use std::io::{self, IsTerminal, Read};
+use crate::streams::{print, read_uninterrupted, report};
+use std::io::{self, IsTerminal};
 use std::process::ExitCode;
 use std::{fs, str};
 
@@ -99,10 +99,9 @@ impl Printer<'_> {
     /// Prints the result for each line of standard input. Writes the results so far before a read, which may block.
     fn print_lines(&mut self) -> Result<(), ToolFault> {
         let (mut chunk, mut start, mut number) = ([0; CHUNK_LEN], Bytes::new(), 0);
-        let mut input = Input::new();
         loop {
             self.flush()?;
-            let Ok(count) = input.read(&mut chunk) else {
+            let Ok(count) = read_uninterrupted(&mut io::stdin(), &mut chunk) else {
                 return Err(ToolFault::Read);
             };
             if count == 0 {

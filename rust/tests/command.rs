@@ -6,14 +6,9 @@
 
 mod support;
 
-use support::shell::{ends, in_a_file, is_installed, run, sides};
+use support::shell::{ends, in_a_file, is_installed, prints, run, sides};
 
 const NO_NUMBER: &str = "not a decimal number below 2^128";
-
-#[track_caller]
-fn prints(line: &str, output: &str) {
-    ends(line, 0, output, "");
-}
 
 /// The input is invalid: it gives an empty line.
 #[track_caller]
@@ -73,14 +68,11 @@ fn inputs() {
 fn decimal_numbers() {
     let powers = (0..39).map(|count| 10_u128.pow(count));
     let numbers = powers.flat_map(|power| [power - 1, power, power + 1]);
-    let lines: Vec<_> = numbers.map(|number| format!("{number}\n")).collect();
-    let numbers = lines.concat();
+    let lines: String = numbers.map(|number| format!("{number}\n")).collect();
     for zeros in ["", "0", "000000000000000000000"] {
-        let with_zeros = format!("printf '{numbers}' | sed 's/^/{zeros}/'");
-        prints(
-            &format!("{with_zeros} | base62 encode | base62 decode"),
-            &numbers,
-        );
+        let with_zeros = format!("printf '{lines}' | sed 's/^/{zeros}/'");
+        let line = format!("{with_zeros} | base62 encode | base62 decode");
+        prints(&line, &lines);
     }
 }
 
@@ -250,6 +242,7 @@ fn wrong_arguments() {
         encode -A ${letters:1} -> the alphabet has 61 characters, not 62
         encode -A ${letters}! -> the alphabet has 63 characters, not 62
         range -A 1${letters:1} 5 -> Alphabet repeats the byte b'1' at index 1
+        encode -A ${letters:0:61}0 -> Alphabet repeats the byte b'0' at index 61
         encode -A ${letters:1}$'\xe9' -> the alphabet has a character that is not printable ASCII
         encode -A ${letters:1}$'\x1f' -> the alphabet has a character that is not printable ASCII
         encode -A ${letters:1}$'\x7f' -> the alphabet has a character that is not printable ASCII";
@@ -350,12 +343,8 @@ fn bounded_memory() {
     let error = "Encoded input contains the invalid byte b'!' at index 10000000";
     let error = |line| format!("base62: line {line}: {}..: {error}\n", "0".repeat(100));
     let errors = [1, 2, 3].map(error).concat();
-    ends(
-        &format!("{lines} | (ulimit -v 41000; base62 decode)"),
-        1,
-        "\n\n\n",
-        &errors,
-    );
+    let line = format!("{lines} | (ulimit -v 41000; base62 decode)");
+    ends(&line, 1, "\n\n\n", &errors);
     for line in [
         "yes 1337 | head -n 2000 | (ulimit -v 16384; base62 encode -w 10000)",
         "(ulimit -v 16384; base62 encode -w 10000 $(seq 2000))",

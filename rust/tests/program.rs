@@ -8,7 +8,7 @@
 mod support;
 
 use std::{env, fs};
-use support::shell::{ends, in_a_file, run};
+use support::shell::{ends, in_a_file, prints, run};
 
 const STORED: &str = concat!(env!("CARGO_MANIFEST_DIR"), "/../crates/base62_cli");
 
@@ -22,20 +22,16 @@ fn fails(line: &str, error: &str, output: &str) {
     ends(&format!("{line} 2>&-"), 1, output, "");
 }
 
-fn ends_well(line: &str, output: &str) {
-    ends(line, 0, output, "");
-}
-
 #[test]
 fn the_stored_run() {
     let output = fs::read_to_string(format!("{STORED}/stdout")).unwrap();
-    ends_well(&format!("base62_cli <'{STORED}/stdin'"), &output);
-    ends_well(&format!("base62_cli <'{STORED}/stdin' 2>&-"), &output);
+    prints(&format!("base62_cli <'{STORED}/stdin'"), &output);
+    prints(&format!("base62_cli <'{STORED}/stdin' 2>&-"), &output);
     let each_byte = format!("dd bs=1 status=none <'{STORED}/stdin'");
-    ends_well(&format!("{each_byte} | base62_cli"), &output);
+    prints(&format!("{each_byte} | base62_cli"), &output);
     // The other one ignores arguments.
     if is_other() {
-        ends_well(&format!("{each_byte} | base62_cli dec LZ --help"), &output);
+        prints(&format!("{each_byte} | base62_cli dec LZ --help"), &output);
     }
 }
 
@@ -45,15 +41,13 @@ fn arguments() {
         return;
     }
     let version = concat!("base62_cli ", env!("CARGO_PKG_VERSION"), "\n");
-    ends_well("base62_cli -V", version);
-    ends_well("base62_cli --version", version);
+    prints("base62_cli -V", version);
+    prints("base62_cli --version", version);
     let help = run("base62_cli --help").1;
-    ends_well("base62_cli -h", &help);
-    assert!(
-        help.contains("  $ echo enc 1337 | base62_cli\n  LZ\n"),
-        "{help}"
-    );
-    ends_well("echo enc 1337 | base62_cli", "LZ\n");
+    prints("base62_cli -h", &help);
+    let example = "  $ echo enc 1337 | base62_cli\n  LZ\n";
+    assert!(help.contains(example), "{help}");
+    prints("echo enc 1337 | base62_cli", "LZ\n");
     let error = "base62_cli: it reads standard input, and has no operands: try base62_cli --help\n";
     for argument in ["enc", "''", "--", "-x"] {
         let line = format!("{{ base62_cli {argument}; status=$?; cat; exit $status; }} <<<unread");
@@ -79,20 +73,20 @@ fn lines_of_no_command() {
     for line in ["e", "enc", "encode"] {
         ends(&format!("printf {line} | base62_cli"), 0, fault, hint);
     }
-    ends_well("base62_cli </dev/null", "");
+    prints("base62_cli </dev/null", "");
     for command in ["enc", "alt", "dec", "adc"] {
         let line = format!(r"printf '{command} 5\nx\n' | base62_cli");
-        ends_well(&line, &format!("5\n{fault}"));
+        prints(&line, &format!("5\n{fault}"));
     }
     // Of three reads, the second shows whether the first line is a request.
     let reads =
         |part| format!("{{ printf en; sleep .2; echo {part}; sleep .2; echo x; }} | base62_cli");
-    ends_well(&reads("c 5"), &format!("5\n{fault}"));
+    prints(&reads("c 5"), &format!("5\n{fault}"));
     ends(&reads("d 5"), 0, &fault.repeat(2), hint);
     // And before the reply.
     let line = r#"coproc base62_cli 2>&1; echo 5 >&${COPROC[1]}
         read -t 20 -ru ${COPROC[0]} line; echo "$line""#;
-    ends_well(line, hint);
+    prints(line, hint);
 }
 
 #[test]
@@ -114,7 +108,7 @@ fn output_that_fails() {
     if is_other() {
         fails(&line, "write failed", "");
     } else {
-        ends_well(&line, "");
+        prints(&line, "");
     }
 }
 
@@ -134,7 +128,7 @@ fn closed_files() {
         fails("base62_cli <&-", "read failed", "");
         fails("base62_cli >&- <<<'enc 5'", "write failed", "");
     } else {
-        ends_well("base62_cli <&-", "");
-        ends_well("base62_cli >&- <<<'enc 5'", "");
+        prints("base62_cli <&-", "");
+        prints("base62_cli >&- <<<'enc 5'", "");
     }
 }

@@ -9,6 +9,7 @@ use base62::{
     Alphabet, AlphabetError, CanonicalError, DecodeError, EncodeError, ParseAlphabetError,
 };
 use base62::{encode_fixed_str, encode_fixed_str_with, encode_key, encode_key_str};
+use base62::{prefix_range, prefix_range_with};
 use std::fmt::Display;
 use std::hash::{DefaultHasher, Hash, Hasher};
 use std::str;
@@ -149,11 +150,8 @@ fn strings() {
     each("encode", |calls, alphabet, row| {
         if alphabet.is_ascii() {
             let (num, text) = (number(row[0]), bytes(row[1]));
-            let uuid = num.to_be_bytes();
-            for encoded in [
-                (calls.encode)(alphabet, num),
-                (calls.encode_uuid)(alphabet, uuid),
-            ] {
+            let of_uuid = (calls.encode_uuid)(alphabet, num.to_be_bytes());
+            for encoded in [(calls.encode)(alphabet, num), of_uuid] {
                 assert_eq!(encoded.as_bytes(), text);
                 assert_eq!(encoded.capacity(), text.len());
             }
@@ -246,12 +244,9 @@ fn ranges() {
             ["none"] => Ok(None),
             _ => Err(decode_error(&row[3..]).unwrap()),
         };
-        assert_eq!(
-            base62::prefix_range_with(alphabet, &prefix, width),
-            expected
-        );
+        assert_eq!(prefix_range_with(alphabet, &prefix, width), expected);
         if row[0] == "standard" {
-            assert_eq!(base62::prefix_range(&prefix, width), expected);
+            assert_eq!(prefix_range(&prefix, width), expected);
             if width == 22 {
                 assert_eq!(base62::key_range(&prefix), expected);
             }
@@ -261,15 +256,13 @@ fn ranges() {
 
 #[test]
 fn messages() {
-    let overflow = DecodeError::ArithmeticOverflow;
-    assert_eq!(
-        overflow.to_string(),
-        "Decoded number cannot fit into a `u128`"
-    );
-    assert_eq!(
-        CanonicalError::Decode(overflow).to_string(),
-        overflow.to_string()
-    );
+    let text_of = |error: DecodeError| {
+        let text = error.to_string();
+        assert_eq!(CanonicalError::Decode(error).to_string(), text);
+        text
+    };
+    let overflow = text_of(DecodeError::ArithmeticOverflow);
+    assert_eq!(overflow, "Decoded number cannot fit into a `u128`");
     for row in rows("message") {
         let text = String::from_utf8(bytes(row[0])).unwrap();
         match row[1..] {
@@ -278,13 +271,12 @@ fn messages() {
             ["zero"] => assert_eq!(CanonicalError::LeadingZero.to_string(), text),
             ["narrow"] => assert_eq!(EncodeError::BufferTooSmall.to_string(), text),
             ["repeated", byte, index] => {
-                let fault = AlphabetError::Repeated(byte.parse().unwrap(), index.parse().unwrap());
-                assert_eq!(fault.to_string(), text);
+                let error = AlphabetError::Repeated(byte.parse().unwrap(), index.parse().unwrap());
+                assert_eq!(error.to_string(), text);
             }
             _ => {
-                if let Some(fault) = decode_error(&row[1..]) {
-                    assert_eq!(fault.to_string(), text);
-                    assert_eq!(CanonicalError::Decode(fault).to_string(), text);
+                if let Some(error) = decode_error(&row[1..]) {
+                    assert_eq!(text_of(error), text);
                 }
             }
         }
@@ -310,23 +302,16 @@ fn letters() {
         if let Ok(letters) = str::from_utf8(&letters) {
             assert_eq!(letters.parse(), Ok(alphabet));
         }
-        assert_eq!(
-            [alphabet.is_ascii(), alphabet.is_ascending()],
-            [row[2] == "1", row[3] == "1"]
-        );
+        assert_eq!(alphabet.is_ascii(), row[2] == "1");
+        assert_eq!(alphabet.is_ascending(), row[3] == "1");
     }
     // Blanks at the ends are characters too.
     let letters = " 123456789ABCDEFGHIJKLMNOPQRSTUVWXYZabcdefghijklmnopqrstuvwxy\n";
-    assert_eq!(
-        letters.parse::<Alphabet>().unwrap().as_ref(),
-        letters.as_bytes()
-    );
+    let parsed: Alphabet = letters.parse().unwrap();
+    assert_eq!(parsed.as_ref(), letters.as_bytes());
     assert_eq!(Alphabet::default(), Alphabet::standard());
-    assert_eq!(Alphabet::new(*support::STANDARD), Ok(Alphabet::standard()));
-    assert_eq!(
-        Alphabet::new(*support::ALTERNATIVE),
-        Ok(Alphabet::alternative())
-    );
+    let made = [support::STANDARD, support::ALTERNATIVE].map(|it| Alphabet::new(*it).unwrap());
+    assert_eq!(made, [Alphabet::standard(), Alphabet::alternative()]);
 }
 
 #[test]

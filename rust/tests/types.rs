@@ -8,11 +8,10 @@ mod support;
 use base62::{Alphabet, AlphabetError, DecodeError, EncodeError, ParseAlphabetError};
 use std::fmt::{Debug, Display};
 use std::hash::Hash;
-use std::io;
 
 /// Each call takes what the bounds of that crate let through, and answers its types.
 #[allow(dead_code)]
-fn calls_of_the_crate<T: Into<u128>, A: AsRef<[u8]>, W: io::Write + ?Sized>(num: fn() -> T) {
+fn calls_of_the_crate<T: Into<u128>, A: AsRef<[u8]>>(num: fn() -> T) {
     let _: fn(T, &mut [u8]) -> Result<usize, EncodeError> = base62::encode_bytes::<T>;
     let _: fn(T, &mut [u8]) -> Result<usize, EncodeError> = base62::encode_alternative_bytes::<T>;
     let _: fn(A) -> Result<u128, DecodeError> = base62::decode::<A>;
@@ -26,11 +25,13 @@ fn calls_of_the_crate<T: Into<u128>, A: AsRef<[u8]>, W: io::Write + ?Sized>(num:
         let _: fn(T, &mut String) = base62::encode_buf::<T>;
         let _: fn(T, &mut String) = base62::encode_alternative_buf::<T>;
     }
-    #[cfg(feature = "std")]
-    {
-        let _: fn(T, &mut W) -> io::Result<()> = base62::encode_io::<T, W>;
-        let _: fn(T, &mut W) -> io::Result<()> = base62::encode_alternative_io::<T, W>;
-    }
+}
+
+#[cfg(feature = "std")]
+#[allow(dead_code)]
+fn writers_of_the_crate<T: Into<u128>, W: std::io::Write + ?Sized>() {
+    let _: fn(T, &mut W) -> std::io::Result<()> = base62::encode_io::<T, W>;
+    let _: fn(T, &mut W) -> std::io::Result<()> = base62::encode_alternative_io::<T, W>;
 }
 
 #[test]

@@ -3,9 +3,9 @@
 
 //! Parses the arguments.
 
-use crate::conversion::Settings;
+use crate::conversion::{Notation, Settings};
 use crate::escape::Escaped;
-use crate::help::{CommandOption, Effect, OPTIONS, SUBCOMMANDS, Subcommand, VERSION, help};
+use crate::help::{CommandOption, OPTIONS, SUBCOMMANDS, Subcommand, VERSION, help};
 use crate::numbers::parse_decimal;
 use base62::Alphabet;
 
@@ -33,11 +33,11 @@ pub(crate) fn parse(mut rest: impl Iterator<Item = Vec<u8>>) -> Result<Action, S
     // An invalid option after --help or --version is no error, so `parsed?` comes below. Values are not checked then.
     let parsed = split(&mut rest, &mut given, &mut operands);
     let mut operands = operands.into_iter();
-    let mut effects = given.iter().map(|(option, _)| &option.effect);
-    if effects.clone().any(|it| matches!(it, Effect::Version)) {
+    let has = |letter| given.iter().any(|(option, _)| option.letter == letter);
+    if has(b'V') {
         return Ok(Action::Print(VERSION.into()));
     }
-    if effects.any(|it| matches!(it, Effect::Help)) {
+    if has(b'h') {
         return help_of(operands);
     }
     parsed?;
@@ -84,12 +84,13 @@ fn long_option(argument: &[u8], rest: Rest) -> Result<Given, String> {
     let mut parts = argument.splitn(2, |byte| *byte == b'=');
     let (name, attached) = (parts.next().unwrap_or_default(), parts.next());
     let option = find_option(name)?;
-    let value = match option.effect {
-        Effect::SetTo(..) => value_of(name, attached, rest)?,
-        _ if attached.is_some() => return Err(format!("{} takes no value", Escaped(name))),
-        _ => Vec::new(),
-    };
-    Ok((option, value))
+    if !option.value_name.is_empty() {
+        return Ok((option, value_of(name, attached, rest)?));
+    }
+    match attached {
+        Some(_) => Err(format!("{} takes no value", Escaped(name))),
+        None => Ok((option, Vec::new())),
+    }
 }
 
 /// The options of an argument such as `-auw11`, without the hyphen.
@@ -98,7 +99,7 @@ fn short_options(mut letters: &[u8], rest: Rest, given: &mut Vec<Given>) -> Resu
         let name = [b'-', *letter];
         let (option, mut value) = (find_option(&name)?, Vec::new());
         letters = after;
-        if let Effect::SetTo(..) = option.effect {
+        if !option.value_name.is_empty() {
             let attached = Some(after).filter(|after| !after.is_empty());
             value = value_of(&name, attached, rest)?;
             letters = &[];
@@ -127,20 +128,25 @@ fn find_option(name: &[u8]) -> Result<&'static CommandOption, String> {
 fn settings_of(subcommand: &Subcommand, given: &[Given]) -> Result<Settings, String> {
     let mut settings = Settings::default();
     for (option, value) in given {
-        match option.effect {
-            _ if !subcommand.options.contains(&option.letter) => {
+        match option.letter {
+            letter if !subcommand.options.contains(&letter) => {
                 let (name, option) = (subcommand.name, option.name);
                 return Err(format!("{name} has no option --{option}"));
             }
-            Effect::Set(set) => set(&mut settings),
-            Effect::SetTo(_, set) => set(&mut settings, value)?,
-            Effect::Help | Effect::Version => (),
+            b'a' => settings.alphabet = Alphabet::alternative(),
+            b'A' => settings.alphabet = parse_alphabet(value)?,
+            b'w' => settings.width = Some(parse_width(value)?),
+            b'c' => settings.is_canonical = true,
+            b'u' => settings.notation = Some(Notation::Uuid),
+            b'x' => settings.notation = Some(Notation::Hexadecimal),
+            b'e' => settings.keeps_empty = true,
+            _ => unreachable!(),
         }
     }
     Ok(settings)
 }
 
-pub(crate) fn parse_width(value: &[u8]) -> Result<usize, String> {
+fn parse_width(value: &[u8]) -> Result<usize, String> {
     if value.iter().all(u8::is_ascii_digit) && value.iter().any(|digit| *digit != b'0') {
         // A width above `usize::MAX` becomes `usize::MAX`. With either, `encode` runs out of memory, and `range` prints
         // the same numbers.
@@ -151,7 +157,7 @@ pub(crate) fn parse_width(value: &[u8]) -> Result<usize, String> {
     Err(format!("a width is an integer of 1 or more, not {value}"))
 }
 
-pub(crate) fn parse_alphabet(value: &[u8]) -> Result<Alphabet, String> {
+fn parse_alphabet(value: &[u8]) -> Result<Alphabet, String> {
     if !value.iter().all(|byte| matches!(byte, b' '..=b'~')) {
         return Err("the alphabet has a character that is not printable ASCII".into());
     }

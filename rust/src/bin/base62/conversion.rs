@@ -81,7 +81,9 @@ impl Settings {
         if let Some(width) = self.width {
             let zeros = width.checked_sub(string.len());
             let zeros = zeros.ok_or(Invalid("the number needs more characters than the width"))?;
-            append_repeated(self.alphabet.characters()[0], zeros, out)?;
+            out.reserve(zeros).or(Err(ToolFault::Memory))?;
+            out.0
+                .resize(out.0.len() + zeros, self.alphabet.characters()[0]);
         }
         Ok(append(string, out)?)
     }
@@ -112,10 +114,4 @@ impl Settings {
         append(b" ", out)?;
         Ok(append_decimal(*range.end(), out)?)
     }
-}
-
-fn append_repeated(character: u8, count: usize, out: &mut Bytes) -> Result<(), ToolFault> {
-    out.reserve(count).or(Err(ToolFault::Memory))?;
-    out.0.resize(out.0.len() + count, character);
-    Ok(())
 }

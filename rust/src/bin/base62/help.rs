@@ -5,9 +5,7 @@
 //! The completions read the help of the installed command, and `tests/page` writes the manual page from it. A test runs
 //! the examples.
 
-use crate::arguments::{parse_alphabet, parse_width};
-use crate::conversion::{Converter, Notation, Settings};
-use base62::Alphabet;
+use crate::conversion::{Converter, Settings};
 
 pub(crate) struct Subcommand {
     pub(crate) name: &'static str,
@@ -24,16 +22,9 @@ pub(crate) struct Subcommand {
 pub(crate) struct CommandOption {
     pub(crate) letter: u8,
     pub(crate) name: &'static str,
+    /// What the help calls its value, such as `N`. Empty if it takes no value.
+    pub(crate) value_name: &'static str,
     purpose: &'static str,
-    pub(crate) effect: Effect,
-}
-
-pub(crate) enum Effect {
-    Set(fn(&mut Settings)),
-    /// It takes a value, which the help calls by this name. An error says what is wrong with the value.
-    SetTo(&'static str, fn(&mut Settings, &[u8]) -> Result<(), String>),
-    Help,
-    Version,
 }
 
 pub(crate) static SUBCOMMANDS: [Subcommand; 3] = [
@@ -80,62 +71,56 @@ pub(crate) static OPTIONS: [CommandOption; 9] = [
     CommandOption {
         letter: b'a',
         name: "alternative",
+        value_name: "",
         purpose: "use the alphabet 0 to 9, a to z, A to Z",
-        effect: Effect::Set(|settings| settings.alphabet = Alphabet::alternative()),
     },
     CommandOption {
         letter: b'A',
         name: "alphabet",
+        value_name: "CHARACTERS",
         purpose: "use these 62 printable ASCII characters, the zero first",
-        effect: Effect::SetTo("CHARACTERS", |settings, value| {
-            settings.alphabet = parse_alphabet(value)?;
-            Ok(())
-        }),
     },
     CommandOption {
         letter: b'w',
         name: "width",
+        value_name: "N",
         purpose: "strings have exactly N characters, with leading zeros",
-        effect: Effect::SetTo("N", |settings, value| {
-            settings.width = Some(parse_width(value)?);
-            Ok(())
-        }),
     },
     CommandOption {
         letter: b'c',
         name: "canonical",
+        value_name: "",
         purpose: "reject strings with leading zeros",
-        effect: Effect::Set(|settings| settings.is_canonical = true),
     },
     CommandOption {
         letter: b'u',
         name: "uuid",
+        value_name: "",
         purpose: "numbers are UUIDs",
-        effect: Effect::Set(|settings| settings.notation = Some(Notation::Uuid)),
     },
     CommandOption {
         letter: b'x',
         name: "hex",
+        value_name: "",
         purpose: "numbers are hexadecimal",
-        effect: Effect::Set(|settings| settings.notation = Some(Notation::Hexadecimal)),
     },
     CommandOption {
         letter: b'e',
         name: "keep-empty",
+        value_name: "",
         purpose: "an empty input gives an empty line, and is no error",
-        effect: Effect::Set(|settings| settings.keeps_empty = true),
     },
     CommandOption {
         letter: b'h',
         name: "help",
+        value_name: "",
         purpose: HELP,
-        effect: Effect::Help,
     },
     CommandOption {
         letter: b'V',
         name: "version",
+        value_name: "",
         purpose: "print the version",
-        effect: Effect::Version,
     },
 ];
 
@@ -180,11 +165,12 @@ pub(crate) fn help(subcommand: Option<&Subcommand>) -> String {
 fn rows_of_options(letters: &[u8]) -> String {
     let options = OPTIONS.iter().filter(|it| letters.contains(&it.letter));
     let rows = options.map(|it| {
-        let value_name = match it.effect {
-            Effect::SetTo(name, _) => name,
-            _ => "",
-        };
-        let names = format!("-{}, --{} {value_name}", char::from(it.letter), it.name);
+        let names = format!(
+            "-{}, --{} {}",
+            char::from(it.letter),
+            it.name,
+            it.value_name
+        );
         row(names.trim_end(), it.purpose)
     });
     rows.collect()

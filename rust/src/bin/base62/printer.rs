@@ -56,7 +56,13 @@ impl Printer<'_> {
     /// Prints the result for an operand, or for the line of this number. If the input is invalid, first prints the
     /// results so far and reports the error. Then the line of output is empty.
     fn print(&mut self, input: &[u8], line: Option<u64>) -> Result<(), ToolFault> {
-        if let Err(error) = self.append_result(input) {
+        let settings = &self.task.settings;
+        let result = if input.is_empty() && settings.keeps_empty {
+            Ok(())
+        } else {
+            (self.task.subcommand.convert)(settings, input, &mut self.buffer)
+        };
+        if let Err(error) = result {
             if let ConversionError::Failure(fault) = error {
                 return Err(fault);
             }
@@ -69,14 +75,6 @@ impl Printer<'_> {
             return self.flush();
         }
         Ok(())
-    }
-
-    fn append_result(&mut self, input: &[u8]) -> Result<(), ConversionError> {
-        let settings = &self.task.settings;
-        if input.is_empty() && settings.keeps_empty {
-            return Ok(());
-        }
-        (self.task.subcommand.convert)(settings, input, &mut self.buffer)
     }
 
     fn report(&self, input: &[u8], line: Option<u64>, error: &ConversionError) {

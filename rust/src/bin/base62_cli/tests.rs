@@ -96,12 +96,11 @@ fn whole_inputs() {
 fn lines_about_the_length_of_a_read() {
     for length in CHUNK_LEN - 7..=CHUNK_LEN + 8 {
         let index = length - 5;
-        let line = [b"dec ".as_slice(), &vec![b'0'; index], b"!"].concat();
-        let reply =
-            format!("fault: Encoded input contains the invalid byte b'!' at index {index}\n");
+        let line = format!("dec {}!", "0".repeat(index));
+        let error = format!("Encoded input contains the invalid byte b'!' at index {index}");
         for (behind, last) in [("", ""), ("\n", ""), ("\nenc 1337\n", "LZ\n")] {
-            let output = [&reply, last].concat();
-            replies(&[&line, behind.as_bytes()].concat(), output.as_bytes());
+            let output = format!("fault: {error}\n{last}");
+            replies((line.clone() + behind).as_bytes(), output.as_bytes());
         }
     }
 }

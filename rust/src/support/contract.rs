@@ -53,22 +53,20 @@ macro_rules! in_place {
 
 /// Appends some of the zeros, which the text overwrites. In the source a copy of varying length appends them, which is a
 /// call. These are a few stores.
-#[cfg(all(feature = "alloc", not(feature = "checked")))]
+#[cfg(feature = "alloc")]
 macro_rules! append_zeros {
     ($bytes:ident, $zeros:ident, $len:ident) => {
-        // In the source this index is proved to be in bounds.
-        requires!($len <= $zeros.len());
-        let places = &mut $bytes.spare_capacity_mut()[..$len];
-        crate::support::contract::fill(places, core::mem::MaybeUninit::new(0));
-        // SAFETY: the capacity is enough, and `fill` has written each of these bytes.
-        unsafe { $bytes.set_len($bytes.len() + $len) };
-    };
-}
-
-#[cfg(all(feature = "alloc", feature = "checked"))]
-macro_rules! append_zeros {
-    ($bytes:ident, $zeros:ident, $len:ident) => {
-        $bytes.extend_from_slice(&$zeros[..$len])
+        #[cfg(feature = "checked")]
+        $bytes.extend_from_slice(&$zeros[..$len]);
+        #[cfg(not(feature = "checked"))]
+        {
+            // In the source this index is proved to be in bounds.
+            requires!($len <= $zeros.len());
+            let places = &mut $bytes.spare_capacity_mut()[..$len];
+            crate::support::contract::fill(places, core::mem::MaybeUninit::new(0));
+            // SAFETY: the capacity is enough, and `fill` has written each of these bytes.
+            unsafe { $bytes.set_len($bytes.len() + $len) };
+        }
     };
 }
 

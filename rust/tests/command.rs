@@ -321,8 +321,10 @@ fn a_terminal() {
     let shown = at_terminal("base62_cli", "<<<'enc 1337'");
     assert!(shown.contains(help) && shown.ends_with("LZ\r\n"), "{shown}");
     let shown = at_terminal("base62 encode", "<<<1337");
-    assert!(!shown.contains("base62:"), "{shown}");
-    assert!(shown.ends_with("LZ\r\n"), "{shown}");
+    assert!(
+        !shown.contains("base62:") && shown.ends_with("LZ\r\n"),
+        "{shown}"
+    );
     // From here on the output alone is a terminal.
     assert_eq!(at_terminal("base62_cli </dev/null", "</dev/null"), "");
     // Each result is a write, which Linux counts.
@@ -345,11 +347,9 @@ fn bounded_memory() {
     let errors = [1, 2, 3].map(error).concat();
     let line = format!("{lines} | (ulimit -v 41000; base62 decode)");
     ends(&line, 1, "\n\n\n", &errors);
-    for line in [
-        "yes 1337 | head -n 2000 | (ulimit -v 16384; base62 encode -w 10000)",
-        "(ulimit -v 16384; base62 encode -w 10000 $(seq 2000))",
-    ] {
-        prints(&format!("{line} | wc -c"), "20002000\n");
+    for numbers in ["$(seq 2000)", "< <(seq 2000)"] {
+        let line = format!("(ulimit -v 16384; base62 encode -w 10000 {numbers}) | wc -c");
+        prints(&line, "20002000\n");
     }
     let all = format!("0 {}\n", u128::MAX);
     let line = "(echo 1337; exec head -c 200000000 /dev/zero) 2>/dev/null | (ulimit -v 65536; exec base62 encode)";

@@ -22,11 +22,9 @@ type Line = (Vec<u8>, Result<Vec<u8>, String>);
 /// Runs the command with arguments that blanks separate.
 fn run(arguments: &str, input: Vec<u8>) -> Output {
     let mut command = Command::new(env!("CARGO_BIN_EXE_base62"));
-    command
-        .args(arguments.split_whitespace())
-        .stdin(Stdio::piped());
-    command.stdout(Stdio::piped()).stderr(Stdio::piped());
-    let mut child = command.spawn().unwrap();
+    command.args(arguments.split_whitespace());
+    command.stdin(Stdio::piped()).stdout(Stdio::piped());
+    let mut child = command.stderr(Stdio::piped()).spawn().unwrap();
     let mut stdin = child.stdin.take().unwrap();
     let writer = thread::spawn(move || stdin.write_all(&input));
     let ended = child.wait_with_output().unwrap();
@@ -161,14 +159,10 @@ fn values_of_ranges() {
 }
 
 #[test]
-fn values_of_uuids() {
-    let rows = rows("uuid");
-    check("encode -u", pairs(&rows, 1, 2));
-    check("decode -u", pairs(&rows, 2, 1));
-}
-
-#[test]
-fn forms_of_uuids() {
+fn uuids() {
+    let uuids = rows("uuid");
+    check("encode -u", pairs(&uuids, 1, 2));
+    check("decode -u", pairs(&uuids, 2, 1));
     let number = |uuid: &str| u128::from_str_radix(&uuid.replace('-', ""), 16).unwrap();
     let line = |row: &Row| match row[1] {
         "none" => (bytes(row[0]), Err("not a UUID".into())),
@@ -183,15 +177,17 @@ fn forms_of_uuids() {
 #[test]
 fn values_of_hexadecimal() {
     each("encode", None, |options, rows| {
-        let number = |row: &Row| row[1].parse::<u128>().unwrap();
-        let lower = |row: &Row| format!("{:x}", number(row)).into_bytes();
-        let upper = |row: &Row| format!("0X{:032X}", number(row)).into_bytes();
-        let text = |row: &Row| bytes(row[2]);
-        let lines = rows.iter().map(|row| (lower(row), Ok(text(row))));
+        let pair = |row: &Row| (row[1].parse::<u128>().unwrap(), bytes(row[2]));
+        let pairs = rows.iter().map(pair);
+        let lines = pairs
+            .clone()
+            .map(|(num, text)| (format!("{num:x}").into(), Ok(text)));
         check(&format!("encode -x {options}"), lines);
-        let lines = rows.iter().map(|row| (text(row), Ok(lower(row))));
+        let lines = pairs
+            .clone()
+            .map(|(num, text)| (text, Ok(format!("{num:x}").into())));
         check(&format!("decode -x {options}"), lines);
-        let lines = rows.iter().map(|row| (upper(row), Ok(text(row))));
+        let lines = pairs.map(|(num, text)| (format!("0X{num:032X}").into(), Ok(text)));
         check(&format!("encode --hex {options}"), lines);
     });
 }

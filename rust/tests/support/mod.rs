@@ -63,11 +63,9 @@ pub fn bytes(text: &str) -> Vec<u8> {
 
 /// The alphabets there, by their names.
 pub fn alphabets() -> HashMap<&'static str, Alphabet> {
-    let of = |row: Vec<&'static str>| {
-        let letters = bytes(row[1]).try_into().unwrap();
-        (row[0], Alphabet::new(letters).unwrap())
-    };
-    rows("alphabet").into_iter().map(of).collect()
+    let alphabet = |letters| Alphabet::try_from(&bytes(letters)[..]).unwrap();
+    let rows = rows("alphabet").into_iter();
+    rows.map(|row| (row[0], alphabet(row[1]))).collect()
 }
 
 /// The fault that the last fields of a row name. None if this machine has no such index.

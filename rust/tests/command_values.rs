@@ -74,7 +74,7 @@ fn message(error: &str) -> String {
 /// Hands the rows of a kind to a test, with each way to name their alphabet, and their width if they have one in a field of
 /// this index.
 fn each(kind: &str, width: Option<usize>, test: impl Fn(&str, &[Row])) {
-    // The command accepts printable ASCII characters. Fields have no others, and `%` for those.
+    // The command accepts printable ASCII characters. In a field, `%` stands for any other byte.
     for alphabet in rows("alphabet").iter().filter(|it| !it[1].contains('%')) {
         let mut found = BTreeMap::<_, Vec<_>>::new();
         for row in rows(kind).into_iter().filter(|it| it[0] == alphabet[0]) {

@@ -81,9 +81,9 @@ impl Settings {
         if let Some(width) = self.width {
             let zeros = width.checked_sub(string.len());
             let zeros = zeros.ok_or(Invalid("the number needs more characters than the width"))?;
+            let zero = self.alphabet.characters()[0];
             out.reserve(zeros).or(Err(ToolFault::Memory))?;
-            out.0
-                .resize(out.0.len() + zeros, self.alphabet.characters()[0]);
+            out.0.resize(out.0.len() + zeros, zero);
         }
         Ok(append(string, out)?)
     }

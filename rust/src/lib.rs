@@ -4,9 +4,8 @@
 //! Encodes unsigned integers below 2^128 as short strings of `0` to `9`, `A` to `Z` and `a` to `z`, and decodes them.
 //!
 //! It has each function of the crate `base62` 2.2.6, with the same name, types, features and results. The codec is
-//! written in Rattle, which is Rust with contracts, and each of its functions is proved to meet its contract. The
-//! modules of this crate are that source without its contracts and proofs. The program that
-//! removes these is tested, not proved.
+//! translated from a source in Rattle, which is Rust with contracts, and in which each function is proved to meet its
+//! contract. The translation is tested, not proved.
 //!
 //! ```
 //! let mut buffer = [0; base62::MAX_DIGITS];
@@ -20,8 +19,8 @@
 //!
 //! A number is any `T: Into<u128>`: `u8` to `u128`, `bool`, `char`, `NonZero<u128>`, `Ipv6Addr`. Signed integers and
 //! `usize` do not convert: write `u64::try_from(id)?` for an `i64`, `n as u64` for a `usize`, and `1337_u32` for a
-//! literal, which alone is an `i32`. The encoded string of a number is the
-//! shortest nonempty one that represents it, and has 1 to 22 characters.
+//! literal, which alone is an `i32`. The encoded string of a number is the shortest nonempty one that represents it, and
+//! has 1 to 22 characters.
 //!
 //! The standard alphabet is `0` to `9`, `A` to `Z`, `a` to `z`, and the alternative one `0` to `9`, `a` to `z`, `A` to
 //! `Z`. An [`Alphabet`] has 62 characters of your choice, and the functions that use it end in `_with`. Create one once

@@ -83,8 +83,6 @@ fn refused_memory_ends_the_program() {
     let output = child.env(CHILD, "").output().unwrap();
     assert!(!output.status.success());
     let said = String::from_utf8(output.stderr).unwrap();
-    assert!(
-        said.contains("memory allocation of 8 bytes failed"),
-        "{said}"
-    );
+    let message = "memory allocation of 8 bytes failed";
+    assert!(said.contains(message), "{said}");
 }

@@ -6,14 +6,9 @@
 
 mod support;
 
-use support::shell::{ends, in_a_file, is_installed, run, sides};
+use support::shell::{ends, in_a_file, is_installed, prints, run, sides};
 
 const NO_NUMBER: &str = "not a decimal number below 2^128";
-
-#[track_caller]
-fn prints(line: &str, output: &str) {
-    ends(line, 0, output, "");
-}
 
 /// The input is invalid: it gives an empty line.
 #[track_caller]
@@ -73,14 +68,11 @@ fn inputs() {
 fn decimal_numbers() {
     let powers = (0..39).map(|count| 10_u128.pow(count));
     let numbers = powers.flat_map(|power| [power - 1, power, power + 1]);
-    let lines: Vec<_> = numbers.map(|number| format!("{number}\n")).collect();
-    let numbers = lines.concat();
+    let lines: String = numbers.map(|number| format!("{number}\n")).collect();
     for zeros in ["", "0", "000000000000000000000"] {
-        let with_zeros = format!("printf '{numbers}' | sed 's/^/{zeros}/'");
-        prints(
-            &format!("{with_zeros} | base62 encode | base62 decode"),
-            &numbers,
-        );
+        let with_zeros = format!("printf '{lines}' | sed 's/^/{zeros}/'");
+        let line = format!("{with_zeros} | base62 encode | base62 decode");
+        prints(&line, &lines);
     }
 }
 
@@ -250,6 +242,7 @@ fn wrong_arguments() {
         encode -A ${letters:1} -> the alphabet has 61 characters, not 62
         encode -A ${letters}! -> the alphabet has 63 characters, not 62
         range -A 1${letters:1} 5 -> Alphabet repeats the byte b'1' at index 1
+        encode -A ${letters:0:61}0 -> Alphabet repeats the byte b'0' at index 61
         encode -A ${letters:1}$'\xe9' -> the alphabet has a character that is not printable ASCII
         encode -A ${letters:1}$'\x1f' -> the alphabet has a character that is not printable ASCII
         encode -A ${letters:1}$'\x7f' -> the alphabet has a character that is not printable ASCII";
@@ -328,8 +321,10 @@ fn a_terminal() {
     let shown = at_terminal("base62_cli", "<<<'enc 1337'");
     assert!(shown.contains(help) && shown.ends_with("LZ\r\n"), "{shown}");
     let shown = at_terminal("base62 encode", "<<<1337");
-    assert!(!shown.contains("base62:"), "{shown}");
-    assert!(shown.ends_with("LZ\r\n"), "{shown}");
+    assert!(
+        !shown.contains("base62:") && shown.ends_with("LZ\r\n"),
+        "{shown}"
+    );
     // From here on the output alone is a terminal.
     assert_eq!(at_terminal("base62_cli </dev/null", "</dev/null"), "");
     // Each result is a write, which Linux counts.
@@ -350,17 +345,11 @@ fn bounded_memory() {
     let error = "Encoded input contains the invalid byte b'!' at index 10000000";
     let error = |line| format!("base62: line {line}: {}..: {error}\n", "0".repeat(100));
     let errors = [1, 2, 3].map(error).concat();
-    ends(
-        &format!("{lines} | (ulimit -v 41000; base62 decode)"),
-        1,
-        "\n\n\n",
-        &errors,
-    );
-    for line in [
-        "yes 1337 | head -n 2000 | (ulimit -v 16384; base62 encode -w 10000)",
-        "(ulimit -v 16384; base62 encode -w 10000 $(seq 2000))",
-    ] {
-        prints(&format!("{line} | wc -c"), "20002000\n");
+    let line = format!("{lines} | (ulimit -v 41000; base62 decode)");
+    ends(&line, 1, "\n\n\n", &errors);
+    for numbers in ["$(seq 2000)", "< <(seq 2000)"] {
+        let line = format!("(ulimit -v 16384; base62 encode -w 10000 {numbers}) | wc -c");
+        prints(&line, "20002000\n");
     }
     let all = format!("0 {}\n", u128::MAX);
     let line = "(echo 1337; exec head -c 200000000 /dev/zero) 2>/dev/null | (ulimit -v 65536; exec base62 encode)";

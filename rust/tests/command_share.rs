@@ -6,7 +6,6 @@
 
 mod support;
 
-use std::fs;
 use support::shell::{is_installed, run, sides};
 
 const BASH: &str = "source $crate/share/bash-completion/completions/base62";
@@ -24,8 +23,7 @@ fn pages() {
         return;
     }
     for name in ["base62", "base62_cli"] {
-        let page = format!("{}/share/man/man1/{name}.1", env!("CARGO_MANIFEST_DIR"));
-        let page = fs::read_to_string(page).unwrap();
+        let page = output_of(&format!("cat $crate/share/man/man1/{name}.1"));
         let written = output_of(&format!("$crate/tests/page {name}"));
         assert_eq!(written, page, "tests/page {name} writes it anew");
     }

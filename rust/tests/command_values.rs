@@ -6,9 +6,8 @@
 
 mod support;
 
-use base62::AlphabetError;
 use base62::DecodeError;
-use std::collections::BTreeSet;
+use std::collections::BTreeMap;
 use std::io::Write;
 use std::process::{Command, Output, Stdio};
 use std::thread;
@@ -23,11 +22,9 @@ type Line = (Vec<u8>, Result<Vec<u8>, String>);
 /// Runs the command with arguments that blanks separate.
 fn run(arguments: &str, input: Vec<u8>) -> Output {
     let mut command = Command::new(env!("CARGO_BIN_EXE_base62"));
-    command
-        .args(arguments.split_whitespace())
-        .stdin(Stdio::piped());
-    command.stdout(Stdio::piped()).stderr(Stdio::piped());
-    let mut child = command.spawn().unwrap();
+    command.args(arguments.split_whitespace());
+    command.stdin(Stdio::piped()).stdout(Stdio::piped());
+    let mut child = command.stderr(Stdio::piped()).spawn().unwrap();
     let mut stdin = child.stdin.take().unwrap();
     let writer = thread::spawn(move || stdin.write_all(&input));
     let ended = child.wait_with_output().unwrap();
@@ -74,37 +71,27 @@ fn message(error: &str) -> String {
     String::from_utf8(bytes(row.unwrap()[0])).unwrap()
 }
 
-/// The alphabet as an argument. The command accepts printable ASCII characters, without blanks here.
-fn argument(letters: &str) -> Option<String> {
-    let letters = String::from_utf8(bytes(letters)).ok()?;
-    let is_graphic = letters.bytes().all(|letter| letter.is_ascii_graphic());
-    is_graphic.then_some(letters)
-}
-
-/// Hands the rows of a kind to a test, with each way to name their alphabet.
-fn each(kind: &str, test: impl Fn(&str, &[Row])) {
-    for alphabet in rows("alphabet") {
-        let Some(letters) = argument(alphabet[1]) else {
-            continue;
-        };
-        let mut found = rows(kind);
-        found.retain(|row| row[0] == alphabet[0]);
-        test(&format!("-A {letters}"), &found);
-        match alphabet[0] {
-            "standard" => test("", &found),
-            "alternative" => test("-a", &found),
-            _ => (),
+/// Hands the rows of a kind to a test, with each way to name their alphabet, and their width if they have one in a field of
+/// this index.
+fn each(kind: &str, width: Option<usize>, test: impl Fn(&str, &[Row])) {
+    // The command accepts printable ASCII characters. In a field, `%` stands for any other byte.
+    for alphabet in rows("alphabet").iter().filter(|it| !it[1].contains('%')) {
+        let mut found = BTreeMap::<_, Vec<_>>::new();
+        for row in rows(kind).into_iter().filter(|it| it[0] == alphabet[0]) {
+            let width = width.map(|field| row[field]);
+            if width.is_none_or(|it| it != "0" && it.parse::<usize>().is_ok()) {
+                found.entry(width).or_default().push(row);
+            }
         }
-    }
-}
-
-/// Hands the rows of each width to a test, if the command has it.
-fn each_width(rows: &[Row], place: usize, test: impl Fn(&str, &[Row])) {
-    let widths: BTreeSet<_> = rows.iter().map(|row| row[place]).collect();
-    let is_width = |width: &&str| *width != "0" && width.parse::<usize>().is_ok();
-    for width in widths.into_iter().filter(is_width) {
-        let found = rows.iter().filter(|row| row[place] == width).cloned();
-        test(width, &found.collect::<Vec<_>>());
+        for (width, rows) in found {
+            let width = width.map_or(String::new(), |it| format!("-w {it} "));
+            test(&format!("{width}-A {}", alphabet[1]), &rows);
+            match alphabet[0] {
+                "standard" => test(&width, &rows),
+                "alternative" => test(&format!("{width}-a"), &rows),
+                _ => (),
+            }
+        }
     }
 }
 
@@ -122,17 +109,17 @@ fn errors(rows: &[Row], error: impl Fn(&Row) -> String) -> Vec<Line> {
 
 #[test]
 fn values_of_texts() {
-    each("encode", |options, rows| {
+    each("encode", None, |options, rows| {
         check(&format!("encode {options}"), pairs(rows, 1, 2));
         check(&format!("decode {options}"), pairs(rows, 2, 1));
         check(&format!("decode --canonical {options}"), pairs(rows, 2, 1));
     });
-    each("zeros", |options, rows| {
+    each("zeros", None, |options, rows| {
         check(&format!("decode {options}"), pairs(rows, 1, 2));
         let lines = errors(rows, |_| message("zero"));
         check(&format!("decode -c {options}"), lines);
     });
-    each("refused", |options, rows| {
+    each("refused", None, |options, rows| {
         let lines = errors(rows, |row| decode_message(&row[2..]));
         check(&format!("decode -u {options}"), lines.clone());
         check(&format!("decode -c {options}"), lines);
@@ -141,55 +128,41 @@ fn values_of_texts() {
 
 #[test]
 fn values_of_widths() {
-    each("fixed", |options, rows| {
-        each_width(rows, 2, |width, rows| {
-            check(
-                &format!("encode --width {width} {options}"),
-                pairs(rows, 1, 3),
-            );
-        });
+    each("fixed", Some(2), |options, rows| {
+        check(&format!("encode {options}"), pairs(rows, 1, 3));
     });
-    each("narrow", |options, rows| {
-        each_width(rows, 2, |width, rows| {
-            let error = |_: &Row| "the number needs more characters than the width".into();
-            check(&format!("encode -w {width} {options}"), errors(rows, error));
-        });
+    each("narrow", Some(2), |options, rows| {
+        let error = |_: &Row| "the number needs more characters than the width".into();
+        check(&format!("encode {options}"), errors(rows, error));
     });
 }
 
 #[test]
 fn values_of_ranges() {
-    each("range", |options, rows| {
-        each_width(rows, 1, |width, rows| {
-            // It is the width without an option.
-            let (width, none) = if width == "22" {
-                let none = "no string of 22 characters begins with it; -w sets the width";
-                (String::new(), none.into())
-            } else {
-                (format!("-w {width}"), message("none"))
+    each("range", Some(1), |options, rows| {
+        let lines = |none: &str| {
+            let line = |row: &Row| match row[3..] {
+                ["numbers", least, greatest] => Ok(format!("{least} {greatest}").into()),
+                ["none"] => Err(none.into()),
+                _ => Err(decode_message(&row[3..])),
             };
-            let lines = rows.iter().map(|row| {
-                let range = match row[3..] {
-                    ["numbers", least, greatest] => Ok(format!("{least} {greatest}").into()),
-                    ["none"] => Err(none.clone()),
-                    _ => Err(decode_message(&row[3..])),
-                };
-                (bytes(row[2]), range)
-            });
-            check(&format!("range {options} {width}"), lines);
-        });
+            let lines = rows.iter().map(|row| (bytes(row[2]), line(row)));
+            lines.collect::<Vec<_>>()
+        };
+        check(&format!("range {options}"), lines(&message("none")));
+        // It is the width without an option.
+        if let Some(options) = options.strip_prefix("-w 22 ") {
+            let none = "no string of 22 characters begins with it; -w sets the width";
+            check(&format!("range {options}"), lines(none));
+        }
     });
 }
 
 #[test]
-fn values_of_uuids() {
-    let rows = rows("uuid");
-    check("encode -u", pairs(&rows, 1, 2));
-    check("decode -u", pairs(&rows, 2, 1));
-}
-
-#[test]
-fn forms_of_uuids() {
+fn uuids() {
+    let uuids = rows("uuid");
+    check("encode -u", pairs(&uuids, 1, 2));
+    check("decode -u", pairs(&uuids, 2, 1));
     let number = |uuid: &str| u128::from_str_radix(&uuid.replace('-', ""), 16).unwrap();
     let line = |row: &Row| match row[1] {
         "none" => (bytes(row[0]), Err("not a UUID".into())),
@@ -203,29 +176,18 @@ fn forms_of_uuids() {
 /// The numbers of texts in hexadecimal, as Rust shows them.
 #[test]
 fn values_of_hexadecimal() {
-    each("encode", |options, rows| {
-        let number = |row: &Row| row[1].parse::<u128>().unwrap();
-        let lower = |row: &Row| format!("{:x}", number(row)).into_bytes();
-        let upper = |row: &Row| format!("0X{:032X}", number(row)).into_bytes();
-        let text = |row: &Row| bytes(row[2]);
-        let lines = rows.iter().map(|row| (lower(row), Ok(text(row))));
+    each("encode", None, |options, rows| {
+        let pair = |row: &Row| (row[1].parse::<u128>().unwrap(), bytes(row[2]));
+        let pairs = rows.iter().map(pair);
+        let lines = pairs
+            .clone()
+            .map(|(num, text)| (format!("{num:x}").into(), Ok(text)));
         check(&format!("encode -x {options}"), lines);
-        let lines = rows.iter().map(|row| (text(row), Ok(lower(row))));
+        let lines = pairs
+            .clone()
+            .map(|(num, text)| (text, Ok(format!("{num:x}").into())));
         check(&format!("decode -x {options}"), lines);
-        let lines = rows.iter().map(|row| (upper(row), Ok(text(row))));
+        let lines = pairs.map(|(num, text)| (format!("0X{num:032X}").into(), Ok(text)));
         check(&format!("encode --hex {options}"), lines);
     });
-}
-
-#[test]
-fn values_of_repeated_letters() {
-    for row in rows("repeated") {
-        if let Some(letters) = argument(row[0]) {
-            let error = AlphabetError::Repeated(row[1].parse().unwrap(), row[2].parse().unwrap());
-            let error = format!("base62: {error}: try base62 --help\n");
-            let ended = run(&format!("encode -A {letters}"), Vec::new());
-            assert_eq!(String::from_utf8(ended.stderr).unwrap(), error);
-            assert_eq!(ended.status.code(), Some(2));
-        }
-    }
 }

@@ -16,9 +16,7 @@ const CLI: &str = env!("CARGO_BIN_EXE_base62_cli");
 /// a failure that it ignores is ended.
 fn run(library: &str, arguments: &[&str], lines: [&str; 2], call: &str, number: usize) -> Output {
     let mut command = Command::new("timeout");
-    command
-        .args(["60", "env"])
-        .arg(format!("LD_PRELOAD={library}"));
+    command.args(["60", "env", &format!("LD_PRELOAD={library}")]);
     command.args([format!("FAILING={call}"), format!("REFUSED={number}")]);
     command.args(arguments);
     command.stdin(Stdio::piped()).stdout(Stdio::piped());
@@ -62,11 +60,8 @@ fn fail_in_turn(arguments: &[&str], lines: [&str; 2], output: &str, status: i32)
             } else if call == "allocation" && count == 0 && ended.status.code().is_none() {
                 assert_eq!(written, "", "{said}");
             } else {
-                assert_eq!(
-                    (written.as_str(), ended.status.code()),
-                    (output, Some(status)),
-                    "{said}"
-                );
+                let ends = (written.as_str(), ended.status.code());
+                assert_eq!(ends, (output, Some(status)), "{said}");
             }
         }
         assert!(counts.contains(&count), "{arguments:?}: {call}: {count}");

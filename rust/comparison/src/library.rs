@@ -23,13 +23,6 @@ impl Number {
 
 #[repr(C)]
 #[derive(Default)]
-struct Range {
-    least: Number,
-    greatest: Number,
-}
-
-#[repr(C)]
-#[derive(Default)]
 struct BadByte {
     index: usize,
     byte: u8,
@@ -81,7 +74,7 @@ encoders! {
 
 /// Calls with a text, and in `$width` what follows it. They write a number or a range, and answer a status.
 macro_rules! decoders {
-    ($type:ty: $found:ident, $answer:expr; $($call:ident $name:ident $($own:ident)? $(($width:ident))?,)*) => {
+    ($type:ty: $found:ty, $answer:expr; $($call:ident $name:ident $($own:ident)? $(($width:ident))?,)*) => {
         extern "C" {
             $(fn $name(
                 $($own: &Alphabet,)? start: *const u8, length: usize, $($width: usize,)? found: &mut $found,
@@ -89,7 +82,7 @@ macro_rules! decoders {
             ) -> u32;)*
         }
         $(pub fn $call($($own: &Alphabet,)? text: &[u8] $(, $width: usize)?) -> $type {
-            let (mut found, mut bad) = ($found::default(), BadByte::default());
+            let (mut found, mut bad) = (<$found>::default(), BadByte::default());
             let (start, length) = (text.as_ptr(), text.len());
             // SAFETY: a slice is valid for reads of its length, and `Alphabet::new` has made each alphabet.
             match unsafe { $name($($own,)? start, length, $($width,)? &mut found, &mut bad) } {
@@ -118,8 +111,8 @@ decoders! {
 }
 
 decoders! {
-    Result<Option<RangeInclusive<u128>>, DecodeError>: Range,
-    |status, range: Range| Ok(found(status, 5, range.least.value()..=range.greatest.value()));
+    Result<Option<RangeInclusive<u128>>, DecodeError>: [Number; 2],
+    |status, [least, greatest]: [Number; 2]| Ok(found(status, 5, least.value()..=greatest.value()));
     key_range base62_key_range,
     prefix_range base62_prefix_range (width),
     prefix_range_with base62_prefix_range_with own (width),

@@ -1,10 +1,11 @@
-//! Compares this crate with a library for C: `comparison CALLS SEED`.
+//! Compares this crate with a library for C: `comparison CALLS SEED`. Both get the same calls.
 
-#[macro_use]
-mod driver;
+mod input;
 mod library;
 
-use driver::Input;
+use input::{Input, Random};
+use std::fmt::Debug;
+use std::{env, process};
 
 mod here {
     pub use proved::*;
@@ -22,16 +23,38 @@ mod here {
     }
 }
 
+/// Ends the program with status 1 if the answers differ. One call is compared.
+fn compare<T: PartialEq + Debug>(input: &Input, call: &str, here: T, there: T) -> usize {
+    if here != there {
+        println!("{call} answers\n{here:?} here, and\n{there:?} there, for\n{input:?}");
+        process::exit(1);
+    }
+    1
+}
+
+/// Makes each call by the names of both modules, with the alphabet of each for `$own`. How many calls there are.
+macro_rules! same {
+    ($input:ident, $own:ident = $ours:ident, $theirs:ident; $($call:expr,)*) => {
+        0 $(+ compare(
+            $input,
+            stringify!($call),
+            { use here::*; let $own = &$ours; $call },
+            { use library::*; let $own = &$theirs; $call },
+        ))*
+    };
+}
+
 #[allow(unused_variables)] // Few calls take `own`.
 fn round(input: &Input) -> usize {
     let (number, text, width) = (input.number, &input.text[..], input.width);
-    let ours = proved::Alphabet::new(input.letters).unwrap();
-    let theirs = library::Alphabet::new(input.letters).unwrap_or_else(|fault| panic!("{fault}"));
+    let (letters, repeated) = input.letters;
+    let ours = proved::Alphabet::new(letters).unwrap();
+    let theirs = library::Alphabet::new(letters).unwrap_or_else(|fault| panic!("{fault}"));
     // The same number over the other letters.
     let mut buf = [0; 22];
     let length = proved::encode_bytes_with(&ours, number, &mut buf).unwrap();
-    let of_number = same! { input, own = here &ours, library &theirs;
-        Alphabet::new(input.repeated).err(),
+    let of_number = same! { input, own = ours, theirs;
+        Alphabet::new(repeated).err(),
         input.buffer(|buf| encode_bytes(number, buf)),
         input.buffer(|buf| encode_alternative_bytes(number, buf)),
         input.buffer(|buf| encode_bytes_with(own, number, buf)),
@@ -43,7 +66,7 @@ fn round(input: &Input) -> usize {
         number_of(number.to_be_bytes()),
     };
     let of_text = |text: &[u8]| {
-        same! { input, own = here &ours, library &theirs;
+        same! { input, own = ours, theirs;
             decode(text),
             decode_alternative(text),
             decode_with(own, text),
@@ -62,5 +85,14 @@ fn round(input: &Input) -> usize {
 }
 
 fn main() {
-    driver::run(round);
+    let arguments: Vec<u64> = env::args().skip(1).flat_map(|it| it.parse()).collect();
+    let &[wanted, seed] = &arguments[..] else {
+        eprintln!("its arguments are CALLS SEED");
+        process::exit(2);
+    };
+    let (mut random, mut calls) = (Random(seed), 0);
+    while calls < wanted as usize {
+        calls += round(&Input::new(&mut random));
+    }
+    println!("{calls} calls of both by the seed {seed}, and none differed.");
 }

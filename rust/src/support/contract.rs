@@ -7,44 +7,36 @@
 
 /// A precondition of the function, at the start of its body. In the source, each caller is proved to meet it; this crate
 /// is a tested translation of the source. A debug build asserts it. In a release build the compiler assumes it.
-#[cfg(not(feature = "checked"))]
 macro_rules! requires {
     ($clause:expr) => {
         debug_assert!($clause);
         // SAFETY: each call in the source is proved to meet the precondition.
-        unsafe { core::hint::assert_unchecked($clause) };
-    };
-}
-
-#[cfg(feature = "checked")]
-macro_rules! requires {
-    ($clause:expr) => {
-        debug_assert!($clause);
+        #[cfg(not(feature = "checked"))]
+        unsafe {
+            core::hint::assert_unchecked($clause)
+        };
     };
 }
 
 /// A string of bytes that are ASCII. The source has the same `unsafe`, and proves it.
-#[cfg(not(feature = "checked"))]
 macro_rules! proved {
     ($of:ident::from_utf8($bytes:expr)) => {{
         debug_assert!($bytes.is_ascii());
         // SAFETY: the bytes are proved to be ASCII in the source.
-        unsafe { $of::from_utf8_unchecked($bytes) }
+        #[cfg(not(feature = "checked"))]
+        let text = unsafe { $of::from_utf8_unchecked($bytes) };
+        #[cfg(feature = "checked")]
+        let text = $of::from_utf8($bytes).unwrap();
+        text
     }};
-}
-
-#[cfg(feature = "checked")]
-macro_rules! proved {
-    ($of:ident::from_utf8($bytes:expr)) => {
-        $of::from_utf8($bytes).unwrap()
-    };
 }
 
 /// If the spare capacity is enough for the text of any number, writes the text in place, and returns. In Rattle the bytes
 /// of a `String` cannot be borrowed mutably, so the code after this copies the text.
-#[cfg(all(feature = "alloc", not(feature = "checked")))]
+#[cfg(feature = "alloc")]
 macro_rules! in_place {
     ($tables:ident, $num:ident, $buf:ident) => {
+        #[cfg(not(feature = "checked"))]
         if $buf.capacity() - $buf.len() >= crate::MAX_DIGITS {
             let n: u128 = $num.into();
             let (at, len) = ($buf.len(), crate::digit_count(n));
@@ -59,29 +51,22 @@ macro_rules! in_place {
     };
 }
 
-#[cfg(all(feature = "alloc", feature = "checked"))]
-macro_rules! in_place {
-    ($tables:ident, $num:ident, $buf:ident) => {};
-}
-
 /// Appends some of the zeros, which the text overwrites. In the source a copy of varying length appends them, which is a
 /// call. These are a few stores.
-#[cfg(all(feature = "alloc", not(feature = "checked")))]
+#[cfg(feature = "alloc")]
 macro_rules! append_zeros {
     ($bytes:ident, $zeros:ident, $len:ident) => {
-        // In the source this index is proved to be in bounds.
-        requires!($len <= $zeros.len());
-        let places = &mut $bytes.spare_capacity_mut()[..$len];
-        crate::support::contract::fill(places, core::mem::MaybeUninit::new(0));
-        // SAFETY: the capacity is enough, and `fill` has written each of these bytes.
-        unsafe { $bytes.set_len($bytes.len() + $len) };
-    };
-}
-
-#[cfg(all(feature = "alloc", feature = "checked"))]
-macro_rules! append_zeros {
-    ($bytes:ident, $zeros:ident, $len:ident) => {
-        $bytes.extend_from_slice(&$zeros[..$len])
+        #[cfg(feature = "checked")]
+        $bytes.extend_from_slice(&$zeros[..$len]);
+        #[cfg(not(feature = "checked"))]
+        {
+            // In the source this index is proved to be in bounds.
+            requires!($len <= $zeros.len());
+            let places = &mut $bytes.spare_capacity_mut()[..$len];
+            crate::support::contract::fill(places, core::mem::MaybeUninit::new(0));
+            // SAFETY: the capacity is enough, and `fill` has written each of these bytes.
+            unsafe { $bytes.set_len($bytes.len() + $len) };
+        }
     };
 }
 
@@ -166,7 +151,6 @@ mod tests {
     }
 
     #[test]
-    #[cfg(not(feature = "checked"))]
     #[should_panic(expected = "assertion failed: bytes.is_ascii()")]
     fn a_text_that_is_not_ascii_panics() {
         fn text(bytes: &[u8]) -> &str {

@@ -11,10 +11,8 @@ pub(crate) struct InlineText<const N: usize> {
 
 impl<const N: usize> InlineText<N> {
     pub(crate) fn new() -> InlineText<N> {
-        InlineText {
-            bytes: [0; N],
-            len: 0,
-        }
+        let (bytes, len) = ([0; N], 0);
+        InlineText { bytes, len }
     }
 
     /// Appends a part. In the source, each part is proved to fit.

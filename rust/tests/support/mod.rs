@@ -43,12 +43,9 @@ pub fn rows(kind: &str) -> Vec<Vec<&'static str>> {
         eprintln!("left out: values of {kind}, which the repository has in tests/values.tsv");
         return Vec::new();
     };
-    let lines = values.lines();
-    let all = lines.map(|line| line.split('\t').collect::<Vec<_>>());
-    let found: Vec<_> = all
-        .filter(|row| row[0] == kind)
-        .map(|row| row[1..].to_vec())
-        .collect();
+    let start = format!("{kind}\t");
+    let found = values.lines().filter_map(|line| line.strip_prefix(&start));
+    let found: Vec<Vec<_>> = found.map(|row| row.split('\t').collect()).collect();
     assert!(!found.is_empty(), "no row of {kind}");
     found
 }
@@ -66,11 +63,9 @@ pub fn bytes(text: &str) -> Vec<u8> {
 
 /// The alphabets there, by their names.
 pub fn alphabets() -> HashMap<&'static str, Alphabet> {
-    let of = |row: Vec<&'static str>| {
-        let letters = bytes(row[1]).try_into().unwrap();
-        (row[0], Alphabet::new(letters).unwrap())
-    };
-    rows("alphabet").into_iter().map(of).collect()
+    let alphabet = |letters| Alphabet::try_from(&bytes(letters)[..]).unwrap();
+    let rows = rows("alphabet").into_iter();
+    rows.map(|row| (row[0], alphabet(row[1]))).collect()
 }
 
 /// The fault that the last fields of a row name. None if this machine has no such index.
@@ -79,11 +74,8 @@ pub fn decode_error(fields: &[&str]) -> Option<DecodeError> {
         ["empty"] => Some(DecodeError::EmptyInput),
         ["overflow"] => Some(DecodeError::ArithmeticOverflow),
         ["byte", byte, index] => {
-            let byte = byte.parse().unwrap();
-            index
-                .parse()
-                .ok()
-                .map(|index| DecodeError::InvalidBase62Byte(byte, index))
+            let (byte, index) = (byte.parse().unwrap(), index.parse().ok()?);
+            Some(DecodeError::InvalidBase62Byte(byte, index))
         }
         _ => panic!("no fault of decoding: {fields:?}"),
     }

@@ -30,6 +30,12 @@ pub fn ends(line: &str, status: i32, output: &str, errors: &str) {
     assert_eq!(run(line), expected, "{line}");
 }
 
+/// The line ends well, and writes nothing to standard error.
+#[track_caller]
+pub fn prints(line: &str, output: &str) {
+    ends(line, 0, output, "");
+}
+
 /// Whether a tool is installed, without which the test is left out.
 pub fn is_installed(tool: &str) -> bool {
     let is_installed = run(&format!("command -v {tool}")).0 == Some(0);

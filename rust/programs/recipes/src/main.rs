@@ -8,8 +8,7 @@ mod id;
 
 use id::{Id, InvalidId, new_id};
 use serde::Deserialize;
-use serde::de::value::{Error, StrDeserializer};
-use serde::de::IntoDeserializer;
+use serde::de::{IntoDeserializer, value::{Error, StrDeserializer}};
 use std::collections::HashSet;
 use std::fmt;
 

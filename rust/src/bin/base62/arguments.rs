@@ -5,7 +5,7 @@
 
 use crate::conversion::{Notation, Settings};
 use crate::escape::Escaped;
-use crate::help::{CommandOption, Effect, OPTIONS, SUBCOMMANDS, Subcommand, VERSION, help};
+use crate::help::{CommandOption, OPTIONS, SUBCOMMANDS, Subcommand, VERSION, help};
 use crate::numbers::parse_decimal;
 use base62::Alphabet;
 
@@ -33,11 +33,11 @@ pub(crate) fn parse(mut rest: impl Iterator<Item = Vec<u8>>) -> Result<Action, S
     // An invalid option after --help or --version is no error, so `parsed?` comes below. Values are not checked then.
     let parsed = split(&mut rest, &mut given, &mut operands);
     let mut operands = operands.into_iter();
-    let mut effects = given.iter().map(|(option, _)| &option.effect);
-    if effects.clone().any(|it| matches!(it, Effect::Version)) {
+    let has = |letter| given.iter().any(|(option, _)| option.letter == letter);
+    if has(b'V') {
         return Ok(Action::Print(VERSION.into()));
     }
-    if effects.any(|it| matches!(it, Effect::Help)) {
+    if has(b'h') {
         return help_of(operands);
     }
     parsed?;
@@ -81,78 +81,72 @@ fn find_subcommand(name: &[u8]) -> Result<&'static Subcommand, String> {
 
 /// The option of an argument such as `--width` or `--width=11`.
 fn long_option(argument: &[u8], rest: Rest) -> Result<Given, String> {
-    let equals = argument.iter().position(|byte| *byte == b'=');
-    let name = &argument[..equals.unwrap_or(argument.len())];
-    let option = find_option(name, |it| it.name.as_bytes() == &name[2..])?;
-    let value = equals.map(|index| argument[index + 1..].to_vec());
-    if value.is_some() && option.value_name.is_none() {
-        return Err(format!("{} takes no value", Escaped(name)));
+    let mut parts = argument.splitn(2, |byte| *byte == b'=');
+    let (name, attached) = (parts.next().unwrap_or_default(), parts.next());
+    let option = find_option(name)?;
+    if !option.value_name.is_empty() {
+        return Ok((option, value_of(name, attached, rest)?));
     }
-    Ok((option, value_of(name, option, value, rest)?))
+    match attached {
+        Some(_) => Err(format!("{} takes no value", Escaped(name))),
+        None => Ok((option, Vec::new())),
+    }
 }
 
 /// The options of an argument such as `-auw11`, without the hyphen.
 fn short_options(mut letters: &[u8], rest: Rest, given: &mut Vec<Given>) -> Result<(), String> {
     while let [letter, after @ ..] = letters {
         let name = [b'-', *letter];
-        let option = find_option(&name, |it| it.letter == *letter)?;
-        let after_is_value = option.value_name.is_some() && !after.is_empty();
-        let value = after_is_value.then(|| after.to_vec());
-        given.push((option, value_of(&name, option, value, rest)?));
-        letters = if after_is_value { &[] } else { after };
+        let (option, mut value) = (find_option(&name)?, Vec::new());
+        letters = after;
+        if !option.value_name.is_empty() {
+            let attached = Some(after).filter(|after| !after.is_empty());
+            value = value_of(&name, attached, rest)?;
+            letters = &[];
+        }
+        given.push((option, value));
     }
     Ok(())
 }
 
-/// The value of the option: `value`, or else the next argument. It is empty if the option takes none.
-fn value_of(
-    name: &[u8],
-    option: &CommandOption,
-    value: Option<Vec<u8>>,
-    rest: Rest,
-) -> Result<Vec<u8>, String> {
-    if option.value_name.is_none() {
-        return Ok(Vec::new());
-    }
-    let value = value.or_else(|| rest.next());
+/// The value of an option: the attached one, or else the next argument.
+fn value_of(name: &[u8], attached: Option<&[u8]>, rest: Rest) -> Result<Vec<u8>, String> {
+    let value = attached.map(<[u8]>::to_vec).or_else(|| rest.next());
     value.ok_or_else(|| format!("{} needs a value", Escaped(name)))
 }
 
-fn find_option(
-    name: &[u8],
-    is_it: impl Fn(&CommandOption) -> bool,
-) -> Result<&'static CommandOption, String> {
-    let found = OPTIONS.iter().find(|it| is_it(it));
+/// The option of a name such as `-w` or `--width`.
+fn find_option(name: &[u8]) -> Result<&'static CommandOption, String> {
+    let found = OPTIONS.iter().find(|it| match name {
+        [b'-', b'-', name @ ..] => it.name.as_bytes() == name,
+        _ => name == [b'-', it.letter],
+    });
     found.ok_or_else(|| format!("there is no option {}", Escaped(name)))
 }
 
 /// The settings that the options of a subcommand make. The last one of a kind applies.
 fn settings_of(subcommand: &Subcommand, given: &[Given]) -> Result<Settings, String> {
-    let mut settings = Settings {
-        alphabet: Alphabet::standard(),
-        width: None,
-        is_canonical: false,
-        notation: Notation::Decimal,
-        keeps_empty: false,
-    };
+    let mut settings = Settings::default();
     for (option, value) in given {
-        match option.effect {
-            Effect::Set(set) if subcommand.options.contains(&option.letter) => {
-                set(&mut settings, value)?
+        match option.letter {
+            letter if !subcommand.options.contains(&letter) => {
+                let (name, option) = (subcommand.name, option.name);
+                return Err(format!("{name} has no option --{option}"));
             }
-            // An option of other subcommands.
-            _ => {
-                return Err(format!(
-                    "{} has no option --{}",
-                    subcommand.name, option.name
-                ));
-            }
+            b'a' => settings.alphabet = Alphabet::alternative(),
+            b'A' => settings.alphabet = parse_alphabet(value)?,
+            b'w' => settings.width = Some(parse_width(value)?),
+            b'c' => settings.is_canonical = true,
+            b'u' => settings.notation = Some(Notation::Uuid),
+            b'x' => settings.notation = Some(Notation::Hexadecimal),
+            b'e' => settings.keeps_empty = true,
+            _ => unreachable!(),
         }
     }
     Ok(settings)
 }
 
-pub(crate) fn parse_width(value: &[u8]) -> Result<usize, String> {
+fn parse_width(value: &[u8]) -> Result<usize, String> {
     if value.iter().all(u8::is_ascii_digit) && value.iter().any(|digit| *digit != b'0') {
         // A width above `usize::MAX` becomes `usize::MAX`. With either, `encode` runs out of memory, and `range` prints
         // the same numbers.
@@ -163,7 +157,7 @@ pub(crate) fn parse_width(value: &[u8]) -> Result<usize, String> {
     Err(format!("a width is an integer of 1 or more, not {value}"))
 }
 
-pub(crate) fn parse_alphabet(value: &[u8]) -> Result<Alphabet, String> {
+fn parse_alphabet(value: &[u8]) -> Result<Alphabet, String> {
     if !value.iter().all(|byte| matches!(byte, b' '..=b'~')) {
         return Err("the alphabet has a character that is not printable ASCII".into());
     }

@@ -12,6 +12,9 @@ use base62::{Alphabet, CanonicalError, DecodeError, MAX_DIGITS};
 use std::fmt::{self, Display, Formatter};
 use std::io::Write;
 
+use ConversionError::{Decode, Failure, Invalid};
+use Notation::{Hexadecimal, Uuid};
+
 /// Appends the result for an input. If the input is invalid, it appends nothing.
 pub(crate) type Converter = fn(&Settings, &[u8], &mut Bytes) -> Result<(), ConversionError>;
 
@@ -24,55 +27,43 @@ pub(crate) enum ConversionError {
 
 impl From<ToolFault> for ConversionError {
     fn from(fault: ToolFault) -> Self {
-        ConversionError::Failure(fault)
+        Failure(fault)
     }
 }
 
 impl From<CanonicalError> for ConversionError {
     fn from(error: CanonicalError) -> Self {
-        ConversionError::Decode(error)
-    }
-}
-
-impl From<DecodeError> for ConversionError {
-    fn from(error: DecodeError) -> Self {
-        ConversionError::Decode(error.into())
-    }
-}
-
-impl From<&'static str> for ConversionError {
-    fn from(error: &'static str) -> Self {
-        ConversionError::Invalid(error)
+        Decode(error)
     }
 }
 
 impl Display for ConversionError {
     fn fmt(&self, f: &mut Formatter) -> fmt::Result {
         match self {
-            ConversionError::Failure(fault) => fault.fmt(f),
-            ConversionError::Decode(CanonicalError::Decode(DecodeError::ArithmeticOverflow)) => {
+            Failure(fault) => fault.fmt(f),
+            Decode(CanonicalError::Decode(DecodeError::ArithmeticOverflow)) => {
                 f.write_str("Decoded number is 2^128 or more")
             }
-            ConversionError::Decode(error) => error.fmt(f),
-            ConversionError::Invalid(error) => error.fmt(f),
+            Decode(error) => error.fmt(f),
+            Invalid(error) => error.fmt(f),
         }
     }
 }
 
-/// How numbers are read and printed.
+/// How numbers are read and printed, if not in decimal.
 pub(crate) enum Notation {
-    Decimal,
     Hexadecimal,
     Uuid,
 }
 
 /// What the options set.
+#[derive(Default)]
 pub(crate) struct Settings {
     pub(crate) alphabet: Alphabet,
     pub(crate) width: Option<usize>,
     /// Whether a string has to be canonical.
     pub(crate) is_canonical: bool,
-    pub(crate) notation: Notation,
+    pub(crate) notation: Option<Notation>,
     pub(crate) keeps_empty: bool,
 }
 
@@ -80,17 +71,19 @@ impl Settings {
     pub(crate) fn encode(&self, input: &[u8], out: &mut Bytes) -> Result<(), ConversionError> {
         let digits = trim_blanks(input);
         let number = match self.notation {
-            Notation::Decimal => parse_decimal(digits).ok_or("not a decimal number below 2^128"),
-            Notation::Hexadecimal => parse_hex(digits).ok_or("not 1 to 32 hexadecimal digits"),
-            Notation::Uuid => parse_uuid(digits).ok_or("not a UUID"),
+            None => parse_decimal(digits).ok_or(Invalid("not a decimal number below 2^128")),
+            Some(Hexadecimal) => parse_hex(digits).ok_or(Invalid("not 1 to 32 hexadecimal digits")),
+            Some(Uuid) => parse_uuid(digits).ok_or(Invalid("not a UUID")),
         }?;
         let mut buffer = [0; MAX_DIGITS];
         let length = base62::encode_bytes_with(&self.alphabet, number, &mut buffer);
         let string = &buffer[..length.unwrap_or_default()];
         if let Some(width) = self.width {
             let zeros = width.checked_sub(string.len());
-            let zeros = zeros.ok_or("the number needs more characters than the width")?;
-            append_repeated(self.alphabet.characters()[0], zeros, out)?;
+            let zeros = zeros.ok_or(Invalid("the number needs more characters than the width"))?;
+            let zero = self.alphabet.characters()[0];
+            out.reserve(zeros).or(Err(ToolFault::Memory))?;
+            out.0.resize(out.0.len() + zeros, zero);
         }
         Ok(append(string, out)?)
     }
@@ -99,31 +92,26 @@ impl Settings {
         let number = if self.is_canonical {
             base62::decode_canonical_with(&self.alphabet, string)?
         } else {
-            base62::decode_with(&self.alphabet, string)?
+            base62::decode_with(&self.alphabet, string).map_err(CanonicalError::from)?
         };
         match self.notation {
-            Notation::Decimal => append_decimal(number, out),
-            Notation::Hexadecimal => write!(out, "{number:x}").or(Err(ToolFault::Memory)),
-            Notation::Uuid => append(&uuid_of(number), out),
+            None => append_decimal(number, out),
+            Some(Hexadecimal) => write!(out, "{number:x}").or(Err(ToolFault::Memory)),
+            Some(Uuid) => append(&uuid_of(number), out),
         }?;
         Ok(())
     }
 
     pub(crate) fn range(&self, prefix: &[u8], out: &mut Bytes) -> Result<(), ConversionError> {
         let width = self.width.unwrap_or(MAX_DIGITS);
-        let range = base62::prefix_range_with(&self.alphabet, prefix, width)?;
-        let range = range.ok_or(match self.width {
+        let range = base62::prefix_range_with(&self.alphabet, prefix, width);
+        let range = range.map_err(CanonicalError::from)?;
+        let range = range.ok_or(Invalid(match self.width {
             Some(_) => "No string of this width begins with the prefix",
             None => "no string of 22 characters begins with it; -w sets the width",
-        })?;
+        }))?;
         append_decimal(*range.start(), out)?;
         append(b" ", out)?;
         Ok(append_decimal(*range.end(), out)?)
     }
-}
-
-fn append_repeated(character: u8, count: usize, out: &mut Bytes) -> Result<(), ToolFault> {
-    out.reserve(count).or(Err(ToolFault::Memory))?;
-    out.0.resize(out.0.len() + count, character);
-    Ok(())
 }

@@ -5,9 +5,7 @@
 //! The completions read the help of the installed command, and `tests/page` writes the manual page from it. A test runs
 //! the examples.
 
-use crate::arguments::{parse_alphabet, parse_width};
-use crate::conversion::{Converter, Notation, Settings};
-use base62::Alphabet;
+use crate::conversion::{Converter, Settings};
 
 pub(crate) struct Subcommand {
     pub(crate) name: &'static str,
@@ -24,17 +22,9 @@ pub(crate) struct Subcommand {
 pub(crate) struct CommandOption {
     pub(crate) letter: u8,
     pub(crate) name: &'static str,
-    /// What the help calls its value, such as `N`. None if it takes no value.
-    pub(crate) value_name: Option<&'static str>,
+    /// What the help calls its value, such as `N`. Empty if it takes no value.
+    pub(crate) value_name: &'static str,
     purpose: &'static str,
-    pub(crate) effect: Effect,
-}
-
-pub(crate) enum Effect {
-    /// It sets something, by its value, which is empty if it takes none. An error says what is wrong with the value.
-    Set(fn(&mut Settings, &[u8]) -> Result<(), String>),
-    Help,
-    Version,
 }
 
 pub(crate) static SUBCOMMANDS: [Subcommand; 3] = [
@@ -81,86 +71,56 @@ pub(crate) static OPTIONS: [CommandOption; 9] = [
     CommandOption {
         letter: b'a',
         name: "alternative",
-        value_name: None,
+        value_name: "",
         purpose: "use the alphabet 0 to 9, a to z, A to Z",
-        effect: Effect::Set(|settings, _| {
-            settings.alphabet = Alphabet::alternative();
-            Ok(())
-        }),
     },
     CommandOption {
         letter: b'A',
         name: "alphabet",
-        value_name: Some("CHARACTERS"),
+        value_name: "CHARACTERS",
         purpose: "use these 62 printable ASCII characters, the zero first",
-        effect: Effect::Set(|settings, value| {
-            settings.alphabet = parse_alphabet(value)?;
-            Ok(())
-        }),
     },
     CommandOption {
         letter: b'w',
         name: "width",
-        value_name: Some("N"),
+        value_name: "N",
         purpose: "strings have exactly N characters, with leading zeros",
-        effect: Effect::Set(|settings, value| {
-            settings.width = Some(parse_width(value)?);
-            Ok(())
-        }),
     },
     CommandOption {
         letter: b'c',
         name: "canonical",
-        value_name: None,
+        value_name: "",
         purpose: "reject strings with leading zeros",
-        effect: Effect::Set(|settings, _| {
-            settings.is_canonical = true;
-            Ok(())
-        }),
     },
     CommandOption {
         letter: b'u',
         name: "uuid",
-        value_name: None,
+        value_name: "",
         purpose: "numbers are UUIDs",
-        effect: Effect::Set(|settings, _| {
-            settings.notation = Notation::Uuid;
-            Ok(())
-        }),
     },
     CommandOption {
         letter: b'x',
         name: "hex",
-        value_name: None,
+        value_name: "",
         purpose: "numbers are hexadecimal",
-        effect: Effect::Set(|settings, _| {
-            settings.notation = Notation::Hexadecimal;
-            Ok(())
-        }),
     },
     CommandOption {
         letter: b'e',
         name: "keep-empty",
-        value_name: None,
+        value_name: "",
         purpose: "an empty input gives an empty line, and is no error",
-        effect: Effect::Set(|settings, _| {
-            settings.keeps_empty = true;
-            Ok(())
-        }),
     },
     CommandOption {
         letter: b'h',
         name: "help",
-        value_name: None,
+        value_name: "",
         purpose: HELP,
-        effect: Effect::Help,
     },
     CommandOption {
         letter: b'V',
         name: "version",
-        value_name: None,
+        value_name: "",
         purpose: "print the version",
-        effect: Effect::Version,
     },
 ];
 
@@ -205,8 +165,12 @@ pub(crate) fn help(subcommand: Option<&Subcommand>) -> String {
 fn rows_of_options(letters: &[u8]) -> String {
     let options = OPTIONS.iter().filter(|it| letters.contains(&it.letter));
     let rows = options.map(|it| {
-        let (letter, value_name) = (char::from(it.letter), it.value_name.unwrap_or_default());
-        let names = format!("-{letter}, --{} {value_name}", it.name);
+        let names = format!(
+            "-{}, --{} {}",
+            char::from(it.letter),
+            it.name,
+            it.value_name
+        );
         row(names.trim_end(), it.purpose)
     });
     rows.collect()

@@ -90,16 +90,13 @@ pub(crate) fn parse_uuid(input: &[u8]) -> Option<u128> {
 
 /// The number that 1 to 32 hexadecimal digits represent, with or without `0x`.
 pub(crate) fn parse_hex(input: &[u8]) -> Option<u128> {
-    let digits = match input {
-        [b'0', b'x' | b'X', digits @ ..] => digits,
-        _ => input,
-    };
-    matches!(digits.len(), 1..=32)
-        .then(|| parse_hex_digits(digits.iter()))
-        .flatten()
+    let digits = input.strip_prefix(b"0x").or(input.strip_prefix(b"0X"));
+    let digits = digits.unwrap_or(input);
+    let number = parse_hex_digits(digits.iter());
+    number.filter(|_| matches!(digits.len(), 1..=32))
 }
 
-/// The number that at most 32 hexadecimal digits represent, in either case.
+/// The number that hexadecimal digits represent, in either case. Of more than 32, the last ones count.
 fn parse_hex_digits<'a>(mut digits: impl Iterator<Item = &'a u8>) -> Option<u128> {
     digits.try_fold(0, |number, byte| {
         Some((number << 4) | u128::from(char::from(*byte).to_digit(16)?))

@@ -10,8 +10,8 @@ use crate::fault::ToolFault;
 use crate::line_end::line_end;
 use crate::memory::Bytes;
 use crate::numbers::append;
-use crate::streams::{Input, print, report};
-use std::io::{self, IsTerminal, Read};
+use crate::streams::{print, read_uninterrupted, report};
+use std::io::{self, IsTerminal};
 use std::process::ExitCode;
 use std::{fs, str};
 
@@ -56,7 +56,13 @@ impl Printer<'_> {
     /// Prints the result for an operand, or for the line of this number. If the input is invalid, first prints the
     /// results so far and reports the error. Then the line of output is empty.
     fn print(&mut self, input: &[u8], line: Option<u64>) -> Result<(), ToolFault> {
-        if let Err(error) = self.append_result(input) {
+        let settings = &self.task.settings;
+        let result = if input.is_empty() && settings.keeps_empty {
+            Ok(())
+        } else {
+            (self.task.subcommand.convert)(settings, input, &mut self.buffer)
+        };
+        if let Err(error) = result {
             if let ConversionError::Failure(fault) = error {
                 return Err(fault);
             }
@@ -69,14 +75,6 @@ impl Printer<'_> {
             return self.flush();
         }
         Ok(())
-    }
-
-    fn append_result(&mut self, input: &[u8]) -> Result<(), ConversionError> {
-        let settings = &self.task.settings;
-        if input.is_empty() && settings.keeps_empty {
-            return Ok(());
-        }
-        (self.task.subcommand.convert)(settings, input, &mut self.buffer)
     }
 
     fn report(&self, input: &[u8], line: Option<u64>, error: &ConversionError) {
@@ -99,10 +97,9 @@ impl Printer<'_> {
     /// Prints the result for each line of standard input. Writes the results so far before a read, which may block.
     fn print_lines(&mut self) -> Result<(), ToolFault> {
         let (mut chunk, mut start, mut number) = ([0; CHUNK_LEN], Bytes::new(), 0);
-        let mut input = Input::new();
         loop {
             self.flush()?;
-            let Ok(count) = input.read(&mut chunk) else {
+            let Ok(count) = read_uninterrupted(&mut io::stdin(), &mut chunk) else {
                 return Err(ToolFault::Read);
             };
             if count == 0 {

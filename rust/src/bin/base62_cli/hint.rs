@@ -3,22 +3,16 @@
 
 //! A hint for those who meant another program.
 
-use crate::streams::{Input, report};
+use crate::streams::{read_uninterrupted, report};
 use std::io::{self, IsTerminal, Read};
 
-/// Standard input. Reports the hint if it is a terminal, or if the first line does not begin with a command.
-pub(crate) struct HintingInput {
-    input: Input,
-    /// The first four bytes, until they show whether it does.
-    start: Option<Vec<u8>>,
-}
+/// Standard input. Reports the hint if it is a terminal, or if the first line does not begin with a command. It keeps the
+/// first four bytes until they show whether it does.
+pub(crate) struct HintingInput(Option<Vec<u8>>);
 
 impl HintingInput {
     pub(crate) fn new() -> HintingInput {
-        let mut input = HintingInput {
-            input: Input::new(),
-            start: Some(Vec::with_capacity(4)),
-        };
+        let mut input = HintingInput(Some(Vec::with_capacity(4)));
         if io::stdin().is_terminal() {
             input.report_hint();
         }
@@ -26,15 +20,15 @@ impl HintingInput {
     }
 
     fn report_hint(&mut self) {
-        self.start = None;
+        self.0 = None;
         report("it replies to lines such as `enc 1337` and `dec LZ`: try base62_cli --help");
     }
 }
 
 impl Read for HintingInput {
     fn read(&mut self, buf: &mut [u8]) -> io::Result<usize> {
-        let count = self.input.read(buf)?;
-        let Some(start) = &mut self.start else {
+        let count = read_uninterrupted(&mut io::stdin(), buf)?;
+        let Some(start) = &mut self.0 else {
             return Ok(count);
         };
         start.extend(buf[..count].iter().take(4 - start.len()));

@@ -26,7 +26,7 @@ use shared::*;
 
 use hint::HintingInput;
 use std::process::ExitCode;
-use std::{env, ffi::OsString};
+use std::{env, ffi::OsString, io};
 use streams::{Output, print, report, status_of};
 
 const HELP: &str = "\
@@ -56,7 +56,7 @@ const VERSION: &str = concat!("base62_cli ", env!("CARGO_PKG_VERSION"), "\n");
 fn main() -> ExitCode {
     let argument = env::args_os().nth(1).map(OsString::into_encoded_bytes);
     let outcome = match argument.as_deref() {
-        None => tool::run(&mut HintingInput::new(), &mut Output::new()),
+        None => tool::run(&mut HintingInput::new(), &mut Output(io::stdout())),
         Some(b"-h" | b"--help") => print(HELP.as_bytes()),
         Some(b"-V" | b"--version") => print(VERSION.as_bytes()),
         Some(_) => {

@@ -38,28 +38,19 @@ enc\xff1 -> fault: unknown command
 enc -> fault: unknown command
 ";
 
-/// Moves one byte a call. Its first read fails with the error, if there is one.
-#[derive(Default)]
+/// Moves one byte a call. Its first read fails with the error, if there is one. A flush adds a 0.
 struct Slow {
     bytes: VecDeque<u8>,
-    calls: usize,
     error: Option<ErrorKind>,
 }
 
-impl Slow {
-    fn new(bytes: &[u8], error: Option<ErrorKind>) -> Slow {
-        let bytes = bytes.to_vec().into();
-        Slow {
-            bytes,
-            calls: 0,
-            error,
-        }
-    }
+fn slow(bytes: &[u8], error: Option<ErrorKind>) -> Slow {
+    let bytes = bytes.to_vec().into();
+    Slow { bytes, error }
 }
 
 impl Read for Slow {
     fn read(&mut self, buf: &mut [u8]) -> io::Result<usize> {
-        self.calls += 1;
         match self.error.take() {
             Some(kind) => Err(kind.into()),
             None => self.bytes.read(&mut buf[..1]),
@@ -69,25 +60,22 @@ impl Read for Slow {
 
 impl Write for Slow {
     fn write(&mut self, bytes: &[u8]) -> io::Result<usize> {
-        self.calls += 1;
         self.bytes.write(&bytes[..1])
     }
 
     fn flush(&mut self) -> io::Result<()> {
-        self.calls += 1;
-        Ok(())
+        self.bytes.write_all(b"\0")
     }
 }
 
-/// Runs over whole reads, and over single bytes, where the one flush is a call too.
+/// Runs over whole reads, and over single bytes. There is one flush, at the end.
 fn replies(input: &[u8], output: &[u8]) {
     let mut written = Vec::new();
     assert_eq!(run(&mut { input }, &mut written), Ok(()));
     assert_eq!(written, output);
-    let mut writer = Slow::default();
-    assert_eq!(run(&mut Slow::new(input, None), &mut writer), Ok(()));
-    assert_eq!(writer.calls, output.len() + 1);
-    assert_eq!(writer.bytes, output);
+    let mut writer = slow(b"", None);
+    assert_eq!(run(&mut slow(input, None), &mut writer), Ok(()));
+    assert_eq!(writer.bytes, [output, b"\0"].concat());
 }
 
 #[test]
@@ -108,12 +96,11 @@ fn whole_inputs() {
 fn lines_about_the_length_of_a_read() {
     for length in CHUNK_LEN - 7..=CHUNK_LEN + 8 {
         let index = length - 5;
-        let line = [b"dec ".as_slice(), &vec![b'0'; index], b"!"].concat();
-        let reply =
-            format!("fault: Encoded input contains the invalid byte b'!' at index {index}\n");
+        let line = format!("dec {}!", "0".repeat(index));
+        let error = format!("Encoded input contains the invalid byte b'!' at index {index}");
         for (behind, last) in [("", ""), ("\n", ""), ("\nenc 1337\n", "LZ\n")] {
-            let output = [&reply, last].concat();
-            replies(&[&line, behind.as_bytes()].concat(), output.as_bytes());
+            let output = format!("fault: {error}\n{last}");
+            replies((line.clone() + behind).as_bytes(), output.as_bytes());
         }
     }
 }
@@ -138,10 +125,10 @@ fn line_ends_at_each_index() {
 #[test]
 fn interrupted_reads() {
     let mut buf = [0; 2];
-    let mut reader = Slow::new(b"LZ", Some(ErrorKind::Interrupted));
+    let mut reader = slow(b"LZ", Some(ErrorKind::Interrupted));
     assert_eq!(read_uninterrupted(&mut reader, &mut buf).unwrap(), 1);
-    assert_eq!((&buf, reader.calls), (b"L\0", 2));
+    assert_eq!(&buf, b"L\0");
     // A stream that does not block has no bytes yet.
-    let mut reader = Slow::new(b"LZ", Some(ErrorKind::WouldBlock));
+    let mut reader = slow(b"LZ", Some(ErrorKind::WouldBlock));
     assert!(read_uninterrupted(&mut reader, &mut buf).is_err());
 }

@@ -6,23 +6,8 @@
 use crate::fault::ToolFault;
 use crate::memory::Bytes;
 use std::fmt::Display;
-use std::io::{self, ErrorKind, Read, Stdin, Stdout, Write};
+use std::io::{self, ErrorKind, Read, Stdout, Write};
 use std::process::{self, ExitCode};
-
-/// Standard input. The runtime of Rust allocates its buffer here, and aborts if it cannot.
-pub(crate) struct Input(Stdin);
-
-impl Input {
-    pub(crate) fn new() -> Input {
-        Input(io::stdin())
-    }
-}
-
-impl Read for Input {
-    fn read(&mut self, buf: &mut [u8]) -> io::Result<usize> {
-        read_uninterrupted(&mut self.0, buf)
-    }
-}
 
 /// Reads, and does it again if a signal has interrupted it.
 pub(crate) fn read_uninterrupted(input: &mut impl Read, buf: &mut [u8]) -> io::Result<usize> {
@@ -34,15 +19,9 @@ pub(crate) fn read_uninterrupted(input: &mut impl Read, buf: &mut [u8]) -> io::R
     }
 }
 
-/// Standard output, whose buffer is allocated likewise. A closed pipe ends the program, as SIGPIPE does, but with
-/// status 0.
-pub(crate) struct Output(Stdout);
-
-impl Output {
-    pub(crate) fn new() -> Output {
-        Output(io::stdout())
-    }
-}
+/// Standard output. A closed pipe ends the program, as SIGPIPE does, but with status 0. The runtime of Rust allocates a
+/// buffer when `io::stdout` is first called, and aborts if it cannot, so both programs call it before they read.
+pub(crate) struct Output(pub(crate) Stdout);
 
 impl Write for Output {
     /// Flushes too: a write may leave some bytes in a buffer.
@@ -63,7 +42,8 @@ impl Write for Output {
 
 /// Writes all bytes to standard output.
 pub(crate) fn print(bytes: &[u8]) -> Result<(), ToolFault> {
-    Output::new().write_all(bytes).or(Err(ToolFault::Write))
+    let mut output = Output(io::stdout());
+    output.write_all(bytes).or(Err(ToolFault::Write))
 }
 
 /// Writes one line to standard error. If this fails, only the exit status reports the error.

@@ -157,7 +157,7 @@ STATEMENTS = [
     *((text, UNTYPED) for text in (
         "i = length++ + length;", "to[i++] = (uint8_t)i;", "i = (length = 1) + length;", "i = (i++, 1);", "if (to[i++] == 1) i = 2;")),
     ("if (__builtin_expect(length > 1, 0)) i = 1;", UNTYPED),
-    ("i = usize_min(base62_encode(base62_from_u64(1), (char *)to, i), part[0]);", CALL),
+    ("i = u64_ilog2(base62_encode(base62_from_u64(1), (char *)to, i));", CALL),
     ("if (base62_encode(base62_from_u64(1), (char *)to, i) == part[0]) i = 1;", CALL),
     ("to[i] = (uint8_t)base62_encode(base62_from_u64(1), (char *)to, i);", CALL),
     # What shares memory.
@@ -184,13 +184,13 @@ SOURCES = [
 # Changes of base62.acsl.
 SPECIFICATIONS = [
     ("value(letters, text, n - 1)", "value(letters, text, n)", ENDS), ("i < 62 && letters[i] != byte ?", "letters[i] != byte ?", ENDS),
-    ("#define LETTERS(", "#define usize_min(a, b) usize_min(b, a)\n#define LETTERS(", CODE),
+    ("#define LETTERS(", "#define u128_less(a, b) u128_less(b, a)\n#define LETTERS(", CODE),
     ("assigns \\nothing; ensures number_of(\\result) == uuid", "ensures number_of(\\result) == uuid", NO_CONTRACT),
 ]
 
 # What stands behind the laws.
 LAWS = [
-    ("/*@ assigns \\nothing; ensures \\false; */ size_t usize_min(size_t a, size_t b);", "no body: usize_min"),
+    ("/*@ assigns \\nothing; ensures \\false; */ size_t narrow_count(uint64_t n);", "no body: narrow_count"),
     ("/*@ assigns \\nothing; ensures \\false; */ void planted(void) { for (;;) {} }", LOOP),
     ("/*@ requires \\false; assigns \\nothing; */ size_t base62_digit_count(base62_number n);", "two contracts"),
 ]

@@ -14,8 +14,7 @@ import mutate_specification
 import wp
 
 NUMBER = r"(?<![\w'.])(?:0x[0-9a-f]+|\d+)(?!\w)"
-STATEMENT = (r"(?<=\n    )(?: {4})*(?!return|const|uint|size_t|bool|static|u128 |[A-Z]\w* \w+;"
-             r"|(?:base62|option|result|pair)_\w+ \w)\w[^;{}]*;(?=\n)")
+STATEMENT = r"(?<=\n    )(?: {4})*(?!return|const|uint|size_t|bool|static|u128 |base62_\w+ \w)\w[^;{}]*;(?=\n)"
 OPERATORS = [
     (r"(?<![<-])<(?![<=])", "<="), ("<=", "<"), (r"(?<![->])>(?![>=])", ">="), (">=", ">"), ("==", "!="), ("!=", "=="),
     ("&&", "||"), (r"\|\|", "&&"), (r"(?<= )\+(?= )", "-"), ("(?<= )-(?= )", "+"), (r"(?<= )\*(?= )", "+"),
@@ -23,10 +22,10 @@ OPERATORS = [
     ("(?<= )&(?= )", "|"), (r"(?<= )\|(?= )", "&"), (r"\.high\b", ".low"), (r"\.low\b", ".high"),
     (r"\btrue\b", "false"), (r"\bfalse\b", "true"),
     (r"(?<=&)B62_STANDARD\b", "B62_ALTERNATIVE"), (r"(?<=&)B62_ALTERNATIVE\b", "B62_STANDARD"),
-    (r"\bBASE62_(?:BUFFER_TOO_SMALL|REPEATED_LETTER)\b", "BASE62_OVERFLOW"),
+    (r"\bBASE62_(?:BUFFER_TOO_SMALL|REPEATED_CHARACTER)\b", "BASE62_OVERFLOW"),
     (NUMBER, r"(\g<0> + 1)"), (r"\bB62_(?:POWER_\d+|[A-Z]+_[A-Z_]+\d*|OK|OVERFLOW)\b(?!\()", r"(\g<0> + 1)"),
     (r"\bBASE62_(?:MAX_DIGITS|KEY_LENGTH)\b", r"(\g<0> + 1)"), (r"\bBASE62_OVERFLOW\b", "BASE62_OK"),
-    (r"\bBASE62_(?:OK|EMPTY_INPUT|INVALID_BYTE|NO_KEY|NOT_CANONICAL)\b", "BASE62_OVERFLOW"), (STATEMENT, ";"),
+    (r"\bBASE62_(?:OK|EMPTY_INPUT|INVALID_BYTE|NO_MATCH|NOT_CANONICAL)\b", "BASE62_OVERFLOW"), (STATEMENT, ";"),
 ]
 TABLES = [
     ("B62_GREATEST", NUMBER, "greatest"),

@@ -11,8 +11,8 @@
  * proved.
  *
  * Indexes are not checked: the proof shows that each is in bounds. Nothing is allocated, and there is no state. It is
- * C99, for machines of 32 or 64 bits and of either byte order. With BASE62_NO_INT128, u128_mul_64 uses no integer of 128
- * bits.
+ * C99, for machines of 32 or 64 bits and of either byte order. With BASE62_NO_INT128, u128_mul_64 uses no integer of
+ * 128 bits.
  */
 #include "base62.h"
 
@@ -33,7 +33,7 @@
 
 #ifdef __GNUC__
 #define B62_ALWAYS_INLINE inline __attribute__((__always_inline__))
-/* For Tables: GCC could take it that reading one does not see an earlier assignment to a base62_alphabet. */
+/* Tables reads a base62_alphabet as another type: without this, GCC may reorder that with an assignment. */
 #define B62_MAY_ALIAS __attribute__((__may_alias__))
 #else
 #define B62_ALWAYS_INLINE inline
@@ -45,8 +45,8 @@
 #define B62_RESTRICT restrict
 #endif
 #if defined __GNUC__ && !defined __clang__ && __GNUC__ > 10 && __STDC_HOSTED__
-/* GCC packs the halves of a u128 into a vector register, only to unpack them again. Up to GCC 10 the second pragma would
-   replace all options, those of code after this file too. With -ffreestanding it would let GCC call memset. */
+/* GCC packs the halves of a u128 into a vector register, only to unpack them again. Before GCC 11 the second pragma
+   would replace all other options. With -ffreestanding it would let GCC call memset. */
 #pragma GCC push_options
 #pragma GCC optimize ("no-tree-slp-vectorize")
 #endif
@@ -113,10 +113,12 @@ static B62_ALWAYS_INLINE u128 u128_from_be_bytes(const uint8_t bytes[16]) {
 }
 
 static B62_ALWAYS_INLINE void u128_to_be_bytes(u128 a, uint8_t bytes[16]) {
+    uint64_t high = a.high, low = a.low;
     for (size_t i = 8; i > 0; i--) {
-        bytes[i - 1] = (uint8_t)a.high;
-        bytes[i + 7] = (uint8_t)a.low;
-        a = (u128){a.high / 256, a.low / 256};
+        bytes[i - 1] = (uint8_t)high;
+        bytes[i + 7] = (uint8_t)low;
+        high /= 256;
+        low /= 256;
     }
 }
 
@@ -230,7 +232,7 @@ static u128 greatest(size_t k) {
 
 /* -------------------- The count of digits -------------------- */
 
-/* 43 / 256 is just above log 2 / log 62, so the index of the highest bit gives the count of digits, or one less. */
+/* 43 / 256 is so near log 2 / log 62 that the index of the highest bit gives the count of digits, or one less. */
 static B62_ALWAYS_INLINE size_t narrow_count(uint64_t n) {
     if (n == 0) return 1;
     const uint32_t highest = u64_ilog2(n);
@@ -250,12 +252,13 @@ static B62_ALWAYS_INLINE size_t digit_count(u128 n) {
 /* -------------------- Encoding -------------------- */
 
 /*
- * A function write_.. puts the characters of as many digits as its name or count says at the start of a buffer. Pairs
- * are loaded before they are stored, since compilers have to assume that the buffer overlaps the tables.
+ * A function write_.. writes as many digits as its name or count says at the start of a buffer. Pairs are loaded before
+ * they are stored: without restrict, compilers have to assume that the buffer overlaps the tables.
  *
- * Division by powers of 62 splits a number into parts. Its result is a number in fixed point, a u128 whose upper half is
- * the quotient and whose lower half is the remainder as a fraction, in units of 1 / 2^64. A fraction f has the ten digits
- * of f * 62^10 / 2^64. The upper half of f * 62 is the first of them, and the lower half is the fraction of the others.
+ * Division by powers of 62 splits a number into parts. Its result is a u128 in fixed point: the upper half is the
+ * quotient, and the lower half is a fraction, in units of 1 / 2^64. The ten digits of a fraction f are those of
+ * f * 62^10 / 2^64, rounded down. The upper half of f * 62 is the first of them, and the lower half is the fraction of
+ * the others.
  */
 
 static B62_ALWAYS_INLINE void write_pair(const Tables *tables, uint64_t first, uint64_t second, uint8_t *buffer) {
@@ -290,7 +293,7 @@ static B62_ALWAYS_INLINE void write_20(const Tables *tables, uint64_t high, uint
 /* Writes one or two digits. If there is one, it overwrites the first of two, which is a zero. */
 static B62_ALWAYS_INLINE void write_1_or_2(const Tables *tables, uint32_t n, size_t count, uint8_t *buffer) {
     //@ assert requires: 1 <= count && count <= 2;
-    /* The quotient by 62, exact below 3844. */
+    /* n / 62, for these n, without a product of 64 bits. */
     const uint32_t quotient = (n * 4229) >> 18;
     const uint64_t rest = n - quotient * 62;
     const uint8_t first = tables->letters[quotient], second = tables->letters[rest];
@@ -309,8 +312,8 @@ static B62_ALWAYS_INLINE void write_up_to_5(const Tables *tables, uint32_t n, si
     //@ assert requires: 1 <= count && count <= 5;
     if (count > 4) {
         const uint32_t quotient = n / B62_POWER_4;
-        write_4(tables, n - quotient * B62_POWER_4, buffer + (count - 4));
-        write_1_or_2(tables, quotient, count - 4, buffer);
+        write_4(tables, n - quotient * B62_POWER_4, buffer + 1);
+        write_1_or_2(tables, quotient, 1, buffer);
     } else if (count > 2) {
         const uint32_t quotient = n / B62_POWER_2;
         write_1_or_2(tables, n - quotient * B62_POWER_2, 2, buffer + (count - 2));
@@ -333,8 +336,8 @@ static B62_ALWAYS_INLINE void write_up_to_9(const Tables *tables, uint64_t n, si
 }
 
 /*
- * Returns n / 62^10. At least 21 fractions, from n * 2^64 / 62^10 upwards, have the same ten digits. This one is at most
- * two above n * 2^64 / 62^10, and not below: 1 is added for what is rounded down. The factor is 2^124 / 62^10 - 2^64,
+ * Returns n / 62^10, at most two units above it: 1 is added for what is rounded down. Since 2^64 / 62^10 is above 21,
+ * at least 21 fractions from n * 2^64 / 62^10 upwards have the same ten digits. 2^64 plus the factor is 2^124 / 62^10,
  * rounded up.
  */
 static B62_ALWAYS_INLINE u128 fraction_of(uint64_t n) {
@@ -343,14 +346,14 @@ static B62_ALWAYS_INLINE u128 fraction_of(uint64_t n) {
     return u128_add(u128_of(scaled + 1), u128_of(upper));
 }
 
-/* Divides by 62^10. The fraction is at most five above n * 2^64 / 62^10. The factor is 2^123 / 62^10, rounded up. */
+/* Divides by 62^10. The fraction is at most five above n * 2^64 / 62^10. The factor is 2^123 / 62^10 + 0.12. */
 static B62_ALWAYS_INLINE u128 divide_narrow_by_62_10(uint64_t n) {
     return u128_add(u128_shift_right_1_to_63(u128_mul_64(n, UINT64_C(12669882045338564947)), 59), u128_of(1));
 }
 
 /*
- * Divides a number of at most 19 digits by 62^10. The upper bits times 2^120 / 62^10, shifted right by 64 bits, are the
- * quotient, or one less: then the upper half of fraction_of is 1.
+ * Divides a number of at most 19 digits by 62^10. The factor is 2^120 / 62^10, rounded down. The estimate is the
+ * quotient, or one less for some remainders below 2^57: then the upper half of fraction_of is 1.
  */
 static B62_ALWAYS_INLINE u128 divide_by_62_10(u128 n) {
     const uint64_t upper = u128_shift_right_1_to_63(n, 56).low;
@@ -360,9 +363,9 @@ static B62_ALWAYS_INLINE u128 divide_by_62_10(u128 n) {
 }
 
 /*
- * Returns the fraction of the last ten digits of a number, at most eight above n * 2^64 / 62^10. Each 1 in n.high stands
- * for 2^128 / 62^10 units: 21 * 2^64, which wraps to 0, plus the first factor, plus the second factor / 2^64, rounded up.
- * The third factor is 2^123 / 62^10, rounded up.
+ * Returns the fraction of n / 62^10, at most eight units above it: that of the last ten digits. Each 1 in n.high stands
+ * for 2^128 / 62^10 units: 21 * 2^64, which wraps to 0, plus the first factor, plus the second factor / 2^64, rounded
+ * up. The third factor is 2^123 / 62^10 + 0.12.
  */
 static B62_ALWAYS_INLINE uint64_t last_10(u128 n) {
     const uint64_t first = n.high * UINT64_C(18054599902933494364);
@@ -372,22 +375,22 @@ static B62_ALWAYS_INLINE uint64_t last_10(u128 n) {
 }
 
 /*
- * Returns n / 62^20, at most five units above it. Each 1 in n.high stands for 2^128 / 62^20 units: 483, plus the factor
- * / 2^64, rounded up.
+ * Returns n / 62^20, at most five units above it: 4 are added for what is rounded down. Each 1 in n.high stands for
+ * 2^128 / 62^20 units: 483, which is enough for n.low, plus the factor / 2^64, rounded up.
  */
-static B62_ALWAYS_INLINE u128 scaled_by_20(u128 n) {
+static B62_ALWAYS_INLINE u128 over_62_20(u128 n) {
     const uint64_t rest = u128_mul_64(n.high, UINT64_C(1200736830183971319)).high;
     return u128_add(u128_mul_64(n.high, 483), u128_of(rest + ((n.low >> 32) * 483 >> 32) + 4));
 }
 
 /*
- * Divides by 62^20, given the fraction of the last ten digits. That of the result has the ten digits before these.
- * Let g be low / 2^64. The fraction of all twenty exceeds that of the first ten by at most 22 * g units. Subtracting
- * low >> 60, which is 16 * g rounded down, leaves at most seven of these. With the five of scaled_by_20 that is twelve,
- * fewer than the 21 that have the same ten digits.
+ * Divides by 62^20, given low, the fraction of the last ten digits. The fraction of the result is that of the ten
+ * digits before them. Let g be low / 2^64. The last ten digits add at most 22 * g units to it, since 2^64 / 62^10 is
+ * below 22. Subtracting low >> 60, which is 16 * g rounded down, leaves at most seven of these. With the five of
+ * over_62_20 that is twelve, fewer than the 21 of fraction_of.
  */
 static B62_ALWAYS_INLINE u128 divide_by_62_20(u128 n, uint64_t low) {
-    return u128_sub(scaled_by_20(n), u128_of(low >> 60));
+    return u128_sub(over_62_20(n), u128_of(low >> 60));
 }
 
 static void write_narrow(const Tables *tables, uint64_t n, size_t count, uint8_t *buffer) {
@@ -486,15 +489,16 @@ size_t base62_digit_count(base62_number number) {
 
 /*
  * At most 22 digits are read, in parts of at most ten. A function read_.. returns the number of a part, or B62_NO_VALUE
- * if a byte is invalid. Only then is this byte looked for. The table has 255 for it, so the bitwise OR of several entries
- * is 64 or more if and only if one of the bytes is invalid.
+ * if a byte is invalid. Only then is this byte looked for. A byte is invalid if its entry in the table exceeds 63: the
+ * bitwise OR of several entries does if and only if one of them does.
  */
 #define B62_NO_VALUE UINT64_C(0xffffffffffffffff)
 
-/* If the first ten of 22 digits exceed this number, all 22 exceed 2^128 - 1, whatever the others are. */
+/* If the first ten of 22 digits exceed this number, all 22 exceed 2^128 - 1, whatever the others are. The Rust crate
+   base62 reports that even if one of the others is invalid. */
 #define B62_GREATEST_FIRST_10 UINT64_C(105472483207813235)
 
-/* Reads at most five digits after those of a number. */
+/* Appends at most five digits to a number of at most five, which is below 64^5. */
 static B62_ALWAYS_INLINE uint64_t read_more(const Tables *tables, uint64_t number, const uint8_t *text, size_t count) {
     //@ assert requires: number < 0x40000000 && count <= 5;
     for (size_t i = 0; i < count; i++) {
@@ -571,15 +575,15 @@ static B62_ALWAYS_INLINE base62_status decode_up_to_22(const Tables *tables, con
 /* Returns how many zeros a text begins with. */
 static B62_ALWAYS_INLINE size_t count_zeros(const Tables *tables, const uint8_t *text, size_t length) {
     //@ assert requires: 0 < length;
-    /* Most texts have none. This test avoids the loop for them. */
+    /* Most texts have none. Without this test, code by clang is slower for them. */
     if (text[0] != tables->letters[0]) return 0;
     size_t zeros = 1;
     while (zeros < length && text[zeros] == tables->letters[0]) zeros++;
     return zeros;
 }
 
-/* Returns how many digits a text begins with: the index of its first invalid byte, or its length. */
-static B62_ALWAYS_INLINE size_t count_digits(const Tables *tables, const uint8_t *text, size_t length) {
+/* Returns how many valid bytes a text begins with: the index of its first invalid one, or its length. */
+static B62_ALWAYS_INLINE size_t count_valid(const Tables *tables, const uint8_t *text, size_t length) {
     size_t count = 0;
     while (count < length && tables->digits[text[count]] <= 63) count++;
     return count;
@@ -595,7 +599,7 @@ static base62_status store_bad_byte(const uint8_t *text, size_t index, base62_ba
 static base62_status error_of(const Tables *tables, const uint8_t *text, size_t length, base62_bad_byte *bad) {
     const size_t zeros = count_zeros(tables, text, length), count = length - zeros;
     const uint8_t *rest = text + zeros;
-    const size_t digits = count_digits(tables, rest, count);
+    const size_t digits = count_valid(tables, rest, count);
     if (count == 22 && digits >= 10) {
         const uint64_t first = read_10(tables, rest);
         if (first > B62_GREATEST_FIRST_10) return BASE62_OVERFLOW;
@@ -685,7 +689,7 @@ static bool find_ends(u128 value, size_t width, size_t length, base62_range *ran
     const u128 last = greatest(width - length);
     u128 least = {0, 0};
     if (!u128_equal(value, u128_of(0))) {
-        /* If it wraps around, the span is 2^128 or more, and so is the product. */
+        /* A span that wraps to 0 is 2^128, so the product is 2^128 or more. */
         const u128 span = u128_add(last, u128_of(1));
         if (u128_equal(span, u128_of(0)) || !u128_checked_mul(value, span, &least)) return false;
     }
@@ -703,7 +707,7 @@ static base62_status decode_prefix(const Tables *tables, const uint8_t *prefix, 
         if (status == BASE62_OK) return BASE62_OK;
     }
     /* An invalid byte is reported even if the number would be 2^128 or more. */
-    const size_t digits = count_digits(tables, prefix, length);
+    const size_t digits = count_valid(tables, prefix, length);
     if (digits < length) return store_bad_byte(prefix, digits, bad);
     return BASE62_NO_MATCH;
 }
@@ -780,7 +784,7 @@ static const uint8_t B62_INDEX_TEXT[] = "' at index ";
 /* The bytes of one of these texts, and how many they are. */
 #define B62_TEXT(text) text, sizeof(text) - 1
 
-/* Appends to the first length bytes of a message, and returns its new length, as all functions do that append. */
+/* A function append.. appends to the first length bytes of a message, and returns its new length. */
 static size_t append(uint8_t *message, size_t length, const uint8_t *part, size_t part_length) {
     copy_bytes(message + length, part, part_length);
     return length + part_length;

@@ -4,13 +4,15 @@
 /*
  * Encodes unsigned integers below 2^128 in base 62, and decodes them: the functions that base62.h declares.
  *
- * It follows the library in crates/base62/src, which is written and proved in the language Rattle, function by function
- * where that reads well in C. Frama-C proves this file itself, for a size_t of 64 bits and of 32: c/proof has the
- * contracts. A line "//@ assert requires" is a precondition on numbers and lengths, for Frama-C. Two functions use an
- * extension of the compiler if it has one, u128_mul_64 and u64_ilog2. These forms are tested.
+ * It follows, function by function where that reads well in C, the library in crates/base62/src, which is written and
+ * proved in the language Rattle. Frama-C proves this file too, for a size_t of 64 bits and of 32: c/proof has the
+ * contracts. A line "//@ assert requires" is a precondition for Frama-C. A function that writes count digits of n also
+ * requires n < 62^count. u128_mul_64 and u64_ilog2 use an extension of the compiler if it has one, which is tested, not
+ * proved.
  *
  * Indexes are not checked: the proof shows that each is in bounds. Nothing is allocated, and there is no state. It is
- * C99, for machines of 32 or 64 bits and of either byte order. With BASE62_NO_INT128 it uses no integer of 128 bits.
+ * C99, for machines of 32 or 64 bits and of either byte order. With BASE62_NO_INT128, u128_mul_64 uses no integer of
+ * 128 bits.
  */
 #include "base62.h"
 
@@ -31,7 +33,7 @@
 
 #ifdef __GNUC__
 #define B62_ALWAYS_INLINE inline __attribute__((__always_inline__))
-/* Of the structs of bytes. As Tables a base62_alphabet is read, which a caller may have copied as a whole. */
+/* Tables reads a base62_alphabet as another type: without this, GCC may reorder that with an assignment. */
 #define B62_MAY_ALIAS __attribute__((__may_alias__))
 #else
 #define B62_ALWAYS_INLINE inline
@@ -43,14 +45,14 @@
 #define B62_RESTRICT restrict
 #endif
 #if defined __GNUC__ && !defined __clang__ && __GNUC__ > 10 && __STDC_HOSTED__
-/* GCC packs the halves of a u128 into a vector register, only to unpack them again. Up to GCC 10 the second pragma would
-   replace all options, those of code after this file too. With -ffreestanding it would let GCC call memset. */
+/* GCC packs the halves of a u128 into a vector register, only to unpack them again. Before GCC 11 the second pragma
+   would replace all other options. With -ffreestanding it would let GCC call memset. */
 #pragma GCC push_options
 #pragma GCC optimize ("no-tree-slp-vectorize")
 #endif
 
-/* Unsigned integers below 2^128, as two halves. Sums, differences and products are modulo 2^128. */
-typedef struct u128 { uint64_t high, low; } u128;
+/* Unsigned integers below 2^128. Sums, differences and products are modulo 2^128. */
+typedef base62_number u128;
 
 static B62_ALWAYS_INLINE u128 u128_of(uint64_t n) { return (u128){0, n}; }
 static B62_ALWAYS_INLINE bool u128_less(u128 a, u128 b) { return a.high == b.high ? a.low < b.low : a.high < b.high; }
@@ -101,14 +103,6 @@ static B62_ALWAYS_INLINE bool u128_checked_mul(u128 a, u128 b, u128 *product) {
     return true;
 }
 
-static B62_ALWAYS_INLINE u128 joined(base62_number number) {
-    return (u128){number.high, number.low};
-}
-
-static B62_ALWAYS_INLINE base62_number halves(u128 n) {
-    return (base62_number){n.high, n.low};
-}
-
 static B62_ALWAYS_INLINE u128 u128_from_be_bytes(const uint8_t bytes[16]) {
     uint64_t high = 0, low = 0;
     for (size_t i = 0; i < 8; i++) {
@@ -119,23 +113,25 @@ static B62_ALWAYS_INLINE u128 u128_from_be_bytes(const uint8_t bytes[16]) {
 }
 
 static B62_ALWAYS_INLINE void u128_to_be_bytes(u128 a, uint8_t bytes[16]) {
+    uint64_t high = a.high, low = a.low;
     for (size_t i = 8; i > 0; i--) {
-        bytes[i - 1] = (uint8_t)a.high;
-        bytes[i + 7] = (uint8_t)a.low;
-        a = (u128){a.high / 256, a.low / 256};
+        bytes[i - 1] = (uint8_t)high;
+        bytes[i + 7] = (uint8_t)low;
+        high /= 256;
+        low /= 256;
     }
 }
 
 static B62_ALWAYS_INLINE u128 u128_saturating_add(u128 a, u128 b) {
     const u128 sum = u128_add(a, b);
-    return u128_less(sum, a) ? u128_sub(u128_of(0), u128_of(1)) : sum;
+    return u128_less(sum, a) ? (u128){UINT64_C(0xffffffffffffffff), UINT64_C(0xffffffffffffffff)} : sum;
 }
 
 /* The index of the highest bit of an integer that is not 0. */
 static B62_ALWAYS_INLINE uint32_t u64_ilog2(uint64_t n) {
     //@ assert requires: n != 0;
 #ifdef __GNUC__
-    return 63 ^ (uint32_t)__builtin_clzll(n);
+    return 63 - (uint32_t)__builtin_clzll(n);
 #else
     uint32_t bits = 0;
     for (uint32_t step = 32; step != 0; step /= 2)
@@ -147,9 +143,7 @@ static B62_ALWAYS_INLINE uint32_t u64_ilog2(uint64_t n) {
 #endif
 }
 
-static B62_ALWAYS_INLINE size_t usize_min(size_t a, size_t b) { return a < b ? a : b; }
-
-/* Compilers turn these loops into memcpy and memset. Provers understand them, and a length of 0 is fine. */
+/* Loops, which provers understand. Compilers turn them into memcpy and memset. */
 static inline void copy_bytes(uint8_t *B62_RESTRICT to, const uint8_t *B62_RESTRICT from, size_t length) {
     for (size_t i = 0; i < length; i++) to[i] = from[i];
 }
@@ -215,7 +209,7 @@ static const Tables B62_ALTERNATIVE = {
 #define B62_POWER_5 UINT64_C(916132832)
 #define B62_POWER_10 UINT64_C(839299365868340224)
 
-/* At index k: the greatest number below 2^128 that k letters denote. */
+/* At index k: the greatest number below 2^128 of at most k digits. */
 static const u128 B62_GREATEST[23] = {{0, 0}, {0, 61}, {0, 3843}, {0, 238327}, {0, 14776335}, {0, 916132831},
     {0, UINT64_C(56800235583)}, {0, UINT64_C(3521614606207)}, {0, UINT64_C(218340105584895)},
     {0, UINT64_C(13537086546263551)}, {0, UINT64_C(839299365868340223)}, {0x2, 0xd227003d8d2af7ff},
@@ -225,20 +219,20 @@ static const u128 B62_GREATEST[23] = {{0, 0}, {0, 61}, {0, 3843}, {0, 238327}, {
     {0x87aac19e40aafc, 0xe20c98f580fffff}, {0x20db5ae453a9690b, 0x6bf0d0b753dfffff},
     {0xffffffffffffffff, 0xffffffffffffffff}};
 
-/* At index k: the greatest number below 2^64 that k letters denote. */
+/* At index k: the greatest number below 2^64 of at most k digits. */
 static const uint64_t B62_GREATEST_NARROW[12] = {0, 61, 3843, 238327, 14776335, 916132831, UINT64_C(56800235583),
     UINT64_C(3521614606207), UINT64_C(218340105584895), UINT64_C(13537086546263551), UINT64_C(839299365868340223),
     UINT64_C(0xffffffffffffffff)};
 
-/* Returns the greatest number below 2^128 that k letters denote, for any k. */
+/* Returns the greatest number below 2^128 of at most k digits, for any k. */
 static u128 greatest(size_t k) {
-    return B62_GREATEST[usize_min(k, 22)];
+    return B62_GREATEST[k < 22 ? k : 22];
 }
 
 
 /* -------------------- The count of digits -------------------- */
 
-/* A digit has almost six bits, so the index of the highest bit gives the count of digits, or one less. */
+/* 43 / 256 is so near log 2 / log 62 that the index of the highest bit gives the count of digits, or one less. */
 static B62_ALWAYS_INLINE size_t narrow_count(uint64_t n) {
     if (n == 0) return 1;
     const uint32_t highest = u64_ilog2(n);
@@ -258,12 +252,13 @@ static B62_ALWAYS_INLINE size_t digit_count(u128 n) {
 /* -------------------- Encoding -------------------- */
 
 /*
- * A function that writes fills the start of a buffer with the characters of as many digits as its name or an argument
- * says. It reads two characters before it writes them, since for compilers the buffer may overlap the tables.
+ * A function write_.. writes as many digits as its name or count says at the start of a buffer. Pairs are loaded before
+ * they are stored: without restrict, compilers have to assume that the buffer overlaps the tables.
  *
- * Division by powers of 62 splits a number into parts. Its result is a number in fixed point, a u128 whose upper half is
- * the quotient and whose lower half is the remainder as a fraction, in units of 1 / 2^64. A fraction f has the ten digits
- * of f * 62^10 / 2^64. The upper half of f * 62 is the first of them, and the lower half is the fraction of the others.
+ * Division by powers of 62 splits a number into parts. Its result is a u128 in fixed point: the upper half is the
+ * quotient, and the lower half is a fraction, in units of 1 / 2^64. The ten digits of a fraction f are those of
+ * f * 62^10 / 2^64, rounded down. The upper half of f * 62 is the first of them, and the lower half is the fraction of
+ * the others.
  */
 
 static B62_ALWAYS_INLINE void write_pair(const Tables *tables, uint64_t first, uint64_t second, uint8_t *buffer) {
@@ -289,7 +284,7 @@ static B62_ALWAYS_INLINE void write_10(const Tables *tables, uint64_t fraction, 
     write_5(tables, fraction * B62_POWER_5, buffer + 5);
 }
 
-/* Writes the twenty digits of two fractions: first those of the lower one, which is there first. */
+/* Writes the twenty digits of two fractions: the lower one first, since it is computed first. */
 static B62_ALWAYS_INLINE void write_20(const Tables *tables, uint64_t high, uint64_t low, uint8_t *buffer) {
     write_10(tables, low, buffer + 10);
     write_10(tables, high, buffer);
@@ -298,7 +293,7 @@ static B62_ALWAYS_INLINE void write_20(const Tables *tables, uint64_t high, uint
 /* Writes one or two digits. If there is one, it overwrites the first of two, which is a zero. */
 static B62_ALWAYS_INLINE void write_1_or_2(const Tables *tables, uint32_t n, size_t count, uint8_t *buffer) {
     //@ assert requires: 1 <= count && count <= 2;
-    /* The quotient by 62, exact below 3844. */
+    /* n / 62, for these n, without a product of 64 bits. */
     const uint32_t quotient = (n * 4229) >> 18;
     const uint64_t rest = n - quotient * 62;
     const uint8_t first = tables->letters[quotient], second = tables->letters[rest];
@@ -307,7 +302,7 @@ static B62_ALWAYS_INLINE void write_1_or_2(const Tables *tables, uint32_t n, siz
 }
 
 static B62_ALWAYS_INLINE void write_4(const Tables *tables, uint32_t n, uint8_t *buffer) {
-    //@ assert requires: n < 14776336;
+    //@ assert requires: n < B62_POWER_4;
     const uint32_t quotient = n / B62_POWER_2;
     write_1_or_2(tables, n - quotient * B62_POWER_2, 2, buffer + 2);
     write_1_or_2(tables, quotient, 2, buffer);
@@ -317,8 +312,8 @@ static B62_ALWAYS_INLINE void write_up_to_5(const Tables *tables, uint32_t n, si
     //@ assert requires: 1 <= count && count <= 5;
     if (count > 4) {
         const uint32_t quotient = n / B62_POWER_4;
-        write_4(tables, n - quotient * B62_POWER_4, buffer + (count - 4));
-        write_1_or_2(tables, quotient, count - 4, buffer);
+        write_4(tables, n - quotient * B62_POWER_4, buffer + 1);
+        write_1_or_2(tables, quotient, 1, buffer);
     } else if (count > 2) {
         const uint32_t quotient = n / B62_POWER_2;
         write_1_or_2(tables, n - quotient * B62_POWER_2, 2, buffer + (count - 2));
@@ -341,23 +336,24 @@ static B62_ALWAYS_INLINE void write_up_to_9(const Tables *tables, uint64_t n, si
 }
 
 /*
- * Returns n / 62^10. At least 21 fractions, from n * 2^64 / 62^10 upwards, have the same ten digits. This one is at most
- * two above that product. The factor is 2^124 / 62^10 - 2^64, rounded up.
+ * Returns n / 62^10, at most two units above it: 1 is added for what is rounded down. Since 2^64 / 62^10 is above 21,
+ * at least 21 fractions from n * 2^64 / 62^10 upwards have the same ten digits. 2^64 plus the factor is 2^124 / 62^10,
+ * rounded up.
  */
 static B62_ALWAYS_INLINE u128 fraction_of(uint64_t n) {
-    //@ assert requires: n < 1152921504606846976;
+    //@ assert requires: n < 0x1000000000000000;
     const uint64_t scaled = n * 16, upper = u128_mul_64(scaled, UINT64_C(6893020016967578278)).high;
     return u128_add(u128_of(scaled + 1), u128_of(upper));
 }
 
-/* Divides by 62^10. The fraction is at most five above the product in fraction_of. The factor is 2^123 / 62^10, rounded up. */
+/* Divides by 62^10. The fraction is at most five above n * 2^64 / 62^10. The factor is 2^123 / 62^10 + 0.12. */
 static B62_ALWAYS_INLINE u128 divide_narrow_by_62_10(uint64_t n) {
     return u128_add(u128_shift_right_1_to_63(u128_mul_64(n, UINT64_C(12669882045338564947)), 59), u128_of(1));
 }
 
 /*
- * Divides by 62^10. The upper bits times 2^120 / 62^10, shifted right by 64 bits, are the quotient, or one less: then the
- * upper half of fraction_of is 1.
+ * Divides a number of at most 19 digits by 62^10. The factor is 2^120 / 62^10, rounded down. The estimate is the
+ * quotient, or one less for some remainders below 2^57: then the upper half of fraction_of is 1.
  */
 static B62_ALWAYS_INLINE u128 divide_by_62_10(u128 n) {
     const uint64_t upper = u128_shift_right_1_to_63(n, 56).low;
@@ -367,9 +363,9 @@ static B62_ALWAYS_INLINE u128 divide_by_62_10(u128 n) {
 }
 
 /*
- * Returns the fraction of the last ten digits of a number, at most eight above the product in fraction_of. For n = 2^64
- * the result is 2^128 / 62^10 units: 21 * 2^64, which is no part of a fraction, plus the first factor, plus the second
- * factor / 2^64, rounded up. The third factor is 2^123 / 62^10, rounded up.
+ * Returns the fraction of n / 62^10, at most eight units above it: that of the last ten digits. Each 1 in n.high stands
+ * for 2^128 / 62^10 units: 21 * 2^64, which wraps to 0, plus the first factor, plus the second factor / 2^64, rounded
+ * up. The third factor is 2^123 / 62^10 + 0.12.
  */
 static B62_ALWAYS_INLINE uint64_t last_10(u128 n) {
     const uint64_t first = n.high * UINT64_C(18054599902933494364);
@@ -379,22 +375,22 @@ static B62_ALWAYS_INLINE uint64_t last_10(u128 n) {
 }
 
 /*
- * Returns n / 62^20, at most five units above it. For n = 2^64 the result is 2^128 / 62^20 units: 483, plus the factor
- * / 2^64, rounded up.
+ * Returns n / 62^20, at most five units above it: 4 are added for what is rounded down. Each 1 in n.high stands for
+ * 2^128 / 62^20 units: 483, which is enough for n.low, plus the factor / 2^64, rounded up.
  */
-static B62_ALWAYS_INLINE u128 scaled_by_20(u128 n) {
+static B62_ALWAYS_INLINE u128 over_62_20(u128 n) {
     const uint64_t rest = u128_mul_64(n.high, UINT64_C(1200736830183971319)).high;
     return u128_add(u128_mul_64(n.high, 483), u128_of(rest + ((n.low >> 32) * 483 >> 32) + 4));
 }
 
 /*
- * Divides by 62^20, by the fraction of the last ten digits. The fraction of the result has the ten digits before these.
- * Let g be the fraction of the last ten digits. The fraction of all twenty exceeds that of the first ten by at most
- * 22 * g units. Subtracting low >> 60, which is 16 * g rounded down, leaves at most seven of these. With the five of
- * scaled_by_20 that is twelve, fewer than the 21 that fraction_of allows.
+ * Divides by 62^20, given low, the fraction of the last ten digits. The fraction of the result is that of the ten
+ * digits before them. Let g be low / 2^64. The last ten digits add at most 22 * g units to it, since 2^64 / 62^10 is
+ * below 22. Subtracting low >> 60, which is 16 * g rounded down, leaves at most seven of these. With the five of
+ * over_62_20 that is twelve, fewer than the 21 of fraction_of.
  */
 static B62_ALWAYS_INLINE u128 divide_by_62_20(u128 n, uint64_t low) {
-    return u128_sub(scaled_by_20(n), u128_of(low >> 60));
+    return u128_sub(over_62_20(n), u128_of(low >> 60));
 }
 
 static void write_narrow(const Tables *tables, uint64_t n, size_t count, uint8_t *buffer) {
@@ -457,54 +453,54 @@ static B62_ALWAYS_INLINE size_t encode_fixed_over(const Tables *tables, u128 n, 
 }
 
 size_t base62_encode(base62_number number, char *buffer, size_t size) {
-    return encode_over(&B62_STANDARD, joined(number), (uint8_t *)buffer, size);
+    return encode_over(&B62_STANDARD, number, (uint8_t *)buffer, size);
 }
 
 size_t base62_encode_alternative(base62_number number, char *buffer, size_t size) {
-    return encode_over(&B62_ALTERNATIVE, joined(number), (uint8_t *)buffer, size);
+    return encode_over(&B62_ALTERNATIVE, number, (uint8_t *)buffer, size);
 }
 
 size_t base62_encode_with(const base62_alphabet *alphabet, base62_number number, char *buffer, size_t size) {
-    return encode_over((const Tables *)alphabet, joined(number), (uint8_t *)buffer, size);
+    return encode_over((const Tables *)alphabet, number, (uint8_t *)buffer, size);
 }
 
 size_t base62_encode_fixed(base62_number number, char *places, size_t width) {
-    return encode_fixed_over(&B62_STANDARD, joined(number), (uint8_t *)places, width);
+    return encode_fixed_over(&B62_STANDARD, number, (uint8_t *)places, width);
 }
 
 size_t base62_encode_alternative_fixed(base62_number number, char *places, size_t width) {
-    return encode_fixed_over(&B62_ALTERNATIVE, joined(number), (uint8_t *)places, width);
+    return encode_fixed_over(&B62_ALTERNATIVE, number, (uint8_t *)places, width);
 }
 
 size_t base62_encode_fixed_with(const base62_alphabet *alphabet, base62_number number, char *places, size_t width) {
-    return encode_fixed_over((const Tables *)alphabet, joined(number), (uint8_t *)places, width);
+    return encode_fixed_over((const Tables *)alphabet, number, (uint8_t *)places, width);
 }
 
 void base62_encode_key(base62_number number, char key[BASE62_KEY_LENGTH]) {
-    const u128 n = joined(number);
-    write_padded(&B62_STANDARD, n, digit_count(n), (uint8_t *)key, BASE62_KEY_LENGTH);
+    write_padded(&B62_STANDARD, number, digit_count(number), (uint8_t *)key, BASE62_KEY_LENGTH);
 }
 
 size_t base62_digit_count(base62_number number) {
-    return digit_count(joined(number));
+    return digit_count(number);
 }
 
 
 /* -------------------- Decoding -------------------- */
 
 /*
- * At most 22 digits are read, as numbers of at most ten digits. What reads such a number returns it, or B62_NO_VALUE if
- * a byte is invalid. Only then error_of looks for this byte. The table has 255 for it, so the disjunction of several
- * entries is 64 or more if and only if one of the bytes is invalid.
+ * At most 22 digits are read, in parts of at most ten. A function read_.. returns the number of a part, or B62_NO_VALUE
+ * if a byte is invalid. Only then is this byte looked for. A byte is invalid if its entry in the table exceeds 63: the
+ * bitwise OR of several entries does if and only if one of them does.
  */
-#define B62_NO_VALUE UINT64_C(18446744073709551615)
+#define B62_NO_VALUE UINT64_C(0xffffffffffffffff)
 
-/* If the first ten of 22 digits exceed this number, all 22 exceed 2^128 - 1, whatever the others are. */
+/* If the first ten of 22 digits exceed this number, all 22 exceed 2^128 - 1, whatever the others are. The Rust crate
+   base62 reports that even if one of the others is invalid. */
 #define B62_GREATEST_FIRST_10 UINT64_C(105472483207813235)
 
-/* Reads at most five digits after those of a number. */
+/* Appends at most five digits to a number of at most five, which is below 64^5. */
 static B62_ALWAYS_INLINE uint64_t read_more(const Tables *tables, uint64_t number, const uint8_t *text, size_t count) {
-    //@ assert requires: number < 1073741824 && count <= 5;
+    //@ assert requires: number < 0x40000000 && count <= 5;
     for (size_t i = 0; i < count; i++) {
         const uint8_t digit = tables->digits[text[i]];
         if (digit > 63) return B62_NO_VALUE;
@@ -534,34 +530,28 @@ static B62_ALWAYS_INLINE uint64_t read_up_to_10(const Tables *tables, const uint
     return read_more(tables, first, text + 5, count - 5);
 }
 
-/* Reads at most ten digits, and stores their number unless a byte is invalid. Returns whether it is stored. */
-static B62_ALWAYS_INLINE bool read_narrow(const Tables *tables, const uint8_t *text, size_t count,
-    base62_number *number) {
+/* Stores the number of at most ten digits, unless a byte is invalid. Returns whether it is stored. */
+static B62_ALWAYS_INLINE bool decode_up_to_10(const Tables *tables, const uint8_t *text, size_t count, u128 *number) {
     //@ assert requires: count <= 10;
     const uint64_t all = read_up_to_10(tables, text, count);
     if (all == B62_NO_VALUE) return false;
-    number->high = 0;
-    number->low = all;
+    *number = u128_of(all);
     return true;
 }
 
-/* Like read_narrow, for 11 to 20 digits. */
-static B62_ALWAYS_INLINE bool read_wide(const Tables *tables, const uint8_t *text, size_t count,
-    base62_number *number) {
+static B62_ALWAYS_INLINE bool decode_11_to_20(const Tables *tables, const uint8_t *text, size_t count, u128 *number) {
     //@ assert requires: 10 < count && count <= 20;
     const uint64_t high = read_up_to_10(tables, text, count - 10);
     if (high == B62_NO_VALUE) return false;
     const uint64_t low = read_10(tables, text + (count - 10));
     if (low == B62_NO_VALUE) return false;
-    const u128 n = u128_add(u128_mul_64(high, B62_POWER_10), u128_of(low));
-    number->high = n.high;
-    number->low = n.low;
+    *number = u128_add(u128_mul_64(high, B62_POWER_10), u128_of(low));
     return true;
 }
 
-/* Reads 21 or 22 digits, and stores their number unless a byte is invalid or the number is 2^128 or more. */
-static B62_ALWAYS_INLINE base62_status read_long(const Tables *tables, const uint8_t *text, size_t count,
-    base62_number *number) {
+/* Stores the number of 21 or 22 digits, unless a byte is invalid or the number is 2^128 or more. */
+static B62_ALWAYS_INLINE base62_status decode_21_or_22(const Tables *tables, const uint8_t *text, size_t count,
+    u128 *number) {
     //@ assert requires: 20 < count && count <= 22;
     const uint64_t high = read_more(tables, 0, text, count - 20);
     if (high == B62_NO_VALUE) return BASE62_INVALID_BYTE;
@@ -570,41 +560,30 @@ static B62_ALWAYS_INLINE base62_status read_long(const Tables *tables, const uin
     const uint64_t low = read_10(tables, text + (count - 10));
     if (low == B62_NO_VALUE) return BASE62_INVALID_BYTE;
     const u128 upper = u128_add(u128_mul_64(high, B62_POWER_10), u128_of(middle));
-    u128 n = {0, 0};
-    const bool fits = u128_mul_add(upper, B62_POWER_10, low, &n);
-    if (!fits) return BASE62_OVERFLOW;
-    number->high = n.high;
-    number->low = n.low;
-    return BASE62_OK;
+    return u128_mul_add(upper, B62_POWER_10, low, number) ? BASE62_OK : BASE62_OVERFLOW;
 }
 
-/* Like read_long, for at most 22 digits. */
-static B62_ALWAYS_INLINE base62_status read_number(const Tables *tables, const uint8_t *text, size_t count,
-    base62_number *number) {
+static B62_ALWAYS_INLINE base62_status decode_up_to_22(const Tables *tables, const uint8_t *text, size_t count,
+    u128 *number) {
     //@ assert requires: count <= 22;
-    if (count > 20) return read_long(tables, text, count, number);
-    if (count > 10) {
-        const bool is_read = read_wide(tables, text, count, number);
-        if (is_read) return BASE62_OK;
-    } else {
-        const bool is_read = read_narrow(tables, text, count, number);
-        if (is_read) return BASE62_OK;
-    }
-    return BASE62_INVALID_BYTE;
+    if (count > 20) return decode_21_or_22(tables, text, count, number);
+    const bool is_stored = count > 10 ? decode_11_to_20(tables, text, count, number)
+        : decode_up_to_10(tables, text, count, number);
+    return is_stored ? BASE62_OK : BASE62_INVALID_BYTE;
 }
 
 /* Returns how many zeros a text begins with. */
 static B62_ALWAYS_INLINE size_t count_zeros(const Tables *tables, const uint8_t *text, size_t length) {
     //@ assert requires: 0 < length;
-    /* Most texts have none. This test avoids the loop for them. */
+    /* Most texts have none. Without this test, code by clang is slower for them. */
     if (text[0] != tables->letters[0]) return 0;
     size_t zeros = 1;
     while (zeros < length && text[zeros] == tables->letters[0]) zeros++;
     return zeros;
 }
 
-/* Returns how many digits a text begins with: the index of its first invalid byte, or its length. */
-static B62_ALWAYS_INLINE size_t count_digits(const Tables *tables, const uint8_t *text, size_t length) {
+/* Returns how many valid bytes a text begins with: the index of its first invalid one, or its length. */
+static B62_ALWAYS_INLINE size_t count_valid(const Tables *tables, const uint8_t *text, size_t length) {
     size_t count = 0;
     while (count < length && tables->digits[text[count]] <= 63) count++;
     return count;
@@ -620,7 +599,7 @@ static base62_status store_bad_byte(const uint8_t *text, size_t index, base62_ba
 static base62_status error_of(const Tables *tables, const uint8_t *text, size_t length, base62_bad_byte *bad) {
     const size_t zeros = count_zeros(tables, text, length), count = length - zeros;
     const uint8_t *rest = text + zeros;
-    const size_t digits = count_digits(tables, rest, count);
+    const size_t digits = count_valid(tables, rest, count);
     if (count == 22 && digits >= 10) {
         const uint64_t first = read_10(tables, rest);
         if (first > B62_GREATEST_FIRST_10) return BASE62_OVERFLOW;
@@ -633,7 +612,7 @@ static base62_status decode_rest(const Tables *tables, const uint8_t *text, size
     base62_number *number, base62_bad_byte *bad) {
     const size_t count = length - zeros;
     if (count > BASE62_MAX_DIGITS) return BASE62_OVERFLOW;
-    const base62_status status = read_number(tables, text + zeros, count, number);
+    const base62_status status = decode_up_to_22(tables, text + zeros, count, number);
     if (status == BASE62_INVALID_BYTE) return error_of(tables, text, length, bad);
     return status;
 }
@@ -644,16 +623,13 @@ static B62_ALWAYS_INLINE base62_status decode_over(const Tables *tables, const u
     if (length == 0) return BASE62_EMPTY_INPUT;
     const size_t zeros = count_zeros(tables, text, length), count = length - zeros;
     if (count <= 10) {
-        const bool is_read = read_narrow(tables, text + zeros, count, number);
-        if (is_read) return BASE62_OK;
-        return error_of(tables, text, length, bad);
+        if (decode_up_to_10(tables, text + zeros, count, number)) return BASE62_OK;
+    } else if (count <= 20) {
+        if (decode_11_to_20(tables, text + zeros, count, number)) return BASE62_OK;
+    } else {
+        return decode_rest(tables, text, length, zeros, number, bad);
     }
-    if (count <= 20) {
-        const bool is_read = read_wide(tables, text + zeros, count, number);
-        if (is_read) return BASE62_OK;
-        return error_of(tables, text, length, bad);
-    }
-    return decode_rest(tables, text, length, zeros, number, bad);
+    return error_of(tables, text, length, bad);
 }
 
 /* Returns the status of a text that has a leading zero and other characters after it, so is not canonical. */
@@ -713,27 +689,25 @@ static bool find_ends(u128 value, size_t width, size_t length, base62_range *ran
     const u128 last = greatest(width - length);
     u128 least = {0, 0};
     if (!u128_equal(value, u128_of(0))) {
-        /* If it wraps around, the span is 2^128 or more, and so is the product. */
+        /* A span that wraps to 0 is 2^128, so the product is 2^128 or more. */
         const u128 span = u128_add(last, u128_of(1));
-        if (u128_equal(span, u128_of(0))) return false;
-        const bool fits = u128_checked_mul(value, span, &least);
-        if (!fits) return false;
+        if (u128_equal(span, u128_of(0)) || !u128_checked_mul(value, span, &least)) return false;
     }
-    range->least = halves(least);
-    range->greatest = halves(u128_saturating_add(least, last));
+    range->least = least;
+    range->greatest = u128_saturating_add(least, last);
     return true;
 }
 
 /* Stores the number of a prefix that is not empty, and may be longer than 22 characters. */
-static base62_status read_prefix(const Tables *tables, const uint8_t *prefix, size_t length, base62_number *number,
+static base62_status decode_prefix(const Tables *tables, const uint8_t *prefix, size_t length, base62_number *number,
     base62_bad_byte *bad) {
     const size_t zeros = count_zeros(tables, prefix, length), count = length - zeros;
     if (count <= BASE62_MAX_DIGITS) {
-        const base62_status status = read_number(tables, prefix + zeros, count, number);
+        const base62_status status = decode_up_to_22(tables, prefix + zeros, count, number);
         if (status == BASE62_OK) return BASE62_OK;
     }
     /* An invalid byte is reported even if the number would be 2^128 or more. */
-    const size_t digits = count_digits(tables, prefix, length);
+    const size_t digits = count_valid(tables, prefix, length);
     if (digits < length) return store_bad_byte(prefix, digits, bad);
     return BASE62_NO_MATCH;
 }
@@ -742,14 +716,10 @@ static base62_status range_over(const Tables *tables, const uint8_t *prefix, siz
     base62_range *range, base62_bad_byte *bad) {
     base62_number number = {0, 0};
     if (length > 0) {
-        const base62_status status = read_prefix(tables, prefix, length, &number, bad);
+        const base62_status status = decode_prefix(tables, prefix, length, &number, bad);
         if (status != BASE62_OK) return status;
     }
-    const u128 value = joined(number);
-    base62_range found = {{0, 0}, {0, 0}};
-    const bool is_found = find_ends(value, width, length, &found);
-    if (!is_found) return BASE62_NO_MATCH;
-    *range = found;
+    if (!find_ends(number, width, length, range)) return BASE62_NO_MATCH;
     return BASE62_OK;
 }
 
@@ -791,11 +761,11 @@ base62_status base62_alphabet_init(base62_alphabet *alphabet, const char charact
 }
 
 base62_number base62_from_uuid(const unsigned char uuid[BASE62_UUID_LENGTH]) {
-    return halves(u128_from_be_bytes(uuid));
+    return u128_from_be_bytes(uuid);
 }
 
 void base62_to_uuid(base62_number number, unsigned char uuid[BASE62_UUID_LENGTH]) {
-    u128_to_be_bytes(joined(number), uuid);
+    u128_to_be_bytes(number, uuid);
 }
 
 
@@ -814,7 +784,7 @@ static const uint8_t B62_INDEX_TEXT[] = "' at index ";
 /* The bytes of one of these texts, and how many they are. */
 #define B62_TEXT(text) text, sizeof(text) - 1
 
-/* Appends to the first length bytes of a message, and returns its new length, as all functions do that append. */
+/* A function append.. appends to the first length bytes of a message, and returns its new length. */
 static size_t append(uint8_t *message, size_t length, const uint8_t *part, size_t part_length) {
     copy_bytes(message + length, part, part_length);
     return length + part_length;

@@ -71,23 +71,10 @@ def sections(text):
 
 def definitions(lines):
     """Each function's first line and last line."""
-    found = {}
-    i = 0
-    while i < len(lines):
-        head = re.match(r"(?:static |size_t |void |base62_\w+ |uint32_t )[^=;]*?(\w+)\(", lines[i])
-        if head:
-            j = i
-            while not re.search(r"[{;]", lines[j]):
-                j += 1
-            if "{" in lines[j] and not re.search(r"\)\s*;$", lines[j]):
-                k = j
-                if not lines[j].rstrip().endswith("}"):
-                    while lines[k] != "}":
-                        k += 1
-                found[head.group(1)] = (i, k)
-                i = k
-        i += 1
-    return found
+    text = "\n".join(lines)
+    head = r"^(?:static |size_t |void |base62_\w+ |uint32_t )[^=;{}]*?(\w+)\([^;{}]*\{"
+    found = re.finditer(head + r"(?:[^\n]*\}|.*?\n\})$", text, re.M | re.S)
+    return {it[1]: (text.count("\n", 0, it.start()), text.count("\n", 0, it.end())) for it in found}
 
 
 def comment(body, indent):

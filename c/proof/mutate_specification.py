@@ -33,7 +33,7 @@ LAWS = {
     "predicate encodes": "encode compute_count uninitialized",
     "logic integer decoding": "is_decoded decode uninitialized",
     "logic integer least_of": "is_in_range find_range is_beyond range_is_exact uninitialized",
-    "/*@ requires \\valid_read(letters": "makes", "logic integer uuid_value": "number_back_again",
+    "/*@ requires \\valid_read(characters": "makes", "logic integer uuid_value": "number_back_again",
     "number_of(\\result) == value": "of_half half version", "logic integer escape_length": "escape",
     "logic integer without_decimals": "compute_decimals index_again",
     "logic integer byte_at_index_length": "texts_by_example index_again",

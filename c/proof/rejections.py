@@ -14,7 +14,8 @@ import wp
 
 # Parts of what prove says.
 ENDS, LOOP, ADMIT, READ = "nothing shows that it ends", "a loop without a variant", ": admit", "is read whole"
-KIND, UNPROVED, FORM = "annotation of another kind", "does not prove the axiom", "an axiom of another form"
+KIND, CLAUSE = "annotation of another kind", "a clause of another kind"
+UNPROVED, FORM = "does not prove the axiom", "an axiom of another form"
 CODE, BODY, WARNING, NO_CONTRACT = "the lists change the code", "without a body", "arning", "no contract, or none"
 FALSE, NOT_TRIED = "an axiom of WP that is false", "WP tries no goal"
 NUMBER, CHAR, APART = "a pointer from a number", "a plain char", "Memory model hypotheses"
@@ -50,53 +51,40 @@ def ghost(body, contract="assigns \\nothing; ensures \\false;", before="", head=
 LISTS = [
     # A definition that has no sense.
     *((logic(text), ENDS) for text in (
-        "logic integer f(integer n) = f(n) + 1;", "predicate p(integer n) = !p(n);", "logic integer f = f + 1;",
-        "logic integer f(integer n) = 1 + f(n - 1);", "logic integer f(integer n) = n <= 0 ? f(n - 1) : 0;",
+        "predicate p(integer n) = !p(n);", "logic integer f = f + 1;", "logic integer f(integer n) = 1 + f(n - 1);",
+        "logic integer f(integer n) = f(n - 1) <= 0 ? 0 : 1;", "logic integer f(integer n) = n <= 0 ? f(n - 1) : 0;",
         "logic integer f(integer n) = n <= 0 ? 0 : f(n - 1) - f(n + 1);",
         "logic integer f(integer n) = n <= 0 ? 0 : f(n - 0) + 1;",
+        "logic integer f(integer n) = n <= 0 && n > -9 ? 0 : f(n - 1) + 1;",
         "logic integer f(integer i, integer n) = i < n ? f(i + 1, n + 1) + 1 : 0;",
         "logic integer f(integer i, integer j) = i < 3 ? f(i + 1, j) : j < 3 ? f(i, j + 1) + 1 : 0;",
         "logic integer f(integer i, integer j) = i < 3 || j < 3 ? f(i + 1, j) + 1 : 0;",
         "logic integer f(integer n, integer z) = n <= z * n ? 0 : f(n - 1, z) + 1;",
-        "logic integer f(integer n, integer a, integer b) = n < a ? f(n + 1, a, 0) : n < b ? f(n + 1, 0, b) : 0;",
-        "logic integer f{L}(unsigned char *p, integer n) = n <= *p ? 0 : f(p, n - 1) + 1;",
-        "logic real f(real x) = x <= 0.0 ? 0.0 : f(x - 1.0) + 1.0;",
-        "predicate p(integer i) = \\exists integer n; (i < n ? !p(i + 1) : \\true);")),
+        "logic real f(real x) = x <= 0.0 ? 0.0 : f(x - 1.0) + 1.0;")),
     (logic("axiomatic A { logic integer f(integer n); }"), BODY),
-    (logic("axiomatic A { logic integer f{L}(char *p) reads *p; }"), BODY),
-    (logic("inductive p(integer n) { case no: \\forall integer n; p(n) ==> p(n + 1); }"), "inductive"),
+    (logic("inductive p(integer n) { case no: \\forall integer n; p(n) ==> p(n + 1); }"), BODY),
     # An axiom.
     *((logic(text), FORM) for text in (
         "axiomatic A { axiom no: \\false; }", "admit lemma no: \\false;",
         "axiomatic A { axiom no: \\forall integer x; 0 <= x ==> (uint64_t)x == x % 0x10000000000000000; }",
         f"axiomatic A {{ axiom no: \\forall integer x; 0 <= x < 9 ==> x + 0x1{48 * '0'} == x; }}",
         "axiomatic A { axiom no: \\forall integer x; 1 <= x < 9 ==> x << 192 == 0; }",
-        f"axiomatic A {{ axiom no: \\forall integer x; 0 <= x < 9 ==> x >= 0x8{47 * '0'}; }}",
         "axiomatic A { axiom no: \\forall integer x; 0 <= x < 1 ==> 5 / x == -1; }")),
-    (f"{TOP}#define ACSL_JOIN(a, b) a##b\n/*@ axiomatic A {{ ACSL_JOIN(axi, om) no: \\false; }} */", FORM),
     (logic("axiomatic A { axiom no: \\forall integer x; 0 <= x < 256 ==> (x & 127) == x; }"), UNPROVED),
-    (f"{TOP}#define ACSL_2_32 0x100000001\n/*@ axiomatic A {{ axiom no:"
-     " \\forall integer x; 0 <= x < 0x10000000000000000 ==> (x & 0xffffffff) == x % ACSL_2_32; } */", UNPROVED),
     # What is admitted.
     (ghost("int i = 0; /@ ACSL_JOIN(ad, mit) no: \\false; @/ i = 1;", before="#define ACSL_JOIN(a, b) a##b"), ADMIT),
     (ghost("", "assigns \\nothing; admit ensures no: \\false;"), ADMIT),
-    (ghost("int i = 0; /@ admit loop invariant \\false; loop variant 9 - i; @/ while (i < 9) i++;"), ADMIT),
     # What is not tried.
     (f"{STEP}assert no_wp: \\false;", NOT_TRIED), (ghost("/@ loop variant no_wp: 0; @/ while (1) {}"), NOT_TRIED),
     (ghost("int i = 0; /@ loop assigns no_wp: i; loop variant 9 - i; @/ while (i < 9) i++;"), NOT_TRIED),
     # A function that does not end.
-    (ghost("while(1) {}"), LOOP), (ghost("do\n{} while (1);"), LOOP), (ghost("for (;;) {}"), LOOP),
-    (ghost("/@ loop pragma UNROLL 1; loop variant 0; @/ while (1) {}"), "a pragma"),
-    (ghost("/@ loop variant 1 for less; @/ while (1) {}",
-           before="/*@ predicate less(integer a, integer b) = \\true; */"), "a variant for a relation"),
-    (ghost("double x = 1; /@ loop variant x; @/ while (x > 0) x = x / 2;"), "integer expected"),
-    (ghost("here: goto here;"), STATEMENT),
+    (ghost("for (;;) {}"), LOOP), (ghost("here: goto here;"), STATEMENT),
     (ghost("other();", before="/*@ ghost /@ assigns \\nothing; @/ void planted(void);\n"
            "/@ assigns \\nothing; @/ void other(void) { planted(); } */"), "it calls itself"),
     (ghost("(*there)();", before="/*@ ghost void (*there)(void); */"), "function pointer"),
-    (ghost("while (1) {}", "terminates \\false; assigns \\nothing; ensures \\false;"), "a clause terminates"),
-    (ghost("planted();", "decreases 0; assigns \\nothing; ensures \\false;"), "a clause decreases"),
-    (ghost("", "assigns \\nothing; exits \\true; ensures \\false;"), "a clause of another end"),
+    (ghost("while (1) {}", "terminates \\false; assigns \\nothing; ensures \\false;"), CLAUSE),
+    (ghost("planted();", "decreases 0; assigns \\nothing; ensures \\false;"), CLAUSE),
+    (ghost("", "assigns \\nothing; exits \\true; ensures \\false;"), CLAUSE),
     (ghost("other();", before="/*@ assigns \\nothing; */ void other(void);"), "Call to non-ghost function"),
     # A line of the preprocessor, and an assertion that is none.
     *((f"{NEXT}{line}\n/*@ assert last: \\true;", "a line for the preprocessor") for line in (
@@ -110,7 +98,7 @@ LISTS = [
     ("== contract here\nrequires \\false;", "syntax error"),
     (ghost("", "ensures \\true;"), NO_CONTRACT), (ghost("", "behavior only: assumes \\false; assigns \\nothing;"), NO_CONTRACT),
     (ghost("all = 0;", "assigns all;", before="//@ ghost int all;"), "a ghost function that assigns"),
-    (ghost("", "assigns \\nothing; allocates \\nothing;"), "a clause of another kind"),
+    (ghost("", "assigns \\nothing; allocates \\nothing;"), CLAUSE),
     (ghost("", "assigns \\nothing; ensures all == 1;", before="//@ ghost int all = 1;", head="void main(void)"),
      "before main"),
     # Another annotation, and one that Frama-C leaves out with a warning.
@@ -157,7 +145,7 @@ STATEMENTS = [
     *((text, UNTYPED) for text in (
         "i = length++ + length;", "to[i++] = (uint8_t)i;", "i = (length = 1) + length;", "i = (i++, 1);", "if (to[i++] == 1) i = 2;")),
     ("if (__builtin_expect(length > 1, 0)) i = 1;", UNTYPED),
-    ("i = usize_min(base62_encode(base62_from_u64(1), (char *)to, i), part[0]);", CALL),
+    ("i = u64_ilog2(base62_encode(base62_from_u64(1), (char *)to, i));", CALL),
     ("if (base62_encode(base62_from_u64(1), (char *)to, i) == part[0]) i = 1;", CALL),
     ("to[i] = (uint8_t)base62_encode(base62_from_u64(1), (char *)to, i);", CALL),
     # What shares memory.
@@ -175,24 +163,8 @@ STATEMENTS = [
 
 # Other changes of base62.c: what stands there, what takes its place, and what rejects it.
 SOURCES = [
-    *((old, new, LINE) for old, new in (
-        ("(base62_u128)a * b;", "(base62_u128)a * b + 1;"), ("__builtin_clzll(n);", "__builtin_clzll(n | 1);"),
-        ("    //@ assert requires: n != 0;\n", ""), ("((__always_inline__))", "((__always_inline__, const))"))),
+    ("__builtin_clzll(n);", "__builtin_clzll(n | 1);", LINE), ("    //@ assert requires: n != 0;\n", "", LINE),
     (HERE, HERE.replace("uint8_t *to", "uint8_t *restrict to"), "restrict"), (HERE, HERE.replace("size_t length", "unsigned length"), TYPE),
-]
-
-# Changes of base62.acsl.
-SPECIFICATIONS = [
-    ("value(letters, text, n - 1)", "value(letters, text, n)", ENDS), ("i < 62 && letters[i] != byte ?", "letters[i] != byte ?", ENDS),
-    ("#define LETTERS(", "#define usize_min(a, b) usize_min(b, a)\n#define LETTERS(", CODE),
-    ("assigns \\nothing; ensures number_of(\\result) == uuid", "ensures number_of(\\result) == uuid", NO_CONTRACT),
-]
-
-# What stands behind the laws.
-LAWS = [
-    ("/*@ assigns \\nothing; ensures \\false; */ size_t usize_min(size_t a, size_t b);", "no body: usize_min"),
-    ("/*@ assigns \\nothing; ensures \\false; */ void planted(void) { for (;;) {} }", LOOP),
-    ("/*@ requires \\false; assigns \\nothing; */ size_t base62_digit_count(base62_number n);", "two contracts"),
 ]
 
 # A program that shows what is false by WP's axiom for an array that is read whole.
@@ -272,12 +244,10 @@ def cases(work):
             wp.prepared(at, annotate.annotated(source, CONTRACT, text)), bare).wrong)
     yield "copy_bytes", "restrict", lambda at: said_of(wp.prepared(
         at, once(whole, "separated(to + (0 .. length - 1)", "separated(to + (0 .. 0)")), bare)
-    for old, new, by in SPECIFICATIONS:
-        of, more = (whole, [bare]) if by == CODE else (laws, [])
-        yield new, by, lambda at, text=once(specification, old, new), of=of, more=more: said_of(
-            wp.prepared(at, of, text), *more)
-    for text, by in LAWS:
-        yield text, by, lambda at, text=text: said_of(wp.prepared(at, laws + text), None, calls)
+    yield "u128_less", CODE, lambda at: said_of(wp.prepared(at, whole, once(
+        specification, "#define LETTERS(", "#define u128_less(a, b) u128_less(b, a)\n#define LETTERS(")), bare)
+    yield "no body", "no body: narrow_count", lambda at: said_of(wp.prepared(
+        at, laws + "/*@ assigns \\nothing; ensures \\false; */ size_t narrow_count(uint64_t n);"), None, calls)
     yield PROGRAM, FALSE, lambda at: said_of_function(wp.prepared(at, PROGRAM))
     yield OTHER, APART, lambda at: said_of_function(wp.prepared(at, OTHER))
     yield NEVER, "planted_wp_smoke", lambda at: wp.contradictions(wp.prepared(at, NEVER))

@@ -131,70 +131,44 @@ let step p a = match a.term_node with
     (match op with PlusA -> Some 1 | MinusA -> Some (-1) | _ -> None)
   | _ -> None
 
-(* What a condition says, if it holds or if not: which terms are bounded by which, from above (1) or from below (-1). *)
-let rec bounds holds t = match t.term_node with
-  | TBinOp (LAnd, a, b) when holds -> bounds holds a @ bounds holds b
-  | TBinOp (LOr, a, b) when not holds -> bounds holds a @ bounds holds b
-  | TBinOp ((Lt | Le), a, b) -> [ (a, (if holds then 1 else -1), b) ]
-  | TBinOp ((Gt | Ge), a, b) -> [ (a, (if holds then -1 else 1), b) ]
-  | _ -> []
-
-(* The calls of a definition within its own body, each with its arguments and with the conditions about it. Any other
-   definition that it uses stands before it. *)
+(* The calls of a definition within its own body, each with its arguments. Any other definition that it uses stands
+   before it. *)
 class body_of info before = object (self)
   inherit Visitor.frama_c_inplace
-  val mutable conditions = []
   val mutable calls = []
   val mutable unknown = []
   method calls = calls
   method unknown = unknown
-  method private under holds c visit = 
-    let outer = conditions in
-    conditions <- bounds holds c @ conditions;
-    visit ();
-    conditions <- outer
   method private call f args =
     let used = f.l_var_info in
-    if used.lv_id = info.l_var_info.lv_id then calls <- (args, conditions) :: calls
+    if used.lv_id = info.l_var_info.lv_id then calls <- args :: calls
     else if not (Hashtbl.mem before used.lv_id || Logic_env.is_builtin_logic_function used.lv_name)
     then unknown <- used.lv_name :: unknown
-  method! vterm_node n = match n with
-    | Tapp (f, _, args) -> self#call f args; Cil.DoChildren
-    | TLval (TVar v, _) when v.lv_id = info.l_var_info.lv_id -> self#call info []; Cil.DoChildren
-    | Tif (c, a, b) ->
-      let visit t () = ignore (Visitor.visitFramacTerm (self :> Visitor.frama_c_visitor) t) in
-      visit c ();
-      self#under true c (visit a);
-      self#under false c (visit b);
-      Cil.SkipChildren
-    | _ -> Cil.DoChildren
-  method! vpredicate_node n = match n with
-    | Papp (f, _, args) -> self#call f args; Cil.DoChildren
-    | Pif (c, p, q) ->
-      let visit p () = ignore (Visitor.visitFramacPredicate (self :> Visitor.frama_c_visitor) p) in
-      ignore (Visitor.visitFramacTerm (self :> Visitor.frama_c_visitor) c);
-      self#under true c (visit p);
-      self#under false c (visit q);
-      Cil.SkipChildren
-    | _ -> Cil.DoChildren
+  method! vterm_node n =
+    (match n with
+      | Tapp (f, _, args) -> self#call f args
+      | TLval (TVar v, _) when v.lv_id = info.l_var_info.lv_id -> self#call info []
+      | _ -> ());
+    Cil.DoChildren
+  method! vpredicate_node n = (match n with Papp (f, _, args) -> self#call f args | _ -> ()); Cil.DoChildren
 end
 
-(* Each call moves one counter by one, the same way, and stands where the counter is bounded that way by one bound: a
-   constant, or a parameter that is handed on as it is. *)
-let ends info calls =
-  let goes_by n p a = step p a = Some n in
-  let goes counter way (args, _) = List.exists2 (fun p a -> p == counter && goes_by way p a) info.l_profile args in
-  let is_fixed args bound = match bound.term_node with
-    | TConst _ -> true
-    | _ -> List.exists2 (fun p a -> goes_by 0 p a && is_parameter p bound) info.l_profile args in
-  let bounds counter way (args, conditions) = List.filter_map (fun (t, side, bound) ->
-    if is_parameter counter t && side = way && is_fixed args bound then Some bound else None) conditions in
-  let have bound counter way call = List.exists (Logic_utils.is_same_term bound) (bounds counter way call) in
-  let is_bounded counter way =
-    List.exists (fun bound -> List.for_all (have bound counter way) calls) (bounds counter way (List.hd calls)) in
-  let has_arguments (args, _) = List.length args = List.length info.l_profile && args <> [] in
-  List.for_all has_arguments calls && List.exists (fun p -> p.lv_type = Linteger
-    && List.exists (fun way -> List.for_all (goes p way) calls && is_bounded p way) [ 1; -1 ]) info.l_profile
+(* A conditional term. All calls stand where its condition bounds a counter from above, or where it does not so from
+   below: by a constant, or by a parameter that is handed on as it is. Each call moves the counter by one, that way. *)
+let ends info calls_of = match info.l_body with
+  | LBterm { term_node = Tif (c, a, b); _ } ->
+    let goes counter way bound =
+      let some test args = List.exists2 (fun p arg -> test p (step p arg)) info.l_profile args in
+      let is_fixed args = match bound.term_node with
+        | TConst _ -> true | _ -> some (fun p by -> is_parameter p bound && by = Some 0) args in
+      List.for_all (fun args -> List.length args = List.length info.l_profile && is_fixed args
+        && some (fun p by -> is_parameter p counter && p.lv_type = Linteger && by = Some way) args) in
+    let rec first t = match t.term_node with TBinOp (LAnd, t, _) -> first t | _ -> t in
+    calls_of c = [] && (match c.term_node, (first c).term_node with
+      | TBinOp (Le, counter, bound), _ -> calls_of a = [] && goes counter (-1) bound (calls_of b)
+      | _, TBinOp (Lt, counter, bound) -> calls_of b = [] && goes counter 1 bound (calls_of a)
+      | _ -> false)
+  | _ -> false
 
 let defined_before = Hashtbl.create 100
 
@@ -205,12 +179,15 @@ let definition info =
   let wrong = match info.l_body with
     | LBterm t -> ignore (Visitor.visitFramacTerm visit t); []
     | LBpred p -> ignore (Visitor.visitFramacPredicate visit p); []
-    | LBinductive _ -> [ "an inductive definition" ]
-    | LBreads _ | LBnone -> [ "a definition without a body" ] in
+    | LBinductive _ | LBreads _ | LBnone -> [ "a definition without a body" ] in
+  let calls_of t =
+    let part = new body_of info defined_before in
+    ignore (Visitor.visitFramacTerm (part :> Visitor.frama_c_visitor) t);
+    part#calls in
+  let is_endless = body#calls <> [] && not (ends info calls_of) in
   Hashtbl.replace defined_before info.l_var_info.lv_id ();
   wrong @ List.map (fun name -> "it uses a definition that does not stand before it, " ^ name) body#unknown
-  @ if body#calls = [] || ends info body#calls then []
-  else [ "a recursive definition, and nothing shows that it ends" ]
+  @ if is_endless then [ "a recursive definition, and nothing shows that it ends" ] else []
 
 (* -------------------- Axioms: a query of SMT-LIB for each -------------------- *)
 
@@ -314,12 +291,9 @@ let contract kf =
   @ (if f.vname = "main" then [ "WP takes it that no function is called before main" ] else [])
   @ (if List.length files > 1 then [ "two contracts" ] else [])
   @ (if is_public && files <> [ "base62.acsl" ] then [ "its contract does not stand in base62.acsl" ] else [])
-  @ (if spec.spec_terminates <> None then [ "a clause terminates" ] else [])
-  @ (if spec.spec_variant <> None then [ "a clause decreases" ] else [])
-  @ List.concat_map (fun b ->
-      (if List.exists (fun (kind, _) -> kind <> Normal) b.b_post_cond then [ "a clause of another end" ] else [])
-      @ if b.b_extended <> [] || b.b_allocation <> FreeAllocAny then [ "a clause of another kind" ] else [])
-    spec.spec_behavior
+  @ if spec.spec_terminates <> None || spec.spec_variant <> None || List.exists (fun b -> b.b_extended <> []
+      || b.b_allocation <> FreeAllocAny || List.exists (fun (kind, _) -> kind <> Normal) b.b_post_cond) spec.spec_behavior
+  then [ "a clause of another kind" ] else []
 
 (* -------------------- The walk -------------------- *)
 
@@ -470,8 +444,6 @@ class walk = object (self)
     (match a.annot_content with
       | AAssert ([], p) | AInvariant ([], true, p) -> self#reject_if (p.tp_kind = Admit) place "admit"
       | AVariant (_, None) | AAssigns ([], _) -> ()
-      | AVariant (_, Some _) -> self#reject place "a variant for a relation"
-      | APragma _ -> self#reject place "a pragma"
       | _ -> self#reject place "an annotation of another kind");
     Cil.DoChildren
 

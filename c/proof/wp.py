@@ -61,12 +61,12 @@ def check_path(path):
         raise SystemExit(f"a path that a shell or Frama-C would read otherwise: {path}")
 
 
-def prepared(work, code, specification=None, header=None):
-    """A file of this code, in a folder of its own with the specification and base62.h, or with other texts of these."""
+def prepared(work, code, specification=None):
+    """A file of this code, in a folder of its own with base62.h and the specification, or with another text of this."""
     check_path(work)
     work.mkdir(parents=True, exist_ok=True)
     (work / SPECIFICATION.name).write_text(specification or SPECIFICATION.read_text())
-    (work / HEADER.name).write_text(header or HEADER.read_text())
+    shutil.copy(HEADER, work)
     file = work / CODE.name
     file.write_text(code)
     return file
@@ -164,14 +164,14 @@ def checked(file, bare=None, calls=None):
     return Checked(of["defined"] | lemmas, of["public"], set() if calls else of["constant"], wrong)
 
 
-def checked_code(work, source, *more, header=None):
+def checked_code(work, source, *more):
     """The file of base62.c with annotations; and what is said of it, and of what is not on the list of the C it may be."""
-    wrong = [*unlisted_lines(header or HEADER.read_text(), source)]
+    wrong = [*unlisted_lines(HEADER.read_text(), source)]
     if wrong:
         raise SystemExit("\n".join(wrong))
-    bare = prepared(work / "bare", source, BARE, header)
+    bare = prepared(work / "bare", source, BARE)
     found = tree(bare)
-    file = prepared(work, annotate.annotated(source, *more), header=header)
+    file = prepared(work, annotate.annotated(source, *more))
     said = checked(file, code(bare))
     said.wrong += [what for kind, _, what in found if kind == "unlisted"]
     return file, said

@@ -247,6 +247,7 @@ function createResults({ enter, leave, bytes, words, halves }) {
     return number;
   }
 
+  const readRange = () => [readBigInt(NUMBER), readBigInt(GREATEST)];
   const text = new Uint8Array(bytes.buffer, TEXT, MAX_DIGITS);
   const uuidCodes = Array.from('00000000-0000-0000-0000-000000000000', (it) => it.charCodeAt(0));
 
@@ -288,7 +289,7 @@ function createResults({ enter, leave, bytes, words, halves }) {
     return new Base62Error(text, STATUSES[status], bytes[BAD_BYTE + 4], index);
   }
 
-  return { readBigInt, readNumber, readText, readUuid, errorOf };
+  return { readBigInt, readRange, readNumber, readText, readUuid, errorOf };
 }
 
 function createAlphabets({ bytes, enter, leave }, writeText, errorOf) {
@@ -338,7 +339,7 @@ function load(module) {
   const instance = instantiate(module);
   const { enter, leave } = instance;
   const { writeNumber, writeUuid, writeText } = createArguments(instance);
-  const { readBigInt, readNumber, readText, readUuid, errorOf } = createResults(instance);
+  const { readBigInt, readRange, readNumber, readText, readUuid, errorOf } = createResults(instance);
   const { Alphabet, writeAlphabet, zero } = createAlphabets(instance, writeText, errorOf);
 
   function encodeWritten(alphabet) {
@@ -417,7 +418,7 @@ function load(module) {
     const status = leave(enter().base62_prefix_range_with(ALPHABET, TEXT, size, width32, NUMBER, BAD_BYTE));
     if (status === NO_MATCH) return null;
     if (status !== OK) throw errorOf(status, start);
-    return [readBigInt(NUMBER), readBigInt(GREATEST)];
+    return readRange();
   }
 
   function prefixRange(prefix, width, alphabet) {

@@ -64,7 +64,8 @@ function unframed(uuid) {
   return uuid.slice(0, URN.length).toLowerCase() === URN ? uuid.slice(URN.length) : uuid;
 }
 
-const isUint8Array = (value) => typeOf.call(value) === 'Uint8Array';
+// V8 compares by === slowly once types have differed. So both are strings here, and objects in writeAlphabet.
+const isUint8Array = (value) => (typeOf.call(value) ?? '') === 'Uint8Array';
 const isUnsignedSafeInteger = (number) => Number.isSafeInteger(number) && number >= 0;
 
 function checkWidth(width) {
@@ -219,6 +220,7 @@ function createResults({ enter, leave, bytes, words, halves }) {
     return number;
   }
 
+  const readRange = () => [readBigInt(NUMBER), readBigInt(GREATEST)];
   const text = new Uint8Array(bytes.buffer, TEXT, MAX_DIGITS);
   const uuidCodes = Array.from('00000000-0000-0000-0000-000000000000', (it) => it.charCodeAt(0));
 
@@ -260,7 +262,7 @@ function createResults({ enter, leave, bytes, words, halves }) {
     return new Base62Error(text, STATUSES[status], bytes[BAD_BYTE + 4], index);
   }
 
-  return { readBigInt, readNumber, readText, readUuid, errorOf };
+  return { readBigInt, readRange, readNumber, readText, readUuid, errorOf };
 }
 
 function createAlphabets({ bytes, enter, leave }, writeText, errorOf) {
@@ -290,7 +292,10 @@ function createAlphabets({ bytes, enter, leave }, writeText, errorOf) {
   const { standard } = Alphabet;
 
   function writeAlphabet(alphabet = standard) {
-    if (current === alphabet) return;
+    if (typeof alphabet !== 'object' || current !== alphabet) replaceAlphabet(alphabet);
+  }
+
+  function replaceAlphabet(alphabet) {
     const table = tables.get(alphabet);
     if (!table) throw notAnAlphabet(alphabet);
     bytes.set(table, ALPHABET);
@@ -307,7 +312,7 @@ export function load(module) {
   const instance = instantiate(module);
   const { enter, leave } = instance;
   const { writeNumber, writeUuid, writeText } = createArguments(instance);
-  const { readBigInt, readNumber, readText, readUuid, errorOf } = createResults(instance);
+  const { readBigInt, readRange, readNumber, readText, readUuid, errorOf } = createResults(instance);
   const { Alphabet, writeAlphabet, zero } = createAlphabets(instance, writeText, errorOf);
 
   function encodeWritten(alphabet) {
@@ -357,14 +362,13 @@ export function load(module) {
   // Returns NUMBER, at which the library writes the number. If more follows the first piece of a long text, this piece
   // has more than 22 characters after its zeros: an overflow, even if some are invalid.
   function decodeText(text, alphabet, isCanonical) {
-    const size = writeText(text, 0);
+    let start = 0;
+    let size = writeText(text, start);
     writeAlphabet(alphabet);
-    if (size < PIECE_LENGTH) return decodeWritten(size, 0, isCanonical);
-    const start = startOf(text);
-    return decodeWritten(writeText(text, start), start, isCanonical);
-  }
-
-  function decodeWritten(size, start, isCanonical) {
+    if (size >= PIECE_LENGTH) {
+      start = startOf(text);
+      size = writeText(text, start);
+    }
     const library = enter();
     const status = leave(isCanonical
       ? library.base62_decode_canonical_with(ALPHABET, TEXT, size, NUMBER, BAD_BYTE)
@@ -387,7 +391,7 @@ export function load(module) {
     const status = leave(enter().base62_prefix_range_with(ALPHABET, TEXT, size, width32, NUMBER, BAD_BYTE));
     if (status === NO_MATCH) return null;
     if (status !== OK) throw errorOf(status, start);
-    return [readBigInt(NUMBER), readBigInt(GREATEST)];
+    return readRange();
   }
 
   function prefixRange(prefix, width, alphabet) {

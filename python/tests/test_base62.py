@@ -171,7 +171,7 @@ class Texts(unittest.TestCase):
                 return 0
 
         name = uuid.UUID("550e8400-e29b-41d4-a716-446655440000")
-        given: list[Any] = [name, uuid.UUID(int=IntSubclass(name.int)), Indexed(int=name.int)]
+        given: list[Any] = [name, uuid.UUID(int=IntSubclass(name.int)), Indexed(int=IntSubclass(name.int))]
         for one in given:
             self.assertEqual(base62.encode(one), "2aUyqjCzEIiEcYMKj7TZtw")
         for one in (*given, str(name), Subclass(name), name.bytes):

@@ -132,7 +132,7 @@ def invalid_calls() -> Iterator[Invocation]:
         (base62.encode_fixed, [(1337, 1), (1, -1), (1, -(2**64)), (1, "1"), (-1, 5), (1,)]),
         (base62.encode_fixed, [(1, 5, None), (1, 5, REPEATED), (1, 5, HIGH)]),
         (base62.key_range, [("-",), (bytearray(b"-"),), (5,), ()]),
-        (base62.prefix_range, [("-", 5), (bytearray(b"-"), 5), (5, 5), ("0", -1), ("0", "5"), ("0",)]),
+        (base62.prefix_range, [("-", 5), (bytearray(b"-"), 5), (5, 5), (bytearray(b"00"), -1), ("0", "5"), ("0",)]),
         (base62.prefix_range, [(text, 5, letters) for text in texts for letters in none]),
         (base62.decode, [(text, letters) for text in texts for letters in none]),
         (base62.decode_canonical, [(text, letters) for text in texts for letters in none]),

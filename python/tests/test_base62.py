@@ -136,7 +136,7 @@ class Texts(unittest.TestCase):
             self.assertEqual(base62.digit_count(number), 22)
 
     def test_kinds_of_uuids(self) -> None:
-        given: list[Any] = [NAME, uuid.UUID(int=OtherInt(NAME.int)), OtherUUID(int=NAME.int)]
+        given: list[Any] = [NAME, uuid.UUID(int=OtherInt(NAME.int)), OtherUUID(int=OtherInt(NAME.int))]
         for one in given:
             self.assertEqual(base62.encode(one), "2aUyqjCzEIiEcYMKj7TZtw")
         for one in (*given, str(NAME), OtherStr(NAME), NAME.bytes):

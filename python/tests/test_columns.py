@@ -199,8 +199,16 @@ class Arrays(ColumnsTestCase):
         # What could have 2^31 bytes has the large type, in each chunk.
         self.assertEqual(columns.encode_fixed([None], 2**31 - 1).type, pa.string())
         self.assertEqual(columns.encode_fixed([None], 2**31).type, pa.large_string())
-        chunks = pa.chunked_array([[1], [None, None]], pa.uint64())
+        chunks = pa.chunked_array([[1], [], [None, None]], pa.uint64())
         self.check(lambda it: columns.encode_fixed(it, 2**30)[1:], chunks, [None, None], pa.large_string())
+        self.assertEqual(columns.encode_fixed(pa.chunked_array([[None]] * 2, pa.uint8()), 2**30).type, pa.string())
+
+    def test_shared_strings(self) -> None:
+        """Strings of 2^31 bytes and more, which share those of a dictionary or a view. Only LZ is valid."""
+        texts = pa.array(["-" * 2**27, "LZ"])
+        views = pa.concat_arrays([texts.cast(pa.string_view())] * 17)
+        for column in (pa.DictionaryArray.from_arrays([0, 1] * 17, texts), views):
+            self.check(lambda it: columns.decode(it, errors="coerce"), column, [None, 1337] * 17)
 
 
 class Objects(ColumnsTestCase):
@@ -222,6 +230,8 @@ class Objects(ColumnsTestCase):
             pd.Series(numbers, dtype="Int64", index=[5, 5, 5, 5]),
             pd.Series(numbers, dtype="uint64[pyarrow]"),
             pd.Series(numbers, dtype=object),
+            # As those of pandas 3.
+            type("Series", (pd.Series,), {"__arrow_c_stream__": None})(numbers, dtype=object),
             pd.Series(pd.array(numbers, "Int64")).astype("category"),
             pd.array(numbers, "UInt64"),
             pd.DataFrame({"id": pd.array(numbers, "Int64")}, index=[5, 4, 3, 2]),
@@ -247,7 +257,8 @@ class Objects(ColumnsTestCase):
             texts = [None if it is None or it is pd.NA or it != it else base62.encode(it) for it in numbers]
             for column in (numbers, (it for it in numbers), np.array(numbers, object), pd.Series(numbers, dtype=object)):
                 self.check(columns.encode, column, texts, pa.string())
-        self.check(lambda it: columns.encode(it, errors="coerce"), [2**128, -1, 5, -(2**200)], [None, None, "5", None])
+        call = lambda it: columns.encode(it, errors="coerce", type=pa.large_string())
+        self.check(call, [2**128, -1, 5, -(2**200)], [None, None, "5", None], pa.large_string())
         # pyarrow would take the integer parts of these for uint64.
         for floats in ([1.5, 2**63], [2**63, 1.5], [1.5, 2**64], [2.0, 1]):
             for errors in ("raise", "coerce"):
@@ -330,6 +341,7 @@ FUNCTIONS: list[tuple[Call, Call, tuple[int, ...], Any, Any, Any]] = [
 
 class Arguments(ColumnsTestCase):
     def test_results(self) -> None:
+        self.assertEqual({*columns.__all__}, {call.__name__ for call, *_ in FUNCTIONS})
         for call, one, given, value, bad, _ in FUNCTIONS:
             for alphabet in ((), (base62.Alphabet.ALTERNATIVE,), (CUSTOM,), (CUSTOM.decode(),)):
                 if call is columns.encode_key and alphabet:

@@ -261,7 +261,7 @@ class Runs(unittest.TestCase):
         result = "L", bytearray(len(new[0])), bytearray(), values
         self.assertEqual(_base62.decode_rows(ALPHABETS[0], True, source, result, False), (len(rows), 0, nulls))
         self.assertEqual(result[1], new[0])
-        self.assertEqual([*memoryview(values).cast("Q")], [0 if row % 3 == 0 else it for row, it in enumerate(rows)])
+        self.assertEqual(values, array("Q", [0 if row % 3 == 0 else it for row, it in enumerate(rows)]).tobytes())
 
     def test_invalid(self) -> None:
         for bad in (RUN - 2, RUN, 2 * RUN + 5):

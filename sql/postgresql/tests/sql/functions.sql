@@ -15,6 +15,9 @@ SELECT oid::regprocedure FROM functions WHERE obj_description(oid, 'pg_proc') IS
 SELECT count(DISTINCT obj_description(oid, 'pg_proc')), obj_description('base62_key'::regtype, 'pg_type')
     FROM functions;
 SELECT extversion, extrelocatable FROM pg_extension WHERE extname = 'base62';
+SELECT string_agg(DISTINCT proargnames::text, ' ') FROM functions;
+-- A key has the collation of no argument that is a text.
+SELECT oid::regprocedure FROM functions WHERE prorettype = 'base62_key'::regtype AND 'text'::regtype = ANY (proargtypes);
 
 \echo Arguments of no type
 \set own '\'zyxwvutsrqponmlkjihgfedcbaZYXWVUTSRQPONMLKJIHGFEDCBA9876543210\''

@@ -24,6 +24,7 @@ import sys
 from dataclasses import dataclass
 from decimal import Decimal
 from functools import partial
+from numbers import Integral
 from typing import TYPE_CHECKING, Any, Literal, NamedTuple, SupportsIndex, TypeAlias
 from uuid import UUID
 
@@ -157,7 +158,8 @@ def _to_arrow(column: Any) -> _Array | None:
         return pa.chunked_array(column)
     for wide in (None, pa.uint64()):
         try:
-            return pa.array(column, wide, from_pandas=True)
+            found = pa.array(column, wide, from_pandas=True)
+            return None if pa.types.is_integer(found.type) and _has_others(column) else found
         except OverflowError:
             # All values are integers then. Of floats, pyarrow would take the integer parts.
             continue
@@ -166,11 +168,20 @@ def _to_arrow(column: Any) -> _Array | None:
     return None
 
 
+def _has_others(column: Any) -> bool:
+    """Return whether an object among integers is a float or a boolean of NumPy, of which pyarrow may take the int()."""
+    if getattr(column, "dtype", object) != object:
+        return False
+    return any(it.__module__ == "numpy" and not issubclass(it, Integral) for it in set(map(type, column)))
+
+
 def _is_missing(value: object) -> bool:
     try:
-        return not pa.scalar(value, from_pandas=True).is_valid
+        scalar = pa.scalar(value, from_pandas=True)
     except (pa.ArrowException, OverflowError, UnicodeError):
         return False
+    # NaN of NumPy's narrow floats is valid for pyarrow.
+    return not scalar.is_valid or pa.types.is_floating(scalar.type) and scalar.as_py() != scalar.as_py()
 
 
 def _add_row(error: Exception, row: int, value: object) -> None:

@@ -247,7 +247,8 @@ class Objects(ColumnsTestCase):
         """Lists that pyarrow has no type for."""
         lists: list[list[Any]] = [
             [2**63, 0, None],
-            [2**64, 1, float("nan")],
+            [2**64, 1, float("nan"), np.float32("nan")],
+            [1, np.float64("nan"), np.float16("nan")],
             [np.int8(1), np.uint64(2**63), pd.NA],
             [True, 2, None],
             [NAME, 2**128 - 1, None],
@@ -259,8 +260,9 @@ class Objects(ColumnsTestCase):
                 self.check(columns.encode, column, texts, pa.string())
         call = lambda it: columns.encode(it, errors="coerce", type=pa.large_string())
         self.check(call, [2**128, -1, 5, -(2**200)], [None, None, "5", None], pa.large_string())
-        # pyarrow would take the integer parts of these for uint64.
-        for floats in ([1.5, 2**63], [2**63, 1.5], [1.5, 2**64], [2.0, 1]):
+        # pyarrow would take the integer parts of these, or 1 for true.
+        others: list[list[Any]] = [[2, it] for it in (np.float16(1.5), np.longdouble(1.5), np.bool_(True), np.float32(1))]
+        for floats in (*others, [1.5, 2**63], [2**63, 1.5], [2**63, np.float16(1.5)], [1.5, 2**64], [2.0, 1]):
             for errors in ("raise", "coerce"):
                 self.raised(TypeError, columns.encode, floats, errors=errors)
 
@@ -287,6 +289,7 @@ class Objects(ColumnsTestCase):
         for column in (
             texts,
             ["LZ", float("nan"), b"z"],
+            ["LZ", np.float32("nan"), "z"],
             [bytearray(b"LZ"), None, memoryview(b"z")],
             np.array(texts, object),
             np.ma.array(["LZ", "", "z"], mask=[0, 1, 0]),

@@ -78,19 +78,23 @@ for _error in (*DecodeError.__subclasses__(), DecodeError, AlphabetError, OutOfR
     _error.__module__ = "base62"
 
 
+def _type_of(value: object) -> str:
+    return type(value).__name__
+
+
 def to_int(number: Number) -> int:
     """Return the int of a number that is not exactly an int."""
     if isinstance(number, UUID):
         return operator.index(number.int)
     if not hasattr(type(number), "__index__"):
-        raise TypeError(f"a number is an int, has __index__, or is a uuid.UUID, not {type(number)}")
+        raise TypeError(f"a number is an int, has __index__, or is a uuid.UUID, not {_type_of(number)}")
     return operator.index(number)
 
 
 def uuid_to_int(value: AnyUUID) -> int:
     """Return the int of a UUID that is neither exactly a uuid.UUID, nor a str nor bytes."""
     if not isinstance(value, UUID):
-        raise TypeError(f"a UUID is a uuid.UUID, a str or 16 bytes, not {type(value)}")
+        raise TypeError(f"a UUID is a uuid.UUID, a str or 16 bytes, not {_type_of(value)}")
     return operator.index(value.int)
 
 
@@ -107,14 +111,14 @@ def to_bytes(text: EncodedString) -> bytes:
     try:
         view = memoryview(text)
     except TypeError:
-        raise TypeError(f"an encoded string is a str, bytes, bytearray or memoryview, not {type(text)}") from None
+        raise TypeError(f"an encoded string is a str, bytes, bytearray or memoryview, not {_type_of(text)}") from None
     if view.itemsize != 1:
-        raise TypeError(f"an encoded string has items of one byte, not of {view.itemsize} as this {type(text)}")
+        raise TypeError(f"an encoded string has items of one byte, not of {view.itemsize} as this {_type_of(text)}")
     return bytes(view)
 
 
 def to_characters(alphabet: object) -> bytes:
     """Return the characters of an alphabet that is neither an Alphabet nor bytes."""
     if not isinstance(alphabet, str):
-        raise TypeError(f"an alphabet is an Alphabet, a str or bytes, not {type(alphabet)}")
+        raise TypeError(f"an alphabet is an Alphabet, a str or bytes, not {_type_of(alphabet)}")
     return str.encode(alphabet, "ascii")

@@ -53,14 +53,13 @@ int read_uuid(struct text text, int is_string, base62_number *number) {
 
 static int number_of_text_or_raise(struct state *state, PyObject *argument, base62_number *number) {
     struct text text;
-    int is_string = PyUnicode_Check(argument);
     if (text_or_raise(state, argument, &text) != 0)
         return -1;
-    int failed = read_uuid(text, is_string, number);
+    int failed = read_uuid(text, PyUnicode_Check(argument), number);
     Py_DecRef(text.owner);
     if (failed != 0)
-        PyErr_SetString(PyExc_ValueError,
-                        is_string ? "badly formed hexadecimal UUID string" : "bytes is not a 16-char string");
+        PyErr_SetString(PyExc_ValueError, "a UUID is 32 hexadecimal digits, with hyphens or without, in braces or after "
+                                          "urn:uuid:, or 16 bytes");
     return failed;
 }
 

@@ -247,9 +247,9 @@ class Alphabets(RaisesTestCase):
 
     def test_types(self) -> None:
         for letters in (None, 62, [*STANDARD], bytearray(STANDARD.encode()), Alphabet):
+            message = f"an alphabet is an Alphabet, a str or bytes, not {type(letters).__name__}"
             for call in OF_ALPHABETS:
-                error = self.raised(TypeError, call, letters)
-                self.assertRegex(str(error), "an alphabet is an Alphabet, a str or bytes, not <class '[a-zA-Z]+'>")
+                self.assertEqual(str(self.raised(TypeError, call, letters)), message)
 
 
 class Widths(RaisesTestCase):
@@ -288,23 +288,27 @@ class Faults(RaisesTestCase):
                 self.assertEqual(str(error), "the number is not from 0 to 2**128 - 1")
             for other in (1.0, "1", None, b"1", uuid.UUID):
                 error = self.raised(TypeError, call, other)
-                self.assertRegex(str(error), r"^a number is an int, has __index__, or is a uuid\.UUID, not <class")
+                message = f"a number is an int, has __index__, or is a uuid.UUID, not {type(other).__name__}"
+                self.assertEqual(str(error), message)
         for given in (5, bytearray(16), None):
             error = self.raised(TypeError, base62.encode_uuid, given)
-            self.assertRegex(str(error), r"^a UUID is a uuid\.UUID, a str or 16 bytes, not <class '\w+'>$")
+            self.assertEqual(str(error), f"a UUID is a uuid.UUID, a str or 16 bytes, not {type(given).__name__}")
 
     def test_uuids(self) -> None:
         """Bytes for a UUID are the 16 of its number, and never digits."""
         digits = "12345678" * 4
         given: list[str | bytes] = [b"", bytes(15), bytes(17), bytes(32), digits.encode()]
+        forms = "with hyphens or without, in braces or after urn:uuid:"
         for one in (*given, "\ud800" * 32, f"{{{digits})", f"({digits}}}"):
-            self.raised(ValueError, base62.encode_uuid, one)
+            error = self.raised(ValueError, base62.encode_uuid, one)
+            self.assertEqual(str(error), f"a UUID is 32 hexadecimal digits, {forms}, or 16 bytes")
 
     def test_types_of_texts(self) -> None:
         for call in OF_TEXTS:
             for text in (5, None, [1], {"0"}, 1.0):
                 error = self.raised(TypeError, call, text)
-                self.assertRegex(str(error), r"^an encoded string is a str, bytes, bytearray or memoryview, not <class")
+                message = f"an encoded string is a str, bytes, bytearray or memoryview, not {type(text).__name__}"
+                self.assertEqual(str(error), message)
             for code in "HiIqQfd":
                 wide = array(code, [48, 49])
                 for items in (wide, memoryview(wide), memoryview(wide)[::2]):

@@ -2,8 +2,8 @@
 
 import concurrent.futures
 import dataclasses
-import difflib
 import functools
+import hashlib
 import os
 import re
 import shutil
@@ -21,7 +21,9 @@ BITS = os.environ.get("BITS", "64")
 CODE = C / "base62.c"
 HEADER = C / "base62.h"
 SPECIFICATION = FOLDER / "base62.acsl"
-PREPROCESSOR = FOLDER / "preprocessor.txt"
+# The digest of what both files leave to the preprocessor, by which compilers may read other tokens than Frama-C. Who
+# changes such a line compares what they read, and puts the new digest here.
+PREPROCESSED = "4ff54530c31f8ad78c66c38ae2477983f6da0c0948711c0274de698207ec235e"
 # What stands before the bare code: no specification, and nothing that says who reads it.
 BARE = "#include <stddef.h>\n#include <stdint.h>\n#undef __FRAMAC__\n"
 FLAGS = f"-D__FC_MACHDEP_X86_{BITS} -DBASE62_NO_INT128 -U__SIZEOF_INT128__ -U__GNUC__"
@@ -72,7 +74,7 @@ def prepared(work, code, specification=None):
     return file
 
 
-# The only lines of the preprocessor that PREPROCESSOR leaves out, if they are not between #if and #endif.
+# The only lines of the preprocessor that are left out, if they are not between #if and #endif.
 CONSTANT = re.compile(r'#define B(?:ASE)?62_\w+ (?:\w+|"[^"]*"|\w+\(\w+\)|\(\(\w+\)\w+\))')
 
 
@@ -90,11 +92,12 @@ def of_preprocessor(name, text):
     return found
 
 
-def unlisted_lines(header, source):
-    """Where the lines of both files for the preprocessor are not those of the list."""
-    found = of_preprocessor(HEADER.name, header) + of_preprocessor(CODE.name, source)
-    yield from (f"{PREPROCESSOR.name}: {line}" for line in difflib.ndiff(PREPROCESSOR.read_text().splitlines(), found)
-                if line[0] in "-+")
+def check_preprocessed(header, source):
+    """Ends if both files leave anything else to the preprocessor."""
+    found = "\n".join(of_preprocessor(HEADER.name, header) + of_preprocessor(CODE.name, source))
+    digest = hashlib.sha256(found.encode()).hexdigest()
+    if digest != PREPROCESSED:
+        raise SystemExit(f"other lines for the preprocessor, with the digest {digest}:\n{found}")
 
 
 def frama_c(file, name, options, last=None, **more):
@@ -166,9 +169,7 @@ def checked(file, bare=None, calls=None):
 
 def checked_code(work, source, *more):
     """The file of base62.c with annotations; and what is said of it, and of what is not on the list of the C it may be."""
-    wrong = [*unlisted_lines(HEADER.read_text(), source)]
-    if wrong:
-        raise SystemExit("\n".join(wrong))
+    check_preprocessed(HEADER.read_text(), source)
     bare = prepared(work / "bare", source, BARE)
     found = tree(bare)
     file = prepared(work, annotate.annotated(source, *more))

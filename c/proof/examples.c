@@ -40,13 +40,11 @@ size_t index_again(base62_bad_byte bad) {
     char text[BASE62_MAX_ERROR_MESSAGE];
     size_t again = 0;
     const size_t count = compute_decimals(bad.index);
-    escape(bad.byte);
     const size_t length = base62_error_message(BASE62_INVALID_BYTE, bad, text, sizeof text);
     /*@ loop invariant 0 <= i <= count && again == without_decimals(bad.index, count - i);
         loop assigns i, again; loop variant count - i; */
     for (size_t i = 0; i < count; i++) {
         //@ assert byte: text[length - count + i] == decimal_byte(bad.index, i);
-        //@ assert next: without_decimals(bad.index, count - i) == without_decimals(bad.index, count - i - 1) / 10;
         again = again * 10 + (size_t)(text[length - count + i] - '0');
     }
     return again;

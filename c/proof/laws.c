@@ -114,7 +114,6 @@ static void begins_with(const unsigned char *letters, const unsigned char *p, si
     for (size_t i = k; i < n; i++) {
         compute_digit(letters, p[i]);
         //@ assert value: value(letters, p, i + 1) == value(letters, p, i) * 62 + digit(letters, p[i]);
-        //@ assert least: shifted(value(letters, p, k), i + 1 - k) == 62 * shifted(value(letters, p, k), i - k);
     }
 }
 
@@ -459,10 +458,6 @@ void is_in_range(const unsigned char *letters, const unsigned char *p, size_t n,
     two_texts(letters, p, prefix, k);
     begins_with(letters, p, k, n);
     shift_keeps_order(rest);
-    /*@ assert less: value(letters, p, k) < value(letters, prefix, k) ==>
-            shifted(value(letters, p, k) + 1, rest) <= shifted(value(letters, prefix, k), rest); */
-    /*@ assert more: value(letters, p, k) > value(letters, prefix, k) ==>
-            shifted(value(letters, prefix, k) + 1, rest) <= shifted(value(letters, p, k), rest); */
 }
 
 /* A number that needs more letters than the width is in no range. */
@@ -471,7 +466,6 @@ void is_in_range(const unsigned char *letters, const unsigned char *p, size_t n,
 */
 void is_beyond(const unsigned char *letters, const unsigned char *prefix, size_t k, size_t n, base62_number number) {
     const size_t fewer = compute_count(number) - 1, rest = n - k;
-    //@ assert fewer: fewer == digit_count(number_of(number)) - 1;
     if (compute_bad_index(letters, prefix, k) < k || k > n || n == 0) return;
     powers_grow(n, fewer);
     if (k > 0) value_within(letters, prefix, k);
@@ -604,9 +598,6 @@ base62_status rows_by_example(size_t n, size_t at) {
         loop assigns i, text[0 .. n - 1]; loop variant n - i; */
     for (size_t i = 0; i < n; i++) text[i] = i == at ? '-' : 'z';
     letters_by_example();
-    compute_digit(standard_letters, 'z');
-    compute_digit(standard_letters, '-');
-    //@ assert zeros: n > 0 ==> leading_zeros(STANDARD_LETTERS, BYTES(text), n) == 0;
     /*@ loop invariant 0 <= i <= n && bad_index(STANDARD_LETTERS, BYTES(text), i) == (at < i ? at : i);
         loop invariant i <= at ==> value(STANDARD_LETTERS, BYTES(text), i) == power_of_62(i) - 1;
         loop invariant 10 <= i && 10 <= at ==> value(STANDARD_LETTERS, BYTES(text), 10) == power_of_62(10) - 1;
@@ -614,10 +605,7 @@ base62_status rows_by_example(size_t n, size_t at) {
     for (size_t i = 0; i < n; i++) {}
     powers_grow(n < 21 ? n : 21, 21);
     power_22();
-    //@ assert first_bad: bad_index(STANDARD_LETTERS, BYTES(text), n) == (at < n ? at : n);
-    //@ assert small: n <= 21 && n <= at ==> value(STANDARD_LETTERS, BYTES(text), n) < ACSL_2_128;
     /*@ assert shown: n == 22 && 10 <= at ==> shifted(value(STANDARD_LETTERS, BYTES(text),
             leading_zeros(STANDARD_LETTERS, BYTES(text), n) + 10), 12) >= ACSL_2_128; */
-    //@ assert great: n == 22 && 22 <= at ==> value(STANDARD_LETTERS, BYTES(text), n) >= ACSL_2_128;
     return base62_decode(text, n, &number, &bad);
 }

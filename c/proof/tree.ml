@@ -291,8 +291,9 @@ let contract kf =
   @ (if f.vname = "main" then [ "WP takes it that no function is called before main" ] else [])
   @ (if List.length files > 1 then [ "two contracts" ] else [])
   @ (if is_public && files <> [ "base62.acsl" ] then [ "its contract does not stand in base62.acsl" ] else [])
-  @ if spec.spec_terminates <> None || spec.spec_variant <> None || List.exists (fun b -> b.b_extended <> []
-      || b.b_allocation <> FreeAllocAny || List.exists (fun (kind, _) -> kind <> Normal) b.b_post_cond) spec.spec_behavior
+  @ if spec.spec_terminates <> None || spec.spec_variant <> None || List.exists (fun b ->
+      b.b_extended <> [] || b.b_allocation <> FreeAllocAny
+      || List.exists (fun (kind, _) -> kind <> Normal) b.b_post_cond) spec.spec_behavior
   then [ "a clause of another kind" ] else []
 
 (* -------------------- The walk -------------------- *)

@@ -96,6 +96,7 @@ LISTS = [
     # A contract that is not one.
     ("== contract base62_encode\nrequires size > 100;\nassigns buffer[0 .. size - 1];", "two contracts"),
     ("== contract here\nrequires \\false;", "syntax error"),
+    (ghost("", "assigns \\nothing;", head="__attribute__((pure)) void planted(void)"), "an attribute"),
     (ghost("", "ensures \\true;"), NO_CONTRACT), (ghost("", "behavior only: assumes \\false; assigns \\nothing;"), NO_CONTRACT),
     (ghost("all = 0;", "assigns all;", before="//@ ghost int all;"), "a ghost function that assigns"),
     (ghost("", "assigns \\nothing; allocates \\nothing;"), CLAUSE),
@@ -127,7 +128,8 @@ ACCEPTED = [
 STATEMENTS = [
     # What compilers read otherwise, and Frama-C alone.
     *((line, LINE) for line in (
-        "#ifndef BASE62_BUILD\n    i++;\n#endif", "#include \"min.inc\"", "/* */ #undef B62_MAY_ALIAS", "#define next(n) (n) + 1")),
+        "#ifndef BASE62_BUILD\n    i++;\n#endif", "#include \"min.inc\"", "/* */ #undef B62_MAY_ALIAS", "#define next(n) (n) + 1",
+        "if (__BYTE_ORDER__ == 4321) i = 1;", "#define B62_ORDER __BYTE_ORDER__", "_Pragma(\"GCC optimize (3)\")")),
     # What depends on the machine: types, constants, the sign of a char or of an enum.
     *((f"const {name} n = 1; i += n;", TYPE) for name in ("unsigned long", "uint_fast32_t", "short", "uintptr_t")),
     ("i = (unsigned long)i;", TYPE), ("const union { uint8_t a; } n = {1};", TYPE),
@@ -144,7 +146,6 @@ STATEMENTS = [
     # Two effects, or an effect and a read.
     *((text, UNTYPED) for text in (
         "i = length++ + length;", "to[i++] = (uint8_t)i;", "i = (length = 1) + length;", "i = (i++, 1);", "if (to[i++] == 1) i = 2;")),
-    ("if (__builtin_expect(length > 1, 0)) i = 1;", UNTYPED),
     ("i = u64_ilog2(base62_encode(base62_from_u64(1), (char *)to, i));", CALL),
     ("if (base62_encode(base62_from_u64(1), (char *)to, i) == part[0]) i = 1;", CALL),
     ("to[i] = (uint8_t)base62_encode(base62_from_u64(1), (char *)to, i);", CALL),
@@ -154,7 +155,6 @@ STATEMENTS = [
     ("i = (size_t)(to - part);", EXPRESSION), ("to = 0;", EXPRESSION), ("const size_t *at = &((const base62_bad_byte *)0)->index;", EXPRESSION),
     ("const struct { size_t n; uint8_t a[2]; } both[2] = {{0, {0}}};", "more than numbers"),
     ("const struct { size_t n; uint8_t rest[]; } n = {1}; i = n.n;", "an array without a length"),
-    ("const struct __attribute__((packed)) { uint8_t a; size_t b; } n = {1, 1}; i = n.b;", "an attribute"),
     ("base62_range n = {{0, 0}, {0, 0}}; uint64_t *at = &n.least.low; at[1] = 1;", EXPRESSION),
     # Other statements.
     *((text, STATEMENT) for text in (

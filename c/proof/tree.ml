@@ -62,7 +62,7 @@ module Listed = struct
     | CONSTANT (CONST_STRING s) -> Seq.fold_left (fun all c -> all && is_ascii c) true (String.to_seq s)
     | BINARY ((ASSIGN | ADD_ASSIGN | SUB_ASSIGN | MUL_ASSIGN | DIV_ASSIGN | SHR_ASSIGN), _, _) | UNARY ((POSINCR | POSDECR), _) ->
       may_have_effect
-    | CALL ({ expr_node = VARIABLE f; _ }, _, []) -> not (String.starts_with ~prefix:"__" f)  (* Those that write are below. *)
+    | CALL ({ expr_node = VARIABLE _; _ }, _, []) -> true (* Those that write are below. *)
     | _ -> false
   let statement s = match s.stmt_node with
     | NOP _ | COMPUTATION _ | RETURN _ | BLOCK _ | IF _ | WHILE _ | FOR (_, FC_DECL _, _, _, _, _) | DEFINITION (DECDEF _)

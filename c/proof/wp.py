@@ -73,18 +73,19 @@ def prepared(work, code, specification=None):
 
 
 # The only lines of the preprocessor that PREPROCESSOR leaves out, if they are not between #if and #endif.
-CONSTANT = re.compile(r'#define B(?:ASE)?62_\w+ (?:\w+|"[^"]*"|\w+\(\w+\)|\(\(\w+\)\w+\))')
+CONSTANT = re.compile(r'#define B(?:ASE)?62_\w+ (?:(?!_)\w+|"[^"]*"|\w+\(\w+\)|\(\(\w+\)\w+\))')
 
 
 def of_preprocessor(name, text):
-    """What a file leaves to the preprocessor: each paragraph with a line for it, and all between #if and #endif."""
+    """What a file leaves to the preprocessor: each paragraph with a line for it, or with a name that begins with an
+    underscore, as macros of compilers do, and all between #if and #endif."""
     comment = r"(?:/\*(?:(?!\*/).)*\*/|//(?!@)[^\n]*)"
     text = re.sub(rf"^ *{comment}\n| *{comment}", "", text, flags=re.M | re.S)
     found, depth = [f"== {name}"], -(name == HEADER.name)  # All of it is between #ifndef and #endif.
     for part in re.split("\n\n+", text.strip()):
         opened, closed = (len(re.findall(f"^ *# *{word}", part, re.M)) for word in ("if", "endif"))
         lines = [line for line in part.split("\n") if opened or depth > 0 or not CONSTANT.fullmatch(line)]
-        if depth > 0 or any(line.lstrip().startswith("#") for line in lines):
+        if depth > 0 or any(re.search(r"^ *#|\b_", line) for line in lines):
             found += lines
         depth += opened - closed
     return found

@@ -428,6 +428,8 @@ def refused_texts() -> Iterator[bytes]:
     for number in [LARGEST + 1, LARGEST + 2, 2**129, 62**22 - 1, 62**22, 62**23, 62**40, *drawn(32, "too large")]:
         yield text_of(STANDARD, number + LARGEST + 1 if number <= LARGEST else number)
     yield b"0" * 300 + b"_"
+    # A byte does not hold these lengths.
+    yield b"z" * 261
     yield b"\xc3\xa9" * 12
 
 
@@ -443,6 +445,10 @@ def prefixes() -> Iterator[tuple[int, bytes]]:
                 yield width, chosen[:-1] + b"0"
             if length % 4 == 3:
                 yield width, chosen[:-2] + b"-" + chosen[-1:]
+    # A byte holds neither these widths nor these lengths.
+    yield 260, b"0" * 258 + b"L"
+    yield 300, b"1" * 260
+    yield 300, b"1" * 260 + b"-"
     for number in drawn(64, "prefixes"):
         yield number % 40, text_of(STANDARD, number >> 6)[: number % 7]
 

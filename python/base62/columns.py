@@ -91,6 +91,7 @@ _STRINGS = _Kind(
         pa.binary_view(): pa.large_binary(),
     },
     [
+        (pa.types.is_fixed_size_binary, "cast it to binary"),
         (pa.types.is_primitive, "read it as strings, since numbers have lost leading zeros"),
         (pa.types.is_run_end_encoded, "decode it by pyarrow.compute.run_end_decode"),
     ],
@@ -123,7 +124,7 @@ _NUMBERS = _Kind(
 
 def _readable(column: Any, kind: _Kind) -> Any:
     """Return a column as pyarrow takes it as it is meant."""
-    if isinstance(column, (str, bytes)):
+    if isinstance(column, (str, bytes, bytearray)):
         raise TypeError(f"a column is an array or a list, not {type(column).__name__}")
     dimensions = getattr(column, "ndim", 1)
     if dimensions == 2 and hasattr(column, "iloc"):
@@ -131,6 +132,8 @@ def _readable(column: Any, kind: _Kind) -> Any:
         return column.iloc[:, 0]
     if dimensions != 1:
         raise TypeError(f"a column has one dimension, not {dimensions}")
+    if type(column).__module__.startswith("numpy.ma"):
+        return column.tolist()
     dtype: Any = getattr(column, "dtype", None)
     form = getattr(dtype, "char", "O")
     if form == "S" and kind is not _STRINGS:
@@ -147,6 +150,29 @@ def _check_count(columns: int) -> None:
         raise TypeError(f"a table has one column here, not {columns}")
 
 
+def _types_of_objects(column: Any) -> set[type]:
+    """Return the types of the objects in a list, an array or a categorical of objects."""
+    objects = getattr(getattr(column, "dtype", None), "categories", column)
+    return set(map(type, objects)) if getattr(objects, "dtype", object) == object else set()
+
+
+def _is_converted(of_objects: type) -> bool:
+    """Return whether pyarrow may convert such a NumPy scalar by int(), or end the process, if others are with it."""
+    module = of_objects.__module__
+    is_integer = module == "numpy" and hasattr(of_objects, "__index__")
+    return module.startswith("numpy") and not is_integer and not issubclass(of_objects, (str, bytes, float))
+
+
+def _is_mixed(of_column: _Type, types: set[type]) -> bool:
+    """Return whether objects have other types than the one as which pyarrow has taken them."""
+    of_values = of_column.value_type if pa.types.is_dictionary(of_column) else of_column
+    if pa.types.is_binary(of_values):
+        return any(issubclass(it, str) for it in types)
+    if pa.types.is_floating(of_values):
+        return any(issubclass(it, Integral) for it in types)
+    return bool(types) and pa.types.is_struct(of_values)
+
+
 def _to_arrow(column: Any) -> _Array | None:
     """Return a column as pyarrow has it, or None if pyarrow has no type for its values."""
     if isinstance(column, (pa.Array, pa.ChunkedArray)):
@@ -156,10 +182,13 @@ def _to_arrow(column: Any) -> _Array | None:
     # pandas 3 has this too, and takes NaN for a value there.
     if hasattr(column, "__arrow_c_stream__") and not hasattr(column, "iloc"):
         return pa.chunked_array(column)
+    types = _types_of_objects(column)
+    if any(map(_is_converted, types)):
+        return None
     for wide in (None, pa.uint64()):
         try:
             found = pa.array(column, wide, from_pandas=True)
-            return None if pa.types.is_integer(found.type) and _has_others(column) else found
+            return None if _is_mixed(found.type, types) else found
         except OverflowError:
             # All values are integers then. Of floats, pyarrow would take the integer parts.
             continue
@@ -168,14 +197,9 @@ def _to_arrow(column: Any) -> _Array | None:
     return None
 
 
-def _has_others(column: Any) -> bool:
-    """Return whether an object among integers is a float or a boolean of NumPy, of which pyarrow may take the int()."""
-    if getattr(column, "dtype", object) != object:
-        return False
-    return any(it.__module__ == "numpy" and not issubclass(it, Integral) for it in set(map(type, column)))
-
-
 def _is_missing(value: object) -> bool:
+    if type(value).__name__ == "MaskedConstant":
+        return True
     try:
         scalar = pa.scalar(value, from_pandas=True)
     except (pa.ArrowException, OverflowError, UnicodeError):

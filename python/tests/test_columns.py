@@ -226,7 +226,8 @@ class Objects(ColumnsTestCase):
             [pd.NA if it is None else it for it in numbers],
             [None if it is None else Decimal(it) for it in numbers],
             np.array(numbers, object),
-            np.ma.array([1337, 5, 0, 2**63 - 1], mask=[0, 1, 0, 0]),
+            np.ma.array([1337, 5, 0, 2**63 - 1], ">i8", mask=[0, 1, 0, 0]),
+            [1337, np.ma.masked, 0, 2**63 - 1],
             pd.Series(numbers, dtype="Int64", index=[5, 5, 5, 5]),
             pd.Series(numbers, dtype="uint64[pyarrow]"),
             pd.Series(numbers, dtype=object),
@@ -248,7 +249,7 @@ class Objects(ColumnsTestCase):
         lists: list[list[Any]] = [
             [2**63, 0, None],
             [2**64, 1, float("nan"), np.float32("nan")],
-            [1, np.float64("nan"), np.float16("nan")],
+            [1, np.float64("nan"), np.float16("nan"), np.float32("nan")],
             [np.int8(1), np.uint64(2**63), pd.NA],
             [True, 2, None],
             [NAME, 2**128 - 1, None],
@@ -261,7 +262,9 @@ class Objects(ColumnsTestCase):
         call = lambda it: columns.encode(it, errors="coerce", type=pa.large_string())
         self.check(call, [2**128, -1, 5, -(2**200)], [None, None, "5", None], pa.large_string())
         # pyarrow would take the integer parts of these, or 1 for true.
-        others: list[list[Any]] = [[2, it] for it in (np.float16(1.5), np.longdouble(1.5), np.bool_(True), np.float32(1))]
+        others: list[list[Any]] = [[2, it] for it in (
+            np.float16(1.5), np.longdouble(1.5), np.bool_(True), np.float32(1), np.timedelta64(5, "ns"))]
+        others += [[np.datetime64("2026-01-01", "ns"), np.int64(5)]]  # For these pyarrow would end the process.
         for floats in (*others, [1.5, 2**63], [2**63, 1.5], [2**63, np.float16(1.5)], [1.5, 2**64], [2.0, 1]):
             for errors in ("raise", "coerce"):
                 self.raised(TypeError, columns.encode, floats, errors=errors)
@@ -273,6 +276,8 @@ class Objects(ColumnsTestCase):
             [bytearray(NAME.bytes), None],
             [str(NAME), None],
             [str(NAME), NAME, NAME.bytes, None],
+            [str(NAME), NAME.bytes, None],
+            pd.Series([str(NAME), NAME.bytes], dtype="category"),
             pd.Series([NAME, None, float("nan")]),
             pd.Series([NAME.hex, None], dtype="string"),
             pd.Series([NAME.urn, None], dtype="category"),
@@ -402,8 +407,9 @@ class Arguments(ColumnsTestCase):
 
     def test_wrong(self) -> None:
         for call, _, given, value, _, _ in FUNCTIONS:
-            for column in (5, None, object(), "LZ", b"LZ", np.array(5), np.array([[76, 90]], np.uint8), pd.DataFrame(),
-                           pd.DataFrame({"a": [value], "b": [value]}), pa.table({"a": [value], "b": [value]})):
+            for column in (5, None, object(), "LZ", b"LZ", bytearray(b"LZ"), np.array(5), np.array([[76, 90]], np.uint8),
+                           [{"a": value}], pd.DataFrame(), pd.DataFrame({"a": [value], "b": [value]}),
+                           pa.table({"a": [value], "b": [value]})):
                 self.raised(TypeError, call, column, *given)
             for errors in ("null", "ignore", None, True):
                 error = self.raised(ValueError, call, [value], *given, errors=errors)
@@ -449,6 +455,7 @@ class Arguments(ColumnsTestCase):
             (columns.encode_uuid, [1], "int64", "encode takes integers"),
             (columns.decode, [1337], "int64", "read it as strings, since numbers have lost leading zeros"),
             (columns.decode, [1.5], "double", "read it as strings"),
+            (columns.decode, pa.array([TEXT.encode()], pa.binary(22)), "fixed_size_binary.22.", "cast it to binary"),
             (columns.decode, ends, "run_end_encoded", "decode it by pyarrow.compute.run_end_decode"),
             (columns.decode_uuid, [NAME], "extension<arrow.uuid>", "strings or binary"),
         ]

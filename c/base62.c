@@ -33,7 +33,7 @@
 
 #ifdef __GNUC__
 #define B62_ALWAYS_INLINE inline __attribute__((__always_inline__))
-/* Tables reads a base62_alphabet as another type: without this, GCC may reorder that with an assignment. */
+/* Code reads a base62_alphabet as a Tables: without this, GCC may move that across an assignment to it. */
 #define B62_MAY_ALIAS __attribute__((__may_alias__))
 #else
 #define B62_ALWAYS_INLINE inline
@@ -71,7 +71,7 @@ static B62_ALWAYS_INLINE u128 u128_shift_right_1_to_63(u128 a, uint32_t bits) {
     return (u128){a.high >> bits, a.low >> bits | a.high << (64 - bits)};
 }
 
-/* The whole product of two 64-bit integers: by a 128-bit one if the compiler has those, or else by 32-bit halves. */
+/* The whole product of two 64-bit integers, from 32-bit halves if the compiler has no 128-bit integers. */
 static B62_ALWAYS_INLINE u128 u128_mul_64(uint64_t a, uint64_t b) {
 #if defined __SIZEOF_INT128__ && !defined BASE62_NO_INT128
     const base62_u128 product = (base62_u128)a * b;
@@ -252,10 +252,10 @@ static B62_ALWAYS_INLINE size_t digit_count(u128 n) {
 /* -------------------- Encoding -------------------- */
 
 /*
- * A function write_.. writes as many digits as its name or count says at the start of a buffer. Pairs are loaded before
- * they are stored: without restrict, compilers have to assume that the buffer overlaps the tables.
+ * A function write_.. writes as many digits as its name or count says at the start of a buffer. Both letters of a pair
+ * are loaded before one is stored: compilers have to assume that the buffer overlaps the tables.
  *
- * Division by powers of 62 splits a number into parts. Its result is a u128 in fixed point: the upper half is the
+ * Division by 62^10 or 62^20 splits a number into parts. Its result is a u128 in fixed point: the upper half is the
  * quotient, and the lower half is a fraction, in units of 1 / 2^64. The ten digits of a fraction f are those of
  * f * 62^10 / 2^64, rounded down. The upper half of f * 62 is the first of them, and the lower half is the fraction of
  * the others.
@@ -290,7 +290,7 @@ static B62_ALWAYS_INLINE void write_20(const Tables *tables, uint64_t high, uint
     write_10(tables, high, buffer);
 }
 
-/* Writes one or two digits. If there is one, it overwrites the first of two, which is a zero. */
+/* Writes one or two digits. If count is 1, the second overwrites the first, which is a zero. */
 static B62_ALWAYS_INLINE void write_1_or_2(const Tables *tables, uint32_t n, size_t count, uint8_t *buffer) {
     //@ assert requires: 1 <= count && count <= 2;
     /* n / 62, for these n, without a product of 64 bits. */
@@ -346,7 +346,7 @@ static B62_ALWAYS_INLINE u128 fraction_of(uint64_t n) {
     return u128_add(u128_of(scaled + 1), u128_of(upper));
 }
 
-/* Divides by 62^10. The fraction is at most five above n * 2^64 / 62^10. The factor is 2^123 / 62^10 + 0.12. */
+/* Returns n / 62^10, at most five units above it. The factor is 2^123 / 62^10 + 0.12. */
 static B62_ALWAYS_INLINE u128 divide_narrow_by_62_10(uint64_t n) {
     return u128_add(u128_shift_right_1_to_63(u128_mul_64(n, UINT64_C(12669882045338564947)), 59), u128_of(1));
 }
@@ -363,9 +363,9 @@ static B62_ALWAYS_INLINE u128 divide_by_62_10(u128 n) {
 }
 
 /*
- * Returns the fraction of n / 62^10, at most eight units above it: that of the last ten digits. Each 1 in n.high stands
- * for 2^128 / 62^10 units: 21 * 2^64, which wraps to 0, plus the first factor, plus the second factor / 2^64, rounded
- * up. The third factor is 2^123 / 62^10 + 0.12.
+ * Returns the fraction of the last ten digits: that of n / 62^10, at most eight units above it. Each 2^64 in n adds
+ * 2^128 / 62^10 units: 21 * 2^64, which wraps to 0, plus the first factor, plus the second factor / 2^64, rounded up.
+ * The third factor is 2^123 / 62^10 + 0.12.
  */
 static B62_ALWAYS_INLINE uint64_t last_10(u128 n) {
     const uint64_t first = n.high * UINT64_C(18054599902933494364);
@@ -375,8 +375,8 @@ static B62_ALWAYS_INLINE uint64_t last_10(u128 n) {
 }
 
 /*
- * Returns n / 62^20, at most five units above it: 4 are added for what is rounded down. Each 1 in n.high stands for
- * 2^128 / 62^20 units: 483, which is enough for n.low, plus the factor / 2^64, rounded up.
+ * Returns n / 62^20, at most five units above it: 4 are added for what is rounded down. Each 2^64 in n adds
+ * 2^128 / 62^20 units: 483, plus the factor / 2^64, rounded up. For n.low, 483 is enough.
  */
 static B62_ALWAYS_INLINE u128 over_62_20(u128 n) {
     const uint64_t rest = u128_mul_64(n.high, UINT64_C(1200736830183971319)).high;
@@ -387,7 +387,7 @@ static B62_ALWAYS_INLINE u128 over_62_20(u128 n) {
  * Divides by 62^20, given low, the fraction of the last ten digits. The fraction of the result is that of the ten
  * digits before them. Let g be low / 2^64. The last ten digits add at most 22 * g units to it, since 2^64 / 62^10 is
  * below 22. Subtracting low >> 60, which is 16 * g rounded down, leaves at most seven of these. With the five of
- * over_62_20 that is twelve, fewer than the 21 of fraction_of.
+ * over_62_20 that is twelve; up to 20 the digits are right.
  */
 static B62_ALWAYS_INLINE u128 divide_by_62_20(u128 n, uint64_t low) {
     return u128_sub(over_62_20(n), u128_of(low >> 60));
@@ -494,11 +494,11 @@ size_t base62_digit_count(base62_number number) {
  */
 #define B62_NO_VALUE UINT64_C(0xffffffffffffffff)
 
-/* If the first ten of 22 digits exceed this number, all 22 exceed 2^128 - 1, whatever the others are. The Rust crate
-   base62 reports that even if one of the others is invalid. */
+/* If the first ten of 22 digits exceed this number, all 22 exceed 2^128 - 1, whatever the others are: base62_decode
+   reports that even if one of the others is invalid. */
 #define B62_GREATEST_FIRST_10 UINT64_C(105472483207813235)
 
-/* Appends at most five digits to a number of at most five, which is below 64^5. */
+/* Appends at most five digits to a number of at most five digits, below 64^5. */
 static B62_ALWAYS_INLINE uint64_t read_more(const Tables *tables, uint64_t number, const uint8_t *text, size_t count) {
     //@ assert requires: number < 0x40000000 && count <= 5;
     for (size_t i = 0; i < count; i++) {
@@ -684,7 +684,7 @@ base62_status base62_decode_canonical_with(const base62_alphabet *alphabet, cons
  * Stores the least and the greatest number whose text of this width begins with a prefix of this value and length.
  * Returns whether there are such numbers.
  */
-static bool find_ends(u128 value, size_t width, size_t length, base62_range *range) {
+static bool find_ends(u128 value, size_t length, size_t width, base62_range *range) {
     if (width == 0 || length > width) return false;
     const u128 last = greatest(width - length);
     u128 least = {0, 0};
@@ -719,7 +719,7 @@ static base62_status range_over(const Tables *tables, const uint8_t *prefix, siz
         const base62_status status = decode_prefix(tables, prefix, length, &number, bad);
         if (status != BASE62_OK) return status;
     }
-    if (!find_ends(number, width, length, range)) return BASE62_NO_MATCH;
+    if (!find_ends(number, length, width, range)) return BASE62_NO_MATCH;
     return BASE62_OK;
 }
 

@@ -36,6 +36,8 @@ TABLES = [
 
 # Changes that are no mistakes.
 SAME = {
+    # At index 22 either is 22.
+    "greatest: return B62_GREATEST[k <= 22 ? k : 22];", "greatest: return B62_GREATEST[k < (22 + 1) ? k : 22];",
     # The halves differ there.
     "u128_less: static B62_ALWAYS_INLINE bool u128_less(u128 a, u128 b)"
     " { return a.high == b.high ? a.low < b.low : a.high <= b.high; }",

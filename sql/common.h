@@ -116,7 +116,7 @@ static inline bool check_width(int64_t width, call_error *error) {
 
 /* Encoding, decoding and ranges */
 
-/* Calls a function of the library over the standard alphabet, or the one with _with in its name over a custom alphabet. */
+/* Calls a function of the library, or with a custom alphabet the one whose name ends in _with. */
 #define CALL_WITH(alphabet, function, ...)                                                                             \
     ((alphabet) == NULL ? function(__VA_ARGS__) : function##_with((alphabet), __VA_ARGS__))
 

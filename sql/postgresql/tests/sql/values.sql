@@ -9,7 +9,7 @@ CREATE EXTENSION base62;
 CREATE TABLE line AS SELECT string_to_array(line, E'\t') f
     FROM regexp_split_to_table(:'lines', '\n') line WHERE line NOT LIKE '#%';
 \echo Whether there are enough of each kind
-SELECT f[1] kind, count(*) > 50 FROM line WHERE f[1] <> 'alphabet' GROUP BY kind ORDER BY kind;
+SELECT count(*), min(count) > 50 FROM (SELECT count(*) FROM line WHERE f[1] <> 'alphabet' GROUP BY f[1]) kinds;
 
 -- A text of the file, or null if it is not UTF-8 or contains a null byte.
 CREATE FUNCTION text_of(field text) RETURNS text LANGUAGE plpgsql AS $$
@@ -75,7 +75,7 @@ $$;
 -- Alphabets of ASCII characters.
 CREATE TABLE alphabet AS SELECT f[2] name, text_of(f[3]) letters FROM line
     WHERE f[1] = 'alphabet' AND f[4] = '1' AND text_of(f[3]) IS NOT NULL;
-SELECT name FROM alphabet ORDER BY name;
+SELECT string_agg(name, ' ' ORDER BY name) FROM alphabet;
 
 \echo UUIDs, and repeated letters
 SELECT f FROM line WHERE f[1] = 'uuid'

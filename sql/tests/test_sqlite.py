@@ -247,9 +247,8 @@ class Arguments(Case):
             for number, letters in enumerate(chosen, 1)
         ]
         self.assertEqual(self.db.execute(query, (OWN,)).fetchall(), wanted)
-        errors = {REPEATED: NO_ALPHABETS[REPEATED], OWN[1:]: ALPHABET + "61 characters, not 62" + shown(OWN[1:].encode())}
-        for letters in (*chosen, REPEATED, *chosen, OWN[1:], OWN):
-            self.assertEqual(self.result("encode", 1337, letters), errors.get(letters) or text(1337, letters))
+        for letters in (*chosen, REPEATED, *chosen, STANDARD[:61], OWN):
+            self.assertEqual(self.result("encode", 1337, letters), NO_ALPHABETS.get(letters) or text(1337, letters))
 
     def test_order(self) -> None:
         """Of several errors, that of a number or UUID is raised, or else of a width, or else of an alphabet."""

@@ -31,14 +31,11 @@ SELECT pg_collation_for(base62_encode_key(1)) key, pg_collation_for(base62_encod
 \echo Keys sort in numeric order
 SELECT count(*) FROM (SELECT u, lag(u) OVER (ORDER BY key) p FROM item) i WHERE p >= u;
 
-\echo Whether rows have a prefix, and how many more or fewer BETWEEN, LIKE and UUIDs find
-SELECT p prefix, count(*) FILTER (WHERE starts_with(key, p)) > 0 has,
-    count(*) FILTER (WHERE starts_with(key, p))
-    - count(*) FILTER (WHERE key BETWEEN base62_prefix_first(p) AND base62_prefix_last(p)) "between",
-    count(*) FILTER (WHERE starts_with(key, p)) - count(*) FILTER (WHERE key LIKE p || '%') "like",
-    count(*) FILTER (WHERE starts_with(key, p)) - count(*) FILTER
-        (WHERE u BETWEEN base62_decode_uuid(base62_prefix_first(p)) AND base62_decode_uuid(base62_prefix_last(p))) "uuid"
-    FROM item, (VALUES ('2'), ('7n'), ('1a'), ('0000000'), ('')) prefixes (p) GROUP BY p ORDER BY p;
+\echo Prefixes that no row has, or for which BETWEEN, LIKE or UUIDs find other rows
+SELECT p FROM item, unnest(ARRAY['2', '7n', '1a', '0000000', '']) p, starts_with(key, p) has GROUP BY p
+    HAVING NOT bool_or(has) OR bool_or(has <> (key BETWEEN base62_prefix_first(p) AND base62_prefix_last(p)))
+        OR bool_or(has <> (key LIKE p || '%')) OR bool_or(has <>
+            (u BETWEEN base62_decode_uuid(base62_prefix_first(p)) AND base62_decode_uuid(base62_prefix_last(p))));
 
 \echo In text columns: the functions, an index, and a declared collation
 SELECT count(*) FILTER (WHERE starts_with(key, '2a')) - count(*) FILTER

@@ -134,7 +134,7 @@ SELECT * FROM wrong('fixed',
     $$w <> '22' OR name <> 'standard' OR base62_encode_key_uuid(u) = t$$,
     $$w <> '22' OR name <> 'standard' OR n IS NULL OR base62_encode_key(n) = t$$);
 
-\echo The first and the last number of a prefix, and whether enough ranges are below 2^63, across it and above it
+\echo The first and the last number and text of a prefix, and whether enough ranges are below 2^63, across it and above it
 CREATE TABLE span AS
     SELECT name, letters, f[3] w, text_of(f[4]) p, nullif(error(VARIADIC f[5:]), error('none')) || shown(text_of(f[4])) error,
         CASE WHEN f[5] = 'numbers' THEN f[6]::numeric END low, CASE WHEN f[5] = 'numbers' THEN f[7]::numeric END high
@@ -144,18 +144,12 @@ SELECT count(*) FILTER (WHERE bigint_of(high) IS NOT NULL) > 50 below,
     count(*) FILTER (WHERE bigint_of(low) IS NOT NULL AND bigint_of(high) IS NULL) > 50 across,
     count(*) FILTER (WHERE bigint_of(low) IS NULL AND low IS NOT NULL) > 50 above,
     count(*) FILTER (WHERE error IS NOT NULL) > 50 invalid FROM span;
-SELECT * FROM wrong('span',
-    $$result('range_first', p, w, letters) IS NOT DISTINCT FROM coalesce(error, bigint_of(low)::text)$$,
-    $$result('range_last', p, w, letters) IS NOT DISTINCT FROM coalesce(error,
-        CASE WHEN bigint_of(low) IS NOT NULL THEN least(high, 9223372036854775807)::text END)$$,
-    $$result('range_first_numeric', p, w, letters) IS NOT DISTINCT FROM coalesce(error, low::text)$$,
-    $$result('range_last_numeric', p, w, letters) IS NOT DISTINCT FROM coalesce(error, high::text)$$);
-
-\echo Their texts
-CREATE TABLE bounds AS SELECT name, p, w, coalesce(error, result('encode_fixed_numeric', low::text, w)) first,
-    coalesce(error, result('encode_fixed_numeric', high::text, w)) last FROM span WHERE name = 'standard';
-SELECT * FROM wrong('bounds',
-    $$result('prefix_first', p, w) IS NOT DISTINCT FROM first$$,
-    $$result('prefix_last', p, w) IS NOT DISTINCT FROM last$$,
-    $$w <> '22' OR result('prefix_first', p) IS NOT DISTINCT FROM first$$,
-    $$w <> '22' OR result('prefix_last', p) IS NOT DISTINCT FROM last$$);
+SELECT wrong.* FROM (VALUES ('first', 'low'), ('last', 'high')) bound (name, number), wrong('span',
+    format($$result('range_%s', p, w, letters) IS NOT DISTINCT FROM coalesce(error,
+        CASE WHEN bigint_of(low) IS NOT NULL THEN least(%s, 9223372036854775807)::text END)$$, bound.name, number),
+    format($$result('range_%s_numeric', p, w, letters) IS NOT DISTINCT FROM coalesce(error, %s::text)$$,
+        bound.name, number),
+    format($$name <> 'standard' OR result('prefix_%s', p, w) IS NOT DISTINCT FROM coalesce(error,
+        result('encode_fixed_numeric', %s::text, w))$$, bound.name, number),
+    format($$name <> 'standard' OR w <> '22' OR result('prefix_%s', p) IS NOT DISTINCT FROM coalesce(error,
+        result('encode_fixed_numeric', %s::text, w))$$, bound.name, number));

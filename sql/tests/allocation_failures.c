@@ -67,7 +67,6 @@ static const struct {
     {"SELECT ifnull(base62_try_decode(u), 'none') FROM stored", "none"},
     {"SELECT base62_decode(n) FROM stored", NULL},
     {"SELECT base62_encode_key(n) FROM stored", "00000000000000000000LZ"},
-    {"SELECT base62_encode_fixed(n, 3) FROM stored", "0LZ"},
     {"SELECT base62_encode_fixed(n, 3, own) FROM stored", "zeQ"},
     {"SELECT base62_encode_fixed(n, 1) FROM stored", NULL},
     {"SELECT length(base62_encode_fixed(n, 1000)) FROM stored", "1000"},

@@ -116,17 +116,19 @@ static inline bool check_width(int64_t width, call_error *error) {
 
 /* Encoding, decoding and ranges */
 
+/* Calls a function of the library, or with a custom alphabet the one whose name ends in _with. */
+#define CALL_WITH(alphabet, function, ...)                                                                             \
+    ((alphabet) == NULL ? function(__VA_ARGS__) : function##_with((alphabet), __VA_ARGS__))
+
 /* The buffer has BASE62_MAX_DIGITS bytes. Returns the length. */
 static inline size_t encode_shortest(const base62_alphabet *alphabet, base62_number number, char *buffer) {
-    return alphabet == NULL ? base62_encode(number, buffer, BASE62_MAX_DIGITS)
-                            : base62_encode_with(alphabet, number, buffer, BASE62_MAX_DIGITS);
+    return CALL_WITH(alphabet, base62_encode, number, buffer, BASE62_MAX_DIGITS);
 }
 
 /* The buffer has width bytes. */
 static inline bool encode_width(const base62_alphabet *alphabet, base62_number number, char *buffer, size_t width,
                                 call_error *error) {
-    size_t length = alphabet == NULL ? base62_encode_fixed(number, buffer, width)
-                                     : base62_encode_fixed_with(alphabet, number, buffer, width);
+    size_t length = CALL_WITH(alphabet, base62_encode_fixed, number, buffer, width);
     return length != 0 || fail_with(error, OUT_OF_RANGE, "the number needs %u characters, and the width is %u",
                                     (unsigned)base62_digit_count(number), (unsigned)width);
 }
@@ -134,13 +136,8 @@ static inline bool encode_width(const base62_alphabet *alphabet, base62_number n
 static inline bool decode_text(const base62_alphabet *alphabet, const char *text, size_t length, bool canonical,
                                base62_number *number, call_error *error) {
     base62_bad_byte bad = {0, 0};
-    base62_status status;
-    if (canonical)
-        status = alphabet == NULL ? base62_decode_canonical(text, length, number, &bad)
-                                  : base62_decode_canonical_with(alphabet, text, length, number, &bad);
-    else
-        status = alphabet == NULL ? base62_decode(text, length, number, &bad)
-                                  : base62_decode_with(alphabet, text, length, number, &bad);
+    base62_status status = canonical ? CALL_WITH(alphabet, base62_decode_canonical, text, length, number, &bad)
+                                     : CALL_WITH(alphabet, base62_decode, text, length, number, &bad);
     if (status != BASE62_OK && error != NULL) {
         fail_with_status(error, status, bad);
         show(error, "'", text, length);
@@ -169,9 +166,7 @@ static inline bool decode_int64(const base62_alphabet *alphabet, const char *tex
 static inline bool range_of_prefix(const base62_alphabet *alphabet, const char *prefix, size_t length, size_t width,
                                    base62_range *range, bool *empty, call_error *error) {
     base62_bad_byte bad = {0, 0};
-    base62_status status = alphabet == NULL
-                               ? base62_prefix_range(prefix, length, width, range, &bad)
-                               : base62_prefix_range_with(alphabet, prefix, length, width, range, &bad);
+    base62_status status = CALL_WITH(alphabet, base62_prefix_range, prefix, length, width, range, &bad);
     *empty = status == BASE62_NO_MATCH;
     return *empty || status == BASE62_OK || fail_with_status(error, status, bad) || show(error, "'", prefix, length);
 }

@@ -170,53 +170,41 @@ static Datum encode_fixed(FunctionCallInfo fcinfo, base62_number number) {
     return encode_with_width(number, width, get_alphabet(fcinfo, 2));
 }
 
-/* Decoding */
+/* Decoding. A string that cannot be decoded is an error, or, if error is null, its result is null. */
+
+static Datum raise_or_null(FunctionCallInfo fcinfo, const call_error *error) {
+    if (error != NULL)
+        raise_error(error);
+    PG_RETURN_NULL();
+}
 
 static bool try_decode(FunctionCallInfo fcinfo, bool canonical, base62_number *number, call_error *error) {
     const text *given = PG_GETARG_TEXT_PP(0);
     return decode_text(get_alphabet(fcinfo, 1), VARDATA_ANY(given), text_length(given), canonical, number, error);
 }
 
-static bool try_decode_int8(FunctionCallInfo fcinfo, bool canonical, int64_t *value, call_error *error) {
+static Datum decode_int8(FunctionCallInfo fcinfo, bool canonical, call_error *error) {
     const text *given = PG_GETARG_TEXT_PP(0);
-    return decode_int64(get_alphabet(fcinfo, 1), VARDATA_ANY(given), text_length(given), canonical,
-                        "base62_decode_numeric", value, error);
+    int64_t value;
+    if (decode_int64(get_alphabet(fcinfo, 1), VARDATA_ANY(given), text_length(given), canonical,
+                     "base62_decode_numeric", &value, error))
+        PG_RETURN_INT64(value);
+    return raise_or_null(fcinfo, error);
 }
 
-static base62_number decode_or_raise(FunctionCallInfo fcinfo, bool canonical) {
+static Datum decode_uuid(FunctionCallInfo fcinfo, bool canonical, call_error *error) {
     base62_number number;
-    call_error error;
-    if (!try_decode(fcinfo, canonical, &number, &error))
-        raise_error(&error);
-    return number;
-}
-
-static Datum decode_int8(FunctionCallInfo fcinfo, bool canonical) {
-    int64_t value;
-    call_error error;
-    if (!try_decode_int8(fcinfo, canonical, &value, &error))
-        raise_error(&error);
-    PG_RETURN_INT64(value);
-}
-
-static Datum decode_int8_or_null(FunctionCallInfo fcinfo) {
-    int64_t value;
-    if (!try_decode_int8(fcinfo, false, &value, NULL))
-        PG_RETURN_NULL();
-    PG_RETURN_INT64(value);
-}
-
-static Datum uuid_of_number(base62_number number) {
-    pg_uuid_t *result = palloc(sizeof *result);
+    pg_uuid_t *result;
+    if (!try_decode(fcinfo, canonical, &number, error))
+        return raise_or_null(fcinfo, error);
+    result = palloc(sizeof *result);
     base62_to_uuid(number, result->data);
     PG_RETURN_UUID_P(result);
 }
 
-static Datum decode_uuid_or_null(FunctionCallInfo fcinfo) {
+static Datum decode_numeric(FunctionCallInfo fcinfo, bool canonical, call_error *error) {
     base62_number number;
-    if (!try_decode(fcinfo, false, &number, NULL))
-        PG_RETURN_NULL();
-    return uuid_of_number(number);
+    return try_decode(fcinfo, canonical, &number, error) ? numeric_of_number(number) : raise_or_null(fcinfo, error);
 }
 
 static Datum is_valid(FunctionCallInfo fcinfo, bool canonical) {
@@ -260,13 +248,15 @@ static Datum range_bound_numeric(FunctionCallInfo fcinfo, bool last) {
     return numeric_of_number(last ? range.greatest : range.least);
 }
 
-/* The functions that the SQL script names, each with its result. Some functions of the library, such as base62_encode,
+/* The functions that the SQL script names, each with its result, and place for its error. Some functions of the library, such as base62_encode,
  * have the name of a function in SQL. So the names here begin with pg_. */
 
 #define SQL_FUNCTION(name, result) \
     PG_FUNCTION_INFO_V1(name);     \
     Datum name(PG_FUNCTION_ARGS) { \
+        call_error error;          \
         (void)fcinfo;              \
+        (void)&error;              \
         return result;             \
     }
 
@@ -281,14 +271,14 @@ SQL_FUNCTION(pg_base62_encode_fixed_int8, encode_fixed(fcinfo, get_int8(fcinfo, 
 SQL_FUNCTION(pg_base62_encode_fixed_uuid, encode_fixed(fcinfo, get_uuid(fcinfo, 0)))
 SQL_FUNCTION(pg_base62_encode_fixed_numeric, encode_fixed(fcinfo, get_numeric(fcinfo, 0)))
 
-SQL_FUNCTION(pg_base62_decode_int8, decode_int8(fcinfo, false))
-SQL_FUNCTION(pg_base62_decode_uuid, uuid_of_number(decode_or_raise(fcinfo, false)))
-SQL_FUNCTION(pg_base62_decode_numeric, numeric_of_number(decode_or_raise(fcinfo, false)))
-SQL_FUNCTION(pg_base62_decode_int8_canonical, decode_int8(fcinfo, true))
-SQL_FUNCTION(pg_base62_decode_uuid_canonical, uuid_of_number(decode_or_raise(fcinfo, true)))
-SQL_FUNCTION(pg_base62_decode_numeric_canonical, numeric_of_number(decode_or_raise(fcinfo, true)))
-SQL_FUNCTION(pg_base62_try_decode_int8, decode_int8_or_null(fcinfo))
-SQL_FUNCTION(pg_base62_try_decode_uuid, decode_uuid_or_null(fcinfo))
+SQL_FUNCTION(pg_base62_decode_int8, decode_int8(fcinfo, false, &error))
+SQL_FUNCTION(pg_base62_decode_uuid, decode_uuid(fcinfo, false, &error))
+SQL_FUNCTION(pg_base62_decode_numeric, decode_numeric(fcinfo, false, &error))
+SQL_FUNCTION(pg_base62_decode_int8_canonical, decode_int8(fcinfo, true, &error))
+SQL_FUNCTION(pg_base62_decode_uuid_canonical, decode_uuid(fcinfo, true, &error))
+SQL_FUNCTION(pg_base62_decode_numeric_canonical, decode_numeric(fcinfo, true, &error))
+SQL_FUNCTION(pg_base62_try_decode_int8, decode_int8(fcinfo, false, NULL))
+SQL_FUNCTION(pg_base62_try_decode_uuid, decode_uuid(fcinfo, false, NULL))
 
 SQL_FUNCTION(pg_base62_is_valid, is_valid(fcinfo, false))
 SQL_FUNCTION(pg_base62_is_canonical, is_valid(fcinfo, true))

@@ -8,6 +8,13 @@
 #include <sqlite3ext.h>
 SQLITE_EXTENSION_INIT1
 
+/* Functions that share code are told apart by their user data: NULL, or the address of one of these. */
+static char uuid_tag, canonical_tag, last_tag, try_tag;
+
+static bool has_tag(sqlite3_context *context, const char *tag) {
+    return sqlite3_user_data(context) == tag;
+}
+
 /* Errors. Each function sets the error of the context, and returns 0. */
 
 static int set_error(sqlite3_context *context, const call_error *error) {
@@ -101,8 +108,11 @@ static int read_uuid(sqlite3_context *context, sqlite3_value *value, base62_numb
     return 1;
 }
 
+/* The number or the UUID that a function encodes. */
 static int read_number(sqlite3_context *context, sqlite3_value *value, base62_number *number) {
     call_error error;
+    if (has_tag(context, &uuid_tag))
+        return read_uuid(context, value, number);
     if (sqlite3_value_type(value) != SQLITE_INTEGER)
         return set_wrong_value(context, "the number is not an integer", value);
     return number_of_int64(sqlite3_value_int64(value), number, &error) || set_error(context, &error);
@@ -163,13 +173,7 @@ static int read_width(sqlite3_context *context, int argc, sqlite3_value **argv, 
 }
 
 /* Functions. Each reads a number or UUID, a width, an alphabet and a string in this order, so the first error of these
- * is raised. Those that share code are told apart by their user data: NULL, or the address of one of these. */
-
-static char canonical_tag, last_tag, try_tag;
-
-static bool has_tag(sqlite3_context *context, const char *tag) {
-    return sqlite3_user_data(context) == tag;
-}
+ * is raised. */
 
 static void result_fixed(sqlite3_context *context, const base62_alphabet *alphabet, base62_number number,
                          size_t width) {
@@ -181,27 +185,24 @@ static void result_fixed(sqlite3_context *context, const base62_alphabet *alphab
         set_error(context, &error);
 }
 
-static inline void encode_number(sqlite3_context *context, int argc, sqlite3_value **argv, base62_number number) {
+static void encode(sqlite3_context *context, int argc, sqlite3_value **argv) {
+    base62_number number;
     base62_alphabet copy;
     const base62_alphabet *alphabet;
     char text[BASE62_MAX_DIGITS];
-    size_t length;
-    if (!read_alphabet(context, 1, argc, argv, &copy, &alphabet))
-        return;
-    length = encode_shortest(alphabet, number, text);
-    sqlite3_result_text(context, text, (int)length, SQLITE_TRANSIENT);
+    if (!any_null(argc, argv) && read_number(context, argv[0], &number) &&
+        read_alphabet(context, 1, argc, argv, &copy, &alphabet))
+        sqlite3_result_text(context, text, (int)encode_shortest(alphabet, number, text), SQLITE_TRANSIENT);
 }
 
-static void encode(sqlite3_context *context, int argc, sqlite3_value **argv) {
+static void encode_fixed(sqlite3_context *context, int argc, sqlite3_value **argv) {
     base62_number number;
-    if (!any_null(argc, argv) && read_number(context, argv[0], &number))
-        encode_number(context, argc, argv, number);
-}
-
-static void encode_uuid(sqlite3_context *context, int argc, sqlite3_value **argv) {
-    base62_number number;
-    if (!any_null(argc, argv) && read_uuid(context, argv[0], &number))
-        encode_number(context, argc, argv, number);
+    size_t width;
+    base62_alphabet copy;
+    const base62_alphabet *alphabet;
+    if (!any_null(argc, argv) && read_number(context, argv[0], &number) && read_width(context, argc, argv, &width) &&
+        read_alphabet(context, 2, argc, argv, &copy, &alphabet))
+        result_fixed(context, alphabet, number, width);
 }
 
 /* What a function that decodes has read. */
@@ -273,36 +274,13 @@ static void decode_uuid(sqlite3_context *context, int argc, sqlite3_value **argv
 static void is_valid(sqlite3_context *context, int argc, sqlite3_value **argv) {
     encoded given;
     base62_number number;
-    int accepted = 0;
+    bool canonical = has_tag(context, &canonical_tag);
     if (any_null(argc, argv) || !read_alphabet(context, 1, argc, argv, &given.copy, &given.alphabet))
         return;
-    if (sqlite3_value_type(argv[0]) == SQLITE_TEXT) {
-        if (!read_text(context, "", argv[0], &given.text, &given.length))
-            return;
-        accepted = decode_text(given.alphabet, given.text, given.length, has_tag(context, &canonical_tag), &number,
-                               NULL);
-    }
-    sqlite3_result_int(context, accepted);
-}
-
-static void encode_number_fixed(sqlite3_context *context, int argc, sqlite3_value **argv, base62_number number) {
-    size_t width;
-    base62_alphabet copy;
-    const base62_alphabet *alphabet;
-    if (read_width(context, argc, argv, &width) && read_alphabet(context, 2, argc, argv, &copy, &alphabet))
-        result_fixed(context, alphabet, number, width);
-}
-
-static void encode_fixed(sqlite3_context *context, int argc, sqlite3_value **argv) {
-    base62_number number;
-    if (!any_null(argc, argv) && read_number(context, argv[0], &number))
-        encode_number_fixed(context, argc, argv, number);
-}
-
-static void encode_fixed_uuid(sqlite3_context *context, int argc, sqlite3_value **argv) {
-    base62_number number;
-    if (!any_null(argc, argv) && read_uuid(context, argv[0], &number))
-        encode_number_fixed(context, argc, argv, number);
+    if (sqlite3_value_type(argv[0]) != SQLITE_TEXT)
+        sqlite3_result_int(context, 0);
+    else if (read_text(context, "", argv[0], &given.text, &given.length))
+        sqlite3_result_int(context, decode_text(given.alphabet, given.text, given.length, canonical, &number, NULL));
 }
 
 /* Finds the numbers whose strings of the width begin with the prefix. Returns 0 if the result is null or an error. */
@@ -353,11 +331,11 @@ static int create_functions(sqlite3 *db) {
         void (*call)(sqlite3_context *, int, sqlite3_value **);
     } functions[] = {
         {"base62_encode", 1, 2, NULL, encode},
-        {"base62_encode_uuid", 1, 2, NULL, encode_uuid},
+        {"base62_encode_uuid", 1, 2, &uuid_tag, encode},
         {"base62_encode_key", 1, 1, NULL, encode_fixed},
-        {"base62_encode_key_uuid", 1, 1, NULL, encode_fixed_uuid},
+        {"base62_encode_key_uuid", 1, 1, &uuid_tag, encode_fixed},
         {"base62_encode_fixed", 2, 3, NULL, encode_fixed},
-        {"base62_encode_fixed_uuid", 2, 3, NULL, encode_fixed_uuid},
+        {"base62_encode_fixed_uuid", 2, 3, &uuid_tag, encode_fixed},
         {"base62_decode", 1, 2, NULL, decode},
         {"base62_decode_uuid", 1, 2, NULL, decode_uuid},
         {"base62_decode_blob", 1, 2, NULL, decode_blob},

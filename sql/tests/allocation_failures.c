@@ -67,7 +67,6 @@ static const struct {
     {"SELECT ifnull(base62_try_decode(u), 'none') FROM stored", "none"},
     {"SELECT base62_decode(n) FROM stored", NULL},
     {"SELECT base62_encode_key(n) FROM stored", "00000000000000000000LZ"},
-    {"SELECT base62_encode_fixed(n, 3) FROM stored", "0LZ"},
     {"SELECT base62_encode_fixed(n, 3, own) FROM stored", "zeQ"},
     {"SELECT base62_encode_fixed(n, 1) FROM stored", NULL},
     {"SELECT length(base62_encode_fixed(n, 1000)) FROM stored", "1000"},
@@ -113,21 +112,18 @@ static sqlite3 *open_database(void) {
     return db;
 }
 
-/* A module that loads has all functions. Returns whether the failure was reached. */
+/* A module that loads has the first functions and the last one. Returns whether the failure was reached. */
 static int fail_loading(const char *module, long before) {
     sqlite3 *db = open_database();
-    sqlite3_stmt *statement;
     int status;
     failed = 0;
     successes = before;
     status = sqlite3_load_extension(db, module, NULL, NULL);
     successes = -1;
     CHECK(status == SQLITE_OK || failed);
-    for (size_t i = 0; status == SQLITE_OK && i < sizeof queries / sizeof *queries; i++)
-        if (strstr(queries[i].query, "stored") == NULL) {
-            CHECK(sqlite3_prepare_v2(db, queries[i].query, -1, &statement, NULL) == SQLITE_OK);
-            sqlite3_finalize(statement);
-        }
+    if (status == SQLITE_OK)
+        CHECK(sqlite3_exec(db, "SELECT base62_encode(1), base62_encode_uuid(zeroblob(16)), base62_version()", NULL, NULL,
+                           NULL) == SQLITE_OK);
     CHECK(sqlite3_close(db) == SQLITE_OK);
     return failed;
 }

@@ -18,13 +18,11 @@ from typing import Any
 from urllib.parse import unquote_to_bytes
 from uuid import UUID
 
-from values import ALTERNATIVE, HEADER, NEGATIVE, NO_ALPHABETS, OWN, README, STANDARD, TEXTS, WIDTH
-from values import functions_of, is_large, message, narrow, of_ascii, rows, shown, text
+from values import ALTERNATIVE, BIGINT, HEADER, NEGATIVE, NO_ALPHABETS, OWN, README, STANDARD, TEXTS, WIDEST, WIDTH
+from values import functions_of, is_large, message, narrow, of_ascii, text
 
 SHELL = [os.environ.get("DUCKDB", "duckdb"), "-init", os.devnull, "-unsigned", "-json"]
 LOAD = f"LOAD '{os.environ['BASE62_DUCKDB']}';\n"
-WIDEST = 1000
-BIGINT = 2**63 - 1
 # A condition on the rows whose number is a BIGINT.
 BELOW = f"CASE WHEN n::UHUGEINT <= {BIGINT} THEN {{}} ELSE true END"
 
@@ -172,11 +170,6 @@ class Values(Case):
         self.check_rows("letters, width, prefix, least, greatest", [it for it in table if it[0] == STANDARD], keys)
         self.check_errors(bad)
 
-    def test_repeats(self) -> None:
-        alphabets = [(unquote_to_bytes(field), error) for field, *error in rows("repeated")]
-        self.check_errors({f"base62_encode(1, {literal(it.decode())})": message(["repeated", *error], it)
-                           for it, error in alphabets if it.isascii() and b"\0" not in it})
-
 
 class Arguments(Case):
     def test_functions(self) -> None:
@@ -229,9 +222,12 @@ class Arguments(Case):
             self.assertIn("Binder Error: ", shell(f"SELECT base62_encode({given});").stderr, given)
 
     def test_alphabets(self) -> None:
-        calls = ("encode(1, {})", "decode('1', {})", "try_decode('1', {})", "is_valid('1', {})", "range_last('1', 1, {})")
+        """Also in a row after one with a valid alphabet, with which the whole alphabet is compared."""
+        calls = ("encode(1, {})", "decode('1', {})", "try_decode('1', {})", "is_valid('1', {})", "range_last('1', 1, {})",
+                 f"encode(1, unnest(['{STANDARD}', {{}}]))")
         self.check_errors({f"base62_{call.format(literal(it))}": error
                            for call, (it, error) in itertools.product(calls, NO_ALPHABETS.items())})
+        self.assertEqual(results(f"SELECT base62_encode(61, unnest(['{OWN}', '{OWN[:61]}-']));"), ["0", "-"])
 
     def test_order(self) -> None:
         """Of several errors, that of a number is raised, or else of a width, an alphabet, and a string."""
@@ -253,14 +249,6 @@ class Arguments(Case):
         for call, padded in (("base62_encode(1337, letters)", 0), ("base62_encode_fixed(1337, 5, letters)", 5)):
             wanted = [letters and text(1337, letters).rjust(padded, letters[0]) for letters in chosen]
             self.assertEqual(results(f"SELECT {call} FROM (VALUES {values}) t(i, letters) ORDER BY i;"), wanted)
-
-    def test_alphabet_after_a_valid_one(self) -> None:
-        """The alphabet of a row is compared whole with that of the row before it."""
-        self.assertEqual(results(f"SELECT base62_encode(61, unnest(['{OWN}', '{OWN[:61]}-']));"), ["0", "-"])
-        others = [OWN[:61], "", "zyx", OWN + "z"]
-        said = [f"{len(it)} characters, not 62" + shown(it.encode()) for it in others]
-        self.check_errors({f"base62_encode(61, unnest(['{OWN}', '{it}']))": f"base62: the alphabet has {error}"
-                           for it, error in zip(others, said)})
 
 
 class Queries(Case):

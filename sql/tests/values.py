@@ -33,7 +33,9 @@ ALPHABETS = {
     if ascii == "1" and "%00" not in letters
 }
 STANDARD, ALTERNATIVE, OWN = (ALPHABETS[name] for name in ("standard", "alternative", "reversed"))
-REPEATED = "00" + STANDARD[1:61]
+REPEATED = "a" * 62
+BIGINT = 2**63 - 1
+WIDEST = 1000
 # The message of each error and of each byte. The index follows.
 MESSAGES = {tuple(row[1:3]): re.sub(r"\d+$", "", unquote_to_bytes(row[0]).decode()) for row in rows("message")}
 # Canonical standard texts by their numbers.
@@ -81,7 +83,10 @@ NO_ALPHABETS = {
         "\0" + STANDARD[1:]: "a null character",
     }.items()
 }
-NO_ALPHABETS[REPEATED] = message(["repeated", "48", "1"], REPEATED.encode())
+for field, *error in rows("repeated"):
+    letters = unquote_to_bytes(field)
+    if letters.isascii() and b"\0" not in letters:
+        NO_ALPHABETS[letters.decode()] = message(["repeated", *error], letters)
 README = (HERE.parent / "README.md").read_text()
 HEADER = next(it for it in (HERE.parent / "base62.h", HERE.parents[1] / "c/base62.h") if it.exists()).read_text()
 

@@ -28,29 +28,19 @@ SELECT pg_collation_for(base62_encode_key(1)) key, pg_collation_for(base62_encod
     pg_collation_for(base62_prefix_first('1'::text)) first, pg_collation_for(base62_prefix_last('1'::text, 4)) last,
     pg_collation_for(base62_encode(1)) encoded;
 
-\echo Keys sort in numeric order, and in a text column they do not
+\echo Keys sort in numeric order
 SELECT count(*) FROM (SELECT u, lag(u) OVER (ORDER BY key) p FROM item) i WHERE p >= u;
-SELECT count(*) > 1000 FROM (SELECT u, lag(u) OVER (ORDER BY key) p FROM plain) i WHERE p >= u;
 
-\echo Whether rows have a prefix, and how many more or fewer BETWEEN, LIKE and UUIDs find
-SELECT p prefix, count(*) FILTER (WHERE starts_with(key, p)) > 0 has,
-    count(*) FILTER (WHERE starts_with(key, p))
-    - count(*) FILTER (WHERE key BETWEEN base62_prefix_first(p) AND base62_prefix_last(p)) "between",
-    count(*) FILTER (WHERE starts_with(key, p)) - count(*) FILTER (WHERE key LIKE p || '%') "like",
-    count(*) FILTER (WHERE starts_with(key, p)) - count(*) FILTER
-        (WHERE u BETWEEN base62_decode_uuid(base62_prefix_first(p)) AND base62_decode_uuid(base62_prefix_last(p))) "uuid"
-    FROM item, (VALUES ('2'), ('7n'), ('1a'), ('0000000'), ('')) prefixes (p) GROUP BY p ORDER BY p;
+\echo Prefixes that no row has, or for which BETWEEN, LIKE or UUIDs find other rows
+SELECT p FROM item, unnest(ARRAY['2', '7n', '1a', '0000000', '']) p, starts_with(key, p) has GROUP BY p
+    HAVING NOT bool_or(has) OR bool_or(has <> (key BETWEEN base62_prefix_first(p) AND base62_prefix_last(p)))
+        OR bool_or(has <> (key LIKE p || '%')) OR bool_or(has <>
+            (u BETWEEN base62_decode_uuid(base62_prefix_first(p)) AND base62_decode_uuid(base62_prefix_last(p))));
 
-\echo In text columns: constants, the functions, parameters of type text, an index, and a declared collation
-SELECT count(*) FILTER (WHERE starts_with(key, '2a')) <> count(*) FILTER (WHERE key BETWEEN '2a' || repeat('0', 20)
-    AND '2a' || repeat('z', 20)) wrong FROM plain;
+\echo In text columns: the functions, an index, and a declared collation
 SELECT count(*) FILTER (WHERE starts_with(key, '2a')) - count(*) FILTER
     (WHERE key BETWEEN base62_prefix_first('2a') AND base62_prefix_last('2a'::text)) "between" FROM plain;
 EXPLAIN (COSTS off) SELECT * FROM plain WHERE key BETWEEN base62_prefix_first('2a') AND base62_prefix_last('2a');
-PREPARE by_texts (text, text) AS SELECT count(*) FILTER (WHERE starts_with(key, '2a')) <> count(*) FILTER
-    (WHERE key BETWEEN $1 AND $2) wrong, count(*) FILTER (WHERE starts_with(key, '2a')) - count(*) FILTER
-    (WHERE key COLLATE "C" BETWEEN $1 AND $2) bytes FROM plain;
-EXECUTE by_texts ('2a00000000000000000000', '2azzzzzzzzzzzzzzzzzzzz');
 CREATE INDEX plain_key ON plain (key COLLATE "C");
 EXPLAIN (COSTS off) SELECT * FROM plain WHERE key BETWEEN base62_prefix_first('2a') AND base62_prefix_last('2a');
 \set VERBOSITY sqlstate

@@ -1,84 +1,57 @@
 -- SPDX-License-Identifier: MIT
 -- Copyright (c) 2026 the maintainers of base62 for Rattle
--- Errors beside those of values.sql.
+-- Errors beside those of values.sql, whose functions it calls. Of these only the calls that differ are printed.
 \set ECHO none
 \pset format unaligned
 \pset tuples_only on
-CREATE FUNCTION error_of(expression text) RETURNS text LANGUAGE plpgsql AS $$
-DECLARE
-    result text;
-    hint text;
-BEGIN
-    EXECUTE 'SELECT ' || expression INTO result;
-    RETURN result;
-EXCEPTION WHEN OTHERS THEN
-    GET STACKED DIAGNOSTICS hint = PG_EXCEPTION_HINT;
-    RETURN concat_ws(' | ', sqlstate || ' ' || sqlerrm, nullif(hint, ''));
-END $$;
-CREATE FUNCTION own() RETURNS text IMMUTABLE LANGUAGE sql
-    AS $$ SELECT 'zyxwvutsrqponmlkjihgfedcbaZYXWVUTSRQPONMLKJIHGFEDCBA9876543210' $$;
-CREATE FUNCTION repeated() RETURNS text IMMUTABLE LANGUAGE sql
-    AS $$ SELECT '00123456789ABCDEFGHIJKLMNOPQRSTUVWXYZabcdefghijklmnopqrstuvwxy' $$;
-CREATE FUNCTION accented() RETURNS text IMMUTABLE LANGUAGE sql
-    AS $$ SELECT 'é23456789ABCDEFGHIJKLMNOPQRSTUVWXYZabcdefghijklmnopqrstuvwxyz' $$;
+CREATE FUNCTION own() RETURNS text LANGUAGE sql AS $$ SELECT letters FROM alphabet WHERE name = 'reversed' $$;
 
-\echo Numbers and widths
-SELECT call, error_of(call) FROM (VALUES
-    ($$base62_encode(-1)$$),
-    ($$base62_encode(-9223372036854775808, own())$$),
-    ($$base62_encode(-1, '01')$$),
-    ($$base62_encode_fixed(-1, 22)$$),
-    ($$base62_encode_fixed(-1, 0, '01')$$),
-    ($$base62_encode_fixed(62, 0, '01')$$),
-    ($$base62_encode_fixed(62, -1)$$),
-    ($$base62_encode_fixed(62, 1001)$$),
-    ($$base62_encode_fixed(62, 2147483647)$$),
-    ($$base62_encode_fixed_uuid('00000000-0000-0000-0000-000000000539', 1001, own())$$),
-    ($$base62_prefix_first('', 0)$$),
-    ($$base62_prefix_last('', 1001)$$),
-    ($$base62_range_first('-', 0, '01')$$),
-    ($$base62_range_last('-', 1001)$$),
-    ($$base62_range_first_numeric('-', -1)$$),
-    ($$base62_range_last_numeric('-', 1001, own())$$),
-    ($$base62_encode_numeric(-1)$$),
-    ($$base62_encode_numeric(-0.5, '01')$$),
-    ($$base62_encode_numeric(1337.5, own())$$),
-    ($$base62_encode_numeric(340282366920938463463374607431768211455.01)$$),
-    ($$base62_encode_numeric(340282366920938463463374607431768211456)$$),
-    ($$base62_encode_numeric(3402823669209384634633746074317682114550)$$),
-    ($$base62_decode_numeric(base62_encode_numeric(18446744073709551616000000000))$$),
-    ($$base62_encode_numeric(1e131071)$$),
-    ($$base62_encode_numeric(1e-16383)$$),
-    ($$base62_encode_numeric('NaN')$$),
-    ($$base62_encode_numeric('Infinity')$$),
-    ($$base62_encode_fixed_numeric('-Infinity', 0)$$)
-) calls (call);
-\echo Strings and prefixes
-SELECT call, error_of(call) FROM (VALUES
-    ($$base62_decode('AzL8n0Y58m8')$$),
-    ($$base62_decode_canonical('AzL8n0Y58m8')$$),
-    ($$base62_decode('-', '01')$$),
-    ($$base62_decode_uuid(repeat('0', 40) || '''')$$),
-    ($$base62_decode_uuid(repeat('0', 39) || E'\n')$$),
-    ($$base62_prefix_last('0é', 1)$$),
-    ($$base62_range_first_numeric('0é', 1, own())$$)
-) calls (call);
-\echo Alphabets, and arguments of other types
-SELECT call, error_of(call) FROM (VALUES
-    ($$base62_encode(1, '01')$$),
-    ($$base62_encode(1, accented())$$),
-    ($$base62_encode(1, repeat('é', 31))$$),
-    ($$base62_encode_uuid('00000000-0000-0000-0000-000000000539', repeated())$$),
-    ($$base62_encode_fixed(1, 1, repeated())$$),
-    ($$base62_range_first('-', 1, repeated())$$),
-    ($$base62_range_last_numeric('-', 1, accented())$$),
-    ($$base62_try_decode('-', '01')$$),
-    ($$base62_try_decode_uuid('-', repeated())$$),
-    ($$base62_is_valid('-', '01')$$),
-    ($$base62_encode(1.5)$$),
-    ($$base62_encode('LZ'::text)$$)
-) calls (call);
-\echo The alphabet of a row after a row with a valid one
-SELECT expression, error_of(format('string_agg(base62_encode(61, a), '','') FROM unnest(ARRAY[own(), %s]) a', expression))
-    FROM (VALUES ($$''$$), ($$'zyx'$$), ($$left(own(), 61)$$), ($$own() || 'z'$$), ($$left(own(), 61) || '-'$$))
-    others (expression);
+\echo Numbers
+SELECT call, n, result_of(format(call, n)) FROM unnest(ARRAY[-1, -9223372036854775808]) n,
+    unnest(ARRAY['encode(%s)', 'encode(%s, own())', 'encode_key(%s)', 'encode_fixed(%s, 22)',
+        'encode_fixed(%s, 22, own())']) call
+    WHERE result_of(format(call, n)) IS DISTINCT FROM '22003 the number is negative: ' || n;
+SELECT call, v, result_of(format(call, v)) FROM unnest(ARRAY[-1, -0.5, 1337.5,
+        340282366920938463463374607431768211455.01, 340282366920938463463374607431768211456,
+        3402823669209384634633746074317682114550, 1e131071, 1e-16383, 'NaN', 'Infinity', '-Infinity']) v,
+    unnest(ARRAY['encode_numeric(%L)', 'encode_numeric(%L, own())', 'encode_fixed_numeric(%L, 1000)']) call
+    WHERE result_of(format(call, v)) IS DISTINCT FROM '22003 the number is not an integer from 0 to 2^128 - 1: '
+        || left(v::text, 40) || CASE WHEN length(v::text) > 40 THEN '...' ELSE '' END;
+
+\echo Widths
+SELECT call, w, result_of(format(call, w)) FROM unnest(ARRAY[-1, 0, 1001, 2147483647]) w,
+    unnest(ARRAY['encode_fixed(62, %s)', 'encode_fixed_uuid(gen_random_uuid(), %s, own())',
+        'encode_fixed_numeric(62, %s)', $$prefix_first('', %s)$$, $$prefix_last('', %s)$$, $$range_first('', %s)$$,
+        $$range_last('', %s, own())$$, $$range_first_numeric('', %s)$$, $$range_last_numeric('', %s, own())$$]) call
+    WHERE result_of(format(call, w)) IS DISTINCT FROM '22023 the width is not from 1 to 1000: ' || w;
+
+\echo Alphabets, also in a row after a row with a valid one
+SELECT call, a, result_of(format(call, a)) FROM (VALUES
+        ('', '22023 the alphabet has 0 characters, not 62'),
+        ('zyx', '22023 the alphabet has 3 characters, not 62'),
+        (left(own(), 61), '22023 the alphabet has 61 characters, not 62'),
+        (own() || 'z', '22023 the alphabet has 63 characters, not 62'),
+        ('é' || left(own(), 60), '22023 the alphabet has a non-ASCII character'),
+        (repeat('é', 31), '22023 the alphabet has a non-ASCII character'),
+        (repeat('0', 62), error('repeated', '48', '1'))) alphabets (a, error),
+    unnest(ARRAY['encode(1, %L)', 'encode_uuid(gen_random_uuid(), %L)', 'encode_numeric(1, %L)',
+        'encode_fixed(62, 1, %L)', $$decode('-', %L)$$, $$decode_uuid_canonical('-', %L)$$, $$try_decode('-', %L)$$,
+        $$try_decode_uuid('-', %L)$$, $$is_valid('-', %L)$$, $$range_first('-', 1, %L)$$,
+        $$range_last_numeric('-', 1, %L)$$, 'encode(1, a) FROM unnest(ARRAY[own(), %L]) a OFFSET 1']) call
+    WHERE result_of(format(call, a)) IS DISTINCT FROM error || shown(a);
+SELECT base62_encode(61, a) FROM unnest(ARRAY[own(), left(own(), 61) || '-']) a;
+
+\echo A number before a width, a width before an alphabet, and all before a string
+SELECT call, result_of(call) FROM (VALUES
+        ('number', ARRAY[$$encode(-1, '01')$$, $$encode_fixed(-1, 0, '01')$$, $$encode_numeric(-0.5, '01')$$,
+            $$encode_fixed_numeric('-Infinity', 0)$$]),
+        ('width', ARRAY[$$encode_fixed(62, 0, '01')$$, $$range_first('-', 0, '01')$$, $$range_last('-', 1001)$$,
+            $$range_first_numeric('-', -1)$$, $$prefix_last('-', 0)$$])) raised (error, calls),
+    unnest(calls) call
+    WHERE (result_of(call) LIKE '_____ the ' || error || ' is %') IS NOT TRUE;
+
+\echo Bytes of UTF-8, and arguments of other types
+SELECT name, result(name, '0é', '1') FROM unnest(ARRAY['prefix_last', 'range_first_numeric']) name
+    WHERE result(name, '0é', '1') IS DISTINCT FROM error('byte', '195', '1') || shown('0é');
+SELECT call, result_of(call) FROM unnest(ARRAY['encode(1.5)', $$encode('LZ'::text)$$]) call
+    WHERE (result_of(call) LIKE '42883 %') IS NOT TRUE;

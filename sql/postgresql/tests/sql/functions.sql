@@ -34,6 +34,8 @@ PREPARE untyped AS SELECT base62_encode($1) t, base62_encode_uuid($2) u, base62_
     base62_decode_numeric($13) w, base62_try_decode($9) y, base62_try_decode_uuid($9) z;
 EXECUTE untyped (1337, '00000000-0000-0000-0000-000000000539', 1337, 3, '00000000-0000-0000-0000-000000000539', 4, 'L',
     2, 'LZ', 'L', 3, 1337, 'LZ');
+-- Divided by 10^9 it is 2^64, of which 64 bits are zero.
+SELECT base62_decode_numeric(base62_encode_numeric(18446744073709551616000000000));
 SELECT base62_version() ~ '^[0-9]+\.[0-9]+\.[0-9]+$' version;
 
 \echo A compressed text
@@ -55,9 +57,9 @@ BEGIN
         END;
     END LOOP;
 END $$;
-SELECT with_each(:own, :alternative, :own, repeat('0', 62), :own, '', left(:own, 61), '01', repeat('é', 31), :alternative,
-    :alternative || '!');
-PREPARE with_one AS SELECT base62_encode(n, $1) FROM generate_series(61, 63) n;
+SELECT string_agg(each, ' ')
+    FROM with_each(:own, :alternative, :own, repeat('0', 62), :own, left(:own, 61), :alternative) each;
+PREPARE with_one AS SELECT string_agg(base62_encode(n, $1), ' ') FROM generate_series(61, 63) n;
 EXECUTE with_one (:own);
 EXECUTE with_one (:alternative);
 \echo A constant alphabet is created once for all rows

@@ -20,10 +20,8 @@ INSERT INTO item SELECT lpad(to_hex(i), 32, '0')::uuid FROM generate_series(0, 1
 INSERT INTO wide SELECT i * 17014118346046923173168730371588410 FROM generate_series(0, 20000) i;
 ANALYZE link, item, code, wide;
 SET enable_bitmapscan = off;
-EXPLAIN (COSTS off) SELECT * FROM link WHERE slug = 'LZ';
 EXPLAIN (COSTS off) SELECT * FROM link WHERE slug = base62_encode(1337);
 EXPLAIN (COSTS off) SELECT * FROM link WHERE id = base62_decode('LZ');
-EXPLAIN (COSTS off) SELECT * FROM item WHERE u = base62_decode_uuid('LZ');
 EXPLAIN (COSTS off) SELECT * FROM item WHERE base62_encode_uuid(u) = 'LZ';
 EXPLAIN (COSTS off) SELECT * FROM item WHERE key LIKE '2aU%';
 EXPLAIN (COSTS off) SELECT * FROM item WHERE key ^@ '2aU';
@@ -31,7 +29,6 @@ EXPLAIN (COSTS off) SELECT * FROM item
     WHERE key BETWEEN base62_prefix_first('2aU') AND base62_prefix_last('2aU') ORDER BY key;
 EXPLAIN (COSTS off) SELECT * FROM item
     WHERE u BETWEEN base62_decode_uuid(base62_prefix_first('2aU')) AND base62_decode_uuid(base62_prefix_last('2aU'));
-EXPLAIN (COSTS off) SELECT * FROM code WHERE code BETWEEN base62_prefix_first('0001', 11) AND base62_prefix_last('0001', 11);
 EXPLAIN (COSTS off) SELECT * FROM link WHERE id BETWEEN base62_range_first('Az', 11) AND base62_range_last('Az', 11);
 EXPLAIN (COSTS off) SELECT * FROM wide
     WHERE id BETWEEN base62_range_first_numeric('7n4', 22) AND base62_range_last_numeric('7n4', 22);

@@ -9,7 +9,7 @@ CREATE EXTENSION base62;
 CREATE TABLE line AS SELECT string_to_array(line, E'\t') f
     FROM regexp_split_to_table(:'lines', '\n') line WHERE line NOT LIKE '#%';
 \echo Whether there are enough of each kind
-SELECT f[1] kind, count(*) > 50 FROM line WHERE f[1] <> 'alphabet' GROUP BY kind ORDER BY kind;
+SELECT count(*), min(count) > 50 FROM (SELECT count(*) FROM line WHERE f[1] <> 'alphabet' GROUP BY f[1]) kinds;
 
 -- A text of the file, or null if it is not UTF-8 or contains a null byte.
 CREATE FUNCTION text_of(field text) RETURNS text LANGUAGE plpgsql AS $$
@@ -28,16 +28,19 @@ CREATE FUNCTION bigint_of(number numeric) RETURNS bigint LANGUAGE sql AS $$
     SELECT CASE WHEN number < 9223372036854775808 THEN number::bigint END
 $$;
 
--- The result of a call, or the code and the message of its error.
-CREATE FUNCTION result(name text, VARIADIC given text[]) RETURNS text LANGUAGE plpgsql AS $$
+-- The result of a call without base62_, or the code and the message of its error.
+CREATE FUNCTION result_of(call text) RETURNS text LANGUAGE plpgsql AS $$
 DECLARE
     found text;
 BEGIN
-    EXECUTE format('SELECT %s(%s)', name, (SELECT string_agg(quote_nullable(a), ', ') FROM unnest(given) a)) INTO found;
+    EXECUTE 'SELECT base62_' || call INTO found;
     RETURN found;
 EXCEPTION WHEN OTHERS THEN
     RETURN sqlstate || ' ' || sqlerrm;
 END $$;
+CREATE FUNCTION result(name text, VARIADIC given text[]) RETURNS text LANGUAGE sql AS $$
+    SELECT result_of(name || '(' || string_agg(quote_nullable(a), ', ') || ')') FROM unnest(given) a
+$$;
 
 -- In how many rows an expression is not true, or not true over the standard alphabet without the argument letters.
 CREATE FUNCTION wrong(relation text, VARIADIC expressions text[]) RETURNS TABLE (expression text, count bigint)
@@ -72,14 +75,14 @@ $$;
 -- Alphabets of ASCII characters.
 CREATE TABLE alphabet AS SELECT f[2] name, text_of(f[3]) letters FROM line
     WHERE f[1] = 'alphabet' AND f[4] = '1' AND text_of(f[3]) IS NOT NULL;
-SELECT name FROM alphabet ORDER BY name;
+SELECT string_agg(name, ' ' ORDER BY name) FROM alphabet;
 
 \echo UUIDs, and repeated letters
 SELECT f FROM line WHERE f[1] = 'uuid'
     AND (uuid_of(f[2]::numeric), base62_encode_uuid(f[3]::uuid), base62_decode_uuid(f[4]))
         IS DISTINCT FROM (f[3]::uuid, f[4], f[3]::uuid);
 SELECT f FROM line WHERE f[1] = 'repeated' AND octet_length(text_of(f[2])) = 62
-    AND result('base62_encode', '1', text_of(f[2])) IS DISTINCT FROM error('repeated', f[3], f[4]) || shown(text_of(f[2]));
+    AND result('encode', '1', text_of(f[2])) IS DISTINCT FROM error('repeated', f[3], f[4]) || shown(text_of(f[2]));
 
 \echo Canonical texts, and texts with leading zeros
 CREATE TABLE encoded AS
@@ -92,10 +95,10 @@ CREATE TABLE encoded AS
 SELECT * FROM wrong('encoded',
     'base62_decode_uuid(t, letters) = u',
     'base62_decode_numeric(t, letters) = v',
-    $$result('base62_decode', t, letters) = coalesce(n::text, replace(large, '%s', ''))$$,
-    $$result('base62_decode_uuid_canonical', t, letters) = coalesce(zero, u::text)$$,
-    $$result('base62_decode_numeric_canonical', t, letters) = coalesce(zero, v::text)$$,
-    $$result('base62_decode_canonical', t, letters) = coalesce(zero, n::text, replace(large, '%s', '_canonical'))$$,
+    $$result('decode', t, letters) = coalesce(n::text, replace(large, '%s', ''))$$,
+    $$result('decode_uuid_canonical', t, letters) = coalesce(zero, u::text)$$,
+    $$result('decode_numeric_canonical', t, letters) = coalesce(zero, v::text)$$,
+    $$result('decode_canonical', t, letters) = coalesce(zero, n::text, replace(large, '%s', '_canonical'))$$,
     'base62_try_decode(t, letters) IS NOT DISTINCT FROM n',
     'base62_try_decode_uuid(t, letters) = u',
     'base62_is_valid(t, letters)',
@@ -111,13 +114,9 @@ CREATE TABLE invalid AS
     SELECT name, letters, text_of(f[3]) t, error(VARIADIC f[4:]) || shown(text_of(f[3])) error FROM line JOIN alphabet ON name = f[2]
     WHERE f[1] = 'refused' AND text_of(f[3]) IS NOT NULL;
 SELECT count(*) > 300 FROM invalid;
+SELECT wrong.* FROM unnest(ARRAY['', '_uuid', '_numeric', '_canonical', '_uuid_canonical', '_numeric_canonical']) kind,
+    wrong('invalid', format($$result('decode%s', t, letters) = error$$, kind));
 SELECT * FROM wrong('invalid',
-    $$result('base62_decode', t, letters) = error$$,
-    $$result('base62_decode_uuid', t, letters) = error$$,
-    $$result('base62_decode_numeric', t, letters) = error$$,
-    $$result('base62_decode_canonical', t, letters) = error$$,
-    $$result('base62_decode_uuid_canonical', t, letters) = error$$,
-    $$result('base62_decode_numeric_canonical', t, letters) = error$$,
     'num_nulls(base62_try_decode(t, letters), base62_try_decode_uuid(t, letters)) = 2',
     'NOT base62_is_valid(t, letters) AND NOT base62_is_canonical(t, letters)');
 
@@ -129,13 +128,13 @@ CREATE TABLE fixed AS
     FROM line JOIN alphabet ON name = f[2] JOIN (SELECT DISTINCT v, t FROM encoded
         WHERE name = 'standard' AND zero IS NULL) canonical ON v = f[3]::numeric WHERE f[1] IN ('fixed', 'narrow');
 SELECT * FROM wrong('fixed',
-    $$result('base62_encode_fixed_uuid', u::text, w, letters) = t$$,
-    $$result('base62_encode_fixed_numeric', v::text, w, letters) = t$$,
-    $$n IS NULL OR result('base62_encode_fixed', n::text, w, letters) = t$$,
+    $$result('encode_fixed_uuid', u::text, w, letters) = t$$,
+    $$result('encode_fixed_numeric', v::text, w, letters) = t$$,
+    $$n IS NULL OR result('encode_fixed', n::text, w, letters) = t$$,
     $$w <> '22' OR name <> 'standard' OR base62_encode_key_uuid(u) = t$$,
     $$w <> '22' OR name <> 'standard' OR n IS NULL OR base62_encode_key(n) = t$$);
 
-\echo The first and the last number of a prefix, and whether enough ranges are below 2^63, across it and above it
+\echo The first and the last number and text of a prefix, and whether enough ranges are below 2^63, across it and above it
 CREATE TABLE span AS
     SELECT name, letters, f[3] w, text_of(f[4]) p, nullif(error(VARIADIC f[5:]), error('none')) || shown(text_of(f[4])) error,
         CASE WHEN f[5] = 'numbers' THEN f[6]::numeric END low, CASE WHEN f[5] = 'numbers' THEN f[7]::numeric END high
@@ -145,18 +144,12 @@ SELECT count(*) FILTER (WHERE bigint_of(high) IS NOT NULL) > 50 below,
     count(*) FILTER (WHERE bigint_of(low) IS NOT NULL AND bigint_of(high) IS NULL) > 50 across,
     count(*) FILTER (WHERE bigint_of(low) IS NULL AND low IS NOT NULL) > 50 above,
     count(*) FILTER (WHERE error IS NOT NULL) > 50 invalid FROM span;
-SELECT * FROM wrong('span',
-    $$result('base62_range_first', p, w, letters) IS NOT DISTINCT FROM coalesce(error, bigint_of(low)::text)$$,
-    $$result('base62_range_last', p, w, letters) IS NOT DISTINCT FROM coalesce(error,
-        CASE WHEN bigint_of(low) IS NOT NULL THEN least(high, 9223372036854775807)::text END)$$,
-    $$result('base62_range_first_numeric', p, w, letters) IS NOT DISTINCT FROM coalesce(error, low::text)$$,
-    $$result('base62_range_last_numeric', p, w, letters) IS NOT DISTINCT FROM coalesce(error, high::text)$$);
-
-\echo Their texts
-CREATE TABLE bounds AS SELECT name, p, w, coalesce(error, result('base62_encode_fixed_numeric', low::text, w)) first,
-    coalesce(error, result('base62_encode_fixed_numeric', high::text, w)) last FROM span WHERE name = 'standard';
-SELECT * FROM wrong('bounds',
-    $$result('base62_prefix_first', p, w) IS NOT DISTINCT FROM first$$,
-    $$result('base62_prefix_last', p, w) IS NOT DISTINCT FROM last$$,
-    $$w <> '22' OR result('base62_prefix_first', p) IS NOT DISTINCT FROM first$$,
-    $$w <> '22' OR result('base62_prefix_last', p) IS NOT DISTINCT FROM last$$);
+SELECT wrong.* FROM (VALUES ('first', 'low'), ('last', 'high')) bound (name, number), wrong('span',
+    format($$result('range_%s', p, w, letters) IS NOT DISTINCT FROM coalesce(error,
+        CASE WHEN bigint_of(low) IS NOT NULL THEN least(%s, 9223372036854775807)::text END)$$, bound.name, number),
+    format($$result('range_%s_numeric', p, w, letters) IS NOT DISTINCT FROM coalesce(error, %s::text)$$,
+        bound.name, number),
+    format($$name <> 'standard' OR result('prefix_%s', p, w) IS NOT DISTINCT FROM coalesce(error,
+        result('encode_fixed_numeric', %s::text, w))$$, bound.name, number),
+    format($$name <> 'standard' OR w <> '22' OR result('prefix_%s', p) IS NOT DISTINCT FROM coalesce(error,
+        result('encode_fixed_numeric', %s::text, w))$$, bound.name, number));

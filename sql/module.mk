@@ -1,0 +1,38 @@
+# SPDX-License-Identifier: MIT
+# Copyright (c) 2026 the maintainers of base62 for Rattle
+
+# What the modules of SQLite and DuckDB share. Each Makefile says how its module is built and tested.
+#
+#     make                 builds it
+#     make install         installs it in $(folder), and its licence in $(DESTDIR)$(docdir)
+#     make check           tests it as it was built, and make installcheck as it was installed
+#     make uninstall
+#     make clean
+#
+# PYTHON runs the tests.
+prefix = /usr/local
+libdir = $(prefix)/lib
+CFLAGS = -O2
+PYTHON = python3
+
+# The library is in the folder above in an archive of these functions, and in c/ of the repository.
+library := $(dir $(firstword $(wildcard ../base62.c ../../c/base62.c)))
+sources = functions.c $(library)base62.c
+
+all: $(MODULE)
+
+$(MODULE): $(sources) ../common.h $(library)base62.h
+
+install: $(MODULE)
+	mkdir -p '$(folder)' '$(DESTDIR)$(docdir)'
+	install -m 755 $(MODULE) '$(folder)'
+	install -m 644 ../LICENSE '$(DESTDIR)$(docdir)'
+
+uninstall:
+	rm -f '$(folder)/$(MODULE)' '$(DESTDIR)$(docdir)/LICENSE'
+
+check: tested = $(CURDIR)/$(MODULE)
+check: $(MODULE)
+installcheck: tested = $(abspath $(folder)/$(MODULE))
+
+.PHONY: all install uninstall check installcheck clean

@@ -8,6 +8,7 @@ import { fileURLToPath } from 'node:url';
 import * as module from '../index.js';
 import { load } from '../module.js';
 
+const options = { cwd: fileURLToPath(new URL('..', import.meta.url)), encoding: 'utf8' };
 const read = (name) => readFileSync(new URL(`../${name}`, import.meta.url), 'utf8');
 
 test('its licence is that of the repository', () => {
@@ -15,7 +16,6 @@ test('its licence is that of the repository', () => {
 });
 
 test('npm packs these files alone', () => {
-  const options = { cwd: fileURLToPath(new URL('..', import.meta.url)), encoding: 'utf8' };
   // A list, or from npm 12 on an object by the names of packages.
   const [{ files }] = Object.values(JSON.parse(execFileSync('npm', ['pack', '--dry-run', '--json'], options)));
   const entries = ['index', 'module'].flatMap((it) => ['cjs', 'd.cts', 'd.ts', 'js'].map((end) => `${it}.${end}`));
@@ -33,16 +33,13 @@ test('each form has the same calls', () => {
   }
 });
 
-test('the examples of the types are programs that print what they say', () => {
+test('the examples of the types print what they say', () => {
   const types = read('index.d.cts');
-  const examples = [...types.matchAll(/^ \* @example\n \* ```js\n(.+?)^ \* ```$/gms)];
+  const examples = [...types.matchAll(/^ \* @example\n \* (console\.log.+) \/\/ (.+)$/gm)];
   assert.equal(examples.length, types.split('@example').length - 1);
-  for (const [, lines] of examples) {
-    const program = lines.replace(/^ \* ?/gm, '');
-    const options = { cwd: fileURLToPath(new URL('..', import.meta.url)), encoding: 'utf8' };
-    const printed = execFileSync(process.execPath, ['--input-type=module', '--eval', program], options);
-    assert.deepEqual(printed.trim().split('\n'), Array.from(program.matchAll(/\/\/ (.+)/g), ([, it]) => it));
-  }
+  const program = `import { ${Object.keys(module)} } from 'base62-proved'; ${examples.map(([, it]) => it).join('')}`;
+  const printed = execFileSync(process.execPath, ['--input-type=module', '--eval', program], options);
+  assert.deepEqual(printed.trim().split('\n'), examples.map(([, , it]) => it));
 });
 
 test('each subpath can be imported and required', async () => {

@@ -8,12 +8,11 @@ import { fileURLToPath } from 'node:url';
 import * as module from '../index.js';
 import { load } from '../module.js';
 
+const require = createRequire(import.meta.url);
+const bytes = readFileSync(new URL('../base62.wasm', import.meta.url));
+const compiled = new WebAssembly.Module(bytes);
 const options = { cwd: fileURLToPath(new URL('..', import.meta.url)), encoding: 'utf8' };
 const read = (name) => readFileSync(new URL(`../${name}`, import.meta.url), 'utf8');
-
-test('its licence is that of the repository', () => {
-  assert.equal(read('LICENSE'), read('../LICENSE'));
-});
 
 test('npm packs these files alone', () => {
   // A list, or from npm 12 on an object by the names of packages.
@@ -25,8 +24,6 @@ test('npm packs these files alone', () => {
 });
 
 test('each form has the same calls', () => {
-  const require = createRequire(import.meta.url);
-  const compiled = new WebAssembly.Module(readFileSync(new URL('../base62.wasm', import.meta.url)));
   for (const base62 of [require('../index.cjs'), load(compiled), require('../module.cjs').load(compiled)]) {
     assert.deepEqual(Object.keys(base62).sort(), Object.keys(module));
     assert.equal(base62.encode(1337), 'LZ');
@@ -43,7 +40,6 @@ test('the examples of the types print what they say', () => {
 });
 
 test('each subpath can be imported and required', async () => {
-  const require = createRequire(import.meta.url);
   const { exports } = JSON.parse(read('package.json'));
   const pathOf = (file) => fileURLToPath(new URL(`../${file}`, import.meta.url));
   assert.deepEqual(Object.keys(exports), ['.', './module', './base62.wasm', './package.json']);
@@ -65,9 +61,7 @@ test('package.json and README name the same version of Node', () => {
 });
 
 test('the WebAssembly is small, imports nothing, and has room for the longest piece of a text', () => {
-  const bytes = readFileSync(new URL('../base62.wasm', import.meta.url));
   assert.ok(bytes.length <= 14_000, `${bytes.length}`);
-  const compiled = new WebAssembly.Module(bytes);
   const { exports: library } = new WebAssembly.Instance(compiled);
   // NUMBER of module.js, above which are the arguments and results of a call.
   assert.ok(library.__heap_base.value <= 0x18000);
@@ -76,7 +70,6 @@ test('the WebAssembly is small, imports nothing, and has room for the longest pi
 });
 
 test('a stack overflow of the WebAssembly is an error, and overwrites no tables', () => {
-  const compiled = new WebAssembly.Module(readFileSync(new URL('../base62.wasm', import.meta.url)));
   const { exports: library } = new WebAssembly.Instance(compiled);
   // No byte of the stack is left.
   library.__stack_pointer.value -= 65536;

@@ -56,10 +56,10 @@ class Missing(Exception):
     """A thing that a language needs, and this machine does not have."""
 
 
-def run(*command, **options):
+def run(*command):
     """What a command prints. If it fails, it is left out."""
     try:
-        ran = subprocess.run(list(map(str, command)), capture_output=True, text=True, **options)
+        ran = subprocess.run(list(map(str, command)), capture_output=True, text=True)
     except FileNotFoundError as fault:
         raise Missing(fault.filename) from None
     if ran.returncode:
@@ -177,9 +177,7 @@ def print_table(times):
 
 def main(rounds):
     print(f"Python and SQLite are timed by {PYTHON}, which is {run(PYTHON, '--version').strip()}", flush=True)
-    times = {language: times_of(language, rounds) for language in LANGUAGES}
-    times = {language: found for language, found in times.items() if found}
-    print_table(times)
+    print_table({language: times_of(language, rounds) for language in LANGUAGES})
 
 
 if __name__ == "__main__":

@@ -9,32 +9,20 @@ import sys
 
 import plain
 
-ENCODE = ("base62", "encode", "base62_encode(number)")
-DECODE = ("base62", "decode", "base62_decode(code)")
-DECODE_LARGE = ("base62", "decode", "base62_decode_uhugeint(code)")
 # A query takes time without any row too, so that the table has each number so many times.
 COPIES = 1000
-
-
-def times_of(extension, shell, numbers, used, rounds):
-    """The nanoseconds of a row in each call of each round."""
-    kind = "UBIGINT" if max(numbers) < 2**64 else "UHUGEINT"
-    given = f"SELECT unnest({list(map(str, numbers))})::{kind} AS number FROM range({COPIES})"
-    calls = [f"SELECT epoch_ns(now()::TIMESTAMP), count({call}) FROM link;" for _, _, call in used] * rounds
-    script = [f"LOAD '{extension}'; SET threads = 1;",
-              f"CREATE TABLE link AS SELECT number, base62_encode(number) AS code FROM ({given});",
-              *calls, "SELECT epoch_ns(now()::TIMESTAMP), 0;"]
-    options = ["-init", "/dev/null", "-unsigned", "-csv", "-noheader"]
-    ran = subprocess.run([*shell, *options], input="\n".join(script), stdout=subprocess.PIPE, text=True, check=True)
-    starts = [int(line.split(",")[0]) for line in ran.stdout.split()]
-    return [(end - start) / (len(numbers) * COPIES) for start, end in zip(starts, starts[1:])]
-
-
-def main(extension, *shell, file, rounds):
-    for kind, numbers in plain.numbers_of(file).items():
-        used = [ENCODE, DECODE if max(numbers) < 2**63 else DECODE_LARGE]
-        times = iter(times_of(extension, shell, numbers, used, rounds))
-        plain.measure(used, lambda *call: next(times), kind, rounds)
-
-
-main(*sys.argv[1:-2], file=sys.argv[-2], rounds=int(sys.argv[-1]))
+_, extension, *shell, _, _ = sys.argv
+numbers, _, rounds = plain.arguments()
+kind = "UBIGINT" if max(numbers) < 2**64 else "UHUGEINT"
+decode = "base62_decode" if max(numbers) < 2**63 else "base62_decode_uhugeint"
+calls = [("encode", "base62_encode(number)"), ("decode", f"{decode}(code)")] * rounds
+given = f"SELECT unnest({list(map(str, numbers))})::{kind} AS number FROM range({COPIES})"
+script = [f"LOAD '{extension}'; SET threads = 1;",
+          f"CREATE TABLE link AS SELECT number, base62_encode(number) AS code FROM ({given});",
+          *(f"SELECT epoch_ns(now()::TIMESTAMP), count({call}) FROM link;" for _, call in calls),
+          "SELECT epoch_ns(now()::TIMESTAMP), 0;"]
+options = ["-init", "/dev/null", "-unsigned", "-csv", "-noheader"]
+ran = subprocess.run([*shell, *options], input="\n".join(script), stdout=subprocess.PIPE, text=True, check=True)
+starts = [int(line.split(",")[0]) for line in ran.stdout.split()]
+for (name, _), start, end in zip(calls, starts, starts[1:]):
+    print("base62", name, (end - start) / (len(numbers) * COPIES), sep="\t")

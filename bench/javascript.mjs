@@ -20,29 +20,18 @@ function decodeByLoop(text) {
   return number;
 }
 
-const calls = [
-  ['base62-proved', 'encode', encode],
-  ['base62-proved', 'decode', decode],
-  ['loop over BigInt', 'encode', encodeByLoop],
-  ['loop over BigInt', 'decode', decodeByLoop],
-];
+const numbers = readFileSync(file, 'utf8').trim().split('\n').map((text) => decode(text));
+const values = { encode: numbers, decode: numbers.map((number) => encode(number)) };
 
-function time(call, values) {
+function measure(who, name, call) {
   const start = process.hrtime.bigint();
-  for (const value of values) call(value);
-  return Number(process.hrtime.bigint() - start) / values.length;
+  for (const value of values[name]) call(value);
+  console.log([who, name, Number(process.hrtime.bigint() - start) / numbers.length].join('\t'));
 }
 
-const numbers = {};
-for (const line of readFileSync(file, 'utf8').trim().split('\n')) {
-  const [kind, high, low] = line.split(' ');
-  (numbers[kind] ??= []).push((BigInt(high) << 64n) | BigInt(low));
-}
-for (const [kind, values] of Object.entries(numbers)) {
-  const given = { encode: values, decode: values.map((number) => encode(number)) };
-  const least = calls.map(() => Infinity);
-  for (let round = 0; round < rounds; round++) {
-    calls.forEach(([, name, call], i) => (least[i] = Math.min(least[i], time(call, given[name]))));
-  }
-  calls.forEach(([who, name], i) => console.log([who, name, kind, least[i]].join('\t')));
+for (let round = 0; round < rounds; round++) {
+  measure('base62-proved', 'encode', encode);
+  measure('base62-proved', 'decode', decode);
+  measure('loop over BigInt', 'encode', encodeByLoop);
+  measure('loop over BigInt', 'decode', decodeByLoop);
 }

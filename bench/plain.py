@@ -1,5 +1,9 @@
 """The codec that one writes without a library, and what the programs in Python share."""
 
+import sys
+from pathlib import Path
+from time import perf_counter_ns
+
 LETTERS = "0123456789ABCDEFGHIJKLMNOPQRSTUVWXYZabcdefghijklmnopqrstuvwxyz"
 DIGITS = {letter: digit for digit, letter in enumerate(LETTERS)}
 
@@ -20,18 +24,16 @@ def decode(text):
     return number
 
 
-def numbers_of(file):
-    """The numbers of a file, by their kind."""
-    found = {}
-    with open(file) as lines:
-        for line in lines:
-            kind, high, low = line.split()
-            found.setdefault(kind, []).append(int(high) << 64 | int(low))
-    return found
+def arguments():
+    """The numbers of the file, their strings, and the count of rounds, which are a program's last two arguments."""
+    texts = Path(sys.argv[-2]).read_text().split()
+    return [decode(text) for text in texts], texts, int(sys.argv[-1])
 
 
-def measure(calls, time, kind, rounds):
-    """Prints the least time of each call in all rounds. The first two parts of a call name it."""
-    least = [min(times) for times in zip(*([time(*call) for call in calls] for _ in range(rounds)))]
-    for (who, name, _), nanoseconds in zip(calls, least):
-        print(who, name, kind, nanoseconds, sep="\t")
+def measure(calls, rounds, run, count):
+    """Prints the time of each call in each round, which runs over so many values. Its first two parts name it."""
+    for _ in range(rounds):
+        for who, name, call in calls:
+            start = perf_counter_ns()
+            run(name, call)
+            print(who, name, (perf_counter_ns() - start) / count, sep="\t")

@@ -1,9 +1,9 @@
 #!/usr/bin/env python3
 """Times the packages on this machine, beside other code for base 62: `make bench` calls bench/run.py ROUNDS.
 
-Each other program of this folder times one language. A round times all its calls in turn, and the least time of all
-rounds counts. It prints rows: whose call it is, the call, the kind of the numbers, and nanoseconds. This program builds
-and runs the others, and prints one table of all. What is missing is named and left out.
+Each other program of this folder times one language, over the numbers whose strings are the lines of a file. A round
+times all its calls in turn, and prints rows: whose call it is, the call, and nanoseconds. This program builds and runs
+the others, and prints one table of the least times. What is missing is named and left out.
 
 The numbers are random, below 2^40, 2^64 or 2^128; those of the kind `mixed` have 1 to 128 bits, in random order.
 """
@@ -14,7 +14,10 @@ import shutil
 import subprocess
 import sys
 import tempfile
+from collections import defaultdict
 from pathlib import Path
+
+import plain
 
 TOP = Path(__file__).resolve().parent.parent
 BENCH = TOP / "bench"
@@ -53,10 +56,10 @@ class Missing(Exception):
     """A thing that a language needs, and this machine does not have."""
 
 
-def run(*command, **options):
+def run(*command):
     """What a command prints. If it fails, it is left out."""
     try:
-        ran = subprocess.run(list(map(str, command)), capture_output=True, text=True, **options)
+        ran = subprocess.run(list(map(str, command)), capture_output=True, text=True)
     except FileNotFoundError as fault:
         raise Missing(fault.filename) from None
     if ran.returncode:
@@ -76,14 +79,9 @@ def time_c(work):
     return [work / "c"]
 
 
-def their_crate():
-    """The folder of the crate `base62`: BASE62_CRATE, or the last one in Cargo's registry."""
-    home = Path(os.environ.get("CARGO_HOME", Path.home() / ".cargo"))
-    return os.environ.get("BASE62_CRATE") or max(home.glob("registry/src/*/base62-[0-9]*"), default=None)
-
-
 def time_rust(work):
-    theirs = their_crate()
+    home = Path(os.environ.get("CARGO_HOME", Path.home() / ".cargo"))
+    theirs = os.environ.get("BASE62_CRATE") or max(home.glob("registry/src/*/base62-[0-9]*"), default=None)
     found = f'theirs = {{ package = "base62", path = "{Path(theirs).resolve()}" }}' if theirs else ""
     if not found:
         print("not timed: the crate base62: it is not in Cargo's registry, and BASE62_CRATE is not its folder")
@@ -109,8 +107,8 @@ def time_columns(work):
         run(PYTHON, "-c", "import pyarrow")
     except Missing:
         within, folder = ["bash", "-c", IN_UNSTABLE, TOP, "pyarrow", work, "env"], Path("/mnt")
-    # The file of the numbers has another path there.
-    program = f'python3 {folder}/bench/columns.py {folder}/numbers "$1"'
+    # The file of the strings has another path there.
+    program = f'python3 {folder}/bench/columns.py {folder}/texts "$1"'
     return [*within, f"PYTHONPATH={folder}/site", "sh", "-c", program]
 
 
@@ -142,31 +140,31 @@ LANGUAGES = {
 }
 
 
-def write_numbers(file):
-    """Writes a row for each number: its kind, and its halves of 64 bits."""
-    draw = random.Random(62)
-    rows = [(kind, draw.getrandbits(draw.randint(1, 128) if kind == "mixed" else int(kind))) for kind in KINDS for _ in range(COUNT)]
-    file.write_text("".join(f"{kind} {number >> 64} {number % 2**64}\n" for kind, number in rows))
+def write_texts(kind, file):
+    draw = random.Random(kind)
+    numbers = [draw.getrandbits(draw.randint(1, 128) if kind == "mixed" else int(kind)) for _ in range(COUNT)]
+    file.write_text("".join(f"{plain.encode(number)}\n" for number in numbers))
 
 
 def times_of(language, rounds):
-    """The nanoseconds of a call, by whose call it is, the call, and the kind of the numbers."""
-    found = {}
+    """The least nanoseconds of a call, by whose call it is, the call, and the kind of the numbers."""
+    found = defaultdict(list)
     with tempfile.TemporaryDirectory() as folder:
         work = Path(folder)
-        write_numbers(work / "numbers")
         try:
-            said = run(*LANGUAGES[language](work), work / "numbers", rounds)
+            command = LANGUAGES[language](work)
+            for kind in KINDS:
+                write_texts(kind, work / "texts")
+                for line in run(*command, work / "texts", rounds).splitlines():
+                    who, *row = line.split("\t")
+                    if row:
+                        found[who, row[0], kind].append(float(row[1]))
+                    elif kind == KINDS[0]:
+                        print(line)
         except Missing as fault:
             print(f"not timed: {language}: {fault}")
-            return found
-    for line in said.splitlines():
-        who, *row = line.split("\t")
-        if row:
-            found[who, row[0], row[1]] = float(row[2])
-        else:
-            print(line)
-    return found
+            return {}
+    return {call: min(times) for call, times in found.items()}
 
 
 def print_table(times):
@@ -179,9 +177,7 @@ def print_table(times):
 
 def main(rounds):
     print(f"Python and SQLite are timed by {PYTHON}, which is {run(PYTHON, '--version').strip()}", flush=True)
-    times = {language: times_of(language, rounds) for language in LANGUAGES}
-    times = {language: found for language, found in times.items() if found}
-    print_table(times)
+    print_table({language: times_of(language, rounds) for language in LANGUAGES})
 
 
 if __name__ == "__main__":

@@ -30,11 +30,7 @@ export type Uuid = string | Uint8Array;
  * Encodes a number as its shortest string, of 1 to 22 characters.
  *
  * @example
- * ```js
- * import { encode } from 'base62-proved';
- *
  * console.log(encode(1337)); // LZ
- * ```
  * @param number an integer from 0 to 2n ** 128n - 1n. A `number` is at most 2**53 - 1, since greater ones may have been
  *   rounded. -0 is 0.
  * @throws {Base62Error} `OUT_OF_RANGE` for any other number, such as 1.5, -1 or NaN
@@ -47,11 +43,7 @@ export function encode(number: Integer, alphabet?: Alphabet): string;
  * {@link Alphabet.alternative} is not).
  *
  * @example
- * ```js
- * import { encodeFixed } from 'base62-proved';
- *
  * console.log(encodeFixed(1337, 4)); // 00LZ
- * ```
  * @param value a number as in {@link encode}, or a UUID as in {@link encodeUuid}. A string is always a UUID.
  * @param width an integer from 1 to 2**53 - 1. 22 characters are enough for any number.
  * @throws {Base62Error} `OUT_OF_RANGE` if the number needs more characters, or for any other number or width,
@@ -65,11 +57,7 @@ export function encodeFixed(value: Integer | Uuid, width: number, alphabet?: Alp
  * and in the order of their UUIDs' bytes.
  *
  * @example
- * ```js
- * import { encodeKey } from 'base62-proved';
- *
  * console.log(encodeKey(1337)); // 00000000000000000000LZ
- * ```
  * @param value as in {@link encodeFixed}
  * @throws {Base62Error} `OUT_OF_RANGE`, `INVALID_UUID`
  */
@@ -79,11 +67,7 @@ export function encodeKey(value: Integer | Uuid): string;
  * Encodes a UUID, read as a big-endian 128-bit integer, as its shortest string, of 1 to 22 characters.
  *
  * @example
- * ```js
- * import { encodeUuid } from 'base62-proved';
- *
  * console.log(encodeUuid('550e8400-e29b-41d4-a716-446655440000')); // 2aUyqjCzEIiEcYMKj7TZtw
- * ```
  * @throws {Base62Error} `INVALID_UUID` if the string or the bytes are not a {@link Uuid}
  */
 export function encodeUuid(uuid: Uuid, alphabet?: Alphabet): string;
@@ -92,11 +76,7 @@ export function encodeUuid(uuid: Uuid, alphabet?: Alphabet): string;
  * Returns the length of the string that {@link encode} returns, from 1 to 22.
  *
  * @example
- * ```js
- * import { digitCount } from 'base62-proved';
- *
  * console.log(digitCount(1337)); // 2
- * ```
  * @throws {Base62Error} `OUT_OF_RANGE` as {@link encode}
  */
 export function digitCount(number: Integer): number;
@@ -105,11 +85,7 @@ export function digitCount(number: Integer): number;
  * Decodes a string of any length. Leading zeros are ignored.
  *
  * @example
- * ```js
- * import { decode } from 'base62-proved';
- *
  * console.log(decode('LZ')); // 1337n
- * ```
  * @returns the number that the string represents, from 0n to 2n ** 128n - 1n
  * @throws {Base62Error} `EMPTY_INPUT` if it is empty, `INVALID_BYTE` if a byte is not in the alphabet, `OVERFLOW` if
  *   it represents 2**128 or more, or has more than 22 bytes after its leading zeros. If the string has several errors,
@@ -121,11 +97,7 @@ export function decode(text: EncodedString, alphabet?: Alphabet): bigint;
  * Like {@link decode}, but returns a `number`, from 0 to 2**53 - 1.
  *
  * @example
- * ```js
- * import { decodeNumber } from 'base62-proved';
- *
  * console.log(decodeNumber('LZ')); // 1337
- * ```
  * @throws {Base62Error} as {@link decode}, and `UNSAFE_INTEGER` if the number is above 2**53 - 1
  */
 export function decodeNumber(text: EncodedString, alphabet?: Alphabet): number;
@@ -135,11 +107,7 @@ export function decodeNumber(text: EncodedString, alphabet?: Alphabet): number;
  * exactly one.
  *
  * @example
- * ```js
- * import { decodeCanonical } from 'base62-proved';
- *
  * console.log(decodeCanonical('LZ')); // 1337n
- * ```
  * @throws {Base62Error} as {@link decode}, and `NOT_CANONICAL` for a leading zero, as in `'0LZ'`
  */
 export function decodeCanonical(text: EncodedString, alphabet?: Alphabet): bigint;
@@ -148,11 +116,7 @@ export function decodeCanonical(text: EncodedString, alphabet?: Alphabet): bigin
  * Like {@link decodeCanonical}, but returns a `number`, from 0 to 2**53 - 1.
  *
  * @example
- * ```js
- * import { decodeNumberCanonical } from 'base62-proved';
- *
  * console.log(decodeNumberCanonical('LZ')); // 1337
- * ```
  * @throws {Base62Error} as {@link decodeCanonical}, and `UNSAFE_INTEGER` if the number is above 2**53 - 1
  */
 export function decodeNumberCanonical(text: EncodedString, alphabet?: Alphabet): number;
@@ -162,11 +126,7 @@ export function decodeNumberCanonical(text: EncodedString, alphabet?: Alphabet):
  * the version and the variant are not checked.
  *
  * @example
- * ```js
- * import { decodeUuid } from 'base62-proved';
- *
  * console.log(decodeUuid('2aUyqjCzEIiEcYMKj7TZtw')); // 550e8400-e29b-41d4-a716-446655440000
- * ```
  * @throws {Base62Error} as {@link decode}
  */
 export function decodeUuid(text: EncodedString, alphabet?: Alphabet): string;
@@ -183,11 +143,7 @@ export function decodeUuidCanonical(text: EncodedString, alphabet?: Alphabet): s
  * numbers from the least to the greatest have such strings. Returns null if there are no such numbers.
  *
  * @example
- * ```js
- * import { prefixRange } from 'base62-proved';
- *
  * console.log(prefixRange('00a', 7)); // [ 531948096n, 546724431n ]
- * ```
  * @param prefix may be empty, or longer than the width
  * @param width an integer from 0 to 2**53 - 1
  * @returns numbers from 0n to 2n ** 128n - 1n. The greatest may exceed a 64-bit column: see the README.
@@ -211,11 +167,7 @@ export function keyRange(prefix: EncodedString): [least: bigint, greatest: bigin
  * compares byte by byte: `COLLATE "C"` in PostgreSQL, `BINARY` in SQLite.
  *
  * @example
- * ```js
- * import { keyBounds } from 'base62-proved';
- *
  * console.log(keyBounds('00000000000000000000L')); // [ '00000000000000000000L0', '00000000000000000000Lz' ]
- * ```
  * @throws {Base62Error} `INVALID_BYTE`
  */
 export function keyBounds(prefix: EncodedString): [least: string, greatest: string] | null;

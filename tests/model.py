@@ -69,14 +69,6 @@ LETTERS = {
 # The calls
 
 
-def is_ascii(letters: bytes) -> bool:
-    return max(letters) < 128
-
-
-def is_ascending(letters: bytes) -> bool:
-    return sorted(letters) == [*letters]
-
-
 def first_repeat(letters: bytes) -> Result | None:
     """The first byte that also stands at an earlier index."""
     found = ((byte, index) for index, byte in enumerate(letters) if byte in letters[:index])
@@ -458,7 +450,7 @@ def prefixes() -> Iterator[tuple[int, bytes]]:
 
 def rows_of_alphabets() -> Iterator[Row]:
     for name, letters in LETTERS.items():
-        yield "alphabet", name, letters, int(is_ascii(letters)), int(is_ascending(letters))
+        yield "alphabet", name, letters, int(letters.isascii()), int(sorted(letters) == [*letters])
 
 
 def rows_of_repeats() -> Iterator[tuple[str, bytes, int, int]]:
@@ -544,15 +536,11 @@ def field(of: str | int | bytes) -> str:
     return "".join(chr(byte) if 33 <= byte <= 126 and byte not in b"%\\" else f"%{byte:02X}" for byte in of)
 
 
-def written() -> str:
-    lines = dict.fromkeys("\t".join(map(field, row)) for row in rows())
-    return HEAD + "".join(line + "\n" for line in lines)
-
-
 def main() -> None:
     if sys.argv[1:]:
         raise SystemExit(__doc__)
-    Path(__file__).with_name("values.tsv").write_bytes(written().encode())
+    lines = dict.fromkeys("\t".join(map(field, row)) for row in rows())
+    Path(__file__).with_name("values.tsv").write_bytes((HEAD + "".join(f"{line}\n" for line in lines)).encode())
 
 
 if __name__ == "__main__":

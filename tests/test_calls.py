@@ -19,10 +19,6 @@ def all_of(module: str) -> list[str]:
     return next(ast.literal_eval(it.value) for it in lists if ast.unparse(it.targets[0]) == "__all__")
 
 
-def python() -> list[str]:
-    return [*all_of("__init__"), *(f"columns.{name}" for name in all_of("columns"))]
-
-
 def exported() -> dict[str, set[str]]:
     """The names by the languages of the page."""
     of_rust = re.findall(r"\w+", "".join(re.findall(r"\npub (?:use (?:\w+::)+)?([^;]*;)", text("rust/src/lib.rs"))))
@@ -31,7 +27,7 @@ def exported() -> dict[str, set[str]]:
     return {
         "Rust": {OF_ALPHABETS.sub("", it) for it in of_rust},
         "C": {OF_ALPHABETS.sub("", it) for it in of_c},
-        "Python": set(python()),
+        "Python": {*all_of("__init__"), *(f"columns.{name}" for name in all_of("columns"))},
         "JavaScript": set(re.findall(r"\w+", of_javascript)),
         "SQLite": set(re.findall(r'\{"(\w+)",', text("sql/sqlite/functions.c"))),
         "DuckDB": set(re.findall(r'\{"(base62_\w+)",', text("sql/duckdb/functions.c"))),

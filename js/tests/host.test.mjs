@@ -156,19 +156,6 @@ test('calls go on after the stack has run out in one', () => {
   assert.deepEqual([...others], ['RangeError']);
 });
 
-// Newer versions of V8 throw a SyntaxError when they compile a regular expression on an exhausted stack.
-test('no call runs a regular expression', () => {
-  const { exec } = RegExp.prototype;
-  RegExp.prototype.exec = () => {
-    throw new Error('run');
-  };
-  try {
-    for (const [call, wanted] of callsOf(base62)) if (resultOf(call) !== wanted) throw new Error(`${call}`);
-  } finally {
-    RegExp.prototype.exec = exec;
-  }
-});
-
 // The functions of the runtime that calls call. Each may throw because the stack is exhausted.
 const builtins = [
   [Object.getPrototypeOf(Uint8Array.prototype), 'set', 'slice'],
@@ -197,6 +184,11 @@ function abortAt(object, name, n, call) {
   }
   return count >= n;
 }
+
+// Newer versions of V8 throw a SyntaxError when they compile a regular expression on an exhausted stack.
+test('no call runs a regular expression', () => {
+  for (const [call] of callsOf(base62)) assert.ok(!abortAt(RegExp.prototype, 'exec', 1, call), `${call}`);
+});
 
 test('calls go on after a function of the runtime has thrown in one', () => {
   const calls = callsOf(base62);

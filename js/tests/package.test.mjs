@@ -8,14 +8,13 @@ import { fileURLToPath } from 'node:url';
 import * as module from '../index.js';
 import { load } from '../module.js';
 
+const require = createRequire(import.meta.url);
+const bytes = readFileSync(new URL('../base62.wasm', import.meta.url));
+const compiled = new WebAssembly.Module(bytes);
+const options = { cwd: fileURLToPath(new URL('..', import.meta.url)), encoding: 'utf8' };
 const read = (name) => readFileSync(new URL(`../${name}`, import.meta.url), 'utf8');
 
-test('its licence is that of the repository', () => {
-  assert.equal(read('LICENSE'), read('../LICENSE'));
-});
-
 test('npm packs these files alone', () => {
-  const options = { cwd: fileURLToPath(new URL('..', import.meta.url)), encoding: 'utf8' };
   // A list, or from npm 12 on an object by the names of packages.
   const [{ files }] = Object.values(JSON.parse(execFileSync('npm', ['pack', '--dry-run', '--json'], options)));
   const entries = ['index', 'module'].flatMap((it) => ['cjs', 'd.cts', 'd.ts', 'js'].map((end) => `${it}.${end}`));
@@ -25,28 +24,22 @@ test('npm packs these files alone', () => {
 });
 
 test('each form has the same calls', () => {
-  const require = createRequire(import.meta.url);
-  const compiled = new WebAssembly.Module(readFileSync(new URL('../base62.wasm', import.meta.url)));
   for (const base62 of [require('../index.cjs'), load(compiled), require('../module.cjs').load(compiled)]) {
     assert.deepEqual(Object.keys(base62).sort(), Object.keys(module));
     assert.equal(base62.encode(1337), 'LZ');
   }
 });
 
-test('the examples of the types are programs that print what they say', () => {
+test('the examples of the types print what they say', () => {
   const types = read('index.d.cts');
-  const examples = [...types.matchAll(/^ \* @example\n \* ```js\n(.+?)^ \* ```$/gms)];
+  const examples = [...types.matchAll(/^ \* @example\n \* (console\.log.+) \/\/ (.+)$/gm)];
   assert.equal(examples.length, types.split('@example').length - 1);
-  for (const [, lines] of examples) {
-    const program = lines.replace(/^ \* ?/gm, '');
-    const options = { cwd: fileURLToPath(new URL('..', import.meta.url)), encoding: 'utf8' };
-    const printed = execFileSync(process.execPath, ['--input-type=module', '--eval', program], options);
-    assert.deepEqual(printed.trim().split('\n'), Array.from(program.matchAll(/\/\/ (.+)/g), ([, it]) => it));
-  }
+  const program = `import { ${Object.keys(module)} } from 'base62-proved'; ${examples.map(([, it]) => it).join('')}`;
+  const printed = execFileSync(process.execPath, ['--input-type=module', '--eval', program], options);
+  assert.deepEqual(printed.trim().split('\n'), examples.map(([, , it]) => it));
 });
 
 test('each subpath can be imported and required', async () => {
-  const require = createRequire(import.meta.url);
   const { exports } = JSON.parse(read('package.json'));
   const pathOf = (file) => fileURLToPath(new URL(`../${file}`, import.meta.url));
   assert.deepEqual(Object.keys(exports), ['.', './module', './base62.wasm', './package.json']);
@@ -68,9 +61,7 @@ test('package.json and README name the same version of Node', () => {
 });
 
 test('the WebAssembly is small, imports nothing, and has room for the longest piece of a text', () => {
-  const bytes = readFileSync(new URL('../base62.wasm', import.meta.url));
   assert.ok(bytes.length <= 14_000, `${bytes.length}`);
-  const compiled = new WebAssembly.Module(bytes);
   const { exports: library } = new WebAssembly.Instance(compiled);
   // NUMBER of module.js, above which are the arguments and results of a call.
   assert.ok(library.__heap_base.value <= 0x18000);
@@ -79,7 +70,6 @@ test('the WebAssembly is small, imports nothing, and has room for the longest pi
 });
 
 test('a stack overflow of the WebAssembly is an error, and overwrites no tables', () => {
-  const compiled = new WebAssembly.Module(readFileSync(new URL('../base62.wasm', import.meta.url)));
   const { exports: library } = new WebAssembly.Instance(compiled);
   // No byte of the stack is left.
   library.__stack_pointer.value -= 65536;

@@ -1,6 +1,7 @@
 // Compiles only if the types of the package are exactly these, and each line below @ts-expect-error is rejected.
 import * as base62 from 'base62-proved';
 import { Alphabet, Base62Error, type EncodedString, type Integer, type Uuid } from 'base62-proved';
+import * as module from 'base62-proved/module';
 
 type Same<A, B> = (<T>() => T extends A ? 1 : 2) extends <T>() => T extends B ? 1 : 2 ? true : false;
 type AllOf<T extends true[]> = T;
@@ -37,6 +38,7 @@ export type Checks = AllOf<
     Same<typeof base62.keyBounds, (prefix: EncodedString) => [string, string] | null>,
     Same<ConstructorParameters<typeof Alphabet>, [string]>,
     Same<Pick<Alphabet, keyof Alphabet>, { readonly characters: string }>,
+    Same<typeof module, { load: (module: object) => typeof base62 }>,
     Same<
       Pick<typeof Alphabet, keyof typeof Alphabet>,
       { prototype: Alphabet; readonly standard: Alphabet; readonly alternative: Alphabet }

@@ -1,7 +1,8 @@
-// Tests the examples in JavaScript, beside the package and, if installed, Debian's Express.
+// Tests the examples in JavaScript, and the package as Debian's Express and jsdom use it, if they are installed.
 import assert from 'node:assert/strict';
 import { once } from 'node:events';
-import { cpSync, existsSync, mkdirSync, mkdtempSync, rmSync, symlinkSync } from 'node:fs';
+import { cpSync, existsSync, mkdirSync, mkdtempSync, readFileSync, rmSync, symlinkSync } from 'node:fs';
+import { createRequire } from 'node:module';
 import { tmpdir } from 'node:os';
 import { join } from 'node:path';
 import { after, test } from 'node:test';
@@ -9,6 +10,7 @@ import { fileURLToPath, pathToFileURL } from 'node:url';
 import { decodeUuid } from 'base62-proved';
 
 const EXPRESS = '/usr/share/nodejs/express';
+const JSDOM = '/usr/share/nodejs/jsdom';
 const js = fileURLToPath(new URL('..', import.meta.url));
 const folder = mkdtempSync(join(tmpdir(), 'base62-'));
 after(() => rmSync(folder, { recursive: true }));
@@ -50,4 +52,14 @@ test('a route of Express', { skip: !existsSync(EXPRESS) && 'install node-express
   } finally {
     server.close();
   }
+});
+
+// Most tests of front ends run in it.
+test('the calls work in jsdom', { skip: !existsSync(JSDOM) && 'install node-jsdom' }, () => {
+  const { window } = new (createRequire(import.meta.url)(JSDOM).JSDOM)('', { runScripts: 'outside-only' });
+  const script = readFileSync(join(js, 'index.cjs'), 'utf8');
+  const { decode, encode, encodeFixed } = window.eval(`((module) => {${script}; return module.exports})({})`);
+  assert.equal(encode(1337), 'LZ');
+  assert.equal(encodeFixed(1337, 1000), 'LZ'.padStart(1000, '0'));
+  assert.throws(() => decode('LZ-'), { code: 'INVALID_BYTE', byte: 45, index: 2 });
 });

@@ -49,7 +49,7 @@ SAME = {
     # Five digits are read by either function, and 20 too.
     "read_up_to_10: if (count <= 5) return read_more(tables, 0, text, count);",
     "read_up_to_10: if (count < (5 + 1)) return read_more(tables, 0, text, count);",
-    "decode_over: if (count < 20) {",
+    "decode_over: } else if (count < 20) {",
     # A call stores another value, or this one is not read.
     "decode_padded: base62_number number = {(0 + 1), 0};", "decode_padded: base62_number number = {0, (0 + 1)};",
     # All bytes are written again.

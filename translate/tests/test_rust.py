@@ -99,7 +99,7 @@ CHANGES = {
         ("lib.rs", "mod generated", "macro_rules! requires { ($it:expr) => {}; }\nmod generated"),
         ("lib.rs", "extern crate std;\n", "extern crate std;\nextern crate self as core;\n"),
         ("lib.rs", "    decode, decode_alternative,", "    decode_alternative as decode, decode as decode_with,"),
-        ("lib.rs", "pub(crate) mod key;\n", "mod key { pub use crate::fixed::fixed_range as key_range; }\n"),
+        ("lib.rs", "pub(crate) mod key;\n", "mod key { pub use crate::fixed::prefix_range as key_range; }\n"),
         ("lib.rs", "use generated::*;\n", "use generated::*;\nmod key;\n"),
         ("lib.rs", "use generated::*;\n", "use support::*;\n"),
         ("lib.rs", "pub use key::{encode_key, encode_key_str, key_range};\n", "pub use key::*;\n"),

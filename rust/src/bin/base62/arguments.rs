@@ -3,9 +3,9 @@
 
 //! Parses the arguments.
 
-use crate::conversion::{Notation, Settings};
+use crate::conversion::Settings;
 use crate::escape::Escaped;
-use crate::help::{CommandOption, OPTIONS, SUBCOMMANDS, Subcommand, VERSION, help};
+use crate::help::{CommandOption, Effect, OPTIONS, SUBCOMMANDS, Subcommand, VERSION, help};
 use crate::numbers::parse_decimal;
 use base62::Alphabet;
 
@@ -33,11 +33,11 @@ pub(crate) fn parse(mut rest: impl Iterator<Item = Vec<u8>>) -> Result<Action, S
     // An invalid option after --help or --version is no error, so `parsed?` comes below. Values are not checked then.
     let parsed = split(&mut rest, &mut given, &mut operands);
     let mut operands = operands.into_iter();
-    let has = |letter| given.iter().any(|(option, _)| option.letter == letter);
-    if has(b'V') {
+    let mut effects = given.iter().map(|(option, _)| &option.effect);
+    if effects.clone().any(|it| matches!(it, Effect::Version)) {
         return Ok(Action::Print(VERSION.into()));
     }
-    if has(b'h') {
+    if effects.any(|it| matches!(it, Effect::Help)) {
         return help_of(operands);
     }
     parsed?;
@@ -128,25 +128,20 @@ fn find_option(name: &[u8]) -> Result<&'static CommandOption, String> {
 fn settings_of(subcommand: &Subcommand, given: &[Given]) -> Result<Settings, String> {
     let mut settings = Settings::default();
     for (option, value) in given {
-        match option.letter {
-            letter if !subcommand.options.contains(&letter) => {
-                let (name, option) = (subcommand.name, option.name);
-                return Err(format!("{name} has no option --{option}"));
-            }
-            b'a' => settings.alphabet = Alphabet::alternative(),
-            b'A' => settings.alphabet = parse_alphabet(value)?,
-            b'w' => settings.width = Some(parse_width(value)?),
-            b'c' => settings.is_canonical = true,
-            b'u' => settings.notation = Some(Notation::Uuid),
-            b'x' => settings.notation = Some(Notation::Hexadecimal),
-            b'e' => settings.keeps_empty = true,
-            _ => unreachable!(),
+        if !subcommand.options.contains(&option.letter) {
+            let (name, option) = (subcommand.name, option.name);
+            return Err(format!("{name} has no option --{option}"));
+        }
+        match option.effect {
+            Effect::Set(set) => set(&mut settings),
+            Effect::SetBy(set) => set(&mut settings, value)?,
+            Effect::Help | Effect::Version => {}
         }
     }
     Ok(settings)
 }
 
-fn parse_width(value: &[u8]) -> Result<usize, String> {
+pub(crate) fn parse_width(value: &[u8]) -> Result<usize, String> {
     if value.iter().all(u8::is_ascii_digit) && value.iter().any(|digit| *digit != b'0') {
         // A width above `usize::MAX` becomes `usize::MAX`. With either, `encode` runs out of memory, and `range` prints
         // the same numbers.
@@ -157,7 +152,7 @@ fn parse_width(value: &[u8]) -> Result<usize, String> {
     Err(format!("a width is an integer of 1 or more, not {value}"))
 }
 
-fn parse_alphabet(value: &[u8]) -> Result<Alphabet, String> {
+pub(crate) fn parse_alphabet(value: &[u8]) -> Result<Alphabet, String> {
     if !value.iter().all(|byte| matches!(byte, b' '..=b'~')) {
         return Err("the alphabet has a character that is not printable ASCII".into());
     }

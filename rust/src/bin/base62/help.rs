@@ -5,7 +5,9 @@
 //! The completions read the help of the installed command, and `tests/page` writes the manual page from it. A test runs
 //! the examples.
 
-use crate::conversion::{Converter, Settings};
+use crate::arguments::{parse_alphabet, parse_width};
+use crate::conversion::{Converter, Notation, Settings};
+use base62::Alphabet;
 
 pub(crate) struct Subcommand {
     pub(crate) name: &'static str,
@@ -25,6 +27,15 @@ pub(crate) struct CommandOption {
     /// What the help calls its value, such as `N`. Empty if it takes no value.
     pub(crate) value_name: &'static str,
     purpose: &'static str,
+    pub(crate) effect: Effect,
+}
+
+pub(crate) enum Effect {
+    Set(fn(&mut Settings)),
+    /// Sets something by the value of the option. An error says what is wrong with the value.
+    SetBy(fn(&mut Settings, &[u8]) -> Result<(), String>),
+    Help,
+    Version,
 }
 
 pub(crate) static SUBCOMMANDS: [Subcommand; 3] = [
@@ -73,54 +84,69 @@ pub(crate) static OPTIONS: [CommandOption; 9] = [
         name: "alternative",
         value_name: "",
         purpose: "use the alphabet 0 to 9, a to z, A to Z",
+        effect: Effect::Set(|it| it.alphabet = Alphabet::alternative()),
     },
     CommandOption {
         letter: b'A',
         name: "alphabet",
         value_name: "CHARACTERS",
         purpose: "use these 62 printable ASCII characters, the zero first",
+        effect: Effect::SetBy(|it, value| {
+            it.alphabet = parse_alphabet(value)?;
+            Ok(())
+        }),
     },
     CommandOption {
         letter: b'w',
         name: "width",
         value_name: "N",
         purpose: "strings have exactly N characters, with leading zeros",
+        effect: Effect::SetBy(|it, value| {
+            it.width = Some(parse_width(value)?);
+            Ok(())
+        }),
     },
     CommandOption {
         letter: b'c',
         name: "canonical",
         value_name: "",
         purpose: "reject strings with leading zeros",
+        effect: Effect::Set(|it| it.is_canonical = true),
     },
     CommandOption {
         letter: b'u',
         name: "uuid",
         value_name: "",
         purpose: "numbers are UUIDs",
+        effect: Effect::Set(|it| it.notation = Some(Notation::Uuid)),
     },
     CommandOption {
         letter: b'x',
         name: "hex",
         value_name: "",
         purpose: "numbers are hexadecimal",
+        effect: Effect::Set(|it| it.notation = Some(Notation::Hexadecimal)),
     },
     CommandOption {
         letter: b'e',
         name: "keep-empty",
         value_name: "",
         purpose: "an empty input gives an empty line, and is no error",
+        effect: Effect::Set(|it| it.keeps_empty = true),
     },
     CommandOption {
         letter: b'h',
         name: "help",
         value_name: "",
         purpose: HELP,
+        effect: Effect::Help,
     },
     CommandOption {
         letter: b'V',
         name: "version",
         value_name: "",
         purpose: "print the version",
+        effect: Effect::Version,
     },
 ];
 

@@ -58,8 +58,8 @@ static int number_of_text_or_raise(struct state *state, PyObject *argument, base
     int failed = read_uuid(text, PyUnicode_Check(argument), number);
     Py_DecRef(text.owner);
     if (failed != 0)
-        PyErr_SetString(PyExc_ValueError, "a UUID is 32 hexadecimal digits, with hyphens or without, in braces or after "
-                                          "urn:uuid:, or 16 bytes");
+        PyErr_SetString(PyExc_ValueError, "a UUID is 32 hexadecimal digits, with hyphens or without, "
+                                          "in braces or after urn:uuid:, or 16 bytes");
     return failed;
 }
 

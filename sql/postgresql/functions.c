@@ -248,8 +248,8 @@ static Datum range_bound_numeric(FunctionCallInfo fcinfo, bool last) {
     return numeric_of_number(last ? range.greatest : range.least);
 }
 
-/* The functions that the SQL script names, each with its result, and place for its error. Some functions of the library, such as base62_encode,
- * have the name of a function in SQL. So the names here begin with pg_. */
+/* The functions that the SQL script names, each with its result, which may use error. Some functions of the library,
+ * such as base62_encode, have the name of a function in SQL. So the names here begin with pg_. */
 
 #define SQL_FUNCTION(name, result) \
     PG_FUNCTION_INFO_V1(name);     \

@@ -66,6 +66,7 @@ function unframed(uuid) {
 
 // V8 compares by === slowly once types have differed. So both are strings here, and objects in writeAlphabet.
 const isUint8Array = (value) => (typeOf.call(value) ?? '') === 'Uint8Array';
+const partOf = (array, start, size) => new Uint8Array(bufferOf.call(array), offsetOf.call(array) + start, size);
 const isUnsignedSafeInteger = (number) => Number.isSafeInteger(number) && number >= 0;
 
 function checkWidth(width) {
@@ -80,6 +81,8 @@ function notANumber(given) {
   const wanted = 'a number is a Number or a BigInt';
   return new TypeError(typeof given === 'string' ? `${wanted}, not a string: give BigInt('1337')` : wanted);
 }
+
+const notAText = () => new TypeError('an encoded string or a prefix is a string or a Uint8Array');
 
 function invalidUuid() {
   const forms = 'with hyphens or without, in braces or after urn:uuid:';
@@ -120,7 +123,7 @@ function instantiate(module) {
   }
 
   const [bytes, words, halves] = [Uint8Array, Uint32Array, BigUint64Array].map((View) => new View(buffer));
-  return { enter, leave, bytes, words, halves };
+  return { library, enter, leave, bytes, words, halves };
 }
 
 function createArguments({ bytes, words, halves }) {
@@ -161,32 +164,36 @@ function createArguments({ bytes, words, halves }) {
     }
   }
 
-  // Writes the piece of a text from start on. Returns its number of bytes: less than PIECE_LENGTH if nothing follows.
-  function writeText(text, start) {
-    if (typeof text === 'string') return writeString(text, start);
-    if (!isUint8Array(text)) throw new TypeError('an encoded string or a prefix is a string or a Uint8Array');
-    const length = lengthOf.call(text);
-    const size = Math.min(length - start, PIECE_LENGTH);
-    const piece = size === length ? text : new Uint8Array(bufferOf.call(text), offsetOf.call(text) + start, size);
-    setBytes.call(bytes, piece, TEXT);
-    return size;
-  }
-
-  // Nearly all texts are ASCII.
-  function writeString(string, start) {
-    const length = Math.min(('' + string).length - start, PIECE_LENGTH);
+  // Writes the first piece of a text. Returns its length: less than PIECE_LENGTH if nothing follows. Nearly all texts are
+  // ASCII strings. Of another string the library rejects what is written here, since no alphabet has the byte 255.
+  function writeText(text) {
+    if (typeof text !== 'string') return writeBytes(text, 0);
+    const length = Math.min(('' + text).length, PIECE_LENGTH);
     let bits = 0;
     for (let i = 0; i < length; i++) {
-      const unit = charCodeAt(string, start + i);
+      const unit = charCodeAt(text, i);
       bytes[TEXT + i] = unit;
       bits |= unit;
     }
-    return bits < 128 ? length : writeUtf8(string, start, start + length);
+    if (bits > 127) bytes[TEXT] = 255;
+    return length;
+  }
+
+  // Writes the piece of a text from start on. Returns its number of bytes: less than PIECE_LENGTH if nothing follows.
+  const writePiece = (text, start) => (typeof text === 'string' ? writeUtf8(text, start) : writeBytes(text, start));
+
+  function writeBytes(text, start) {
+    if (!isUint8Array(text)) throw notAText();
+    const length = lengthOf.call(text);
+    const size = Math.min(length - start, PIECE_LENGTH);
+    setBytes.call(bytes, size === length ? text : partOf(text, start, size), TEXT);
+    return size;
   }
 
   // A surrogate pair at the end of a piece stays whole, so that an error reports the first of its four bytes. The pair
   // is invalid, so no piece follows.
-  function writeUtf8(string, start, end) {
+  function writeUtf8(string, start) {
+    const end = Math.min(string.length, start + PIECE_LENGTH);
     let at = TEXT;
     for (let i = start; i < end; i++) {
       const point = codePointAt(string, i);
@@ -200,7 +207,7 @@ function createArguments({ bytes, words, halves }) {
     return at - TEXT;
   }
 
-  return { writeNumber, writeUuid, writeText };
+  return { writeNumber, writeUuid, writeText, writePiece };
 }
 
 function createResults({ enter, leave, bytes, words, halves }) {
@@ -277,7 +284,7 @@ function createAlphabets({ bytes, enter, leave }, writeText, errorOf) {
       let wrong = length !== ALPHABET_LENGTH && `has ${length} character${length === 1 ? '' : 's'}, not 62`;
       for (const it of characters) if (it > '\x7f') wrong = 'has a non-ASCII character';
       if (wrong) throw new Base62Error(`the alphabet ${wrong}`, 'INVALID_ALPHABET');
-      writeText(characters, 0);
+      writeText(characters);
       // The library's form is written behind the characters: at ALPHABET it would replace that of the current alphabet.
       const address = TEXT + ALPHABET_LENGTH;
       const status = leave(enter().base62_alphabet_init(address, TEXT, BAD_BYTE));
@@ -310,14 +317,17 @@ function createAlphabets({ bytes, enter, leave }, writeText, errorOf) {
 
 export function load(module) {
   const instance = instantiate(module);
-  const { enter, leave } = instance;
-  const { writeNumber, writeUuid, writeText } = createArguments(instance);
+  const { library, enter, leave } = instance;
+  const { writeNumber, writeUuid, writeText, writePiece } = createArguments(instance);
   const { readBigInt, readRange, readNumber, readText, readUuid, errorOf } = createResults(instance);
   const { Alphabet, writeAlphabet, zero } = createAlphabets(instance, writeText, errorOf);
+  // V8 is slow to look up an export, so those that are called most are looked up once.
+  const { base62_decode_canonical_with, base62_decode_with, base62_encode_with } = library;
 
   function encodeWritten(alphabet) {
     writeAlphabet(alphabet);
-    return readText(leave(enter().base62_encode_with(ALPHABET, NUMBER, TEXT, MAX_DIGITS)));
+    enter();
+    return readText(leave(base62_encode_with(ALPHABET, NUMBER, TEXT, MAX_DIGITS)));
   }
 
   function encode(number, alphabet) {
@@ -349,7 +359,7 @@ export function load(module) {
     return leave(enter().base62_digit_count(NUMBER));
   }
 
-  // Returns where the first piece of a long text begins: at the last two of its leading zeros, if it has more. In a
+  // Returns where the piece of a long or invalid text begins: at the last two of its leading zeros, if it has more. In a
   // text of zeros alone, the last is the digit, and the one before it makes the text non-canonical.
   function startOf(text) {
     const code = zero().charCodeAt(0);
@@ -359,22 +369,29 @@ export function load(module) {
     return Math.max(count - 2, 0);
   }
 
-  // Returns NUMBER, at which the library writes the number. If more follows the first piece of a long text, this piece
-  // has more than 22 characters after its zeros: an overflow, even if some are invalid.
+  // Returns NUMBER, at which the library writes the number. V8 inlines a limited amount of code, so rare cases have a
+  // function of their own.
   function decodeText(text, alphabet, isCanonical) {
-    let start = 0;
-    let size = writeText(text, start);
+    const size = writeText(text);
     writeAlphabet(alphabet);
-    if (size >= PIECE_LENGTH) {
-      start = startOf(text);
-      size = writeText(text, start);
-    }
-    const library = enter();
-    const status = leave(isCanonical
-      ? library.base62_decode_canonical_with(ALPHABET, TEXT, size, NUMBER, BAD_BYTE)
-      : library.base62_decode_with(ALPHABET, TEXT, size, NUMBER, BAD_BYTE));
-    if (status !== OK) throw errorOf(status, start);
+    const status = decodePiece(size, isCanonical);
+    if (status !== OK || size >= PIECE_LENGTH) decodeSlowly(text, isCanonical);
     return NUMBER;
+  }
+
+  function decodePiece(size, isCanonical) {
+    enter();
+    return leave(isCanonical
+      ? base62_decode_canonical_with(ALPHABET, TEXT, size, NUMBER, BAD_BYTE)
+      : base62_decode_with(ALPHABET, TEXT, size, NUMBER, BAD_BYTE));
+  }
+
+  // For a text that is invalid or long. If more follows the piece, it has more than 22 characters after its zeros: an
+  // overflow, even if some are invalid.
+  function decodeSlowly(text, isCanonical) {
+    const start = startOf(text);
+    const status = decodePiece(writePiece(text, start), isCanonical);
+    if (status !== OK) throw errorOf(status, start);
   }
 
   const decode = (text, alphabet) => readBigInt(decodeText(text, alphabet, false));
@@ -386,33 +403,40 @@ export function load(module) {
 
   // A size_t has 32 bits, so a greater width is passed as the greatest size_t. A piece is so much shorter than either
   // that the range is the same: all numbers if the piece has only zeros, and else none.
-  function findRange(size, width, start) {
+  function findRange(size, width) {
     const width32 = Math.min(width, TWO_TO_32 - 1);
-    const status = leave(enter().base62_prefix_range_with(ALPHABET, TEXT, size, width32, NUMBER, BAD_BYTE));
-    if (status === NO_MATCH) return null;
-    if (status !== OK) throw errorOf(status, start);
-    return readRange();
+    return leave(enter().base62_prefix_range_with(ALPHABET, TEXT, size, width32, NUMBER, BAD_BYTE));
   }
 
   function prefixRange(prefix, width, alphabet) {
     checkWidth(width);
-    const size = writeText(prefix, 0);
+    const size = writeText(prefix);
     writeAlphabet(alphabet);
-    return size < PIECE_LENGTH ? findRange(size, width, 0) : findRangeOfLong(prefix, width);
+    if (size < PIECE_LENGTH) {
+      const status = findRange(size, width);
+      if (status === OK) return readRange();
+      if (status === NO_MATCH) return null;
+    }
+    return findRangeSlowly(prefix, width);
   }
 
-  // Dropping as many zeros from the width as from the prefix keeps the range. If more pieces follow, the first one has
-  // too many characters for any number, so the range is null. The others are only searched for a bad byte, which the
-  // library reports whatever the width is.
-  function findRangeOfLong(prefix, width) {
+  // For a prefix that is invalid or long. Dropping as many zeros from the width as from the prefix keeps the range. If
+  // more pieces follow, the first one has too many characters for any number, so the range is null. The others are only
+  // searched for a bad byte, which the library reports whatever the width is.
+  function findRangeSlowly(prefix, width) {
     const start = startOf(prefix);
-    let size = writeText(prefix, start);
-    const range = findRange(size, Math.max(width - start, 0), start);
+    let size = writePiece(prefix, start);
+    const range = rangeOf(findRange(size, Math.max(width - start, 0)), start);
     for (let at = start + size; size === PIECE_LENGTH; at += size) {
-      size = writeText(prefix, at);
-      findRange(size, 0, at);
+      size = writePiece(prefix, at);
+      rangeOf(findRange(size, 0), at);
     }
     return range;
+  }
+
+  function rangeOf(status, start) {
+    if (status !== OK && status !== NO_MATCH) throw errorOf(status, start);
+    return status === OK ? readRange() : null;
   }
 
   const keyRange = (prefix) => prefixRange(prefix, KEY_LENGTH);

@@ -298,14 +298,15 @@ const tests = {
   },
 
   'a string is read as UTF-8'({ base62, refused }) {
-    // Each character with its first byte and the count of its bytes. A lone surrogate has three.
-    const narrow = [['\u00e9', 0xc3, 2], ['\u07ff', 0xdf, 2], ['\u0800', 0xe0, 3], ['\u20ac', 0xe2, 3]];
+    // Each character with its first byte and the count of its bytes. A lone surrogate has three. Cut to eight bits, the
+    // first would be A.
+    const narrow = [['\u0141', 0xc5, 2], ['\u00e9', 0xc3, 2], ['\u07ff', 0xdf, 2], ['\u0800', 0xe0, 3], ['\u20ac', 0xe2, 3]];
     const wide = [['\ud800', 0xed, 3], ['\udfff', 0xed, 3], ['\uffff', 0xef, 3]];
     const pairs = [['\u{10000}', 0xf0, 4], ['\u{10ffff}', 0xf4, 4]];
     for (const [character, byte, size] of [...narrow, ...wide, ...pairs]) {
-      for (const [prefix, letters] of [['', 0], ['0', 0], ['000LZ', 2]]) {
+      for (const [prefix, suffix, letters] of [['', '', 0], ['0', '', 0], ['000LZ', '', 2], ['0', 'LZ', 2]]) {
         for (let count = 1; count <= 12; count++) {
-          const text = prefix + character.repeat(count);
+          const text = prefix + character.repeat(count) + suffix;
           const found = ['INVALID_BYTE', undefined, byte, prefix.length];
           refused(() => base62.decode(text), ...(letters + size * count > 22 ? ['OVERFLOW'] : found));
           refused(() => base62.prefixRange(text, 7), ...found);

@@ -2,8 +2,6 @@
 # Copyright (c) 2026 the maintainers of base62 for Rattle
 """What the extension has in Python: its exceptions, the types of arguments, and the conversions of the rarer ones."""
 
-from __future__ import annotations
-
 import operator
 from typing import SupportsIndex
 from uuid import UUID, SafeUUID

@@ -33,8 +33,6 @@ are in few of them:
 >>> folder.cleanup()
 """
 
-from __future__ import annotations
-
 import tempfile
 
 import dask.dataframe

@@ -19,8 +19,6 @@ Traceback (most recent call last):
 django.core.exceptions.ValidationError: {'id': ["Encoded input contains the invalid byte b'-' at index 2"]}
 """
 
-from __future__ import annotations
-
 from typing import Any
 
 import django

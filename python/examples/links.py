@@ -16,8 +16,6 @@
 >>> links.close()
 """
 
-from __future__ import annotations
-
 import sqlite3
 import uuid
 

@@ -16,8 +16,6 @@ Value error, the number is not from 0 to 2**128 - 1
 Value error, the number is not from 0 to 2**128 - 1
 """
 
-from __future__ import annotations
-
 from typing import Annotated
 
 import pydantic

@@ -14,8 +14,6 @@
 >>> engine.dispose()
 """
 
-from __future__ import annotations
-
 from typing import Any
 
 import sqlalchemy

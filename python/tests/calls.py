@@ -2,8 +2,6 @@
 # Copyright (c) 2026 the maintainers of base62 for Rattle
 """What several tests share: arguments, and valid and invalid calls with them."""
 
-from __future__ import annotations
-
 import unittest
 import uuid
 from array import array

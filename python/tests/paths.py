@@ -2,8 +2,6 @@
 # Copyright (c) 2026 the maintainers of base62 for Rattle
 """Where the tests find the files that other packages of the project share, in a clone and in an sdist."""
 
-from __future__ import annotations
-
 import doctest
 import pathlib
 import re

@@ -4,8 +4,6 @@
 
 The columns of keys compare byte by byte in each database, which the SQL shows that is compiled without a server."""
 
-from __future__ import annotations
-
 import doctest
 import importlib
 import importlib.metadata

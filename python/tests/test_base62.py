@@ -2,8 +2,6 @@
 # Copyright (c) 2026 the maintainers of base62 for Rattle
 """Tests of the functions: what their arguments can be, their errors, and threads."""
 
-from __future__ import annotations
-
 import contextlib
 import copy
 import enum

@@ -2,8 +2,6 @@
 # Copyright (c) 2026 the maintainers of base62 for Rattle
 """Tests of columns by the values of tests/values.tsv and by the functions for one value, with pyarrow and pandas."""
 
-from __future__ import annotations
-
 import doctest
 import gc
 import importlib.util

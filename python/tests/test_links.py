@@ -2,8 +2,6 @@
 # Copyright (c) 2026 the maintainers of base62 for Rattle
 """Tests of the example of short links."""
 
-from __future__ import annotations
-
 import doctest
 import sqlite3
 import unittest

@@ -2,8 +2,6 @@
 # Copyright (c) 2026 the maintainers of base62 for Rattle
 """Tests of the package: its exports, reimports and subinterpreters."""
 
-from __future__ import annotations
-
 import ast
 import contextlib
 import ctypes

@@ -2,8 +2,6 @@
 # Copyright (c) 2026 the maintainers of base62 for Rattle
 """Tests of each call by the values of tests/values.tsv at the top, whose head says what its rows are."""
 
-from __future__ import annotations
-
 import sys
 import uuid
 from urllib.parse import unquote_to_bytes

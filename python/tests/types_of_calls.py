@@ -2,8 +2,6 @@
 # Copyright (c) 2026 the maintainers of base62 for Rattle
 """What mypy finds in calls: exactly these types, and an error in each marked line. Nothing here is run."""
 
-from __future__ import annotations
-
 from typing import SupportsIndex, assert_type
 from uuid import UUID
 

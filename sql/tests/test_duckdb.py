@@ -3,8 +3,6 @@
 """Tests of DuckDB's functions, in the extension that BASE62_DUCKDB names, by the values that all packages are tested
 with. DUCKDB is the shell that runs them."""
 
-from __future__ import annotations
-
 import itertools
 import json
 import os

@@ -2,8 +2,6 @@
 # Copyright (c) 2026 the maintainers of base62 for Rattle
 """Tests of SQLite's functions, in the module that BASE62_SQLITE names, by the values of all packages."""
 
-from __future__ import annotations
-
 import itertools
 import os
 import re

@@ -2,8 +2,6 @@
 # Copyright (c) 2026 the maintainers of base62 for Rattle
 """The values that all packages are tested with, as tests of SQL need them."""
 
-from __future__ import annotations
-
 import re
 from pathlib import Path
 from urllib.parse import unquote_to_bytes

@@ -6,10 +6,6 @@
 #include "_base62.h"
 #include "_docstrings.h"
 
-static struct state *state_of(PyObject *module) {
-    return PyModule_GetState(module);
-}
-
 PyObject *borrow(struct state *state, int which) {
     PyObject *object = state->objects[which];
     if (object == NULL)
@@ -231,7 +227,7 @@ PyObject *raise_status(struct state *state, base62_status status, base62_bad_byt
 #define DEFINE_CALL(name, format, least, most, result, ...)                                                            \
     static PyObject *name(PyObject *module, PyObject *const *args, Py_ssize_t nargs, PyObject *kwnames) {              \
         static const struct parameters signature = {format ":" #name, {__VA_ARGS__, NULL}, least, most};               \
-        struct state *state = state_of(module);                                                                        \
+        struct state *state = PyModule_GetState(module);                                                               \
         PyObject *found[3];                                                                                            \
         return unpack(&signature, args, nargs, kwnames, found) == 0 ? result : NULL;                                   \
     }
@@ -424,21 +420,21 @@ static int find_isascii(PyCFunction *isascii) {
 }
 
 static int execute(PyObject *module) {
-    struct state *state = state_of(module);
+    struct state *state = PyModule_GetState(module);
     int ok = state != NULL && import_types(state->objects) && find_isascii(&state->str_isascii) &&
              add_uuid_names(state) && add_alphabets(module) && add_calls(module);
     return ok ? PyModule_AddStringConstant(module, "__version__", BASE62_VERSION) : -1;
 }
 
 static int traverse(PyObject *module, visitproc visit, void *arg) {
-    struct state *state = state_of(module);
+    struct state *state = PyModule_GetState(module);
     for (int i = 0; i < OBJECT_COUNT; i++)
         Py_VISIT(state->objects[i]);
     return 0;
 }
 
 static int clear(PyObject *module) {
-    struct state *state = state_of(module);
+    struct state *state = PyModule_GetState(module);
     for (int i = 0; i < OBJECT_COUNT; i++) {
         PyObject *object = state->objects[i];
         state->objects[i] = NULL;

@@ -106,12 +106,12 @@ def to_bytes(text: EncodedString) -> bytes:
     if isinstance(text, str):
         # A lone surrogate is an invalid character too. A subclass may override encode.
         return str.encode(text, "utf-8", "surrogatepass")
-    try:
-        view = memoryview(text)
-    except TypeError:
-        raise TypeError(f"an encoded string is a str, bytes, bytearray or memoryview, not {_type_of(text)}") from None
-    if view.itemsize != 1:
-        raise TypeError(f"an encoded string has items of one byte, not of {view.itemsize} as this {_type_of(text)}")
+    # Scalars of NumPy have buffers too.
+    if not isinstance(text, (bytearray, memoryview)):
+        raise TypeError(f"an encoded string is a str, bytes, bytearray or memoryview, not {_type_of(text)}")
+    view = memoryview(text)
+    if view.itemsize != 1 or view.ndim != 1:
+        raise TypeError("a memoryview of an encoded string has one dimension, of single bytes")
     return bytes(view)
 
 

@@ -10,7 +10,7 @@
 
 A column is what pyarrow.array or pyarrow.chunked_array takes: an array of pyarrow or of another Arrow library, a Series
 or an Index of pandas, an array of NumPy, a list; also a table or DataFrame of one column, without its index. The result
-is a pyarrow.ChunkedArray if the column has chunks, and otherwise a pyarrow.Array.
+is a pyarrow.ChunkedArray for a table, a stream or several chunks, and otherwise a pyarrow.Array.
 
 Nulls stay nulls; None, NaN and pandas.NA are nulls. Each function takes errors: with "raise", the first invalid row
 raises the exception of the function for one value, with the index of the row in its attribute row, and with row and
@@ -82,6 +82,7 @@ class _Kind(NamedTuple):
     hints: list[tuple[Callable[[_Type], bool], str]]
 
 
+_RUN_END_HINT = pa.types.is_run_end_encoded, "decode it by pyarrow.compute.run_end_decode"
 _STRINGS = _Kind(
     "strings or binary",
     {
@@ -92,15 +93,15 @@ _STRINGS = _Kind(
     },
     [
         (pa.types.is_fixed_size_binary, "cast it to binary"),
-        (pa.types.is_primitive, "read it as strings, since numbers have lost leading zeros"),
-        (pa.types.is_run_end_encoded, "decode it by pyarrow.compute.run_end_decode"),
+        (pa.types.is_primitive, "read it as strings"),
+        _RUN_END_HINT,
     ],
 )
 _SIXTEEN_BYTES = dict.fromkeys((pa.uuid(), pa.binary(16)), pa.binary(16))
 _UUIDS = _Kind(
     "uuid, binary or strings",
     _STRINGS.types | _SIXTEEN_BYTES,
-    [(pa.types.is_integer, "encode takes integers")],
+    [(pa.types.is_integer, "encode takes integers"), _RUN_END_HINT],
 )
 _NUMBERS = _Kind(
     "integers, decimal128 of scale 0, uuid or fixed_size_binary[16]",
@@ -112,11 +113,11 @@ _NUMBERS = _Kind(
     },
     [
         (pa.types.is_floating, "read it as integers, in pandas as Int64, since floats are rounded above 2**53"),
-        (pa.types.is_decimal, "cast it to decimal128(38, 0)"),
+        (pa.types.is_decimal, "cast it to decimal128(38, 0), or pass a list of int"),
         (pa.types.is_boolean, "cast it to uint8"),
-        (pa.types.is_temporal, "cast it to int64"),
-        (lambda it: it in _UUIDS.types, "encode_uuid takes UUIDs"),
-        (pa.types.is_run_end_encoded, "decode it by pyarrow.compute.run_end_decode"),
+        (pa.types.is_temporal, "cast it to an integer type"),
+        (lambda it: it in _UUIDS.types, "encode_uuid takes UUIDs; cast numbers to uint64 or binary(16)"),
+        _RUN_END_HINT,
         (lambda it: "uhugeint" in str(it), "cast it to UBIGINT, HUGEINT or UUID in DuckDB"),
     ],
 )
@@ -132,17 +133,17 @@ def _readable(column: Any, kind: _Kind) -> Any:
         return column.iloc[:, 0]
     if dimensions != 1:
         raise TypeError(f"a column has one dimension, not {dimensions}")
-    if type(column).__module__.startswith("numpy.ma"):
-        return column.tolist()
     dtype: Any = getattr(column, "dtype", None)
     form = getattr(dtype, "char", "O")
     if form == "S" and kind is not _STRINGS:
         # The bytes of numbers, of which NumPy would cut the zeros at the end.
-        column = column.view(f"V{dtype.itemsize}")
+        column = getattr(column, "values", column).view(f"V{dtype.itemsize}")
     # NumPy's strings, which pyarrow would end at their first null character, and types that it does not have.
     if form in "SUTV":
         return column.astype(object)
-    return list(column) if hasattr(column, "__next__") and not hasattr(column, "__arrow_c_stream__") else column
+    known = "__getitem__", "__arrow_c_array__", "__arrow_c_stream__"
+    may_be_read_once = hasattr(column, "__iter__") and not any(hasattr(column, it) for it in known)
+    return list(column) if may_be_read_once else column
 
 
 def _check_count(columns: int) -> None:
@@ -156,25 +157,19 @@ def _types_of_objects(column: Any) -> set[type]:
     return set(map(type, objects)) if getattr(objects, "dtype", object) == object else set()
 
 
-def _is_converted(of_objects: type) -> bool:
-    """Return whether pyarrow may convert such a NumPy scalar by int(), or end the process, if others are with it."""
-    module = of_objects.__module__
-    is_integer = module == "numpy" and hasattr(of_objects, "__index__")
-    return module.startswith("numpy") and not is_integer and not issubclass(of_objects, (str, bytes, float))
+def _type_of_values(column: _Array) -> _Type:
+    return column.type.value_type if pa.types.is_dictionary(column.type) else column.type
 
 
-def _is_mixed(of_column: _Type, types: set[type]) -> bool:
-    """Return whether objects have other types than the one as which pyarrow has taken them."""
-    of_values = of_column.value_type if pa.types.is_dictionary(of_column) else of_column
-    if pa.types.is_binary(of_values):
-        return any(issubclass(it, str) for it in types)
-    if pa.types.is_floating(of_values):
-        return any(issubclass(it, Integral) for it in types)
-    return bool(types) and pa.types.is_struct(of_values)
+def _are_alike(types: set[type]) -> bool:
+    """Return whether pyarrow converts objects of these types as the functions for one value do."""
+    # Durations of NumPy are Integral too.
+    are_integers = all(issubclass(it, Integral) and hasattr(it, "__index__") for it in types)
+    return are_integers or any(all(issubclass(it, one) for it in types) for one in (str, bytes, UUID, Decimal, pa.Scalar))
 
 
 def _to_arrow(column: Any) -> _Array | None:
-    """Return a column as pyarrow has it, or None if pyarrow has no type for its values."""
+    """Return a column as pyarrow has it, or None if pyarrow has no type for its values, or would change some."""
     if isinstance(column, (pa.Array, pa.ChunkedArray)):
         return column
     if hasattr(column, "__arrow_c_array__"):
@@ -182,13 +177,14 @@ def _to_arrow(column: Any) -> _Array | None:
     # pandas 3 has this too, and takes NaN for a value there.
     if hasattr(column, "__arrow_c_stream__") and not hasattr(column, "iloc"):
         return pa.chunked_array(column)
-    types = _types_of_objects(column)
-    if any(map(_is_converted, types)):
+    # Floats may be NaN.
+    types = {it for it in _types_of_objects(column) if it.__name__ not in ("NoneType", "NAType", "float")}
+    if not _are_alike(types):
         return None
     for wide in (None, pa.uint64()):
         try:
             found = pa.array(column, wide, from_pandas=True)
-            return None if _is_mixed(found.type, types) else found
+            return None if types and pa.types.is_floating(_type_of_values(found)) else found
         except OverflowError:
             # All values are integers then. Of floats, pyarrow would take the integer parts.
             continue
@@ -259,7 +255,7 @@ class _Conversion:
 
     def _source_type(self, given: _Array) -> _Type:
         """Return the type as which the extension reads a column."""
-        of_values = given.type.value_type if pa.types.is_dictionary(given.type) else given.type
+        of_values = _type_of_values(given)
         if pa.types.is_floating(of_values) and given.null_count == len(given):
             # Such is a column of NumPy with missing values only.
             of_values = pa.null()
@@ -284,7 +280,7 @@ class _Conversion:
             self._raise_for(_value_of(array[row]), first + row)
         buffers = [validity if nulls else None, values]
         if letter in "uU":
-            values.resize(used)
+            values.resize(used, shrink_to_fit=True)
             buffers.insert(1, offsets)
         return pa.Array.from_buffers(result_type, count, buffers, nulls)
 
@@ -318,8 +314,9 @@ def _cast(chunk: pa.Array, source_type: _Type) -> pa.Array:
 
 
 def _check_type(of_result: _Type, *types: _Type) -> None:
-    if of_result not in types:
-        raise TypeError(f"the type of the result is {' or '.join(map(str, types))}, not {of_result}")
+    # A type equals its name.
+    if not isinstance(of_result, pa.DataType) or of_result not in types:
+        raise TypeError(f"the type of the result is pyarrow's {' or '.join(map(str, types))}, not {of_result!r}")
 
 
 def _encode(
@@ -361,7 +358,7 @@ def encode(
 ) -> _Array:
     """Encode a column of numbers, without leading zeros.
 
-    The column has integers, decimals without a fraction, or UUIDs; or 16 bytes of any number below 2**128, the most
+    The column has integers, decimals of scale 0, or UUIDs; or 16 bytes of any number below 2**128, the most
     significant first. The result has the type string, or large_string if this is the type, or if the strings of a chunk
     could have 2 GiB or more.
 

@@ -4,6 +4,7 @@
 
 import contextlib
 import copy
+import ctypes
 import enum
 import os
 import pickle
@@ -103,8 +104,8 @@ class OtherInt(int):
 class Texts(unittest.TestCase):
     def test_kinds_of_texts(self) -> None:
         views = [memoryview(b"x1a")[1:], memoryview(b"1xa")[::2], memoryview(b"a1")[::-1]]
-        items: list[Any] = [array("B", b"1a"), array("b", b"1a")]
-        for text in ("1a", OtherStr("1a"), b"1a", bytearray(b"1a"), *views, *items):
+        views += map(memoryview, (array("B", b"1a"), array("b", b"1a")))
+        for text in ("1a", OtherStr("1a"), b"1a", bytearray(b"1a"), *views):
             self.assertEqual(base62.decode(text), 98)
             self.assertEqual(base62.key_range(text), (98 * 62**20, 99 * 62**20 - 1))
 
@@ -303,15 +304,16 @@ class Faults(RaisesTestCase):
 
     def test_types_of_texts(self) -> None:
         for call in OF_TEXTS:
-            for text in (5, None, [1], {"0"}, 1.0):
+            for text in (5, None, [1], {"0"}, 1.0, array("B", b"5"), ctypes.c_char(b"5")):
                 error = self.raised(TypeError, call, text)
                 message = f"an encoded string is a str, bytes, bytearray or memoryview, not {type(text).__name__}"
                 self.assertEqual(str(error), message)
+            views = [memoryview(b"5").cast("B", ()), memoryview(b"LZ").cast("B", (1, 2))]
             for code in "HiIqQfd":
-                wide = array(code, [48, 49])
-                for items in (wide, memoryview(wide), memoryview(wide)[::2]):
-                    error = self.raised(TypeError, call, items)
-                    self.assertIn(f"items of one byte, not of {wide.itemsize}", str(error))
+                views += [memoryview(array(code, [48, 49])), memoryview(array(code, [48, 49]))[::2]]
+            for view in views:
+                error = self.raised(TypeError, call, view)
+                self.assertEqual(str(error), "a memoryview of an encoded string has one dimension, of single bytes")
 
     def test_bad_bytes(self) -> None:
         for call in OF_TEXTS:

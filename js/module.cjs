@@ -53,6 +53,8 @@ const ALPHABET = BAD_BYTE + 16;
 const TEXT = ALPHABET + ALPHABET_SIZE;
 
 if (!globalThis.WebAssembly) throw new Error('base62-proved needs WebAssembly, which this runtime does not have');
+// Typed arrays have the byte order of the processor. The memory of WebAssembly is little-endian.
+if (new Uint8Array(Uint16Array.of(1).buffer)[0] !== 1) throw new Error('base62-proved needs a little-endian processor');
 
 const defineReadOnly = (object, name, value) => Object.defineProperty(object, name, { value, enumerable: true });
 

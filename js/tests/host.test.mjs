@@ -252,6 +252,12 @@ test('load rejects any other value than the module', () => {
   assert.throws(() => load(other), /^TypeError: load takes the WebAssembly.Module of base62.wasm$/);
 });
 
+test('a runtime of the other byte order says so', () => {
+  const context = createContext({ atob });
+  runInContext('Uint16Array.of = () => Uint8Array.of(0, 1)', context);
+  assert.throws(() => exportsIn(context, 'base62-proved'), /^Error: base62-proved needs a little-endian processor$/);
+});
+
 test('a runtime without WebAssembly says so', () => {
   const script = `import(${JSON.stringify(pathToFileURL(commonJs))}).catch((error) => console.log(error.message))`;
   const { stdout } = spawnSync(process.execPath, ['--jitless', '--eval', script], { encoding: 'utf8' });

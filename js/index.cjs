@@ -66,11 +66,10 @@ class Base62Error extends RangeError {
     defineReadOnly(this, 'byte', byte);
     defineReadOnly(this, 'index', index);
   }
-
-  get name() {
-    return 'Base62Error';
-  }
 }
+
+// The name is assignable, like that of a built-in error.
+Object.defineProperty(Base62Error.prototype, 'name', { value: 'Base62Error', writable: true, configurable: true });
 
 // A subclass can override the properties of a Uint8Array, so these are read by the getters that it inherits.
 const typedArray = Object.getPrototypeOf(Uint8Array.prototype);

@@ -67,6 +67,9 @@ test('properties of errors and alphabets are enumerable and read-only', () => {
   assert.throws(() => decode('LZ-'), (error) => {
     assert.deepEqual({ ...error }, { code: 'INVALID_BYTE', byte: 45, index: 2 });
     assert.throws(() => (error.code = 'OVERFLOW'), TypeError);
+    // As of any error.
+    error.name = 'Other';
+    assert.match(`${error}`, /^Other: /);
     return true;
   });
 });

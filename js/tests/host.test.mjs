@@ -233,6 +233,17 @@ test('bytes of another realm and shared ones are read', () => {
 const exportsIn = (context, name) =>
   runInContext(`((module) => {${readFileSync(require.resolve(name), 'utf8')}; return module.exports})({})`, context);
 
+test('a script of the package defines no name, and runs twice', () => {
+  for (const name of ['base62-proved', 'base62-proved/module']) {
+    const context = createContext({ atob, module: {} });
+    runInContext('const OK = 1', context);
+    for (let i = 0; i < 2; i++) runInContext(readFileSync(require.resolve(name), 'utf8'), context);
+    assert.deepEqual(Object.keys(context), ['atob', 'module']);
+    const { encode } = context.module.exports.load?.(compiled()) ?? context.module.exports;
+    assert.equal(encode(1337), 'LZ');
+  }
+});
+
 test('a context needs to have atob alone', () => {
   const { decode, encode } = exportsIn(createContext({ atob }), 'base62-proved');
   assert.equal(decode(encode(1337)), 1337n);

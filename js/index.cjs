@@ -609,10 +609,10 @@ Y29kZWQgaW5wdXQgY29udGFpbnMgdGhlIGludmFsaWQgAAAAAAAAAAAAAAAAAEFscGhhYmV0IHJlcGVh
 
 // Compiles the WebAssembly of wasm.js when the package is imported.
 function compile(base64) {
+  const binary = atob(base64);
+  const bytes = new Uint8Array(binary.length);
+  for (let i = 0; i < binary.length; i++) bytes[i] = binary.charCodeAt(i);
   try {
-    const binary = atob(base64);
-    const bytes = new Uint8Array(binary.length);
-    for (let i = 0; i < binary.length; i++) bytes[i] = binary.charCodeAt(i);
     return new WebAssembly.Module(bytes);
   } catch (cause) {
     const ways = 'allow it in the Content-Security-Policy, or load base62-proved/module';

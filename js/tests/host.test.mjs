@@ -247,6 +247,7 @@ test('a script of the package defines no name, and runs twice', () => {
 test('a context needs to have atob alone', () => {
   const { decode, encode } = exportsIn(createContext({ atob }), 'base62-proved');
   assert.equal(decode(encode(1337)), 1337n);
+  assert.throws(() => exportsIn(createContext(), 'base62-proved'), /^ReferenceError: atob is not defined$/);
 });
 
 test('a runtime that compiles no WebAssembly says so, and takes a module', () => {

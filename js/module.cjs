@@ -112,6 +112,7 @@ function notANumber(given) {
 }
 
 const notAText = () => new TypeError('an encoded string or a prefix is a string or a Uint8Array');
+const notAValue = () => new TypeError('a value is a Number, a BigInt, or a UUID as a string or a Uint8Array');
 
 function invalidUuid() {
   const forms = 'with hyphens or without, in braces or after urn:uuid:';
@@ -121,7 +122,7 @@ function invalidUuid() {
 function notAnAlphabet(given) {
   const wanted = 'an alphabet is an Alphabet';
   if (typeof given === 'string') return new TypeError(`${wanted}, not a string: create one with new Alphabet(..)`);
-  if (typeof given !== 'number') return new TypeError(`${wanted} of this module`);
+  if (typeof given !== 'number') return new TypeError(`${wanted} of this copy of base62-proved`);
   // Methods such as map pass an index as the second argument.
   return new TypeError(`${wanted}, not ${given}: give map a function such as (n) => encode(n)`);
 }
@@ -371,9 +372,9 @@ function load(module) {
 
   function encodeFixed(value, width, alphabet) {
     checkWidth(width);
-    // A string or a Uint8Array is always a UUID.
-    if (typeof value === 'string' || (typeof value === 'object' && isUint8Array(value))) writeUuid(value);
-    else writeNumber(value);
+    if (typeof value === 'number' || typeof value === 'bigint') writeNumber(value);
+    else if (typeof value === 'string' || isUint8Array(value)) writeUuid(value);
+    else throw notAValue();
     writeAlphabet(alphabet);
     const length = leave(enter().base62_encode_fixed_with(ALPHABET, NUMBER, TEXT, Math.min(width, MAX_DIGITS)));
     if (length === 0) throw new Base62Error('the number needs more characters than the width', 'OUT_OF_RANGE');

@@ -257,7 +257,9 @@ const tests = {
       for (const call of ofUuids) refused(() => call(wrong), 'INVALID_UUID');
     }
     same(faultOf(() => base62.encode('1337')).message, `${wanted}, not a string: give BigInt('1337')`);
-    same(faultOf(() => base62.encodeKey(true)).message, wanted);
+    same(faultOf(() => base62.encode(true)).message, wanted);
+    const ofValue = 'a value is a Number, a BigInt, or a UUID as a string or a Uint8Array';
+    for (const wrong of [undefined, true, {}]) same(faultOf(() => base62.encodeKey(wrong)).message, ofValue);
     same(base62.encode(-0), '0');
     same(base62.digitCount(-0), 1);
   },
@@ -337,10 +339,12 @@ const tests = {
   'the error names what was passed as an alphabet'({ base62, custom }) {
     const index = 'an alphabet is an Alphabet, not 0: give map a function such as (n) => encode(n)';
     const letters = 'an alphabet is an Alphabet, not a string: create one with new Alphabet(..)';
+    const other = 'an alphabet is an Alphabet of this copy of base62-proved';
     const calls = [
       [() => [1, 2, 3].map(base62.encode), index],
       [() => ['LZ'].map(base62.decode), index],
       [() => base62.encode(1337, custom), letters],
+      [() => base62.encode(1337, null), other],
       [() => base62.encodeFixed(1337, 7, custom), letters],
       [() => base62.prefixRange('Pd', 7, custom), letters],
     ];

@@ -33,8 +33,8 @@ const STATUSES = [
   'NOT_CANONICAL',
 ];
 
-// Hand-written. The public functions, over a compiled base62.wasm: they check types, and copy values to the memory of
-// the WebAssembly and back. The rules of encoding are in c/base62.c, from which it is compiled.
+// Hand-written. The public functions, over a compiled base62.wasm. They check and convert arguments and results, and
+// add and skip leading zeros of long strings. The other rules of encoding are in c/base62.c, from which it is compiled.
 
 const TWO_TO_32 = 2 ** 32;
 const TWO_TO_64 = 2n ** 64n;
@@ -72,13 +72,13 @@ class Base62Error extends RangeError {
 // The name is assignable, like that of a built-in error.
 Object.defineProperty(Base62Error.prototype, 'name', { value: 'Base62Error', writable: true, configurable: true });
 
-// A subclass can override the properties of a Uint8Array, so these are read by the getters that it inherits.
+// A subclass can override `length` and the like, so the getters of %TypedArray% read them.
 const typedArray = Object.getPrototypeOf(Uint8Array.prototype);
 const getter = (name) => Object.getOwnPropertyDescriptor(typedArray, name).get;
 const [typeOf, lengthOf, bufferOf, offsetOf] = [Symbol.toStringTag, 'length', 'buffer', 'byteOffset'].map(getter);
 const { set: setBytes } = typedArray;
 // V8 has many internal forms of strings, and finds a property slowly once it was read from five of them. So these
-// methods are found once, and a length is that of '' + text, which V8 knows to be a string.
+// methods are found once, and common paths read the length of '' + text, which V8 knows to be a string.
 const [charCodeAt, codePointAt] = [''.charCodeAt, ''.codePointAt].map((it) => it.call.bind(it));
 
 // Returns the value of a hexadecimal digit, or -1. The bit 32 makes a letter lowercase.
@@ -127,8 +127,8 @@ function notAnAlphabet(given) {
   return new TypeError(`${wanted}, not ${given}: give map a function such as (n) => encode(n)`);
 }
 
-// A text is an encoded string or a prefix. The memory has room for 10,000 code units, of at most three bytes each. Of a
-// longer text the library gets pieces of this length: for decoding only one, for a range all.
+// A text is an encoded string or a prefix. The memory has room for 10,000 code units, of at most three bytes each. A
+// longer text goes in pieces of this length: for decoding the first and that at startOf, for a range all from there on.
 const PIECE_LENGTH = 10_000;
 
 function instantiate(module) {
@@ -194,8 +194,9 @@ function createArguments({ bytes, words, halves }) {
     }
   }
 
-  // Writes the first piece of a text. Returns its length: less than PIECE_LENGTH if nothing follows. Nearly all texts are
-  // ASCII strings. Of another string the library rejects what is written here, since no alphabet has the byte 255.
+  // Writes the first piece of a text. Returns its length. If it is less than PIECE_LENGTH, nothing follows. Nearly all
+  // texts are ASCII strings. Of a piece that is not ASCII the library rejects what is written here, since no alphabet
+  // has the byte 255.
   function writeText(text) {
     if (typeof text !== 'string') return writeBytes(text, 0);
     const length = Math.min(('' + text).length, PIECE_LENGTH);
@@ -209,7 +210,7 @@ function createArguments({ bytes, words, halves }) {
     return length;
   }
 
-  // Writes the piece of a text from start on. Returns its number of bytes: less than PIECE_LENGTH if nothing follows.
+  // Writes the piece from start on. Returns its number of bytes. If it is less than PIECE_LENGTH, nothing follows.
   const writePiece = (text, start) => (typeof text === 'string' ? writeUtf8(text, start) : writeBytes(text, start));
 
   function writeBytes(text, start) {

@@ -46,9 +46,9 @@ export function encode(number: Integer, alphabet?: Alphabet): string;
  * console.log(encodeFixed(1337, 4)); // 00LZ
  * @param value a number as in {@link encode}, or a UUID as in {@link encodeUuid}. A string is always a UUID.
  * @param width an integer from 1 to 2**53 - 1. 22 characters are enough for any number.
- * @throws {Base62Error} `OUT_OF_RANGE` if the number needs more characters, or for any other number or width,
- *   `INVALID_UUID`
- * @throws {Error} an error of the runtime, without a `code`, if the width is more than its strings can have
+ * @throws {Base62Error} `OUT_OF_RANGE` for any other number or width, or if the number needs more characters.
+ *   `INVALID_UUID` as {@link encodeUuid}.
+ * @throws {Error} an error of the runtime, without a `code`, if the width exceeds its longest string
  */
 export function encodeFixed(value: Integer | Uuid, width: number, alphabet?: Alphabet): string;
 

@@ -29,7 +29,8 @@ static int set_out_of_memory(sqlite3_context *context) {
     return 0;
 }
 
-/* The message, such as "the width is not from 1 to 1000", and the value. */
+/* The message, such as "the width is not from 1 to 1000", and the value. No call has converted its type yet: after that
+ * sqlite3_value_type is unspecified. */
 static int set_wrong_value(sqlite3_context *context, const char *message, sqlite3_value *value) {
     int type = sqlite3_value_type(value);
     const char *opening = type == SQLITE_TEXT ? "'" : type == SQLITE_BLOB ? "x'" : "";
@@ -94,16 +95,21 @@ static bool parse_uuid(const char *text, size_t length, unsigned char uuid[BASE6
 
 /* A UUID is a blob of 16 bytes, or a string. */
 static int read_uuid(sqlite3_context *context, sqlite3_value *value, base62_number *number) {
+    static const char wrong[] = "the UUID is not 32 hexadecimal digits or 16 bytes";
     int type = sqlite3_value_type(value);
     unsigned char parsed[BASE62_UUID_LENGTH];
-    const void *bytes = type == SQLITE_BLOB ? sqlite3_value_blob(value) : sqlite3_value_text(value);
-    size_t length = (size_t)sqlite3_value_bytes(value);
+    const void *bytes;
+    size_t length;
+    if (type != SQLITE_TEXT && type != SQLITE_BLOB)
+        return set_wrong_value(context, wrong, value);
+    bytes = type == SQLITE_BLOB ? sqlite3_value_blob(value) : sqlite3_value_text(value);
+    length = (size_t)sqlite3_value_bytes(value);
     if (bytes == NULL && (type != SQLITE_BLOB || length != 0))
         return set_out_of_memory(context);
     if (type == SQLITE_TEXT && parse_uuid(bytes, length, parsed))
         bytes = parsed;
     else if (type != SQLITE_BLOB || length != BASE62_UUID_LENGTH)
-        return set_wrong_value(context, "the UUID is not 32 hexadecimal digits or 16 bytes", value);
+        return set_wrong_value(context, wrong, value);
     *number = base62_from_uuid(bytes);
     return 1;
 }

@@ -359,11 +359,13 @@ static int create_functions(sqlite3 *db) {
         {"base62_version", 0, 0, NULL, version},
     };
     int status = SQLITE_OK;
-    for (size_t i = 0; i < sizeof functions / sizeof *functions; i++)
+    for (size_t i = 0; i < sizeof functions / sizeof *functions; i++) {
+        /* The version changes with the library, so no index may contain it. */
+        int deterministic = functions[i].call == version ? 0 : SQLITE_DETERMINISTIC;
         for (int n = functions[i].min_arguments; status == SQLITE_OK && n <= functions[i].max_arguments; n++)
-            status = sqlite3_create_function(db, functions[i].name, n,
-                                             SQLITE_UTF8 | SQLITE_DETERMINISTIC | SQLITE_INNOCUOUS, functions[i].data,
-                                             functions[i].call, NULL, NULL);
+            status = sqlite3_create_function(db, functions[i].name, n, SQLITE_UTF8 | SQLITE_INNOCUOUS | deterministic,
+                                             functions[i].data, functions[i].call, NULL, NULL);
+    }
     return status;
 }
 

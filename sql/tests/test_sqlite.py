@@ -174,8 +174,11 @@ class Arguments(Case):
         self.assertEqual({f"base62_{name}" for name, _ in CALLS}, functions_of("SQLite"))
 
     def test_version(self) -> None:
-        """The one that the header has."""
+        """The one that the header has, which no index may contain."""
         self.assertIn(f'#define BASE62_VERSION "{self.result("version")}"\n', HEADER)
+        self.db.execute("CREATE TABLE given (n)")
+        with self.assertRaisesRegex(sqlite3.OperationalError, "^non-deterministic functions prohibited in index"):
+            self.db.execute("CREATE INDEX version ON given (base62_version())")
 
     def test_nulls(self) -> None:
         for name, given in CALLS:

@@ -155,8 +155,7 @@ static inline bool decode_int64(const base62_alphabet *alphabet, const char *tex
     if (int64_of_number(number, value))
         return true;
     if (error != NULL) {
-        fail_with(error, OUT_OF_RANGE, "the number is 2^63 or more, which %s%s takes", wider,
-                  canonical ? "_canonical" : "");
+        fail_with(error, OUT_OF_RANGE, "the number is 2^63 or more; use %s%s", wider, canonical ? "_canonical" : "");
         show(error, "'", text, length);
     }
     return false;

@@ -87,7 +87,7 @@ SELECT f FROM line WHERE f[1] = 'repeated' AND octet_length(text_of(f[2])) = 62
 \echo Canonical texts, and texts with leading zeros
 CREATE TABLE encoded AS
     SELECT name, letters, v, bigint_of(v) n, uuid_of(v) u, t,
-        '22003 the number is 2^63 or more, which base62_decode_numeric%s takes' || shown(t) large,
+        '22003 the number is 2^63 or more; use base62_decode_numeric%s' || shown(t) large,
         CASE kind WHEN 'zeros' THEN error('zero') || shown(t) END zero
     FROM (SELECT f[1] kind, f[2] name, f[3]::numeric v, text_of(f[4]) t FROM line WHERE f[1] = 'encode'
         UNION ALL SELECT f[1], f[2], f[4]::numeric, text_of(f[3]) FROM line WHERE f[1] = 'zeros') of

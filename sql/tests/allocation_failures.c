@@ -108,7 +108,7 @@ static sqlite3 *open_database(void) {
     sqlite3 *db;
     CHECK(sqlite3_open(":memory:", &db) == SQLITE_OK);
     CHECK(sqlite3_db_config(db, SQLITE_DBCONFIG_LOOKASIDE, NULL, 0, 0) == SQLITE_OK);
-    CHECK(sqlite3_enable_load_extension(db, 1) == SQLITE_OK);
+    CHECK(sqlite3_db_config(db, SQLITE_DBCONFIG_ENABLE_LOAD_EXTENSION, 1, NULL) == SQLITE_OK);
     return db;
 }
 

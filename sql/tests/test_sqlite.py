@@ -43,6 +43,7 @@ def opened() -> sqlite3.Connection:
     db = sqlite3.connect(":memory:")
     db.enable_load_extension(True)
     db.load_extension(MODULE)
+    db.enable_load_extension(False)
     return db
 
 

@@ -209,14 +209,14 @@ class Arguments(Case):
         self.assertEqual(re.findall("true|false", ran.stdout), ["true"] * len(queries))
 
     def test_numbers(self) -> None:
-        """A column of any integer type, and no other."""
+        """A column of any integer type but BIGNUM, and no other."""
         types = "TINYINT SMALLINT INTEGER BIGINT HUGEINT UTINYINT USMALLINT UINTEGER UBIGINT UHUGEINT".split()
         for call, wanted in (("base62_encode({})", "1z"), ("base62_encode_key({})", "1z".rjust(22, "0")),
                              ("base62_encode_fixed({}, 4)", "001z")):
             self.assertEqual(set(results("SELECT unnest([" + ", ".join(call.format(f"123::{it}") for it in types) + "]);")), {wanted})
         self.check_errors({f"base62_encode((-1)::{it})": NEGATIVE.format(-1) for it in types if it[0] != "U"})
         self.check_errors({f"base62_encode('{it}'::HUGEINT)": NEGATIVE.format(it) for it in (-(2**127), -(2**64), -1)})
-        for given in ("'1337'", "1.5", "1337::DOUBLE", "true", "'1337'::VARCHAR", "uuid()"):
+        for given in ("'1337'", "1.5", "1337::DOUBLE", "'1337'::BIGNUM", "true", "'1337'::VARCHAR", "uuid()"):
             self.assertIn("Binder Error: ", shell(f"SELECT base62_encode({given});").stderr, given)
 
     def test_alphabets(self) -> None:
@@ -279,6 +279,16 @@ class Queries(Case):
             made += f"COPY (SELECT base62_decode(s) AS id FROM strings) TO '{folder}/ids.parquet';\n"
             found = row(f"SELECT id::VARCHAR AS id, sum(id)::VARCHAR AS sum FROM '{folder}/ids.parquet' GROUP BY id;", made)
         self.assertEqual(found, {"id": str(number), "sum": str(number)})
+
+    def test_collations(self) -> None:
+        """BETWEEN compares by the collation of the column, or by the default one, unless the query names another."""
+        bounds = "BETWEEN base62_prefix_first('2aU') AND base62_prefix_last('2aU')"
+        made = "CREATE TABLE keys (key VARCHAR, nocase VARCHAR COLLATE NOCASE);\n" \
+            "INSERT INTO keys SELECT unnest(['2aUyqjCzEIiEcYMKj7TZtw', '2au8000000000000000000']) AS key, key;\n"
+        columns = ("key", "nocase", "key COLLATE C", "nocase COLLATE C")
+        query = "SELECT " + ", ".join(f"count(*) FILTER (WHERE {it} {bounds}) AS \"{it}\"" for it in columns) + " FROM keys;"
+        for default, found in (("", (1, 2, 1, 1)), ("SET default_collation = 'NOCASE';\n", (2, 2, 1, 1))):
+            self.assertEqual(row(query, made + default), dict(zip(columns, found)))
 
     def test_error_in_a_row(self) -> None:
         """A query ends with the first error of a chunk. TRY and a function that tries make null of such rows alone."""

@@ -16,10 +16,10 @@ CREATE EXTENSION base62;
 SELECT 'a' < 'B' language, 'a' < 'B' COLLATE "C" bytes;
 
 CREATE TABLE item (u uuid PRIMARY KEY, key base62_key GENERATED ALWAYS AS (base62_encode_key_uuid(u)) STORED UNIQUE);
-CREATE TABLE plain (u uuid, key text PRIMARY KEY, declared text COLLATE "en-x-icu");
+CREATE TABLE plain (u uuid, key text PRIMARY KEY, declared text COLLATE "en-x-icu", bytes text COLLATE "C" UNIQUE);
 INSERT INTO item SELECT md5(i::text)::uuid FROM generate_series(1, 20000) i;
 INSERT INTO item SELECT lpad(to_hex(i), 32, '0')::uuid FROM generate_series(0, 100) i;
-INSERT INTO plain SELECT u, key, key FROM item;
+INSERT INTO plain SELECT u, key, key, key FROM item;
 ANALYZE item, plain;
 
 \echo The collations of results
@@ -40,7 +40,9 @@ SELECT p FROM item, unnest(ARRAY['2', '7n', '1a', '0000000', '']) p, starts_with
 \echo In text columns: the functions, an index, and a declared collation
 SELECT count(*) FILTER (WHERE starts_with(key, '2a')) - count(*) FILTER
     (WHERE key BETWEEN base62_prefix_first('2a') AND base62_prefix_last('2a'::text)) "between" FROM plain;
+SET enable_bitmapscan = off;
 EXPLAIN (COSTS off) SELECT * FROM plain WHERE key BETWEEN base62_prefix_first('2a') AND base62_prefix_last('2a');
+EXPLAIN (COSTS off) SELECT * FROM plain WHERE bytes BETWEEN base62_prefix_first('2a') AND base62_prefix_last('2a');
 CREATE INDEX plain_key ON plain (key COLLATE "C");
 EXPLAIN (COSTS off) SELECT * FROM plain WHERE key BETWEEN base62_prefix_first('2a') AND base62_prefix_last('2a');
 \set VERBOSITY sqlstate

@@ -287,6 +287,8 @@ PLANS = [
     ("SELECT u FROM item WHERE key BETWEEN base62_prefix_first('2a') AND base62_prefix_last('2a')",
      "SEARCH item USING INDEX item_key (key>? AND key<?)"),
     ("SELECT u FROM item WHERE key GLOB '2a*'", "SEARCH item USING INDEX item_key (key>? AND key<?)"),
+    ("SELECT u FROM item WHERE key GLOB ?", "SEARCH item USING INDEX item_key (key>? AND key<?)", "2a*"),
+    ("SELECT u FROM item WHERE key GLOB ? || '*'", "SCAN item", "2a"),
 ]
 
 
@@ -301,9 +303,28 @@ class Tables(Case):
         self.db.commit()
 
     def test_plans(self) -> None:
-        for query, wanted in PLANS:
-            plan = self.db.execute("EXPLAIN QUERY PLAN " + query).fetchall()
+        for query, wanted, *given in PLANS:
+            plan = self.db.execute("EXPLAIN QUERY PLAN " + query, given).fetchall()
             self.assertEqual([step[3] for step in plan], [wanted], query)
+
+    def test_trigger(self) -> None:
+        """A trigger before a row has an id computes its columns for -1."""
+        for table, column in (("bare", "base62_encode(id)"), ("guarded", "CASE WHEN id >= 0 THEN base62_encode(id) END")):
+            self.db.executescript(f"CREATE TABLE {table} (id INTEGER PRIMARY KEY, slug TEXT AS ({column}) UNIQUE);"
+                                  f"CREATE TRIGGER before_{table} BEFORE INSERT ON {table} BEGIN SELECT 1; END;")
+        with self.assertRaisesRegex(sqlite3.OperationalError, NEGATIVE.format(-1)):
+            self.db.execute("INSERT INTO bare VALUES (NULL)")
+        self.db.execute("INSERT INTO guarded VALUES (NULL)")
+        self.assertEqual(self.db.execute("SELECT slug FROM guarded").fetchall(), [("1",)])
+
+    def test_import(self) -> None:
+        """The shell imports texts: a column of integers converts one that is an integer, and no other."""
+        self.db.execute("CREATE TABLE imported (id INTEGER)")
+        self.db.executemany("INSERT INTO imported VALUES (?)", [("1337",), ("1337x",)])
+        query = "SELECT base62_encode(id) FROM imported WHERE rowid = ?"
+        self.assertEqual(self.db.execute(query, (1,)).fetchall(), [("LZ",)])
+        with self.assertRaisesRegex(sqlite3.OperationalError, "^base62: the number is not an integer: '1337x'$"):
+            self.db.execute(query, (2,)).fetchall()
 
     def test_without_extension(self) -> None:
         """Which queries need it, and that another does not."""

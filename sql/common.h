@@ -18,7 +18,7 @@
 /* No number needs more than 22 characters. A greater width fills a wider column; far greater ones only take time. */
 #define MAX_WIDTH 1000
 
-/* How many bytes of a rejected value a message has: as many as each number and each UUID has. */
+/* A message shows at most so many bytes of a rejected value. Each number below 2^128 and each UUID fits. */
 #define MAX_SHOWN 40
 
 /* PostgreSQL has an error code for each kind. */

@@ -24,7 +24,6 @@ import sys
 from dataclasses import dataclass
 from decimal import Decimal
 from functools import partial
-from numbers import Integral
 from typing import TYPE_CHECKING, Any, Literal, NamedTuple, SupportsIndex, TypeAlias
 from uuid import UUID
 
@@ -154,17 +153,13 @@ def _check_count(columns: int) -> None:
 def _types_of_objects(column: Any) -> set[type]:
     """Return the types of the objects in a list, an array or a categorical of objects."""
     objects = getattr(getattr(column, "dtype", None), "categories", column)
-    return set(map(type, objects)) if getattr(objects, "dtype", object) == object else set()
-
-
-def _type_of_values(column: _Array) -> _Type:
-    return column.type.value_type if pa.types.is_dictionary(column.type) else column.type
+    has_objects = hasattr(objects, "__iter__") and getattr(objects, "dtype", object) == object
+    return set(map(type, objects)) if has_objects else set()
 
 
 def _are_alike(types: set[type]) -> bool:
     """Return whether pyarrow converts objects of these types as the functions for one value do."""
-    # Durations of NumPy are Integral too.
-    are_integers = all(issubclass(it, Integral) and hasattr(it, "__index__") for it in types)
+    are_integers = all(hasattr(it, "__index__") for it in types)
     return are_integers or any(all(issubclass(it, one) for it in types) for one in (str, bytes, UUID, Decimal, pa.Scalar))
 
 
@@ -184,7 +179,7 @@ def _to_arrow(column: Any) -> _Array | None:
     for wide in (None, pa.uint64()):
         try:
             found = pa.array(column, wide, from_pandas=True)
-            return None if types and pa.types.is_floating(_type_of_values(found)) else found
+            return None if types and pa.types.is_floating(found.type) else found
         except OverflowError:
             # All values are integers then. Of floats, pyarrow would take the integer parts.
             continue
@@ -255,7 +250,7 @@ class _Conversion:
 
     def _source_type(self, given: _Array) -> _Type:
         """Return the type as which the extension reads a column."""
-        of_values = _type_of_values(given)
+        of_values = given.type.value_type if pa.types.is_dictionary(given.type) else given.type
         if pa.types.is_floating(of_values) and given.null_count == len(given):
             # Such is a column of NumPy with missing values only.
             of_values = pa.null()

@@ -11,6 +11,7 @@ import sys
 import types
 import unittest
 import uuid
+import warnings
 from collections.abc import Iterator
 from decimal import Decimal
 from fractions import Fraction
@@ -52,8 +53,9 @@ def forms_of(array: Any) -> Iterator[Any]:
     yield from (array, more[5 : len(array) + 5], chunks, table, *table.combine_chunks().to_batches())
     yield from (dictionary(array), pa.chunked_array([dictionary(array)]))
     # An array and chunks of another library.
-    yield types.SimpleNamespace(__arrow_c_array__=array.__arrow_c_array__)
-    yield types.SimpleNamespace(__arrow_c_stream__=chunks.__arrow_c_stream__)
+    yield types.SimpleNamespace(__arrow_array__=lambda type=None: array)
+    yield types.SimpleNamespace(__arrow_c_array__=array.__arrow_c_array__, __iter__=None)
+    yield types.SimpleNamespace(__arrow_c_stream__=chunks.__arrow_c_stream__, __iter__=None)
 
 
 class ColumnsTestCase(RaisesTestCase):
@@ -221,7 +223,7 @@ class Objects(ColumnsTestCase):
             numbers,
             tuple(numbers),
             (it for it in numbers),
-            type("Once", (), {"__iter__": (lambda one: lambda self: one)(iter(numbers))})(),
+            type("Once", (), {"__iter__": (lambda one: lambda self: one)(iter(numbers)), "__len__": None})(),
             [float("nan") if it is None else it for it in numbers],
             [pd.NA if it is None else Decimal(it) for it in numbers],
             [pa.scalar(it, pa.int64()) for it in numbers],
@@ -271,7 +273,8 @@ class Objects(ColumnsTestCase):
         for form in ("S16", "V16"):
             column = np.array([NAME.bytes, zeros], form)
             for it in (column, np.ma.array(column), pd.Series(column)):
-                self.check(columns.encode_uuid, it, [TEXT, base62.encode_uuid(zeros)])
+                with warnings.catch_warnings(action="error"):
+                    self.check(columns.encode_uuid, it, [TEXT, base62.encode_uuid(zeros)])
         self.check(columns.encode, [NAME, uuid.UUID(int=WIDE)], [TEXT, "7n42DGM5Tflk9n8mt7Fhc7"])
 
     def test_strings(self) -> None:
@@ -279,6 +282,7 @@ class Objects(ColumnsTestCase):
         for column in (
             texts,
             np.array(texts, object),
+            [*pa.array(texts)],
             np.ma.array(["LZ", "", "z"], mask=[0, 1, 0]),
             pd.Series(texts),
             pd.Series(texts, dtype="string"),

@@ -21,6 +21,7 @@ from __future__ import annotations
 
 import operator
 import sys
+from collections.abc import Mapping
 from dataclasses import dataclass
 from decimal import Decimal
 from functools import partial
@@ -124,7 +125,7 @@ _NUMBERS = _Kind(
 
 def _readable(column: Any, kind: _Kind) -> Any:
     """Return a column as pyarrow takes it as it is meant."""
-    if isinstance(column, (str, bytes, bytearray)):
+    if isinstance(column, (str, bytes, bytearray, Mapping)):
         raise TypeError(f"a column is an array or a list, not {type(column).__name__}")
     dimensions = getattr(column, "ndim", 1)
     if dimensions == 2 and hasattr(column, "iloc"):
@@ -132,6 +133,11 @@ def _readable(column: Any, kind: _Kind) -> Any:
         return column.iloc[:, 0]
     if dimensions != 1:
         raise TypeError(f"a column has one dimension, not {dimensions}")
+    if type(column).__name__ == "RangeIndex":
+        # pandas converts it by int64 and floats.
+        return range(column.start, column.stop, column.step)
+    if type(column).__name__ == "NumpyExtensionArray":
+        column = column.__array__()
     dtype: Any = getattr(column, "dtype", None)
     form = getattr(dtype, "char", "O")
     if form == "S" and kind is not _STRINGS:
@@ -140,8 +146,9 @@ def _readable(column: Any, kind: _Kind) -> Any:
     # NumPy's strings, which pyarrow would end at their first null character, and types that it does not have.
     if form in "SUTV":
         return column.astype(object)
-    known = "__getitem__", "__arrow_c_array__", "__arrow_c_stream__"
-    may_be_read_once = hasattr(column, "__iter__") and not any(hasattr(column, it) for it in known)
+    if not hasattr(column, "__iter__") or hasattr(column, "__arrow_c_array__") or hasattr(column, "__arrow_c_stream__"):
+        return column
+    may_be_read_once = not hasattr(column, "__getitem__") or iter(column) is column
     return list(column) if may_be_read_once else column
 
 

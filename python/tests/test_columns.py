@@ -12,6 +12,7 @@ import types
 import unittest
 import uuid
 import warnings
+from collections import UserDict
 from collections.abc import Iterator
 from decimal import Decimal
 from fractions import Fraction
@@ -228,6 +229,7 @@ class Objects(ColumnsTestCase):
             [pd.NA if it is None else Decimal(it) for it in numbers],
             [pa.scalar(it, pa.int64()) for it in numbers],
             np.array(numbers, object),
+            np.array(numbers, object).flat,
             np.ma.array([1337, 5, 0, 2**63 - 1], ">i8", mask=[0, 1, 0, 0]),
             [1337, np.ma.masked, 0, 2**63 - 1],
             pd.Series(numbers, dtype="Int64", index=[5, 5, 5, 5]),
@@ -243,6 +245,7 @@ class Objects(ColumnsTestCase):
             self.assertEqual(found.to_pylist(), texts, column)
         self.check(columns.encode, range(60, 63), ["y", "z", "10"])
         self.check(columns.encode, pd.Index([61, 62]), ["z", "10"])
+        self.check(columns.encode, pd.RangeIndex(2**63 - 1, 2**63 + 1), ["AzL8n0Y58m7", "AzL8n0Y58m8"])
         self.check(columns.encode, np.array([5, 6, 62, 7], np.uint16)[::-2], ["7", "6"])
         self.check(columns.encode, np.array([5, 2**64 - 1], ">u8"), ["5", "LygHa16AHYF"])
 
@@ -272,7 +275,7 @@ class Objects(ColumnsTestCase):
         zeros = bytes([1]) + bytes(15)
         for form in ("S16", "V16"):
             column = np.array([NAME.bytes, zeros], form)
-            for it in (column, np.ma.array(column), pd.Series(column)):
+            for it in (column, np.ma.array(column), pd.Series(column), pd.Series(column).array):
                 with warnings.catch_warnings(action="error"):
                     self.check(columns.encode_uuid, it, [TEXT, base62.encode_uuid(zeros)])
         self.check(columns.encode, [NAME, uuid.UUID(int=WIDE)], [TEXT, "7n42DGM5Tflk9n8mt7Fhc7"])
@@ -412,11 +415,12 @@ class Arguments(ColumnsTestCase):
                 expected = each(lambda it: [None if is_missing(value) else one(value, *given) for value in it], pair)
                 self.assertEqual(each(lambda it: call(it, *given).to_pylist(), pair), expected, (call, pair))
         self.raised(TypeError, columns.encode, [Decimal(5), 7])
+        self.raised(TypeError, columns.encode, pd.array([2**63, np.float16(1.5)], object))
 
     def test_wrong(self) -> None:
         for call, _, given, value, _, _ in FUNCTIONS:
             for column in (5, None, object(), "LZ", b"LZ", bytearray(b"LZ"), np.array(5), np.array([[76, 90]], np.uint8),
-                           [{"a": value}], pd.DataFrame(), pd.DataFrame({"a": [value], "b": [value]}),
+                           {0: value}, UserDict({0: value}), [{"a": value}], pd.DataFrame(), pd.DataFrame({"a": [value], "b": [value]}),
                            pa.table({"a": [value], "b": [value]})):
                 self.raised(TypeError, call, column, *given)
             for errors in ("null", "ignore", None, True):

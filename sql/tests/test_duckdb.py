@@ -281,14 +281,27 @@ class Queries(Case):
         self.assertEqual(found, {"id": str(number), "sum": str(number)})
 
     def test_collations(self) -> None:
-        """BETWEEN compares by the collation of the column, or by the default one, unless the query names another."""
-        bounds = "BETWEEN base62_prefix_first('2aU') AND base62_prefix_last('2aU')"
-        made = "CREATE TABLE keys (key VARCHAR, nocase VARCHAR COLLATE NOCASE);\n" \
-            "INSERT INTO keys SELECT unnest(['2aUyqjCzEIiEcYMKj7TZtw', '2au8000000000000000000']) AS key, key;\n"
-        columns = ("key", "nocase", "key COLLATE C", "nocase COLLATE C")
-        query = "SELECT " + ", ".join(f"count(*) FILTER (WHERE {it} {bounds}) AS \"{it}\"" for it in columns) + " FROM keys;"
-        for default, found in (("", (1, 2, 1, 1)), ("SET default_collation = 'NOCASE';\n", (2, 2, 1, 1))):
-            self.assertEqual(row(query, made + default), dict(zip(columns, found)))
+        """Comparisons are by the collation of a column, a prefix or the default."""
+        made = "CREATE TABLE keys (key VARCHAR, nocase VARCHAR COLLATE NOCASE, prefix VARCHAR COLLATE NOCASE);\n" \
+            "INSERT INTO keys SELECT unnest(['2aUyqjCzEIiEcYMKj7TZtw', '2au8000000000000000000']) AS key, key, '2aU';\n"
+        bounds = "BETWEEN base62_prefix_first({0}) AND base62_prefix_last({0})"
+        found = {f"key {bounds.format(literal('2aU'))}": (1, 2), f"nocase {bounds.format(literal('2aU'))}": (2, 2),
+                 f"key {bounds.format('prefix')}": (2, 2), "base62_encode(1337) = 'lz'": (0, 2)}
+        query = "SELECT " + ", ".join(f"count(*) FILTER (WHERE {it}) AS \"{it}\"" for it in found) + " FROM keys;"
+        for i, default in enumerate(("", "SET default_collation = 'NOCASE';\n")):
+            self.assertEqual(row(query, made + default), {it: counts[i] for it, counts in found.items()})
+
+    def test_casts(self) -> None:
+        """DuckDB rounds a number to the type that is named, or that an argument has instead of a VARIANT."""
+        with tempfile.NamedTemporaryFile("w", suffix=".csv") as file:
+            print("id\n7.5", file=file, flush=True)
+            read = f"FROM read_csv('{file.name}', types = {{'id': 'UBIGINT'}})"
+            query = f"SELECT base62_encode(id) {read} UNION ALL SELECT base62_encode(7.5::VARIANT);"
+            self.assertEqual(results(query), ["8", "8"])
+        bounds = "BETWEEN base62_range_first('AzL8n0Y58m', 11) AND base62_range_last_uhugeint('AzL8n0Y58m', 11)"
+        counts = row(f"SELECT count(*) FILTER (WHERE id {bounds}) > 55 AS rounded "
+                     "FROM (SELECT (9223372036854775807::UBIGINT + i::UBIGINT) AS id FROM range(3000) r(i));")
+        self.assertEqual(counts, {"rounded": True})
 
     def test_error_in_a_row(self) -> None:
         """A query ends with the first error of a chunk. TRY and a function that tries make null of such rows alone."""

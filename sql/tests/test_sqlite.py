@@ -320,11 +320,11 @@ class Tables(Case):
     def test_import(self) -> None:
         """The shell imports texts: a column of integers converts one that is an integer, and no other."""
         self.db.execute("CREATE TABLE imported (id INTEGER)")
-        self.db.executemany("INSERT INTO imported VALUES (?)", [("1337",), ("1337x",)])
-        query = "SELECT base62_encode(id) FROM imported WHERE rowid = ?"
-        self.assertEqual(self.db.execute(query, (1,)).fetchall(), [("LZ",)])
-        with self.assertRaisesRegex(sqlite3.OperationalError, "^base62: the number is not an integer: '1337x'$"):
-            self.db.execute(query, (2,)).fetchall()
+        self.db.executemany("INSERT INTO imported VALUES (?)", [("1337",), ("1e3",), ("5.0",), ("1337x",), ("7.5",)])
+        self.assertEqual(self.db.execute("SELECT base62_encode(id) FROM imported LIMIT 3").fetchall(), [("LZ",), ("G8",), ("5",)])
+        for rowid, shown in ((4, "'1337x'"), (5, "7.5")):
+            with self.assertRaisesRegex(sqlite3.OperationalError, f"^base62: the number is not an integer: {shown}$"):
+                self.db.execute("SELECT base62_encode(id) FROM imported WHERE rowid = ?", (rowid,)).fetchall()
 
     def test_without_extension(self) -> None:
         """Which queries need it, and that another does not."""

@@ -37,6 +37,16 @@ SELECT p FROM item, unnest(ARRAY['2', '7n', '1a', '0000000', '']) p, starts_with
         OR bool_or(has <> (key LIKE p || '%')) OR bool_or(has <>
             (u BETWEEN base62_decode_uuid(base62_prefix_first(p)) AND base62_decode_uuid(base62_prefix_last(p))));
 
+\echo Variables in a function with a text parameter, of the type and with its collation; and with a parameter of the type
+CREATE FUNCTION of_text(p text, OUT bare boolean, OUT declared boolean) LANGUAGE plpgsql AS $$
+DECLARE a base62_key := base62_encode_key(11); b base62_key := base62_encode_key(36);
+    c base62_key COLLATE "C" := a; d base62_key COLLATE "C" := b;
+BEGIN bare := a < b; declared := c < d; END $$;
+CREATE FUNCTION of_key(p base62_key) RETURNS boolean LANGUAGE plpgsql AS $$
+DECLARE a base62_key := base62_encode_key(11); b base62_key := base62_encode_key(36);
+BEGIN RETURN a < b; END $$;
+SELECT *, of_key('x') FROM of_text('x');
+
 \echo In text columns: the functions, an index, and a declared collation
 SELECT count(*) FILTER (WHERE starts_with(key, '2a')) - count(*) FILTER
     (WHERE key BETWEEN base62_prefix_first('2a') AND base62_prefix_last('2a'::text)) "between" FROM plain;

@@ -221,20 +221,16 @@ class Objects(ColumnsTestCase):
         numbers = [1337, None, 0, 2**63 - 1]
         texts = ["LZ", None, "0", "AzL8n0Y58m7"]
         for column in (
-            numbers,
-            tuple(numbers),
-            (it for it in numbers),
+            *(numbers, tuple(numbers), (it for it in numbers)),
             type("Once", (), {"__iter__": (lambda one: lambda self: one)(iter(numbers)), "__len__": None})(),
             [float("nan") if it is None else it for it in numbers],
             [pd.NA if it is None else Decimal(it) for it in numbers],
             [pa.scalar(it, pa.int64()) for it in numbers],
-            np.array(numbers, object),
-            np.array(numbers, object).flat,
+            *(np.array(numbers, object), np.array(numbers, object).flat),
             np.ma.array([1337, 5, 0, 2**63 - 1], ">i8", mask=[0, 1, 0, 0]),
             [1337, np.ma.masked, 0, 2**63 - 1],
             pd.Series(numbers, dtype="Int64", index=[5, 5, 5, 5]),
-            pd.Series(numbers, dtype="uint64[pyarrow]"),
-            pd.Series(numbers, dtype=object),
+            *(pd.Series(numbers, dtype=it) for it in ("uint64[pyarrow]", object)),
             # As those of pandas 3.
             type("Series", (pd.Series,), {"__arrow_c_stream__": None})(numbers, dtype=object),
             pd.Series(pd.array(numbers, "Int64")).astype("category"),
@@ -283,14 +279,9 @@ class Objects(ColumnsTestCase):
     def test_strings(self) -> None:
         texts: list[Any] = ["LZ", None, "z"]
         for column in (
-            texts,
-            np.array(texts, object),
-            [*pa.array(texts)],
+            *(texts, np.array(texts, object), [*pa.array(texts)]),
             np.ma.array(["LZ", "", "z"], mask=[0, 1, 0]),
-            pd.Series(texts),
-            pd.Series(texts, dtype="string"),
-            pd.Series(texts, dtype="string[pyarrow]"),
-            pd.Series(texts, dtype="category"),
+            *(pd.Series(texts, dtype=it) for it in (None, "string", "string[pyarrow]", "category")),
             pd.Categorical(texts),
             pd.DataFrame({"code": texts}),
         ):

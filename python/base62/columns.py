@@ -137,7 +137,7 @@ def _readable(column: Any, kind: _Kind) -> Any:
         # pandas converts it by int64 and floats.
         return range(column.start, column.stop, column.step)
     if type(column).__name__ == "NumpyExtensionArray":
-        column = column.__array__()
+        column = column.__array__()  # Its dtype is not NumPy's.
     dtype: Any = getattr(column, "dtype", None)
     form = getattr(dtype, "char", "O")
     if form == "S" and kind is not _STRINGS:

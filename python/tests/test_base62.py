@@ -103,7 +103,7 @@ class OtherInt(int):
 
 class Texts(unittest.TestCase):
     def test_kinds_of_texts(self) -> None:
-        views = [memoryview(b"x1a")[1:], memoryview(b"1xa")[::2], memoryview(b"a1")[::-1]]
+        views: list[Any] = [memoryview(b"x1a")[1:], memoryview(b"1xa")[::2], memoryview(b"a1")[::-1]]
         views += map(memoryview, (array("B", b"1a"), array("b", b"1a")))
         for text in ("1a", OtherStr("1a"), b"1a", bytearray(b"1a"), *views):
             self.assertEqual(base62.decode(text), 98)

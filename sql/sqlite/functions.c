@@ -29,8 +29,8 @@ static int set_out_of_memory(sqlite3_context *context) {
     return 0;
 }
 
-/* The message, such as "the width is not from 1 to 1000", and the value. No call has converted its type yet: after that
- * sqlite3_value_type is unspecified. */
+/* The message, such as "the width is not from 1 to 1000", and the value. A conversion of the value before would make its
+ * type unspecified. */
 static int set_wrong_value(sqlite3_context *context, const char *message, sqlite3_value *value) {
     int type = sqlite3_value_type(value);
     const char *opening = type == SQLITE_TEXT ? "'" : type == SQLITE_BLOB ? "x'" : "";

@@ -280,6 +280,12 @@ class Queries(Case):
             found = row(f"SELECT id::VARCHAR AS id, sum(id)::VARCHAR AS sum FROM '{folder}/ids.parquet' GROUP BY id;", made)
         self.assertEqual(found, {"id": str(number), "sum": str(number)})
 
+    def test_row_groups(self) -> None:
+        """BETWEEN scans a table, and not all of its row groups."""
+        plan = shell("CREATE TABLE link AS SELECT i AS id FROM range(1000000) r(i); EXPLAIN ANALYZE SELECT * FROM link "
+                     "WHERE id BETWEEN base62_range_first('LZ', 3) AND base62_range_last('LZ', 3);").stdout
+        self.assertRegex(plan, r"(?s)Sequential Scan.*Row Groups Scanned: 1 / 9")
+
     def test_collations(self) -> None:
         """Comparisons are by the collation of a column, a prefix or the default."""
         made = "CREATE TABLE keys (key VARCHAR, nocase VARCHAR COLLATE NOCASE, prefix VARCHAR COLLATE NOCASE);\n" \

@@ -326,6 +326,15 @@ class Tables(Case):
             with self.assertRaisesRegex(sqlite3.OperationalError, f"^base62: the number is not an integer: {shown}$"):
                 self.db.execute("SELECT base62_encode(id) FROM imported WHERE rowid = ?", (rowid,)).fetchall()
 
+    def test_numeric_affinity(self) -> None:
+        """A column that is declared STRING takes some strings for numbers, and a comparison does so without an error."""
+        self.db.execute("CREATE TABLE named (slug STRING)")
+        self.db.executemany("INSERT INTO named VALUES (?)", [("1E5",), ("100000",), ("LZ",)])
+        query = "SELECT count(*) FROM named WHERE slug = base62_encode(base62_decode('1E5'))"
+        self.assertEqual(self.db.execute(query).fetchall(), [(2,)])
+        with self.assertRaisesRegex(sqlite3.OperationalError, "^base62: the string is not text: 100000$"):
+            self.db.execute("SELECT base62_decode(slug) FROM named").fetchall()
+
     def test_without_extension(self) -> None:
         """Which queries need it, and that another does not."""
         failing = (

@@ -37,7 +37,7 @@ SELECT p FROM item, unnest(ARRAY['2', '7n', '1a', '0000000', '']) p, starts_with
         OR bool_or(has <> (key LIKE p || '%')) OR bool_or(has <>
             (u BETWEEN base62_decode_uuid(base62_prefix_first(p)) AND base62_decode_uuid(base62_prefix_last(p))));
 
-\echo Variables in a function with a text parameter, of the type and with its collation; and with a parameter of the type
+\echo Variables and results of functions with a text parameter, and with a parameter of the type
 CREATE FUNCTION of_text(p text, OUT bare boolean, OUT declared boolean) LANGUAGE plpgsql AS $$
 DECLARE a base62_key := base62_encode_key(11); b base62_key := base62_encode_key(36);
     c base62_key COLLATE "C" := a; d base62_key COLLATE "C" := b;
@@ -45,7 +45,9 @@ BEGIN bare := a < b; declared := c < d; END $$;
 CREATE FUNCTION of_key(p base62_key) RETURNS boolean LANGUAGE plpgsql AS $$
 DECLARE a base62_key := base62_encode_key(11); b base62_key := base62_encode_key(36);
 BEGIN RETURN a < b; END $$;
-SELECT *, of_key('x') FROM of_text('x');
+CREATE FUNCTION key_of_text(p text) RETURNS base62_key LANGUAGE plpgsql AS $$ BEGIN RETURN base62_encode_key(11); END $$;
+CREATE FUNCTION key_of_key(p base62_key) RETURNS base62_key LANGUAGE plpgsql AS $$ BEGIN RETURN base62_encode_key(11); END $$;
+SELECT *, of_key('x'), pg_collation_for(key_of_text('x')), pg_collation_for(key_of_key('x')) FROM of_text('x');
 
 \echo In text columns: the functions, an index, and a declared collation
 SELECT count(*) FILTER (WHERE starts_with(key, '2a')) - count(*) FILTER

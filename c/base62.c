@@ -799,29 +799,39 @@ void base62_to_uuid(base62_number number, unsigned char uuid[BASE62_UUID_LENGTH]
 
 /* -------------------- Strings for UUIDs -------------------- */
 
-static const uint8_t B62_URN[] = "urn:uuid:";
-static const uint8_t B62_HEX_DIGITS[] = "0123456789abcdef";
+static const uint8_t B62_URN_TEXT[] = "urn:uuid:";
+
+/* Returns the character of a hexadecimal digit. */
+static uint8_t hex_digit(uint32_t digit) {
+    //@ assert requires: digit < 16;
+    return (uint8_t)(digit < 10 ? '0' + digit : 'a' + (digit - 10));
+}
+
+/* Returns an uppercase character of ASCII in lowercase, and any other byte as it is. */
+static uint8_t lower(uint8_t byte) {
+    return byte >= 'A' && byte <= 'Z' ? (uint8_t)(byte + 32) : byte;
+}
 
 /* Returns the value of a hexadecimal digit in either case, or 16 for any other byte. */
-static B62_ALWAYS_INLINE uint32_t hex_value(uint8_t byte) {
-    if (byte >= '0' && byte <= '9') return (uint32_t)byte - '0';
-    if (byte >= 'A' && byte <= 'F') return (uint32_t)byte - 'A' + 10;
-    if (byte >= 'a' && byte <= 'f') return (uint32_t)byte - 'a' + 10;
+static uint32_t hex_value(uint8_t byte) {
+    const uint32_t c = lower(byte);
+    if (c >= '0' && c <= '9') return c - '0';
+    if (c >= 'a' && c <= 'f') return c - 'a' + 10;
     return 16;
 }
 
-/* Returns the index of the first digit of a byte of a UUID, in a string with hyphens or without. */
-static B62_ALWAYS_INLINE size_t hex_index(size_t byte, bool has_hyphens) {
-    if (!has_hyphens) return byte * 2;
+/* Returns the index of the two digits of a byte in a string for a UUID, with hyphens or without. */
+static size_t pair_index(size_t byte, bool hyphens) {
+    //@ assert requires: byte < 16;
+    if (!hyphens) return byte * 2;
     return byte * 2 + (byte > 3) + (byte > 5) + (byte > 7) + (byte > 9);
 }
 
-/* Stores the bytes of 32 digits, with hyphens among them or without, unless one is no digit. Returns whether they are
-   stored. */
-static bool read_hex(const uint8_t *text, bool has_hyphens, uint8_t *uuid) {
+/* Stores the bytes of 32 digits from start on, unless one is invalid. Returns whether they are stored. */
+static bool read_pairs(const uint8_t *text, size_t start, bool hyphens, uint8_t *uuid) {
     uint8_t bytes[BASE62_UUID_LENGTH] = {0};
     for (size_t i = 0; i < BASE62_UUID_LENGTH; i++) {
-        const size_t index = hex_index(i, has_hyphens);
+        const size_t index = start + pair_index(i, hyphens);
         const uint32_t high = hex_value(text[index]), low = hex_value(text[index + 1]);
         if (high > 15 || low > 15) return false;
         bytes[i] = (uint8_t)(high * 16 + low);
@@ -833,41 +843,41 @@ static bool read_hex(const uint8_t *text, bool has_hyphens, uint8_t *uuid) {
 /* Returns whether a text begins with "urn:uuid:" in either case. */
 static bool has_urn(const uint8_t *text, size_t length) {
     if (length < 9) return false;
-    for (size_t i = 0; i < 9; i++) {
-        const uint8_t byte = text[i];
-        const uint8_t lower = byte >= 'A' && byte <= 'Z' ? (uint8_t)(byte + 32) : byte;
-        if (lower != B62_URN[i]) return false;
-    }
+    for (size_t i = 0; i < 9; i++)
+        if (lower(text[i]) != B62_URN_TEXT[i]) return false;
     return true;
 }
 
-/* Stores the UUID of a text without braces or "urn:uuid:". Returns whether it is one. */
-static bool read_uuid(const uint8_t *text, size_t length, uint8_t *uuid) {
-    if (length == 32) return read_hex(text, false, uuid);
-    if (length != BASE62_UUID_STRING_LENGTH) return false;
-    if (text[8] != '-' || text[13] != '-' || text[18] != '-' || text[23] != '-') return false;
-    return read_hex(text, true, uuid);
+static bool has_hyphens(const uint8_t *text, size_t start) {
+    return text[start + 8] == '-' && text[start + 13] == '-' && text[start + 18] == '-' && text[start + 23] == '-';
+}
+
+static bool is_in_braces(const uint8_t *text, size_t length) {
+    return length > 1 && text[0] == '{' && text[length - 1] == '}';
+}
+
+/* Stores the UUID whose digits are the characters from start on, with hyphens if they are 36. Returns whether they are
+   those of a UUID. */
+static bool read_uuid(const uint8_t *text, size_t start, size_t count, uint8_t *uuid) {
+    if (count == 32) return read_pairs(text, start, false, uuid);
+    if (count != BASE62_UUID_STRING_LENGTH || !has_hyphens(text, start)) return false;
+    return read_pairs(text, start, true, uuid);
 }
 
 base62_status base62_uuid_from_string(const char *string, size_t length, unsigned char uuid[BASE62_UUID_LENGTH]) {
     const uint8_t *text = (const uint8_t *)string;
-    size_t start = 0, end = length;
-    if (length > 1 && text[0] == '{' && text[length - 1] == '}') {
-        start = 1;
-        end = length - 1;
-    } else if (has_urn(text, length)) {
-        start = 9;
-    }
-    return read_uuid(text + start, end - start, uuid) ? BASE62_OK : BASE62_INVALID_UUID;
+    const bool is_stored = is_in_braces(text, length) ? read_uuid(text, 1, length - 2, uuid)
+        : has_urn(text, length) ? read_uuid(text, 9, length - 9, uuid) : read_uuid(text, 0, length, uuid);
+    return is_stored ? BASE62_OK : BASE62_INVALID_UUID;
 }
 
 void base62_uuid_to_string(const unsigned char uuid[BASE62_UUID_LENGTH], char string[BASE62_UUID_STRING_LENGTH]) {
     uint8_t *text = (uint8_t *)string;
     fill_bytes(text, '-', BASE62_UUID_STRING_LENGTH);
     for (size_t i = 0; i < BASE62_UUID_LENGTH; i++) {
-        const size_t index = hex_index(i, true);
-        text[index] = B62_HEX_DIGITS[uuid[i] / 16];
-        text[index + 1] = B62_HEX_DIGITS[uuid[i] % 16];
+        const size_t index = pair_index(i, true);
+        text[index] = hex_digit(uuid[i] / 16);
+        text[index + 1] = hex_digit(uuid[i] % 16);
     }
 }
 
@@ -893,11 +903,6 @@ static const uint8_t B62_INDEX_TEXT[] = "' at index ";
 static size_t append(uint8_t *message, size_t length, const uint8_t *part, size_t part_length) {
     copy_bytes(message + length, part, part_length);
     return length + part_length;
-}
-
-static uint8_t hex_digit(uint32_t digit) {
-    //@ assert requires: digit < 16;
-    return (uint8_t)(digit < 10 ? '0' + digit : 'a' + (digit - 10));
 }
 
 /* Appends a printable ASCII character as itself, but quotes, backslashes, tabs and ends of lines as in C. Appends any

@@ -577,7 +577,7 @@ static B62_ALWAYS_INLINE base62_status decode_up_to_22(const Tables *tables, con
 /* Returns how many zeros a text begins with. */
 static B62_ALWAYS_INLINE size_t count_zeros(const Tables *tables, const uint8_t *text, size_t length) {
     //@ assert requires: 0 < length;
-    /* Most texts have none. Without this test, code by clang is slower for them. */
+    /* Most texts have none. Without this test, code by GCC is slower for short ones. */
     if (text[0] != tables->letters[0]) return 0;
     size_t zeros = 1;
     while (zeros < length && text[zeros] == tables->letters[0]) zeros++;

@@ -436,8 +436,10 @@ int one_text(OVER, form how, base62_number number, const char *p, size_t n, char
     compute_bad_index(letters, BYTES(buffer), length);
     shortest(letters, BYTES(buffer), length, number);
     shortest(letters, BYTES(p), n, number);
-    if (compute_bad_index(letters, BYTES(p), n) == n && n == length) two_texts(letters, BYTES(p), BYTES(buffer), n);
+    const size_t bad_index = compute_bad_index(letters, BYTES(p), n);
+    if (bad_index == n && n == length) two_texts(letters, BYTES(p), BYTES(buffer), n);
     is_decoded(letters, BYTES(p), n);
+    //@ assert other: bad_index < n && n == length ==> BYTES(p)[bad_index] != BYTES(buffer)[bad_index];
     const int is_written = length > 0 && n == length && compare(p, buffer, n) == 0;
     const base62_status status = how == SHORTEST ? decode(letters, alphabet, 1, p, n, &again, &bad)
         : decode_fixed(letters, alphabet, how, size, p, n, &again, &bad);

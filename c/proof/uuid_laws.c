@@ -205,8 +205,11 @@ int one_uuid(const unsigned char *uuid, const char *p, size_t n) {
     const int is_read = read_uuid(p, n, again) == BASE62_OK;
     const int is_after = begins_with_urn(BYTES(p), n), in_braces = n > 1 && p[0] == '{' && p[n - 1] == '}';
     one_kind(BYTES(p), n);
-    if (is_after) return one_text_of_uuid(uuid, BYTES(p), 9, n - 9, BYTES(text), again, is_read);
-    if (in_braces) return one_text_of_uuid(uuid, BYTES(p), 1, n - 2, BYTES(text), again, is_read);
+    const size_t inner = n - 2, rest = n - 9;
+    //@ assert inner: in_braces ==> inner == n - 2;
+    //@ assert rest: is_after ==> rest == n - 9;
+    if (is_after) return one_text_of_uuid(uuid, BYTES(p), 9, rest, BYTES(text), again, is_read);
+    if (in_braces) return one_text_of_uuid(uuid, BYTES(p), 1, inner, BYTES(text), again, is_read);
     return one_text_of_uuid(uuid, BYTES(p), 0, n, BYTES(text), again, is_read);
 }
 

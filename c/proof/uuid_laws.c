@@ -121,6 +121,12 @@ static int begins_with_urn(const unsigned char *p, size_t n) {
         && lower(p[5]) == 'u' && lower(p[6]) == 'i' && lower(p[7]) == 'd' && p[8] == ':';
 }
 
+/*@ requires TEXT_VALID(p, n); assigns \nothing; ensures \result == 0 || \result == 1;
+    ensures result: \result == 1 <==> n > 1 && p[0] == '{' && p[n - 1] == '}';
+    ensures braces: \result == 1 <==> is_in_braces(p, n);
+*/
+static int compute_braces(const unsigned char *p, size_t n) { return n > 1 && p[0] == '{' && p[n - 1] == '}'; }
+
 /* What is written is read, and the other way round. */
 /*@ requires TEXT_VALID(p, start + places) && (places == 32 || places == 36) && start < 10;
     requires \valid_read(uuid + (0 .. 15)) && TEXT_VALID(text, 36) && is_text_of(text, uuid); assigns \nothing;
@@ -203,7 +209,7 @@ int one_uuid(const unsigned char *uuid, const char *p, size_t n) {
     unsigned char again[16];
     write_uuid(uuid, text);
     const int is_read = read_uuid(p, n, again) == BASE62_OK;
-    const int is_after = begins_with_urn(BYTES(p), n), in_braces = n > 1 && p[0] == '{' && p[n - 1] == '}';
+    const int is_after = begins_with_urn(BYTES(p), n), in_braces = compute_braces(BYTES(p), n);
     one_kind(BYTES(p), n);
     const size_t inner = n - 2, rest = n - 9;
     //@ assert inner: in_braces ==> inner == n - 2;

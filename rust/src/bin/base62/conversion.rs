@@ -3,7 +3,7 @@
 
 //! The result of a subcommand for one input.
 
-use crate::fault::ToolFault;
+use crate::failure::Failure;
 use crate::memory::Bytes;
 use crate::numbers::{
     append, append_decimal, parse_decimal, parse_hex, parse_uuid, trim_blanks, uuid_of,
@@ -12,7 +12,7 @@ use base62::{Alphabet, CanonicalError, DecodeError, MAX_DIGITS};
 use std::fmt::{self, Display, Formatter};
 use std::io::Write;
 
-use ConversionError::{Decode, Failure, Invalid};
+use ConversionError::{Decode, Invalid};
 use Notation::{Hexadecimal, Uuid};
 
 /// Appends the result for an input. If the input is invalid, it appends nothing.
@@ -20,14 +20,14 @@ pub(crate) type Converter = fn(&Settings, &[u8], &mut Bytes) -> Result<(), Conve
 
 /// Why an input has no result: a failure of the program, or what is wrong with the input.
 pub(crate) enum ConversionError {
-    Failure(ToolFault),
+    Failure(Failure),
     Decode(CanonicalError),
     Invalid(&'static str),
 }
 
-impl From<ToolFault> for ConversionError {
-    fn from(fault: ToolFault) -> Self {
-        Failure(fault)
+impl From<Failure> for ConversionError {
+    fn from(failure: Failure) -> Self {
+        ConversionError::Failure(failure)
     }
 }
 
@@ -40,7 +40,7 @@ impl From<CanonicalError> for ConversionError {
 impl Display for ConversionError {
     fn fmt(&self, f: &mut Formatter) -> fmt::Result {
         match self {
-            Failure(fault) => fault.fmt(f),
+            ConversionError::Failure(failure) => failure.fmt(f),
             Decode(CanonicalError::Decode(DecodeError::ArithmeticOverflow)) => {
                 f.write_str("Decoded number is 2^128 or more")
             }
@@ -82,7 +82,7 @@ impl Settings {
             let zeros = width.checked_sub(string.len());
             let zeros = zeros.ok_or(Invalid("the number needs more characters than the width"))?;
             let zero = self.alphabet.characters()[0];
-            out.reserve(zeros).or(Err(ToolFault::Memory))?;
+            out.reserve(zeros).or(Err(Failure::Memory))?;
             out.0.resize(out.0.len() + zeros, zero);
         }
         Ok(append(string, out)?)
@@ -96,7 +96,7 @@ impl Settings {
         };
         match self.notation {
             None => append_decimal(number, out),
-            Some(Hexadecimal) => write!(out, "{number:x}").or(Err(ToolFault::Memory)),
+            Some(Hexadecimal) => write!(out, "{number:x}").or(Err(Failure::Memory)),
             Some(Uuid) => append(&uuid_of(number), out),
         }?;
         Ok(())

@@ -6,7 +6,7 @@
 use crate::arguments::Task;
 use crate::conversion::ConversionError;
 use crate::escape::Escaped;
-use crate::fault::ToolFault;
+use crate::failure::Failure;
 use crate::line_end::line_end;
 use crate::memory::Bytes;
 use crate::numbers::append;
@@ -19,7 +19,7 @@ use std::{fs, str};
 const CHUNK_LEN: usize = 32768;
 
 /// Prints the result for each operand, or for each line if there is no operand.
-pub(crate) fn print_all(task: &Task) -> Result<ExitCode, ToolFault> {
+pub(crate) fn print_all(task: &Task) -> Result<ExitCode, Failure> {
     let is_terminal = io::stdout().is_terminal();
     let mut printer = Printer {
         task,
@@ -55,7 +55,7 @@ struct Printer<'a> {
 impl Printer<'_> {
     /// Prints the result for an operand, or for the line of this number. If the input is invalid, first prints the
     /// results so far and reports the error. Then the line of output is empty.
-    fn print(&mut self, input: &[u8], line: Option<u64>) -> Result<(), ToolFault> {
+    fn print(&mut self, input: &[u8], line: Option<u64>) -> Result<(), Failure> {
         let settings = &self.task.settings;
         let result = if input.is_empty() && settings.keeps_empty {
             Ok(())
@@ -63,8 +63,8 @@ impl Printer<'_> {
             (self.task.subcommand.convert)(settings, input, &mut self.buffer)
         };
         if let Err(error) = result {
-            if let ConversionError::Failure(fault) = error {
-                return Err(fault);
+            if let ConversionError::Failure(failure) = error {
+                return Err(failure);
             }
             self.flush()?;
             self.report(input, line, &error);
@@ -88,19 +88,19 @@ impl Printer<'_> {
         }
     }
 
-    fn flush(&mut self) -> Result<(), ToolFault> {
-        print(self.buffer.as_slice())?;
+    fn flush(&mut self) -> Result<(), Failure> {
+        print(self.buffer.as_slice()).or(Err(Failure::Write))?;
         self.buffer.clear();
         Ok(())
     }
 
     /// Prints the result for each line of standard input. Writes the results so far before a read, which may block.
-    fn print_lines(&mut self) -> Result<(), ToolFault> {
+    fn print_lines(&mut self) -> Result<(), Failure> {
         let (mut chunk, mut start, mut number) = ([0; CHUNK_LEN], Bytes::new(), 0);
         loop {
             self.flush()?;
             let Ok(count) = read_uninterrupted(&mut io::stdin(), &mut chunk) else {
-                return Err(ToolFault::Read);
+                return Err(Failure::Read);
             };
             if count == 0 {
                 // The last line needs no line feed.

@@ -58,9 +58,9 @@ fn inputs() {
     prints(r"printf '1337\n\n\r\n61' | base62 encode -e", "LZ\n\n\nz\n");
     prints("base62 decode --keep-empty LZ '' z", "1337\n\n61\n");
     prints("base62 encode -euw22 ''", "\n");
-    // A valid input is one, even if there is a file of this name.
-    let line = "folder=$(mktemp -d); trap 'rm -r $folder' EXIT; cd $folder; touch LZ";
-    prints(&format!("{line}; base62 decode LZ"), "1337\n");
+    // Without `--`, a line that begins with a hyphen is an option. It makes the command read the other lines.
+    let line = r#"printf '%s\n' LZ -c z | while read -r id; do base62 decode "$id"; done"#;
+    prints(line, "1337\n61\n");
 }
 
 /// Each count of decimal digits, with leading zeros and without.
@@ -111,12 +111,11 @@ fn invalid_inputs() {
         decode <<<'' -> line 1: '': Encoded input is an empty string
         range 'L ' -> L : Encoded input contains the invalid byte b' ' at index 1
         range $'\xff' -> \xff: Encoded input contains the invalid byte b'\xff' at index 0
-        encode - -> -: base62 reads standard input: base62 encode <FILE
-        decode - -> -: base62 reads standard input: base62 decode <FILE
-        range - -> -: base62 reads standard input: base62 range <FILE
-        encode -x /dev/null -> /dev/null: base62 reads standard input: base62 encode <FILE
-        encode / -> /: not a decimal number below 2^128
-        encode /nope -> /nope: not a decimal number below 2^128
+        encode -u - -> -: not a UUID: try base62 encode <FILE
+        decode - -> -: Encoded input contains the invalid byte b'-' at index 0: try base62 decode <FILE
+        range - -> -: Encoded input contains the invalid byte b'-' at index 0: try base62 range <FILE
+        encode -x /dev/null -> /dev/null: not 1 to 32 hexadecimal digits
+        decode /dev/null -> /dev/null: Encoded input contains the invalid byte b'/' at index 0
         encode <<<- -> line 1: -: not a decimal number below 2^128";
     for (arguments, error) in sides(table) {
         rejects(&format!("base62 {arguments}"), error);

@@ -57,8 +57,8 @@ around a number are ignored. An invalid number gives an empty line.",
         options: b"aAcuxe",
         convert: Settings::decode,
         description: "\
-Decodes each string, or each line of standard input. An invalid string gives an
-empty line.",
+Decodes each string, or each line of standard input. An operand is a string, not
+the name of a file. An invalid string gives an empty line.",
         example: ["$ base62 decode LZ", "1337"],
     },
     Subcommand {

@@ -13,7 +13,6 @@ use crate::numbers::append;
 use crate::streams::{print, read_uninterrupted, report};
 use std::io::{self, IsTerminal};
 use std::process::ExitCode;
-use std::{fs, str};
 
 /// How many bytes are read at a time, and collected before they are written.
 const CHUNK_LEN: usize = 32768;
@@ -35,12 +34,6 @@ pub(crate) fn print_all(task: &Task) -> Result<ExitCode, Failure> {
     }
     printer.flush()?;
     Ok(printer.status)
-}
-
-/// Whether an operand is `-` or the name of a file.
-fn is_file(operand: &[u8]) -> bool {
-    let name = str::from_utf8(operand).unwrap_or_default();
-    name == "-" || fs::metadata(name).is_ok_and(|it| !it.is_dir())
 }
 
 struct Printer<'a> {
@@ -81,9 +74,9 @@ impl Printer<'_> {
         let (name, shown) = (self.task.subcommand.name, Escaped(input));
         match line {
             Some(number) => report(format_args!("line {number}: {shown}: {error}")),
-            None if is_file(input) => report(format_args!(
-                "{shown}: base62 reads standard input: base62 {name} <FILE"
-            )),
+            None if input == b"-" => {
+                report(format_args!("{shown}: {error}: try base62 {name} <FILE"))
+            }
             None => report(format_args!("{shown}: {error}")),
         }
     }

@@ -595,9 +595,11 @@ static base62_status store_bad_byte(const uint8_t *text, size_t index, base62_ba
     return BASE62_INVALID_BYTE;
 }
 
-/* Returns the error of a text with at most 22 characters after its zeros, one of which is invalid. */
-static base62_status error_of(const Tables *tables, const uint8_t *text, size_t length, base62_bad_byte *bad) {
-    const size_t zeros = count_zeros(tables, text, length), count = length - zeros;
+/* Returns the error of a text whose count of leading zeros is given, and of whose at most 22 other characters one is
+   invalid. */
+static base62_status error_of(const Tables *tables, const uint8_t *text, size_t length, size_t zeros,
+    base62_bad_byte *bad) {
+    const size_t count = length - zeros;
     const uint8_t *rest = text + zeros;
     const size_t digits = count_valid(tables, rest, count);
     if (count == 22 && digits >= 10) {
@@ -613,7 +615,7 @@ static base62_status decode_rest(const Tables *tables, const uint8_t *text, size
     const size_t count = length - zeros;
     if (count > BASE62_MAX_DIGITS) return BASE62_OVERFLOW;
     const base62_status status = decode_up_to_22(tables, text + zeros, count, number);
-    if (status == BASE62_INVALID_BYTE) return error_of(tables, text, length, bad);
+    if (status == BASE62_INVALID_BYTE) return error_of(tables, text, length, zeros, bad);
     return status;
 }
 
@@ -629,7 +631,7 @@ static B62_ALWAYS_INLINE base62_status decode_over(const Tables *tables, const u
     } else {
         return decode_rest(tables, text, length, zeros, number, bad);
     }
-    return error_of(tables, text, length, bad);
+    return error_of(tables, text, length, zeros, bad);
 }
 
 /* Returns the status of a text that has a leading zero and other characters after it, so is not canonical. */
@@ -645,6 +647,13 @@ static base62_status decode_padded(const Tables *tables, const uint8_t *text, si
 static B62_ALWAYS_INLINE base62_status decode_canonical_over(const Tables *tables, const uint8_t *text, size_t length,
     base62_number *number, base62_bad_byte *bad) {
     if (length > 1 && text[0] == tables->letters[0]) return decode_padded(tables, text, length, bad);
+    return decode_over(tables, text, length, number, bad);
+}
+
+/* Like decode_over, but first rejects a text of another length than the width. */
+static B62_ALWAYS_INLINE base62_status decode_fixed_over(const Tables *tables, const uint8_t *text, size_t length,
+    size_t width, base62_number *number, base62_bad_byte *bad) {
+    if (length != width) return BASE62_WRONG_LENGTH;
     return decode_over(tables, text, length, number, bad);
 }
 
@@ -675,6 +684,25 @@ base62_status base62_decode_alternative_canonical(const char *text, size_t lengt
 base62_status base62_decode_canonical_with(const base62_alphabet *alphabet, const char *text, size_t length,
     base62_number *number, base62_bad_byte *bad) {
     return decode_canonical_over((const Tables *)alphabet, (const uint8_t *)text, length, number, bad);
+}
+
+base62_status base62_decode_fixed(const char *text, size_t length, size_t width, base62_number *number,
+    base62_bad_byte *bad) {
+    return decode_fixed_over(&B62_STANDARD, (const uint8_t *)text, length, width, number, bad);
+}
+
+base62_status base62_decode_alternative_fixed(const char *text, size_t length, size_t width, base62_number *number,
+    base62_bad_byte *bad) {
+    return decode_fixed_over(&B62_ALTERNATIVE, (const uint8_t *)text, length, width, number, bad);
+}
+
+base62_status base62_decode_fixed_with(const base62_alphabet *alphabet, const char *text, size_t length, size_t width,
+    base62_number *number, base62_bad_byte *bad) {
+    return decode_fixed_over((const Tables *)alphabet, (const uint8_t *)text, length, width, number, bad);
+}
+
+base62_status base62_decode_key(const char *text, size_t length, base62_number *number, base62_bad_byte *bad) {
+    return decode_fixed_over(&B62_STANDARD, (const uint8_t *)text, length, BASE62_KEY_LENGTH, number, bad);
 }
 
 
@@ -769,6 +797,81 @@ void base62_to_uuid(base62_number number, unsigned char uuid[BASE62_UUID_LENGTH]
 }
 
 
+/* -------------------- Strings for UUIDs -------------------- */
+
+static const uint8_t B62_URN[] = "urn:uuid:";
+static const uint8_t B62_HEX_DIGITS[] = "0123456789abcdef";
+
+/* Returns the value of a hexadecimal digit in either case, or 16 for any other byte. */
+static B62_ALWAYS_INLINE uint32_t hex_value(uint8_t byte) {
+    if (byte >= '0' && byte <= '9') return (uint32_t)byte - '0';
+    if (byte >= 'A' && byte <= 'F') return (uint32_t)byte - 'A' + 10;
+    if (byte >= 'a' && byte <= 'f') return (uint32_t)byte - 'a' + 10;
+    return 16;
+}
+
+/* Returns the index of the first digit of a byte of a UUID, in a string with hyphens or without. */
+static B62_ALWAYS_INLINE size_t hex_index(size_t byte, bool has_hyphens) {
+    if (!has_hyphens) return byte * 2;
+    return byte * 2 + (byte > 3) + (byte > 5) + (byte > 7) + (byte > 9);
+}
+
+/* Stores the bytes of 32 digits, with hyphens among them or without, unless one is no digit. Returns whether they are
+   stored. */
+static bool read_hex(const uint8_t *text, bool has_hyphens, uint8_t *uuid) {
+    uint8_t bytes[BASE62_UUID_LENGTH] = {0};
+    for (size_t i = 0; i < BASE62_UUID_LENGTH; i++) {
+        const size_t index = hex_index(i, has_hyphens);
+        const uint32_t high = hex_value(text[index]), low = hex_value(text[index + 1]);
+        if (high > 15 || low > 15) return false;
+        bytes[i] = (uint8_t)(high * 16 + low);
+    }
+    copy_bytes(uuid, bytes, BASE62_UUID_LENGTH);
+    return true;
+}
+
+/* Returns whether a text begins with "urn:uuid:" in either case. */
+static bool has_urn(const uint8_t *text, size_t length) {
+    if (length < 9) return false;
+    for (size_t i = 0; i < 9; i++) {
+        const uint8_t byte = text[i];
+        const uint8_t lower = byte >= 'A' && byte <= 'Z' ? (uint8_t)(byte + 32) : byte;
+        if (lower != B62_URN[i]) return false;
+    }
+    return true;
+}
+
+/* Stores the UUID of a text without braces or "urn:uuid:". Returns whether it is one. */
+static bool read_uuid(const uint8_t *text, size_t length, uint8_t *uuid) {
+    if (length == 32) return read_hex(text, false, uuid);
+    if (length != BASE62_UUID_STRING_LENGTH) return false;
+    if (text[8] != '-' || text[13] != '-' || text[18] != '-' || text[23] != '-') return false;
+    return read_hex(text, true, uuid);
+}
+
+base62_status base62_uuid_from_string(const char *string, size_t length, unsigned char uuid[BASE62_UUID_LENGTH]) {
+    const uint8_t *text = (const uint8_t *)string;
+    size_t start = 0, end = length;
+    if (length > 1 && text[0] == '{' && text[length - 1] == '}') {
+        start = 1;
+        end = length - 1;
+    } else if (has_urn(text, length)) {
+        start = 9;
+    }
+    return read_uuid(text + start, end - start, uuid) ? BASE62_OK : BASE62_INVALID_UUID;
+}
+
+void base62_uuid_to_string(const unsigned char uuid[BASE62_UUID_LENGTH], char string[BASE62_UUID_STRING_LENGTH]) {
+    uint8_t *text = (uint8_t *)string;
+    fill_bytes(text, '-', BASE62_UUID_STRING_LENGTH);
+    for (size_t i = 0; i < BASE62_UUID_LENGTH; i++) {
+        const size_t index = hex_index(i, true);
+        text[index] = B62_HEX_DIGITS[uuid[i] / 16];
+        text[index + 1] = B62_HEX_DIGITS[uuid[i] % 16];
+    }
+}
+
+
 /* -------------------- Messages of errors -------------------- */
 
 static const uint8_t B62_TOO_SMALL_TEXT[] = "Buffer too small to encode the number";
@@ -778,6 +881,8 @@ static const uint8_t B62_OVERFLOW_TEXT[] = "Decoded number is 2^128 or more";
 static const uint8_t B62_NO_MATCH_TEXT[] = "No string of this width begins with the prefix";
 static const uint8_t B62_REPEATED_TEXT[] = "Alphabet repeats the ";
 static const uint8_t B62_LEADING_ZERO_TEXT[] = "Encoded input has a leading zero";
+static const uint8_t B62_WRONG_LENGTH_TEXT[] = "Encoded input does not have the given width";
+static const uint8_t B62_INVALID_UUID_TEXT[] = "Not a UUID";
 static const uint8_t B62_BYTE_TEXT[] = "byte b'";
 static const uint8_t B62_INDEX_TEXT[] = "' at index ";
 
@@ -841,6 +946,8 @@ static size_t text_of(base62_status status, base62_bad_byte bad, uint8_t *messag
     if (status == BASE62_OVERFLOW) return append(message, 0, B62_TEXT(B62_OVERFLOW_TEXT));
     if (status == BASE62_NO_MATCH) return append(message, 0, B62_TEXT(B62_NO_MATCH_TEXT));
     if (status == BASE62_NOT_CANONICAL) return append(message, 0, B62_TEXT(B62_LEADING_ZERO_TEXT));
+    if (status == BASE62_WRONG_LENGTH) return append(message, 0, B62_TEXT(B62_WRONG_LENGTH_TEXT));
+    if (status == BASE62_INVALID_UUID) return append(message, 0, B62_TEXT(B62_INVALID_UUID_TEXT));
     if (status == BASE62_INVALID_BYTE) {
         const size_t length = append(message, 0, B62_TEXT(B62_INVALID_TEXT));
         return append_byte_at_index(message, length, bad.byte, bad.index);

@@ -28,6 +28,7 @@
     DO(INVALID_BYTE_ERROR, "InvalidByteError")                                                                         \
     DO(TOO_LARGE_ERROR, "TooLargeError")                                                                               \
     DO(NOT_CANONICAL_ERROR, "NotCanonicalError")                                                                       \
+    DO(WRONG_LENGTH_ERROR, "WrongLengthError")                                                                         \
     DO(ALPHABET_ERROR, "AlphabetError")                                                                                \
     DO(OUT_OF_RANGE_ERROR, "OutOfRangeError")
 

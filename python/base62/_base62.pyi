@@ -125,6 +125,30 @@ def decode_canonical(text: EncodedString, alphabet: AnyAlphabet = Alphabet.STAND
     base62.NotCanonicalError: Encoded input has a leading zero
     """
 
+def decode_fixed(text: EncodedString, width: SupportsIndex, alphabet: AnyAlphabet = Alphabet.STANDARD) -> int:
+    """Like decode, but accept only strings of exactly width bytes: those that encode_fixed returns.
+
+    Each number has at most one. Raises WrongLengthError if the string has another length, ValueError if
+    the width is negative, and otherwise what decode raises.
+
+    >>> import base62
+    >>> base62.decode_fixed("00LZ", 4)
+    1337
+    >>> base62.decode_fixed("LZ", 4)
+    Traceback (most recent call last):
+    base62.WrongLengthError: Encoded input does not have the given width
+    """
+
+def decode_key(text: EncodedString) -> int:
+    """Like decode, but accept only keys: those that encode_key returns, of which each number has one.
+
+    Raises WrongLengthError if the string does not have 22 bytes, and otherwise what decode raises.
+
+    >>> import base62
+    >>> base62.decode_key("00000000000000000000LZ")
+    1337
+    """
+
 def decode_uuid(text: EncodedString, alphabet: AnyAlphabet = Alphabet.STANDARD) -> UUID:
     """Return the UUID whose 128-bit integer a string represents.
 
@@ -140,6 +164,12 @@ def decode_uuid_canonical(text: EncodedString, alphabet: AnyAlphabet = Alphabet.
     """Like decode_uuid, but accept only canonical strings: those that encode_uuid returns.
 
     Raises what decode_canonical raises.
+    """
+
+def decode_uuid_fixed(text: EncodedString, width: SupportsIndex, alphabet: AnyAlphabet = Alphabet.STANDARD) -> UUID:
+    """Like decode_uuid, but accept only strings of exactly width bytes: those that encode_fixed returns.
+
+    The width 22 is for those of encode_key. Raises what decode_fixed raises.
     """
 
 def key_range(prefix: EncodedString) -> tuple[int, int] | None:

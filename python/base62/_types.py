@@ -57,6 +57,10 @@ class NotCanonicalError(DecodeError):
     """A string represents a number, but has a leading zero."""
 
 
+class WrongLengthError(DecodeError):
+    """A string does not have the given width."""
+
+
 class InvalidByteError(_BadByteError, DecodeError):
     """A byte of a string is not a character of the alphabet."""
 

@@ -21,7 +21,7 @@ from typing import Any
 
 import base62
 from base62 import _base62, _types
-from calls import CUSTOM, ERRORS
+from calls import CUSTOM, ERRORS, TEXT
 from paths import PACKAGE, TOP, readme
 
 # The calls, and the type that is called too.
@@ -65,8 +65,8 @@ class Package(unittest.TestCase):
 
     def test_signatures(self) -> None:
         """Calls take their parameters by name, in any order."""
-        values: dict[str, object] = {"number": 1337, "text": "LZ", "width": 4, "prefix": "00L", "characters": CUSTOM}
-        values |= {"value": uuid.UUID(int=1337), "alphabet": base62.Alphabet(CUSTOM)}
+        values: dict[str, object] = {"number": 1337, "text": TEXT, "width": 22, "prefix": "00L", "characters": CUSTOM}
+        values |= {"value": uuid.UUID(int=1337), "alphabet": base62.Alphabet.ALTERNATIVE}
         for call in CALLS:
             parameters = inspect.signature(call).parameters
             given = {name: values[name] for name in reversed(parameters)}

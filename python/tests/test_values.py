@@ -29,6 +29,7 @@ KINDS: dict[str, type[ValueError]] = {
     "byte": base62.InvalidByteError,
     "overflow": base62.TooLargeError,
     "zero": base62.NotCanonicalError,
+    "length": base62.WrongLengthError,
     "repeated": base62.AlphabetError,
 }
 DECODINGS: list[Call] = [base62.decode, base62.decode_canonical, base62.decode_uuid, base62.decode_uuid_canonical]

@@ -144,8 +144,9 @@ int steal_bytes_or_raise(PyObject *bytes, struct text *text) {
     return -1;
 }
 
-/* An ASCII str is its own UTF-8. PyUnicode_AsUTF8AndSize caches a UTF-8 copy in a non-ASCII str, so such a str is
-   encoded separately. */
+/* The bytes must not change until the library has read them, so to_bytes copies what a thread or a process can write to.
+   An ASCII str is its own UTF-8. PyUnicode_AsUTF8AndSize caches a UTF-8 copy in a non-ASCII str, so such a str is encoded
+   separately. */
 int text_or_raise(struct state *state, PyObject *argument, struct text *text) {
     if (!PyUnicode_Check(argument)) {
         PyObject *bytes = PyBytes_Check(argument) ? new_ref(argument) : convert(state, TO_BYTES, argument);

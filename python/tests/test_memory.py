@@ -134,6 +134,7 @@ class AllocationCount(AllocationTestCase):
             (base62.encode_fixed, (1337, 22)),
             (base62.decode, ("LZ",)),
             (base62.decode_canonical, ("LZ",)),
+            (base62.decode_fixed, ("LZ", 2)),
         ]
         for alphabet in (base62.Alphabet.STANDARD, base62.Alphabet.ALTERNATIVE, LETTERS):
             for call, given in kept:

@@ -304,9 +304,9 @@ DEFINE_CALL(digit_count, "O", 1, 1, digit_count_or_raise(state, found[0]), "numb
 typedef PyObject *new_result(struct state *, base62_number);
 
 /* Decodes a text, and returns the number as an object. If decode is NULL, base62_decode_fixed_with decodes it, which alone
-   has a width. */
-static inline PyObject *decode_or_raise(decode_with *decode, size_t width, new_result *new, struct state *state,
-                                        PyObject *argument, PyObject *characters) {
+   has a width. Inlined, a call has its decoder as a constant. */
+static inline Py_ALWAYS_INLINE PyObject *decode_or_raise(decode_with *decode, size_t width, new_result *new,
+                                                         struct state *state, PyObject *argument, PyObject *characters) {
     struct text text;
     if (text_or_raise(state, argument, &text) != 0)
         return NULL;
@@ -328,7 +328,8 @@ static inline PyObject *decode_or_raise(decode_with *decode, size_t width, new_r
     return status == BASE62_OK ? new(state, number) : raise_status(state, status, bad);
 }
 
-static inline PyObject *decode_fixed_or_raise(new_result *new, struct state *state, PyObject *const found[3]) {
+static inline Py_ALWAYS_INLINE PyObject *decode_fixed_or_raise(new_result *new, struct state *state,
+                                                               PyObject *const found[3]) {
     size_t width;
     return width_or_raise(found[1], &width) == 0 ? decode_or_raise(NULL, width, new, state, found[0], found[2]) : NULL;
 }

@@ -64,11 +64,9 @@ def invocation(call: Call, *given: Any, **named: Any) -> Invocation:
 
 
 def valid_calls() -> Iterator[Invocation]:
+    of_numbers: list[Call] = [base62.encode, base62.digit_count, base62.encode_key, partial(base62.encode_fixed, width=22)]
     for number in (1337, WIDE, uuid.UUID(int=WIDE), True):
-        yield invocation(base62.encode, number)
-        yield invocation(base62.digit_count, number)
-        yield invocation(base62.encode_key, number)
-        yield invocation(base62.encode_fixed, number, 22)
+        yield from (invocation(call, number) for call in of_numbers)
     for letters in (base62.Alphabet.ALTERNATIVE, LETTERS, CUSTOM, CUSTOM.encode()):
         yield invocation(base62.encode, WIDE, letters)
         yield invocation(base62.decode, "LZ", letters)
@@ -94,8 +92,7 @@ def valid_calls() -> Iterator[Invocation]:
     yield invocation(base62.encode, number=WIDE, alphabet=LETTERS)
     yield invocation(base62.decode, "LZ", alphabet=CUSTOM)
     yield invocation(base62.Alphabet, CUSTOM)
-    yield invocation(base62.key_bounds, "8")
-    yield invocation(base62.key_bounds, "7n")
+    yield from (invocation(base62.key_bounds, prefix) for prefix in ("8", "7n"))
     for value in (uuid.UUID(int=WIDE), OtherUUID(int=WIDE), str(uuid.UUID(int=WIDE)), bytes(16)):
         yield invocation(base62.encode_uuid, value)
     for text in ("LZ", TEXT, bytearray(TEXT, "ascii")):

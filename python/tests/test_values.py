@@ -70,14 +70,10 @@ class Values(RaisesTestCase):
             self.assertEqual(base62.encode_key(named), base62.encode_key(number))
             for alphabet in forms_of_alphabet(name):
                 for text in texts:
-                    self.assertEqual(base62.decode(text, alphabet), number)
-                    self.assertEqual(base62.decode_canonical(text, alphabet), number)
-                    self.assertEqual(base62.decode_uuid(text, alphabet), named)
-                    self.assertEqual(base62.decode_uuid_canonical(text, alphabet), named)
+                    self.assertEqual([call(text, alphabet) for call in DECODINGS], [number, number, named, named])
                 if name in OF_ASCII:
-                    self.assertEqual(base62.encode(number, alphabet), texts[1])
-                    self.assertEqual(base62.encode(named, alphabet), texts[1])
-                    self.assertEqual(base62.encode_uuid(named, alphabet), texts[1])
+                    encoded = base62.encode(number, alphabet), base62.encode(named, alphabet), base62.encode_uuid(named, alphabet)
+                    self.assertEqual(encoded, (texts[1],) * 3)
             if name == "standard":
                 self.assertEqual(base62.encode(number), texts[1])
                 self.assertEqual((base62.decode(texts[1]), base62.decode_canonical(texts[1])), (number,) * 2)

@@ -45,19 +45,19 @@ const STATUSES = [
 const TWO_TO_32 = 2 ** 32;
 const TWO_TO_64 = 2n ** 64n;
 const TWO_TO_128 = 2n ** 128n;
-const HEXADECIMAL = '0123456789abcdef';
 const URN = 'urn:uuid:';
 const HYPHEN = 45;
 
 // The addresses of the arguments and results of a call, above the stack and the data of the WebAssembly. A number has
 // two halves of 64 bits, the higher first, each little-endian: byte i of a UUID is at i ^ 7. A range is its least and
 // its greatest number. At BAD_BYTE are an index, of four bytes, and then the byte. An alphabet has ALPHABET_LENGTH
-// characters, and the library's form of it has ALPHABET_SIZE bytes.
+// characters, and the library's form of it has ALPHABET_SIZE bytes. At UUID are the bytes of one in their order.
 const NUMBER = 0x18000;
 const GREATEST = NUMBER + 16;
 const BAD_BYTE = GREATEST + 16;
 const ALPHABET = BAD_BYTE + 16;
-const TEXT = ALPHABET + ALPHABET_SIZE;
+const UUID = ALPHABET + ALPHABET_SIZE;
+const TEXT = UUID + UUID_LENGTH;
 
 if (!globalThis.WebAssembly) throw new Error('base62-proved needs WebAssembly, which this runtime does not have');
 // Typed arrays have the byte order of the processor. The memory of WebAssembly is little-endian.
@@ -281,7 +281,9 @@ function createArguments({ bytes, words, halves }) {
   return { writeNumber, writeUuid, writeText, writePiece };
 }
 
-function createResults({ enter, leave, bytes, words, halves }) {
+function createResults({ library, enter, leave, bytes, words, halves }) {
+  const { base62_to_uuid, base62_uuid_to_string } = library;
+
   // If the upper half is 0, as its words show, no BigInt is created for it.
   function readBigInt(address) {
     const lower = halves[address / 8 + 1];
@@ -299,8 +301,7 @@ function createResults({ enter, leave, bytes, words, halves }) {
   }
 
   const readRange = () => [readBigInt(NUMBER), readBigInt(GREATEST)];
-  const text = new Uint8Array(bytes.buffer, TEXT, MAX_DIGITS);
-  const uuidCodes = Array.from('00000000-0000-0000-0000-000000000000', (it) => it.charCodeAt(0));
+  const text = new Uint8Array(bytes.buffer, TEXT, UUID_STRING_LENGTH);
 
   // V8 would keep the parts that += joins, in ten times the memory. So one call creates an encoded string, and slice
   // leaves out what stands behind it. The codes are its arguments, since an array of them takes longer. Most strings are
@@ -318,14 +319,15 @@ function createResults({ enter, leave, bytes, words, halves }) {
   }
 
   function readUuid(address) {
-    let at = 0;
-    for (let i = 0; i < UUID_LENGTH; i++) {
-      if (i === 4 || i === 6 || i === 8 || i === 10) at++;
-      const byte = bytes[address + (i ^ 7)];
-      uuidCodes[at++] = HEXADECIMAL.charCodeAt(byte >> 4);
-      uuidCodes[at++] = HEXADECIMAL.charCodeAt(byte & 15);
-    }
-    return String.fromCharCode(...uuidCodes);
+    enter();
+    base62_to_uuid(address, UUID);
+    leave(base62_uuid_to_string(UUID, TEXT));
+    return String.fromCharCode(
+      text[0], text[1], text[2], text[3], text[4], text[5], text[6], text[7], text[8], text[9], text[10],
+      text[11], text[12], text[13], text[14], text[15], text[16], text[17], text[18], text[19], text[20], text[21],
+      text[22], text[23], text[24], text[25], text[26], text[27], text[28], text[29], text[30], text[31], text[32],
+      text[33], text[34], text[35],
+    );
   }
 
   // STATUSES[status] is the name of the status, which is the error's code. The library counts an index from the start

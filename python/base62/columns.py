@@ -22,9 +22,10 @@ from __future__ import annotations
 import operator
 import sys
 from collections.abc import Mapping
-from dataclasses import dataclass
+from dataclasses import dataclass, replace
 from decimal import Decimal
 from functools import partial
+from itertools import repeat
 from typing import TYPE_CHECKING, Any, Literal, NamedTuple, SupportsIndex, TypeAlias
 from uuid import UUID
 
@@ -33,16 +34,19 @@ from base62 import Alphabet, AnyAlphabet, OutOfRangeError, _base62
 
 try:
     import pyarrow as pa
+    from pyarrow import compute as pc
 
     pa.uuid()
 except (ImportError, AttributeError) as error:
-    raise ImportError("base62.columns needs pyarrow 18 or later: install base62-proved[columns]") from error
+    raise ImportError("base62.columns needs pyarrow: install pyarrow 18 or later") from error
 
 __all__ = [
     "decode",
     "decode_canonical",
+    "decode_fixed",
     "decode_uuid",
     "decode_uuid_canonical",
+    "decode_uuid_fixed",
     "encode",
     "encode_fixed",
     "encode_key",
@@ -53,6 +57,7 @@ if TYPE_CHECKING:
     from collections.abc import Callable
 
     _Type: TypeAlias = pa.DataType
+    _Decoded: TypeAlias = "dict[_Type, tuple[int, Callable[[Any], object]]]"
     _Array: TypeAlias = "pa.Array | pa.ChunkedArray"
     _Errors = Literal["raise", "coerce"]
 
@@ -68,7 +73,25 @@ _LETTERS = {
     pa.large_string(): "U",
     pa.large_binary(): "Z",
 }
-_LARGE = {pa.string(): pa.large_string(), pa.binary(): pa.large_binary()}
+
+def _check_below(limit: int, shown: str, number: int) -> int:
+    if number >= limit:
+        raise OutOfRangeError(f"the number is not from 0 to {shown} - 1")
+    return number
+
+
+# The types of decoded numbers and UUIDs: the bytes of a row, and the row of what the function for one value returns.
+_DECODED_NUMBERS: _Decoded = {
+    pa.int64(): (8, partial(_check_below, 2**63, "2**63")),
+    pa.uint64(): (8, partial(_check_below, 2**64, "2**64")),
+    pa.decimal128(38): (16, partial(_check_below, 10**38, "10**38")),
+}
+_DECODED_UUIDS: _Decoded = {
+    pa.uuid(): (16, lambda it: it),
+    pa.binary(16): (16, operator.attrgetter("bytes")),
+    pa.string(): (36, str),
+    pa.large_string(): (36, str),
+}
 
 
 class _Kind(NamedTuple):
@@ -82,11 +105,20 @@ class _Kind(NamedTuple):
     hints: list[tuple[Callable[[_Type], bool], str]]
 
 
-_RUN_END_HINT = pa.types.is_run_end_encoded, "decode it by pyarrow.compute.run_end_decode"
+def _is_own(of_type: _Type) -> bool:
+    """Return whether this is an extension type of a program or a library. Such may have no hash."""
+    return isinstance(of_type, pa.BaseExtensionType) and of_type != pa.uuid()
+
+
+_OTHER_HINTS = [
+    (pa.types.is_run_end_encoded, "decode it by pyarrow.compute.run_end_decode"),
+    (lambda it: "uhugeint" in str(it), "cast it to UBIGINT, HUGEINT or UUID in DuckDB"),
+    (_is_own, "pass its storage"),
+]
 _STRINGS = _Kind(
     "strings or binary",
     {
-        **{same: same for same in (*_LARGE, *_LARGE.values())},
+        **{same: same for same in (pa.string(), pa.binary(), pa.large_string(), pa.large_binary())},
         pa.null(): pa.string(),
         pa.string_view(): pa.large_string(),
         pa.binary_view(): pa.large_binary(),
@@ -94,14 +126,14 @@ _STRINGS = _Kind(
     [
         (pa.types.is_fixed_size_binary, "cast it to binary"),
         (pa.types.is_primitive, "read it as strings"),
-        _RUN_END_HINT,
+        *_OTHER_HINTS,
     ],
 )
 _SIXTEEN_BYTES = dict.fromkeys((pa.uuid(), pa.binary(16)), pa.binary(16))
 _UUIDS = _Kind(
     "uuid, binary or strings",
     _STRINGS.types | _SIXTEEN_BYTES,
-    [(pa.types.is_integer, "encode takes integers"), _RUN_END_HINT],
+    [(pa.types.is_integer, "encode takes integers"), *_OTHER_HINTS],
 )
 _NUMBERS = _Kind(
     "integers, decimal128 of scale 0, uuid or fixed_size_binary[16]",
@@ -116,9 +148,8 @@ _NUMBERS = _Kind(
         (pa.types.is_decimal, "cast it to decimal128(38, 0), or pass a list of int"),
         (pa.types.is_boolean, "cast it to uint8"),
         (pa.types.is_temporal, "cast it to an integer type"),
+        *_OTHER_HINTS,
         (lambda it: it in _UUIDS.types, "encode_uuid takes UUIDs; cast numbers to uint64 or binary(16)"),
-        _RUN_END_HINT,
-        (lambda it: "uhugeint" in str(it), "cast it to UBIGINT, HUGEINT or UUID in DuckDB"),
     ],
 )
 
@@ -130,7 +161,7 @@ def _readable(column: Any, kind: _Kind) -> Any:
     dimensions = getattr(column, "ndim", 1)
     if dimensions == 2 and hasattr(column, "iloc"):
         _check_count(column.shape[1])
-        return column.iloc[:, 0]
+        return _readable(column.iloc[:, 0], kind)
     if dimensions != 1:
         raise TypeError(f"a column has one dimension, not {dimensions}")
     if type(column).__name__ == "RangeIndex":
@@ -145,7 +176,12 @@ def _readable(column: Any, kind: _Kind) -> Any:
         column = getattr(column, "values", column).view(f"V{dtype.itemsize}")
     # NumPy's strings, which pyarrow would end at their first null character, and types that it does not have.
     if form in "SUTV":
-        return column.astype(object)
+        objects = column.astype(object)
+        has_sixteen = form in "SV" and dtype.itemsize == 16 and kind is not _STRINGS
+        return pa.array(objects, pa.binary(16), from_pandas=True) if has_sixteen else objects
+    if dtype == object and hasattr(column, "to_numpy"):
+        # An iterator of pandas is slow.
+        column = column.to_numpy()
     if not hasattr(column, "__iter__") or hasattr(column, "__arrow_c_array__") or hasattr(column, "__arrow_c_stream__"):
         return column
     may_be_read_once = not hasattr(column, "__getitem__") or iter(column) is column
@@ -158,19 +194,39 @@ def _check_count(columns: int) -> None:
 
 
 def _types_of_objects(column: Any) -> set[type]:
-    """Return the types of the objects in a list, an array or a categorical of objects."""
+    """Return the types of the objects in a list, an array or a categorical of objects, besides None, NA and floats."""
     objects = getattr(getattr(column, "dtype", None), "categories", column)
     has_objects = hasattr(objects, "__iter__") and getattr(objects, "dtype", object) == object
-    return set(map(type, objects)) if has_objects else set()
+    found = set(map(type, objects)) if has_objects else set()
+    # Floats may be NaN.
+    return {it for it in found if it.__name__ not in ("NoneType", "NAType", "float")}
 
 
 def _are_alike(types: set[type]) -> bool:
     """Return whether pyarrow converts objects of these types as the functions for one value do."""
-    are_integers = all(hasattr(it, "__index__") for it in types)
-    return are_integers or any(all(issubclass(it, one) for it in types) for one in (str, bytes, UUID, Decimal, pa.Scalar))
+    are_integers = all(hasattr(it, "__index__") and it is not bool for it in types)
+    return are_integers or any(all(issubclass(it, one) for it in types) for one in (str, bytes, Decimal, pa.Scalar))
 
 
-def _to_arrow(column: Any) -> _Array | None:
+def _to_sixteen_bytes(column: Any, types: set[type]) -> pa.Array | None:
+    """Return UUIDs or integers of these types, of which some may be missing, or None if one has no 16 bytes."""
+    to_int: Callable[[Any], int] = operator.attrgetter("int") if types == {UUID} else operator.index
+    try:
+        try:
+            joined = b"".join(map(int.to_bytes, map(to_int, column), repeat(16)))
+            found = pa.Array.from_buffers(pa.binary(16), len(joined) // 16, [None, pa.py_buffer(joined)])
+        except (AttributeError, TypeError):
+            # A float is no bytes, if it is not NaN.
+            found = pa.array(
+                [to_int(it).to_bytes(16) if type(it) in types else None if _is_missing(it) else it for it in column],
+                pa.binary(16),
+            )
+        return found.cast(pa.uuid()) if types == {UUID} else found
+    except (AttributeError, OverflowError, TypeError):
+        return None
+
+
+def _to_arrow(column: Any, kind: _Kind) -> _Array | None:
     """Return a column as pyarrow has it, or None if pyarrow has no type for its values, or would change some."""
     if isinstance(column, (pa.Array, pa.ChunkedArray)):
         return column
@@ -179,8 +235,9 @@ def _to_arrow(column: Any) -> _Array | None:
     # pandas 3 has this too, and takes NaN for a value there.
     if hasattr(column, "__arrow_c_stream__") and not hasattr(column, "iloc"):
         return pa.chunked_array(column)
-    # Floats may be NaN.
-    types = {it for it in _types_of_objects(column) if it.__name__ not in ("NoneType", "NAType", "float")}
+    types = _types_of_objects(column)
+    if types == {UUID}:
+        return _to_sixteen_bytes(column, types)
     if not _are_alike(types):
         return None
     for wide in (None, pa.uint64()):
@@ -191,12 +248,12 @@ def _to_arrow(column: Any) -> _Array | None:
             # All values are integers then. Of floats, pyarrow would take the integer parts.
             continue
         except (pa.ArrowException, UnicodeError):
-            break
-    return None
+            return None
+    return _to_sixteen_bytes(column, types) if kind is _NUMBERS else None
 
 
 def _is_missing(value: object) -> bool:
-    if type(value).__name__ == "MaskedConstant":
+    if value is None or type(value).__name__ == "MaskedConstant":
         return True
     try:
         scalar = pa.scalar(value, from_pandas=True)
@@ -219,7 +276,7 @@ def _value_of(scalar: pa.Scalar) -> Any:
     except UnicodeDecodeError:
         return scalar.as_buffer().to_pybytes()
     if scalar.type == pa.binary(16):
-        return UUID(bytes=value)
+        return int.from_bytes(value)
     return int(value) if isinstance(value, Decimal) else value
 
 
@@ -230,8 +287,8 @@ class _Conversion:
     kind: _Kind
     type: _Type
     errors: _Errors
-    # The bytes of a row of the result at most. None is the length of the greatest number of a type.
-    width: int | None
+    # The bytes of a row of the result at most. -1 is the length of the greatest number of the column's type.
+    width: int
     convert_one: Callable[[Any], object]
     convert_rows: Callable[..., tuple[int, int, int]]
 
@@ -239,7 +296,7 @@ class _Conversion:
         if self.errors not in ("raise", "coerce"):
             raise ValueError(f"errors is 'raise' or 'coerce', not {self.errors!r}")
         column = _readable(column, self.kind)
-        given = _to_arrow(column)
+        given = _to_arrow(column, self.kind)
         if given is None:
             return pa.array(self._convert_values(column), self.type)
         if pa.types.is_struct(given.type):
@@ -247,44 +304,61 @@ class _Conversion:
             given = given.flatten()[0]
         source_type = self._source_type(given)
         chunks = given.chunks if isinstance(given, pa.ChunkedArray) else [given]
-        width = self.width if self.width is not None else 11 if _LETTERS[source_type] in "Ll" else 22
+        width = self.width if self.width >= 0 else 11 if _LETTERS[source_type] in "Ll" else 22
         is_large = self.type == pa.string() and max(map(len, chunks), default=0) * width >= 2**31
-        result_type, results, first = _LARGE[self.type] if is_large else self.type, [], 0
+        sized = replace(self, type=pa.large_string() if is_large else self.type, width=width)
+        convert = sized._convert_dictionary if pa.types.is_dictionary(given.type) else sized._convert_array
+        results, first = [], 0
         for chunk in chunks:
-            results.append(self._convert_array(_cast(chunk, source_type), result_type, width, first))
+            results.append(convert(chunk, source_type, first))
             first += len(chunk)
-        return pa.chunked_array(results, result_type) if isinstance(given, pa.ChunkedArray) else results[0]
+        return pa.chunked_array(results, sized.type) if isinstance(given, pa.ChunkedArray) else results[0]
 
     def _source_type(self, given: _Array) -> _Type:
-        """Return the type as which the extension reads a column."""
+        """Return the type as which the extension reads a column, or the values of a dictionary."""
         of_values = given.type.value_type if pa.types.is_dictionary(given.type) else given.type
         if pa.types.is_floating(of_values) and given.null_count == len(given):
             # Such is a column of NumPy with missing values only.
             of_values = pa.null()
-        found = self.kind.types.get(of_values)
+        found = None if _is_own(of_values) else self.kind.types.get(of_values)
         if found is None:
             hint = next((f": {hint}" for is_such, hint in self.kind.hints if is_such(of_values)), "")
             raise TypeError(f"the column has the type {of_values}, not {self.kind.accepted}{hint}")
-        return _LARGE.get(found, found) if pa.types.is_dictionary(given.type) else found
+        return found
 
-    def _convert_array(self, array: pa.Array, result_type: _Type, width: int, first: int) -> pa.Array:
-        """Convert an array, which begins at a row of the column, to so many bytes a row at most."""
-        count, letter = len(array), _LETTERS[result_type]
+    def _convert_dictionary(self, array: pa.DictionaryArray, source_type: _Type, first: int) -> pa.Array:
+        """Convert a dictionary by its values, of which those that no row has may be invalid."""
+        values, indices = array.dictionary, array.indices
+        if len(values) > len(array):
+            used = indices.dictionary_encode()
+            values, indices = values.take(used.dictionary), used.indices
+        results = replace(self, errors="coerce")._convert_array(values, source_type, 0)
+        if self.errors == "raise" and results.null_count > values.null_count:
+            is_invalid = pc.and_(results.is_null(), values.is_valid())
+            row = is_invalid.take(indices).index(True).as_py()
+            if row >= 0:
+                self._raise_for(_value_of(values[indices[row].as_py()]), first + row)
+        return results.take(indices)
+
+    def _convert_array(self, chunk: pa.Array, source_type: _Type, first: int) -> pa.Array:
+        """Convert an array, which begins at a row of the column."""
+        array = chunk if chunk.type == source_type else chunk.cast(source_type)
+        count, letter = len(array), _LETTERS[self.type]
         if count == 0:
-            return pa.array([], result_type)
+            return pa.array([], self.type)
         validity = pa.allocate_buffer((count + 7) // 8)
         offsets = pa.allocate_buffer((count + 1) * {"u": 4, "U": 8}.get(letter, 0))
-        values = pa.allocate_buffer(min(count * width, sys.maxsize), resizable=True)
+        values = pa.allocate_buffer(min(count * self.width, sys.maxsize), resizable=True)
         source = (_LETTERS[array.type], array.offset, count, *array.buffers(), None)[:6]
         result = letter, validity, offsets, values
         row, used, nulls = self.convert_rows(source, result, self.errors == "coerce")
         if row < count:
-            self._raise_for(_value_of(array[row]), first + row)
+            self._raise_for(_value_of(chunk[row]), first + row)
         buffers = [validity if nulls else None, values]
         if letter in "uU":
             values.resize(used, shrink_to_fit=True)
             buffers.insert(1, offsets)
-        return pa.Array.from_buffers(result_type, count, buffers, nulls)
+        return pa.Array.from_buffers(self.type, count, buffers, nulls)
 
     def _raise_for(self, value: object, row: int) -> None:
         try:
@@ -309,12 +383,6 @@ class _Conversion:
         return results
 
 
-def _cast(chunk: pa.Array, source_type: _Type) -> pa.Array:
-    if pa.types.is_dictionary(chunk.type):
-        return chunk.dictionary.cast(source_type).take(chunk.indices)
-    return chunk if chunk.type == source_type else chunk.cast(source_type)
-
-
 def _check_type(of_result: _Type, *types: _Type) -> None:
     # A type equals its name.
     if not isinstance(of_result, pa.DataType) or of_result not in types:
@@ -322,37 +390,35 @@ def _check_type(of_result: _Type, *types: _Type) -> None:
 
 
 def _encode(
-    column: object,
-    call: Callable[..., str],
-    alphabet: AnyAlphabet,
-    errors: _Errors,
-    of_result: _Type,
-    kind: _Kind = _NUMBERS,
-    width: int | None = None,
+    column: object, call: Callable[..., str], alphabet: AnyAlphabet, errors: _Errors, of_result: _Type,
+    kind: _Kind = _NUMBERS, width: int = -1,
 ) -> _Array:
     characters = Alphabet(alphabet)
     # Raises an exception for an alphabet that is not ASCII.
     base62.encode(0, characters)
     _check_type(of_result, pa.string(), pa.large_string())
-    convert_rows = partial(_base62.encode_rows, characters, -1 if width is None else width)
+    convert_rows = partial(_base62.encode_rows, characters, width)
     return _Conversion(kind, of_result, errors, width, partial(call, alphabet=characters), convert_rows)(column)
 
 
 def _decode(
-    column: object, call: Callable[..., Any], alphabet: AnyAlphabet, errors: _Errors, of_result: _Type
+    column: object, call: Callable[..., Any], alphabet: AnyAlphabet, errors: _Errors, of_result: _Type,
+    types: _Decoded, width: int = -1,
 ) -> _Array:
-    characters, is_uuid = Alphabet(alphabet), of_result == pa.uuid()
-    bits = 63 if of_result == pa.int64() else 64
+    """Decode by the width of _base62.decode_rows, and by the function for one value that it stands for."""
+    characters = Alphabet(alphabet)
+    _check_type(of_result, *types)
+    size, finish = types[of_result]
+    convert_rows = partial(_base62.decode_rows, characters, width)
+    convert_one = lambda text: finish(call(text, alphabet=characters))
+    return _Conversion(_STRINGS, of_result, errors, size, convert_one, convert_rows)(column)
 
-    def decode_one(text: object) -> object:
-        result = call(text, characters)
-        if not is_uuid and result >> bits:
-            raise OutOfRangeError(f"the number is not from 0 to 2**{bits} - 1")
-        return result
 
-    is_canonical = call in (base62.decode_canonical, base62.decode_uuid_canonical)
-    convert_rows = partial(_base62.decode_rows, characters, is_canonical)
-    return _Conversion(_STRINGS, of_result, errors, 16 if is_uuid else 8, decode_one, convert_rows)(column)
+def _places(width: SupportsIndex) -> int:
+    places = operator.index(width)
+    if places < 0:
+        raise ValueError("the width is negative")
+    return min(places, sys.maxsize)
 
 
 def encode(
@@ -390,12 +456,8 @@ def encode_uuid(
 
 
 def encode_fixed(
-    column: object,
-    width: SupportsIndex,
-    alphabet: AnyAlphabet = Alphabet.STANDARD,
-    *,
-    errors: _Errors = "raise",
-    type: _Type = pa.string(),
+    column: object, width: SupportsIndex, alphabet: AnyAlphabet = Alphabet.STANDARD,
+    *, errors: _Errors = "raise", type: _Type = pa.string(),
 ) -> _Array:
     """Like encode, but pad each string with leading zeros to exactly width characters.
 
@@ -405,9 +467,7 @@ def encode_fixed(
     >>> columns.encode_fixed([1337, None], 4).to_pylist()
     ['00LZ', None]
     """
-    places = operator.index(width)
-    if places < 0:
-        raise ValueError("the width is negative")
+    places = _places(width)
     return _encode(column, partial(base62.encode_fixed, width=places), alphabet, errors, type, width=places)
 
 
@@ -424,12 +484,12 @@ def encode_key(column: object, *, errors: _Errors = "raise", type: _Type = pa.st
 
 
 def decode(
-    column: object, alphabet: AnyAlphabet = Alphabet.STANDARD, *, errors: _Errors = "raise", type: _Type = pa.uint64()
+    column: object, alphabet: AnyAlphabet = Alphabet.STANDARD, *, errors: _Errors = "raise", type: _Type = pa.int64()
 ) -> _Array:
-    """Decode a column of strings to uint64, or to int64 if this is the type. Leading zeros are ignored.
+    """Decode a column of strings or bytes to int64, or to uint64 or decimal128(38). Leading zeros are ignored.
 
-    The column has strings or bytes. pandas would convert a result with nulls to floats, and round them:
-    pandas.array(result, dtype="uint64[pyarrow]") keeps them as they are.
+    pandas rounds integers above 2**53 to floats, without an error: in a merge of uint64 with int64, and where rows are
+    missing. pandas.array(columns.decode(codes), "int64[pyarrow]") keeps them as they are.
 
     Raises what base62.decode raises, and OutOfRangeError for a number that the type does not have.
 
@@ -441,12 +501,11 @@ def decode(
     base62.InvalidByteError: Encoded input contains the invalid byte b'-' at index 0
     Row 1 of the column is '-'
     """
-    _check_type(type, pa.uint64(), pa.int64())
-    return _decode(column, base62.decode, alphabet, errors, type)
+    return _decode(column, base62.decode, alphabet, errors, type, _DECODED_NUMBERS)
 
 
 def decode_canonical(
-    column: object, alphabet: AnyAlphabet = Alphabet.STANDARD, *, errors: _Errors = "raise", type: _Type = pa.uint64()
+    column: object, alphabet: AnyAlphabet = Alphabet.STANDARD, *, errors: _Errors = "raise", type: _Type = pa.int64()
 ) -> _Array:
     """Like decode, but accept only canonical strings: those that encode returns.
 
@@ -456,27 +515,61 @@ def decode_canonical(
     >>> columns.decode_canonical(["LZ", "00LZ"], errors="coerce").to_pylist()
     [1337, None]
     """
-    _check_type(type, pa.uint64(), pa.int64())
-    return _decode(column, base62.decode_canonical, alphabet, errors, type)
+    return _decode(column, base62.decode_canonical, alphabet, errors, type, _DECODED_NUMBERS, -2)
 
 
-def decode_uuid(column: object, alphabet: AnyAlphabet = Alphabet.STANDARD, *, errors: _Errors = "raise") -> _Array:
-    """Like decode, but decode to arrow.uuid, which has the 16 bytes of any number below 2**128.
+def decode_fixed(
+    column: object, width: SupportsIndex, alphabet: AnyAlphabet = Alphabet.STANDARD,
+    *, errors: _Errors = "raise", type: _Type = pa.int64(),
+) -> _Array:
+    """Like decode, but accept only strings of the width: those that encode_fixed returns. For keys it is 22.
 
-    Raises what base62.decode raises.
+    Raises what base62.decode_fixed raises, and OutOfRangeError for a number that the type does not have.
 
     >>> from base62 import columns
+    >>> columns.decode_fixed(["00LZ", "LZ"], 4, errors="coerce").to_pylist()
+    [1337, None]
+    """
+    places = _places(width)
+    call = partial(base62.decode_fixed, width=places)
+    return _decode(column, call, alphabet, errors, type, _DECODED_NUMBERS, places)
+
+
+def decode_uuid(
+    column: object, alphabet: AnyAlphabet = Alphabet.STANDARD, *, errors: _Errors = "raise", type: _Type = pa.uuid()
+) -> _Array:
+    """Like decode, but decode any number below 2**128 to uuid, or to binary(16), string or large_string.
+
+    Strings are lowercase with hyphens. Raises what base62.decode raises.
+
+    >>> from base62 import columns
+    >>> import pyarrow
     >>> columns.decode_uuid(["YLmNWW2NwaipfRR50HIPA"]).to_pylist()
     [UUID('12345678-1234-5678-1234-567812345678')]
+    >>> columns.decode_uuid(["YLmNWW2NwaipfRR50HIPA"], type=pyarrow.string()).to_pylist()
+    ['12345678-1234-5678-1234-567812345678']
     """
-    return _decode(column, base62.decode_uuid, alphabet, errors, pa.uuid())
+    return _decode(column, base62.decode_uuid, alphabet, errors, type, _DECODED_UUIDS)
 
 
 def decode_uuid_canonical(
-    column: object, alphabet: AnyAlphabet = Alphabet.STANDARD, *, errors: _Errors = "raise"
+    column: object, alphabet: AnyAlphabet = Alphabet.STANDARD, *, errors: _Errors = "raise", type: _Type = pa.uuid()
 ) -> _Array:
     """Like decode_uuid, but accept only canonical strings: those that encode_uuid returns.
 
     Raises what base62.decode_canonical raises.
     """
-    return _decode(column, base62.decode_uuid_canonical, alphabet, errors, pa.uuid())
+    return _decode(column, base62.decode_uuid_canonical, alphabet, errors, type, _DECODED_UUIDS, -2)
+
+
+def decode_uuid_fixed(
+    column: object, width: SupportsIndex, alphabet: AnyAlphabet = Alphabet.STANDARD,
+    *, errors: _Errors = "raise", type: _Type = pa.uuid(),
+) -> _Array:
+    """Like decode_uuid, but accept only strings of the width: those that encode_fixed returns. For keys it is 22.
+
+    Raises what base62.decode_fixed raises.
+    """
+    places = _places(width)
+    call = partial(base62.decode_uuid_fixed, width=places)
+    return _decode(column, call, alphabet, errors, type, _DECODED_UUIDS, places)

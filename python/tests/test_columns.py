@@ -7,7 +7,10 @@ import gc
 import importlib.util
 import io
 import random
+import shutil
+import subprocess
 import sys
+import tempfile
 import types
 import unittest
 import uuid
@@ -32,10 +35,15 @@ try:
 except ImportError as error:
     raise unittest.SkipTest(f"{error.name} is not installed") from None
 np: Any = importlib.import_module("numpy")
+csv: Any = importlib.import_module("pyarrow.csv")
+parquet: Any = importlib.import_module("pyarrow.parquet")
 columns: Any = importlib.import_module("base62.columns")
 
 TEXT = "2aUyqjCzEIiEcYMKj7TZtw"
 NUMBER_TYPES = [getattr(pa, f"{sign}int{bits}")() for bits in (8, 16, 32, 64) for sign in ("", "u")]
+LIMITS = {pa.int64(): 2**63, pa.uint64(): 2**64, pa.decimal128(38): 10**38}
+UUID_TYPES: dict[Any, Call] = {
+    pa.uuid(): lambda it: it, pa.binary(16): lambda it: it.bytes, pa.string(): str, pa.large_string(): str}
 TEXT_TYPES = [pa.string(), pa.large_string(), pa.string_view(), pa.binary(), pa.large_binary(), pa.binary_view()]
 
 
@@ -87,22 +95,27 @@ class Values(ColumnsTestCase):
     def test_decode(self) -> None:
         for name, alphabet in ALPHABETS.items():
             found = [(int(digits), forms_of_text(text)) for it, digits, text in rows("encode") if it == name]
-            names = [uuid.UUID(int=number) for number, _ in found]
-            narrow = [number if number < 2**64 else None for number, _ in found]
-            for column in (pa.array([texts[0] for _, texts in found]), [texts[-1] for _, texts in found]):
+            # The last column is of strings and bytes.
+            mixed = [texts[row % len(texts)] for row, (_, texts) in enumerate(found)]
+            for column in (pa.array([texts[0] for _, texts in found]), [texts[-1] for _, texts in found], mixed):
                 for call in (columns.decode, columns.decode_canonical):
-                    self.check(lambda it: call(it, alphabet, errors="coerce"), column, narrow, pa.uint64())
+                    for of_type, limit in LIMITS.items():
+                        numbers = [number if number < limit else None for number, _ in found]
+                        self.check(lambda it: call(it, alphabet, errors="coerce", type=of_type), column, numbers, of_type)
                 for call in (columns.decode_uuid, columns.decode_uuid_canonical):
-                    self.check(lambda it: call(it, alphabet), column, names, pa.uuid())
+                    for of_type, form in UUID_TYPES.items():
+                        names = [form(uuid.UUID(int=number)) for number, _ in found]
+                        self.check(lambda it: call(it, alphabet, type=of_type), column, names, of_type)
 
     def test_errors(self) -> None:
         """Each string that is rejected, behind a null: its error and its row, or a null."""
-        refused = [(name, text, expected, "") for name, text, *expected in rows("refused")]
+        refused: list[Any] = [(name, text, expected, "") for name, text, *expected in rows("refused")]
         refused += [(name, text, ["zero"], "_canonical") for name, text, _ in rows("zeros")]
-        for name, text, expected, suffix in refused:
+        exact = [(name, text, expected, "_fixed", int(width)) for name, width, text, *expected in rows("exact")]
+        for name, text, expected, suffix, *given in refused + [row for row in exact if row[2][0] != "number"]:
             calls = [getattr(columns, f"{call}{suffix}") for call in ("decode", "decode_uuid")]
             for bad in forms_of_text(text):
-                error = self.raised(KINDS[expected[0]], calls[len(text) % 2], [None, bad], ALPHABETS[name])
+                error = self.raised(KINDS[expected[0]], calls[len(text) % 2], [None, bad], *given, ALPHABETS[name])
                 notes = [f"Row 1 of the column is {bad!r}"] if len(repr(bad)) < 80 else error.__notes__
                 wanted = dict(zip(("byte", "index"), map(int, expected[1:]))) | {"row": 1, "__notes__": notes}
                 self.assertEqual(vars(error), wanted)
@@ -118,6 +131,14 @@ class Values(ColumnsTestCase):
             if name in OF_ASCII:
                 call = lambda it: columns.encode_fixed(it, int(width), ALPHABETS[name], errors="coerce")
                 self.check(call, pa.array([int(number).to_bytes(16, "big")], pa.binary(16)), [None])
+
+    def test_exact(self) -> None:
+        for name, width, text, kind, *digits in rows("exact"):
+            for good in forms_of_text(text) if kind == "number" else []:
+                given, number = (int(width), ALPHABETS[name]), int(digits[0])
+                self.check(lambda it: columns.decode_uuid_fixed(it, *given), [good, None], [uuid.UUID(int=number), None])
+                narrow = number if number < 2**63 else None
+                self.check(lambda it: columns.decode_fixed(it, *given, errors="coerce"), pa.array([good]), [narrow])
 
     def test_uuid_strings(self) -> None:
         found = [(unquote_to_bytes(escaped).decode(), name) for escaped, name in rows("form")]
@@ -169,21 +190,38 @@ class Arrays(ColumnsTestCase):
             for column in forms_of(pa.array(texts).cast(of_type)):
                 for call in (columns.decode_uuid, columns.decode_uuid_canonical):
                     self.check(call, column, names, pa.uuid())
+                strings = self.each(str, names)
+                self.check(lambda it: columns.decode_uuid(it, type=pa.string()), column, strings, pa.string())
 
     def test_strings(self) -> None:
         numbers = self.some(63)
         keys = self.each(base62.encode_key, numbers)
         for of_type in TEXT_TYPES:
             for column in forms_of(pa.array(self.each(base62.encode, numbers)).cast(of_type)):
-                self.check(columns.decode_canonical, column, numbers, pa.uint64())
-                self.check(lambda it: columns.decode(it, type=pa.int64()), column, numbers, pa.int64())
-            self.check(columns.decode, pa.array(keys).cast(of_type), numbers, pa.uint64())
+                self.check(columns.decode_canonical, column, numbers, pa.int64())
+                for of_result in LIMITS:
+                    self.check(lambda it: columns.decode(it, type=of_result), column, numbers, of_result)
+            self.check(columns.decode, pa.array(keys).cast(of_type), numbers, pa.int64())
+            self.check(lambda it: columns.decode_fixed(it, 22), pa.array(keys).cast(of_type), numbers, pa.int64())
+
+    def test_dictionaries(self) -> None:
+        """Values that no row has may be invalid, and many. Of others the first row is reported."""
+        values = pa.array(["LZ", "-", None, "z", "~"] + ["?"] * 100)
+        for rows, bad in (([0, 3, None, 0, 2], None), ([None, 0, 4, 1], 2), ([2, 1, 4] * 100, 1)):
+            column = pa.chunked_array([pa.DictionaryArray.from_arrays([0], ["1"]), pa.DictionaryArray.from_arrays(rows, values)])
+            expected = [1, *(None if it is None else {0: 1337, 3: 61}.get(it) for it in rows)]
+            self.check(lambda it: columns.decode(it, errors="coerce"), column, expected, pa.int64())
+            if bad is None:
+                self.check(columns.decode, column, expected, pa.int64())
+            else:
+                error = self.raised(base62.InvalidByteError, columns.decode, column)
+                self.assertEqual((error.row, error.__notes__), (bad + 1, [f"Row {bad + 1} of the column is {values[rows[bad]].as_py()!r}"]))
 
     def test_empty(self) -> None:
         for call, of_type, of_result in (
             (columns.encode, pa.int8(), pa.string()),
             (columns.encode_uuid, pa.uuid(), pa.string()),
-            (columns.decode, pa.string_view(), pa.uint64()),
+            (columns.decode, pa.string_view(), pa.int64()),
             (columns.decode_uuid, pa.binary(), pa.uuid()),
         ):
             empty = pa.array([], of_type)
@@ -248,7 +286,7 @@ class Objects(ColumnsTestCase):
     def test_wide_integers(self) -> None:
         """Lists that pyarrow has no type for."""
         lists: list[list[Any]] = [[2**63, 0, None], [2**64, 1, float("nan"), np.float32("nan")], [True, 2, None]]
-        for numbers in [*lists, [NAME, 2**128 - 1, None]]:
+        for numbers in [*lists, [2**64, np.uint8(5), Indexed(7), None, pd.NA], [True, None], [NAME, 2**128 - 1, None]]:
             texts = [None if it is None or it is pd.NA or it != it else base62.encode(it) for it in numbers]
             for column in (numbers, (it for it in numbers), np.array(numbers, object), pd.Series(numbers, dtype=object)):
                 self.check(columns.encode, column, texts, pa.string())
@@ -272,8 +310,9 @@ class Objects(ColumnsTestCase):
         for form in ("S16", "V16"):
             column = np.array([NAME.bytes, zeros], form)
             for it in (column, np.ma.array(column), pd.Series(column), pd.Series(column).array):
-                with warnings.catch_warnings(action="error"):
-                    self.check(columns.encode_uuid, it, [TEXT, base62.encode_uuid(zeros)])
+                for call in (columns.encode_uuid, columns.encode):
+                    with warnings.catch_warnings(action="error"):
+                        self.check(call, it, [TEXT, base62.encode_uuid(zeros)])
         self.check(columns.encode, [NAME, uuid.UUID(int=WIDE)], [TEXT, "7n42DGM5Tflk9n8mt7Fhc7"])
 
     def test_strings(self) -> None:
@@ -299,20 +338,112 @@ class Objects(ColumnsTestCase):
     def test_missing_only(self) -> None:
         for column in ([None], [float("nan")], [pd.NA], pd.Series([None]), pd.Series([float("nan")]), np.array([np.nan])):
             self.check(columns.encode, column, [None], pa.string())
-            self.check(columns.decode, column, [None], pa.uint64())
+            self.check(columns.decode, column, [None], pa.int64())
             self.check(columns.decode_uuid, column, [None], pa.uuid())
 
-    def test_pandas(self) -> None:
-        """Results are assigned by position, and numbers above 2^53 are kept, with missing ones among them."""
-        frame = pd.DataFrame({"id": pd.array([1337, None, 2**63 + 1], "UInt64")}, index=[9, 8, 7])
-        frame["code"] = columns.encode(frame["id"])
-        self.assertEqual(frame["code"].where(frame["code"].notna(), None).tolist(), ["LZ", None, "AzL8n0Y58m9"])
-        frame["back"] = pd.array(columns.decode(frame["code"]), "uint64[pyarrow]")
-        self.assertEqual(frame["back"].tolist(), [1337, pd.NA, 2**63 + 1])
+
+class Recipes(ColumnsTestCase):
+    """What README says of pandas, for numbers above 2^53."""
+
+    def values(self, *given: Any) -> list[Any]:
+        """The rows of Series, with None for a missing value."""
+        rows = [[None if pd.isna(it) else it for it in column.tolist()] for column in given]
+        return rows[0] if len(rows) == 1 else [*zip(*rows)]
+
+    def check_joins(self, keys: list[Any], column: Any, others: list[Any]) -> None:
+        """Joins of links, whose ids are such a column, with orders of others are those of Python's dicts."""
+        of_order, of_link = ({key: row for row, key in enumerate(it) if key is not None} for it in (others, keys))
+        orders = pd.DataFrame({"id": others, "order": range(len(others))})
+        links = pd.DataFrame({"link": range(len(keys))})
+        links["id"] = column
+        ids = links["id"]
+        self.assertEqual(self.values(ids), keys)
+        both = [(key, order, of_link[key]) for key, order in of_order.items() if key in of_link]
+        left = [(key, of_order.get(key), link) for link, key in enumerate(keys)]
+        outer = left + [(key, order, None) for key, order in of_order.items() if key not in of_link]
+        for how, expected in (("inner", both), ("left", left), ("outer", outer)):
+            found = links.merge(orders, how, "id")
+            self.assertCountEqual(self.values(found["id"], found["order"], found["link"]), expected)
+        more = pd.DataFrame({"link": [*range(1, len(keys) + 5, 2)]})
+        for how in ("left", "outer"):
+            found = more.merge(links, how, "link")
+            self.assertEqual(self.values(found["id"]), [keys[it] if it < len(keys) else None for it in found["link"]])
+        self.assertEqual(self.values(ids.isin(orders["id"])), [key in of_order for key in keys])
+        self.assertEqual(self.values(orders["id"].isin(ids.dropna())), [key in of_link for key in others])
+        self.assertEqual(self.values(pd.concat([ids, orders["id"]])), keys + others)
+        self.assertEqual(self.values(ids.dropna().map(of_order)), [of_order.get(key) for key in keys if key is not None])
+        self.assertEqual(self.values(pd.concat([ids, ids]).dropna().drop_duplicates()), [*of_link])
+        sums = pd.concat([links, links]).groupby("id")["link"].sum()
+        self.assertEqual(dict(zip(sums.index, sums)), {key: 2 * link for key, link in of_link.items()})
+
+    def test_joins(self) -> None:
+        random.seed(62)
+        numbers = [(1_700_000_000_000 + row // 8) << 22 | row % 8 for row in range(20_000)]
+        names = [uuid.UUID(int=number << 64) for number in numbers]
+        for keys, recipe in (
+            (numbers, lambda codes: pd.array(columns.decode(codes), "int64[pyarrow]")),
+            ([str(name) for name in names], lambda codes: columns.decode_uuid(codes, type=pa.string())),
+            (names, lambda codes: columns.decode_uuid(codes).to_pylist()),
+        ):
+            encode = columns.encode if keys is numbers else columns.encode_uuid
+            for is_sorted, has_nulls in product((True, False), repeat=2):
+                rows: list[Any] = keys[::2] if is_sorted else random.sample(keys, 10_000)
+                rows = [None if has_nulls and row % 7 == 3 else key for row, key in enumerate(rows)]
+                self.check_joins(rows, recipe(encode(rows)), keys[::3] if is_sorted else random.sample(keys, 7_000))
+
+    def test_rounded(self) -> None:
+        """Where pandas rounds uint64 and int64, and int64[pyarrow] before dropna()."""
+        ids = [2**60 + 1, None, 2**60 + 3]
+        codes = columns.encode(ids)
+        wide, narrow = (pd.Series(columns.decode(codes[::2], type=it).to_numpy(), name="id") for it in (pa.uint64(), pa.int64()))
+        for column, is_exact in ((wide, False), (narrow, True)):
+            self.assertEqual(narrow.isin(column[:1]).tolist(), [True, not is_exact])
+            self.assertEqual(len(narrow.to_frame().merge(column[::-1], on="id")), 2 if is_exact else 4)
+            for found in (pd.concat([column, narrow]), column + narrow):
+                self.assertEqual(found.dtype == "int64", is_exact)
+        recipe = lambda it: pd.array(columns.decode(it), "int64[pyarrow]")
+        for decode in (columns.decode, recipe):
+            frame = pd.DataFrame({"id": decode(codes[::2]), "row": [0, 1]})
+            more, added, updated = pd.DataFrame({"row": [0, 1, 2]}), frame[["row"]].copy(), frame.copy()
+            added.loc[:0, "id"] = decode(codes[:1])
+            updated.update(pd.DataFrame({"id": decode(codes[2:])}))
+            for column in (
+                *(pd.Series(decode(codes)), added["id"], updated["id"], frame["id"].reindex([0, 2]), frame["id"].shift()),
+                *(frame.pivot(columns="row", values="id")[0], more.merge(frame, "left")["id"], more.merge(frame, "outer")["id"]),
+            ):
+                self.assertEqual(int(column.dropna().iloc[0]) in ids, decode is recipe)
+        column = pd.Series(recipe(codes))
+        for used, is_exact in ((column, False), (column.dropna(), True)):
+            firsts = [used.map(lambda it: it)[0], used.apply(lambda it: it)[0], used.to_numpy()[0], used.to_frame().to_dict("list")[0][0]]
+            exact = [int(it) == ids[0] for it in firsts] + [len(used.drop_duplicates()) == len(used)]
+            self.assertEqual({*exact, not pd.Series(ids[2:]).isin(used.loc[:1])[0]}, {is_exact})
+
+    def test_csv(self) -> None:
+        """Which strings are nulls for pyarrow."""
+        file, alone = b"code,row\nNA,1\n,2\nLZ,3\n", {"strings_can_be_null": True}
+        of_readme = {**alone, "null_values": [""], "column_types": {"code": pa.string()}}
+        for given, expected in (({}, ["NA", "", "LZ"]), (alone, [None, None, "LZ"]), (of_readme, ["NA", None, "LZ"])):
+            found = csv.read_csv(io.BytesIO(file), convert_options=csv.ConvertOptions(**given))
+            self.assertEqual(found["code"].to_pylist(), expected)
+
+    @unittest.skipUnless(shutil.which("duckdb"), "DuckDB is not installed")
+    def test_duckdb(self) -> None:
+        """It reads UUIDs and wide numbers in Parquet as such, and writes them so."""
+        names, numbers = [NAME, None, uuid.UUID(int=5)], [2**64, None, 10**38 - 1]
+        table = pa.table({"name": columns.decode_uuid(columns.encode_uuid(names)),
+                          "number": columns.decode(columns.encode(numbers), type=pa.decimal128(38))})
+        with tempfile.TemporaryDirectory() as folder:
+            parquet.write_table(table, f"{folder}/in")
+            sql = f"COPY (SELECT *, typeof(name) || typeof(number) AS types FROM read_parquet('{folder}/in')) TO '{folder}/out' (FORMAT parquet)"
+            subprocess.run(["duckdb", "-c", sql], check=True)
+            found = parquet.read_table(f"{folder}/out")
+        self.assertEqual({*found["types"].to_pylist()}, {"UUIDDECIMAL(38,0)"})
+        self.assertEqual(columns.encode_uuid(found["name"]).to_pylist(), columns.encode_uuid(names).to_pylist())
+        self.assertEqual(columns.encode(found["number"]).to_pylist(), columns.encode(numbers).to_pylist())
 
 
 CUSTOM = ALPHABETS["standard"][::-1]
-NUMBERS = [5, -1, 2**63, 2**64, np.int8(5), np.uint64(2**63), np.uint8(53), Indexed(5), 1.5, 2.0, float("nan"), np.float16(1.5),
+NUMBERS = [5, -1, 2**63, 2**64, np.int8(5), np.uint64(2**63), np.uint8(53), Indexed(5), 1.5, 2.0, float("nan"), np.float16(1.5), True,
            np.float32("nan"), np.longdouble(1.5), np.bool_(True), 5j, Fraction(5), None, pd.NA]
 OTHERS = ["LZ", "not-a-uuid-here!", str(NAME), b"LZ", NAME.bytes, bytearray(b"LZ"), memoryview(NAME.bytes), np.str_("LZ"),
           memoryview(b"LZLZ").cast("I"), np.bytes_(b"LZ"), np.void(bytes(16)), NAME, np.timedelta64(5, "ns"), [5], {"a": 5},
@@ -327,9 +458,21 @@ FUNCTIONS: list[tuple[Call, Call, tuple[int, ...], Any, Any, Any]] = [
     (columns.encode_uuid, base62.encode_uuid, (), NAME.bytes, b"5", 5),
     (columns.decode, base62.decode, (), "LZ", "L-", 5),
     (columns.decode_canonical, base62.decode_canonical, (), "LZ", "", 5),
+    (columns.decode_fixed, base62.decode_fixed, (3,), "0LZ", "LZ", 5),
     (columns.decode_uuid, base62.decode_uuid, (), "LZ", "LZ~", 5),
     (columns.decode_uuid_canonical, base62.decode_uuid_canonical, (), b"LZ", b"\xff", NAME),
+    (columns.decode_uuid_fixed, base62.decode_uuid_fixed, (2,), b"LZ", b"L-", NAME),
 ]
+
+
+def types_of(call: Call) -> list[Any]:
+    """The types of its results, of which the first is that without an argument."""
+    if "encode" in call.__name__:
+        return [pa.string(), pa.large_string()]
+    return [*(UUID_TYPES if "uuid" in call.__name__ else LIMITS)]
+
+
+own: Any = type("Own", (pa.ExtensionType,), {"__arrow_ext_serialize__": lambda self: b""})(pa.binary(16), "own")
 
 
 class Arguments(ColumnsTestCase):
@@ -340,17 +483,12 @@ class Arguments(ColumnsTestCase):
                 if call is columns.encode_key and alphabet:
                     self.raised(TypeError, call, [value], *alphabet)
                     continue
-                of_types = [pa.string(), pa.large_string()] if "encode" in call.__name__ else [pa.uint64(), pa.int64()]
-                if call.__name__.startswith("decode_uuid"):
-                    self.raised(TypeError, call, [value], *alphabet, type=pa.uuid())
-                    of_types = []
-                expected = one(value, *given, *alphabet)
-                optional: list[dict[str, Any]] = [{}, *({"type": it} for it in of_types)]
-                for named in optional:
-                    self.check(lambda it: call(it, *given, *alphabet, **named), [value, None], [expected, None])
-                    coerced = call([value, bad], *given, *alphabet, errors="coerce", **named)
-                    self.assertEqual(coerced.to_pylist(), [expected, None])
-                    self.assertEqual(coerced.type, named.get("type", coerced.type))
+                result, of_types = one(value, *given, *alphabet), types_of(call)
+                for named in ({}, *({"type": it} for it in of_types)):
+                    of_type = named.get("type", of_types[0])
+                    expected = [UUID_TYPES[of_type](result) if isinstance(result, uuid.UUID) else result, None]
+                    self.check(lambda it: call(it, *given, *alphabet, **named), [value, None], expected, of_type)
+                    self.check(lambda it: call(it, *given, *alphabet, errors="coerce", **named), [value, bad], expected, of_type)
 
     def test_rows(self) -> None:
         """The exception is that of the function for one value. Rows are counted over chunks."""
@@ -369,16 +507,19 @@ class Arguments(ColumnsTestCase):
         for of_type in (pa.int8(), pa.int64(), pa.decimal128(5)):
             error = self.raised(base62.OutOfRangeError, columns.encode, pa.array([0, -1, -5], of_type))
             self.assertEqual((error.row, error.__notes__), (1, ["Row 1 of the column is -1"]))
-        error = self.raised(base62.OutOfRangeError, columns.encode_fixed, pa.array([NAME.bytes], pa.binary(16)), 2)
-        self.assertEqual(error.__notes__, [f"Row 0 of the column is {NAME!r}"])
+        sixteen = pa.array([NAME.bytes], pa.binary(16))
+        for column, shown in ((sixteen, NAME.int), (sixteen.cast(pa.uuid()), NAME), ([NAME], NAME), ([2**64, 1], 2**64)):
+            error = self.raised(base62.OutOfRangeError, columns.encode_fixed, column, 2)
+            self.assertEqual(error.__notes__, [f"Row 0 of the column is {shown!r}"])
         error = self.raised(base62.OutOfRangeError, columns.encode, [2**200, 5])
         self.assertEqual(error.row, 0)
-        for of_type, bits, text in ((pa.uint64(), 64, "LygHa16AHYG"), (pa.int64(), 63, "AzL8n0Y58m8")):
-            below = base62.encode(2**bits - 1)
-            self.check(lambda it: columns.decode(it, type=of_type, errors="coerce"), [below, text], [2**bits - 1, None])
+        for of_type, limit in LIMITS.items():
+            below, text = base62.encode(limit - 1), base62.encode(limit)
+            self.check(lambda it: columns.decode(it, type=of_type, errors="coerce"), [below, text], [limit - 1, None])
             for column in ([below, text], [below, bytearray(text, "ascii")], [below, text, "\ud800"]):
                 error = self.raised(base62.OutOfRangeError, columns.decode, column, type=of_type)
-                self.assertEqual((str(error), error.row), (f"the number is not from 0 to 2**{bits} - 1", 1))
+                shown = {2**63: "2**63", 2**64: "2**64"}.get(limit, "10**38")
+                self.assertEqual((str(error), error.row), (f"the number is not from 0 to {shown} - 1", 1))
         error = self.raised(base62.TooLargeError, columns.decode, ["LZ", "-" * 300])
         self.assertEqual(error.__notes__, ["Row 1 of the column is '" + 74 * "-" + "..."])
 
@@ -422,9 +563,10 @@ class Arguments(ColumnsTestCase):
                     self.assertRaises(ValueError, call, [value], *given, alphabet)
                 for other in (None, 5):
                     self.raised(TypeError, call, [value], *given, other)
-            if not call.__name__.startswith("decode_uuid"):
-                for of_type in (None, "string", "uint64", pa.int32(), pa.uuid(), pa.binary()):
-                    self.raised(TypeError, call, [], *given, type=of_type)
+            for of_type in (None, "string", "uint64", pa.int32(), pa.binary(), pa.decimal128(37), own):
+                self.raised(TypeError, call, [], *given, type=of_type)
+            for of_type in {*UUID_TYPES, *LIMITS} - {*types_of(call)}:
+                self.raised(TypeError, call, [], *given, type=of_type)
         for call in (columns.encode, columns.encode_uuid, lambda it, letters: columns.encode_fixed(it, 5, letters)):
             error = self.raised(ValueError, call, [NAME], HIGH)
             self.assertEqual(str(error), "an alphabet for encoding has ASCII characters")
@@ -439,7 +581,8 @@ class Arguments(ColumnsTestCase):
     def test_types(self) -> None:
         """A column of another type is named, with what to pass instead."""
         opaque = pa.opaque(pa.binary(16), "uhugeint", "DuckDB")
-        uhugeint = pa.ExtensionArray.from_storage(opaque, pa.array([bytes(16)], pa.binary(16)))
+        sixteen = pa.array([bytes(16)], pa.binary(16))
+        uhugeint = pa.ExtensionArray.from_storage(opaque, sixteen)
         ends = pa.RunEndEncodedArray.from_arrays([1], ["1"])
         cases: list[tuple[Call, Any, str, str]] = [
             (columns.encode, pa.array([1.0]), "double", "in pandas as Int64"),
@@ -449,8 +592,6 @@ class Arguments(ColumnsTestCase):
             (columns.encode, np.ma.array(["2026-01-01"], "M8[ns]"), "timestamp", "cast it to an integer type"),
             (columns.encode, [Decimal("1.0")], "decimal128.2, 1.", "cast it to decimal128.38, 0., or"),
             (columns.encode, pa.array([5], pa.decimal256(5)), "decimal256.5, 0.", "pass a list of int"),
-            (columns.encode, uhugeint, "extension<arrow.opaque.*uhugeint", "cast it to UBIGINT, HUGEINT or UUID in DuckDB"),
-            (columns.encode_uuid, uhugeint, "extension<arrow.opaque", "uuid, binary or strings"),
             (columns.encode, ["1"], "string", "encode_uuid takes UUIDs; cast numbers to uint64"),
             (columns.encode, [bytes(16)], "binary", "cast numbers to uint64 or binary.16."),
             (columns.encode, pa.array([bytes(8)], pa.binary(8)), "fixed_size_binary.8.", "integers, decimal128 of scale 0"),
@@ -460,8 +601,10 @@ class Arguments(ColumnsTestCase):
             (columns.decode, [1337], "int64", "read it as strings"),
             (columns.decode, [1.5], "double", "read it as strings"),
             (columns.decode, pa.array([TEXT.encode()], pa.binary(22)), "fixed_size_binary.22.", "cast it to binary"),
-            *((call, ends, "run_end_encoded", "decode it by pyarrow.compute.run_end_decode") for call in (
-                columns.encode, columns.encode_uuid, columns.decode)),
+            *((call, column, name, hint) for call in (columns.encode, columns.encode_uuid, columns.decode) for column, name, hint in (
+                (ends, "run_end_encoded", "decode it by pyarrow.compute.run_end_decode"),
+                (pa.ExtensionArray.from_storage(own, sixteen), "extension<own", "pass its storage"),
+                (uhugeint, "extension<arrow.opaque.*uhugeint", "cast it to UBIGINT, HUGEINT or UUID in DuckDB"))),
             (columns.decode_uuid, [NAME], "extension<arrow.uuid>", "strings or binary"),
         ]
         for call, column, name, hint in cases:
@@ -475,7 +618,7 @@ class Runtime(ColumnsTestCase):
         """Threads that read the column take the GIL."""
         fs, dataset = importlib.import_module("pyarrow.fs"), importlib.import_module("pyarrow.dataset")
         file = io.BytesIO()
-        importlib.import_module("pyarrow.parquet").write_table(pa.table({"id": range(100_000)}), file, row_group_size=1000)
+        parquet.write_table(pa.table({"id": range(100_000)}), file, row_group_size=1000)
 
         class Files(fs.FileSystemHandler):  # type: ignore
             open_input_file = lambda self, path: pa.PythonFile(io.BytesIO(file.getvalue()), mode="r")

@@ -25,6 +25,7 @@ struct result {
 struct conversion {
     struct source source;
     struct result result;
+    struct alphabet storage;
     const base62_alphabet *alphabet;
     /* The width, or ANY_WIDTH, or of decoding CANONICAL. */
     Py_ssize_t width;
@@ -309,14 +310,15 @@ static int parse_conversion(PyObject *module, PyObject *args, struct conversion 
     struct state *state = PyModule_GetState(module);
     struct source *source = &conversion->source;
     struct result *result = &conversion->result;
-    PyObject *alphabet, *type = borrow(state, ALPHABET);
+    PyObject *alphabet = PyTuple_GetItem(args, 0), *type = borrow(state, ALPHABET);
     *conversion = (struct conversion){.row = 0};
-    if (type == NULL ||
+    const struct alphabet *fields = alphabet == NULL ? NULL : alphabet_or_raise(state, alphabet, &conversion->storage);
+    if (type == NULL || fields == NULL ||
         !PyArg_ParseTuple(args, "O!n(Cnnz*z*z*)(Cw*w*w*)p", type, &alphabet, &conversion->width, &source->type,
                           &source->offset, &source->count, &source->validity, &source->values, &source->characters,
                           &result->type, &result->validity, &result->offsets, &result->values, &conversion->coerces))
         return -1;
-    conversion->alphabet = &fields_of(state, alphabet)->tables;
+    conversion->alphabet = &fields->tables;
     if (source->characters.buf == NULL)
         source->characters.buf = (char *)"";
     return 0;

@@ -23,6 +23,7 @@ import base62
 from base62 import _base62, _types
 from calls import CUSTOM, ERRORS, TEXT
 from paths import PACKAGE, TOP, readme
+from test_memory import load_extension
 
 # The calls, and the type that is called too.
 CALLS: list[Any] = [getattr(base62, it) for it in base62.__all__ if it == "Alphabet" or it.islower()]
@@ -139,6 +140,19 @@ class Modules(unittest.TestCase):
         with unittest.mock.patch("uuid.UUID", Other):
             again = reimported()
         self.assertEqual(vars(again.decode_uuid("LZ")), {"number": 1337})
+
+    def test_other_pythons(self) -> None:
+        """Where the extension cannot find what it uses of CPython, it converts arguments by Python's own functions."""
+        with unittest.mock.patch.multiple(_types, ISASCII=len, BYTES_SIZE=bytes.__basicsize__ + 8):
+            again = load_extension("base62._base62")
+        custom = again.Alphabet(CUSTOM)
+        for alphabet, text in ((custom, "LZ"), (again.Alphabet.ALTERNATIVE, "lz")):
+            number = base62.decode(text, bytes(alphabet))
+            self.assertEqual((again.decode(text, alphabet), again.encode(number, alphabet)), (number, text))
+            source, new = ("L", 0, 1, None, number.to_bytes(8, sys.byteorder), None), [*map(bytearray, (1, 16, 11))]
+            self.assertEqual(again.encode_rows(alphabet, -1, source, ("U", *new), False), (1, 2, 0))
+            self.assertEqual(new[2][:2], text.encode())
+        self.assertRaises(base62.InvalidByteError, again.decode, "é")
 
     def test_gc_traverse(self) -> None:
         """The collector finds the objects that the module and an alphabet refer to."""

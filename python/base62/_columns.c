@@ -126,34 +126,28 @@ static void store_offset(const struct result *result, Py_ssize_t row) {
         memcpy(place_at(&result->offsets, row, sizeof small), &small, sizeof small);
 }
 
-static void append_uuid(struct result *result, base62_number number) {
-    unsigned char uuid[BASE62_UUID_LENGTH];
-    base62_to_uuid(number, uuid);
-    base62_uuid_to_string(uuid, (char *)result->values.buf + result->used);
-    result->used += BASE62_UUID_STRING_LENGTH;
-}
-
 /* Stores a decoded number. A null row has 0, or no string. */
 static void store_number(struct result *result, Py_ssize_t row, base62_number number, int is_valid) {
-    uint64_t halves[2];
+    const uint64_t halves[2] = {PY_BIG_ENDIAN ? number.high : number.low, PY_BIG_ENDIAN ? number.low : number.high};
+    unsigned char uuid[BASE62_UUID_LENGTH];
     switch (result->type) {
     case 'L':
     case 'l':
         memcpy(place_at(&result->values, row, sizeof number.low), &number.low, sizeof number.low);
-        break;
+        return;
     case 'd':
-        halves[!PY_BIG_ENDIAN] = number.high;
-        halves[PY_BIG_ENDIAN] = number.low;
         memcpy(place_at(&result->values, row, sizeof halves), halves, sizeof halves);
-        break;
+        return;
     case 'w':
-        base62_to_uuid(number, place_at(&result->values, row, BASE62_UUID_LENGTH));
-        break;
-    default:
-        if (is_valid)
-            append_uuid(result, number);
-        store_offset(result, row + 1);
+        base62_to_uuid(number, place_at(&result->values, row, sizeof uuid));
+        return;
     }
+    if (is_valid) {
+        base62_to_uuid(number, uuid);
+        base62_uuid_to_string(uuid, (char *)result->values.buf + result->used);
+        result->used += BASE62_UUID_STRING_LENGTH;
+    }
+    store_offset(result, row + 1);
 }
 
 /* Makes a row null. Returns 0 if it ends the conversion instead. */
@@ -198,16 +192,13 @@ static enum outcome encode_until(struct conversion *conversion, Py_ssize_t end) 
 }
 
 static base62_status decode_text(const struct conversion *conversion, struct text text, base62_number *number) {
+    const base62_alphabet *alphabet = conversion->alphabet;
     base62_bad_byte bad;
     size_t length = (size_t)text.length, width = (size_t)conversion->width;
-    switch (conversion->width) {
-    case ANY_WIDTH:
-        return base62_decode_with(conversion->alphabet, text.bytes, length, number, &bad);
-    case CANONICAL:
-        return base62_decode_canonical_with(conversion->alphabet, text.bytes, length, number, &bad);
-    default:
-        return base62_decode_fixed_with(conversion->alphabet, text.bytes, length, width, number, &bad);
-    }
+    if (conversion->width >= 0)
+        return base62_decode_fixed_with(alphabet, text.bytes, length, width, number, &bad);
+    decode_with *decode = conversion->width == CANONICAL ? base62_decode_canonical_with : base62_decode_with;
+    return decode(alphabet, text.bytes, length, number, &bad);
 }
 
 static inline enum outcome decode_row(const struct conversion *conversion, Py_ssize_t row, int is_large,
@@ -253,17 +244,10 @@ static int is_type(int type, const char *types) {
 }
 
 static base62_number greatest_of(int type) {
-    switch (type) {
-    case 'l':
-        return base62_from_u64(INT64_MAX);
-    case 'L':
-        return base62_from_u64(UINT64_MAX);
-    case 'd':
-        /* 10^38 - 1 */
-        return (base62_number){.high = 0x4b3b4ca85a86c47a, .low = 0x098a223fffffffff};
-    default:
-        return (base62_number){.high = UINT64_MAX, .low = UINT64_MAX};
-    }
+    static const base62_number of_decimal128 = {.high = 0x4b3b4ca85a86c47a, .low = 0x098a223fffffffff}; /* 10^38 - 1 */
+    if (type == 'L' || type == 'l')
+        return base62_from_u64(type == 'l' ? INT64_MAX : UINT64_MAX);
+    return type == 'd' ? of_decimal128 : (base62_number){.high = UINT64_MAX, .low = UINT64_MAX};
 }
 
 static int has(const Py_buffer *buffer, Py_ssize_t count, Py_ssize_t size) {

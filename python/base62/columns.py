@@ -13,8 +13,9 @@ or an Index of pandas, an array of NumPy, a list; also a table or DataFrame of o
 is a pyarrow.ChunkedArray for a table, a stream or several chunks, and otherwise a pyarrow.Array.
 
 Nulls stay nulls; None, NaN and pandas.NA are nulls. Each function takes errors: with "raise", the first invalid row
-raises the exception of the function for one value, with the index of the row in its attribute row, and with row and
-value in a note; with "coerce", an invalid row becomes null. A column or an object of another type raises TypeError.
+raises the exception of the function of base62 with the same name, or OutOfRangeError for a decoded number that the type
+of the result does not have. It has the index of the row in its attribute row, and row and value in a note. With
+"coerce", an invalid row becomes null. A column or an object of another type raises TypeError.
 """
 
 from __future__ import annotations
@@ -41,16 +42,8 @@ except (ImportError, AttributeError) as error:
     raise ImportError("base62.columns needs pyarrow: install pyarrow 18 or later") from error
 
 __all__ = [
-    "decode",
-    "decode_canonical",
-    "decode_fixed",
-    "decode_uuid",
-    "decode_uuid_canonical",
-    "decode_uuid_fixed",
-    "encode",
-    "encode_fixed",
-    "encode_key",
-    "encode_uuid",
+    *("decode", "decode_canonical", "decode_fixed", "decode_uuid", "decode_uuid_canonical", "decode_uuid_fixed"),
+    *("encode", "encode_fixed", "encode_key", "encode_uuid"),
 ]
 
 if TYPE_CHECKING:
@@ -63,16 +56,10 @@ if TYPE_CHECKING:
 
 # The types that the extension reads and writes, by their letters.
 _LETTERS = {
-    pa.uint64(): "L",
-    pa.int64(): "l",
-    pa.decimal128(38): "d",
-    pa.binary(16): "w",
-    pa.uuid(): "w",
-    pa.string(): "u",
-    pa.binary(): "z",
-    pa.large_string(): "U",
-    pa.large_binary(): "Z",
+    **{pa.uint64(): "L", pa.int64(): "l", pa.decimal128(38): "d", pa.binary(16): "w", pa.uuid(): "w"},
+    **{pa.string(): "u", pa.binary(): "z", pa.large_string(): "U", pa.large_binary(): "Z"},
 }
+
 
 def _check_below(limit: int, shown: str, number: int) -> int:
     if number >= limit:
@@ -95,13 +82,10 @@ _DECODED_UUIDS: _Decoded = {
 
 
 class _Kind(NamedTuple):
-    """What a column may have."""
+    """What a column may have: types, with those as which they are read, and what to do about others."""
 
-    # As an error names it.
     accepted: str
-    # Types, with those as which they are read.
     types: dict[_Type, _Type]
-    # What to do about a type that is rejected.
     hints: list[tuple[Callable[[_Type], bool], str]]
 
 
@@ -119,15 +103,9 @@ _STRINGS = _Kind(
     "strings or binary",
     {
         **{same: same for same in (pa.string(), pa.binary(), pa.large_string(), pa.large_binary())},
-        pa.null(): pa.string(),
-        pa.string_view(): pa.large_string(),
-        pa.binary_view(): pa.large_binary(),
+        **{pa.null(): pa.string(), pa.string_view(): pa.large_string(), pa.binary_view(): pa.large_binary()},
     },
-    [
-        (pa.types.is_fixed_size_binary, "cast it to binary"),
-        (pa.types.is_primitive, "read it as strings"),
-        *_OTHER_HINTS,
-    ],
+    [(pa.types.is_fixed_size_binary, "cast it to binary"), (pa.types.is_primitive, "read it as strings"), *_OTHER_HINTS],
 )
 _SIXTEEN_BYTES = dict.fromkeys((pa.uuid(), pa.binary(16)), pa.binary(16))
 _UUIDS = _Kind(
@@ -144,7 +122,7 @@ _NUMBERS = _Kind(
         **_SIXTEEN_BYTES,
     },
     [
-        (pa.types.is_floating, "read it as integers, in pandas as Int64, since floats are rounded above 2**53"),
+        (pa.types.is_floating, "read it as integers, in pandas as int64[pyarrow]; floats are rounded above 2**53"),
         (pa.types.is_decimal, "cast it to decimal128(38, 0), or pass a list of int"),
         (pa.types.is_boolean, "cast it to uint8"),
         (pa.types.is_temporal, "cast it to an integer type"),
@@ -154,19 +132,23 @@ _NUMBERS = _Kind(
 )
 
 
+def _only(columns: list[Any]) -> Any:
+    if len(columns) != 1:
+        raise TypeError(f"a table has one column here, not {len(columns)}")
+    return columns[0]
+
+
 def _readable(column: Any, kind: _Kind) -> Any:
     """Return a column as pyarrow takes it as it is meant."""
     if isinstance(column, (str, bytes, bytearray, Mapping)):
         raise TypeError(f"a column is an array or a list, not {type(column).__name__}")
     dimensions = getattr(column, "ndim", 1)
     if dimensions == 2 and hasattr(column, "iloc"):
-        _check_count(column.shape[1])
-        return _readable(column.iloc[:, 0], kind)
+        return _readable(_only([column.iloc[:, it] for it in range(column.shape[1])]), kind)
     if dimensions != 1:
         raise TypeError(f"a column has one dimension, not {dimensions}")
     if type(column).__name__ == "RangeIndex":
-        # pandas converts it by int64 and floats.
-        return range(column.start, column.stop, column.step)
+        return range(column.start, column.stop, column.step)  # pandas converts it by int64 and floats.
     if type(column).__name__ == "NumpyExtensionArray":
         column = column.__array__()  # Its dtype is not NumPy's.
     dtype: Any = getattr(column, "dtype", None)
@@ -180,17 +162,11 @@ def _readable(column: Any, kind: _Kind) -> Any:
         has_sixteen = form in "SV" and dtype.itemsize == 16 and kind is not _STRINGS
         return pa.array(objects, pa.binary(16), from_pandas=True) if has_sixteen else objects
     if dtype == object and hasattr(column, "to_numpy"):
-        # An iterator of pandas is slow.
-        column = column.to_numpy()
+        column = column.to_numpy()  # An iterator of pandas is slow.
     if not hasattr(column, "__iter__") or hasattr(column, "__arrow_c_array__") or hasattr(column, "__arrow_c_stream__"):
         return column
     may_be_read_once = not hasattr(column, "__getitem__") or iter(column) is column
     return list(column) if may_be_read_once else column
-
-
-def _check_count(columns: int) -> None:
-    if columns != 1:
-        raise TypeError(f"a table has one column here, not {columns}")
 
 
 def _types_of_objects(column: Any) -> set[type]:
@@ -202,32 +178,18 @@ def _types_of_objects(column: Any) -> set[type]:
     return {it for it in found if it.__name__ not in ("NoneType", "NAType", "float")}
 
 
-def _are_alike(types: set[type]) -> bool:
-    """Return whether pyarrow converts objects of these types as the functions for one value do."""
-    are_integers = all(hasattr(it, "__index__") and it is not bool for it in types)
-    return are_integers or any(all(issubclass(it, one) for it in types) for one in (str, bytes, Decimal, pa.Scalar))
-
-
-def _to_sixteen_bytes(column: Any, types: set[type]) -> pa.Array | None:
-    """Return UUIDs or integers of these types, of which some may be missing, or None if one has no 16 bytes."""
-    to_int: Callable[[Any], int] = operator.attrgetter("int") if types == {UUID} else operator.index
+def _to_sixteen_bytes(column: Any, of_type: _Type) -> pa.Array | None:
+    """Return UUIDs or integers as 16 bytes, or None if one has none, or is missing."""
+    to_int: Any = operator.attrgetter("int") if of_type == pa.uuid() else operator.index
     try:
-        try:
-            joined = b"".join(map(int.to_bytes, map(to_int, column), repeat(16)))
-            found = pa.Array.from_buffers(pa.binary(16), len(joined) // 16, [None, pa.py_buffer(joined)])
-        except (AttributeError, TypeError):
-            # A float is no bytes, if it is not NaN.
-            found = pa.array(
-                [to_int(it).to_bytes(16) if type(it) in types else None if _is_missing(it) else it for it in column],
-                pa.binary(16),
-            )
-        return found.cast(pa.uuid()) if types == {UUID} else found
+        joined = b"".join(map(int.to_bytes, map(to_int, column), repeat(16)))
     except (AttributeError, OverflowError, TypeError):
         return None
+    return pa.Array.from_buffers(pa.binary(16), len(joined) // 16, [None, pa.py_buffer(joined)]).cast(of_type)
 
 
 def _to_arrow(column: Any, kind: _Kind) -> _Array | None:
-    """Return a column as pyarrow has it, or None if pyarrow has no type for its values, or would change some."""
+    """Return a column as pyarrow has it, or None if pyarrow converts its values otherwise than base62 does, or not."""
     if isinstance(column, (pa.Array, pa.ChunkedArray)):
         return column
     if hasattr(column, "__arrow_c_array__"):
@@ -237,8 +199,9 @@ def _to_arrow(column: Any, kind: _Kind) -> _Array | None:
         return pa.chunked_array(column)
     types = _types_of_objects(column)
     if types == {UUID}:
-        return _to_sixteen_bytes(column, types)
-    if not _are_alike(types):
+        return _to_sixteen_bytes(column, pa.uuid())
+    are_integers = all(hasattr(it, "__index__") and it is not bool for it in types)
+    if not are_integers and not any(all(issubclass(it, one) for it in types) for one in (str, bytes, Decimal, pa.Scalar)):
         return None
     for wide in (None, pa.uint64()):
         try:
@@ -249,7 +212,7 @@ def _to_arrow(column: Any, kind: _Kind) -> _Array | None:
             continue
         except (pa.ArrowException, UnicodeError):
             return None
-    return _to_sixteen_bytes(column, types) if kind is _NUMBERS else None
+    return _to_sixteen_bytes(column, pa.binary(16)) if kind is _NUMBERS else None
 
 
 def _is_missing(value: object) -> bool:
@@ -261,12 +224,6 @@ def _is_missing(value: object) -> bool:
         return False
     # NaN of NumPy's narrow floats is valid for pyarrow.
     return not scalar.is_valid or pa.types.is_floating(scalar.type) and scalar.as_py() != scalar.as_py()
-
-
-def _add_row(error: Exception, row: int, value: object) -> None:
-    shown = repr(value)
-    error.row = row  # type: ignore[attr-defined]
-    error.add_note(f"Row {row} of the column is {shown if len(shown) < 80 else shown[:75] + '...'}")
 
 
 def _value_of(scalar: pa.Scalar) -> Any:
@@ -300,8 +257,7 @@ class _Conversion:
         if given is None:
             return pa.array(self._convert_values(column), self.type)
         if pa.types.is_struct(given.type):
-            _check_count(given.type.num_fields)
-            given = given.flatten()[0]
+            given = _only(given.flatten())
         source_type = self._source_type(given)
         chunks = given.chunks if isinstance(given, pa.ChunkedArray) else [given]
         width = self.width if self.width >= 0 else 11 if _LETTERS[source_type] in "Ll" else 22
@@ -318,8 +274,7 @@ class _Conversion:
         """Return the type as which the extension reads a column, or the values of a dictionary."""
         of_values = given.type.value_type if pa.types.is_dictionary(given.type) else given.type
         if pa.types.is_floating(of_values) and given.null_count == len(given):
-            # Such is a column of NumPy with missing values only.
-            of_values = pa.null()
+            of_values = pa.null()  # Such is a column of NumPy with missing values only.
         found = None if _is_own(of_values) else self.kind.types.get(of_values)
         if found is None:
             hint = next((f": {hint}" for is_such, hint in self.kind.hints if is_such(of_values)), "")
@@ -335,8 +290,7 @@ class _Conversion:
         results = replace(self, errors="coerce")._convert_array(values, source_type, 0)
         if self.errors == "raise" and results.null_count > values.null_count:
             is_invalid = pc.and_(results.is_null(), values.is_valid())
-            row = is_invalid.take(indices).index(True).as_py()
-            if row >= 0:
+            if (row := is_invalid.take(indices).index(True).as_py()) >= 0:
                 self._raise_for(_value_of(values[indices[row].as_py()]), first + row)
         return results.take(indices)
 
@@ -361,23 +315,21 @@ class _Conversion:
         return pa.Array.from_buffers(self.type, count, buffers, nulls)
 
     def _raise_for(self, value: object, row: int) -> None:
-        try:
-            self.convert_one(value)
-        except Exception as error:
-            _add_row(error, row, value)
-            raise
+        self._convert_values([value], row)
         raise ValueError("the array is malformed")
 
-    def _convert_values(self, column: Any) -> list[object]:
-        """Convert a column by the function for one value."""
+    def _convert_values(self, column: Any, first: int = 0) -> list[object]:
+        """Convert objects by the function for one value."""
         results: list[object] = []
-        for row, value in enumerate(column):
+        for row, value in enumerate(column, first):
             try:
                 results.append(self.convert_one(value))
             except Exception as error:
                 is_coerced = self.errors == "coerce" and isinstance(error, ValueError)
                 if not is_coerced and not _is_missing(value):
-                    _add_row(error, row, value)
+                    error.row = row  # type: ignore[attr-defined]
+                    shown = repr(value)
+                    error.add_note(f"Row {row} of the column is {shown if len(shown) < 80 else shown[:75] + '...'}")
                     raise
                 results.append(None)
         return results
@@ -405,7 +357,7 @@ def _decode(
     column: object, call: Callable[..., Any], alphabet: AnyAlphabet, errors: _Errors, of_result: _Type,
     types: _Decoded, width: int = -1,
 ) -> _Array:
-    """Decode by the width of _base62.decode_rows, and by the function for one value that it stands for."""
+    """Decode by the width of _base62.decode_rows, and by the function for one value."""
     characters = Alphabet(alphabet)
     _check_type(of_result, *types)
     size, finish = types[of_result]
@@ -430,8 +382,6 @@ def encode(
     significant first. The result has the type string, or large_string if this is the type, or if the strings of a chunk
     could have 2 GiB or more.
 
-    Raises what base62.encode raises.
-
     >>> from base62 import columns
     >>> columns.encode([1337, 2**128 - 1]).to_pylist()
     ['LZ', '7n42DGM5Tflk9n8mt7Fhc7']
@@ -446,8 +396,6 @@ def encode_uuid(
 ) -> _Array:
     """Like encode, but encode UUIDs: uuid.UUID objects, 16 bytes, or strings as base62.encode_uuid takes them.
 
-    Raises what base62.encode_uuid raises.
-
     >>> from base62 import columns
     >>> columns.encode_uuid(["12345678-1234-5678-1234-567812345678"]).to_pylist()
     ['YLmNWW2NwaipfRR50HIPA']
@@ -461,8 +409,6 @@ def encode_fixed(
 ) -> _Array:
     """Like encode, but pad each string with leading zeros to exactly width characters.
 
-    Raises what base62.encode_fixed raises.
-
     >>> from base62 import columns
     >>> columns.encode_fixed([1337, None], 4).to_pylist()
     ['00LZ', None]
@@ -472,9 +418,7 @@ def encode_fixed(
 
 
 def encode_key(column: object, *, errors: _Errors = "raise", type: _Type = pa.string()) -> _Array:
-    """Encode a column of numbers as keys: standard strings of 22 characters, which sort in numeric order.
-
-    Takes what encode takes, and raises what base62.encode_key raises.
+    """Like encode, but encode to keys: standard strings of 22 characters, which sort in numeric order.
 
     >>> from base62 import columns
     >>> columns.encode_key([1337]).to_pylist()
@@ -490,8 +434,6 @@ def decode(
 
     pandas rounds integers above 2**53 to floats, without an error: in a merge of uint64 with int64, and where rows are
     missing. pandas.array(columns.decode(codes), "int64[pyarrow]") keeps them as they are.
-
-    Raises what base62.decode raises, and OutOfRangeError for a number that the type does not have.
 
     >>> from base62 import columns
     >>> columns.decode(["LZ", b"00LZ"]).to_pylist()
@@ -509,8 +451,6 @@ def decode_canonical(
 ) -> _Array:
     """Like decode, but accept only canonical strings: those that encode returns.
 
-    Raises what base62.decode_canonical raises, and OutOfRangeError for a number that the type does not have.
-
     >>> from base62 import columns
     >>> columns.decode_canonical(["LZ", "00LZ"], errors="coerce").to_pylist()
     [1337, None]
@@ -523,8 +463,6 @@ def decode_fixed(
     *, errors: _Errors = "raise", type: _Type = pa.int64(),
 ) -> _Array:
     """Like decode, but accept only strings of the width: those that encode_fixed returns. For keys it is 22.
-
-    Raises what base62.decode_fixed raises, and OutOfRangeError for a number that the type does not have.
 
     >>> from base62 import columns
     >>> columns.decode_fixed(["00LZ", "LZ"], 4, errors="coerce").to_pylist()
@@ -540,7 +478,7 @@ def decode_uuid(
 ) -> _Array:
     """Like decode, but decode any number below 2**128 to uuid, or to binary(16), string or large_string.
 
-    Strings are lowercase with hyphens. Raises what base62.decode raises.
+    Strings are lowercase with hyphens.
 
     >>> from base62 import columns
     >>> import pyarrow
@@ -555,10 +493,7 @@ def decode_uuid(
 def decode_uuid_canonical(
     column: object, alphabet: AnyAlphabet = Alphabet.STANDARD, *, errors: _Errors = "raise", type: _Type = pa.uuid()
 ) -> _Array:
-    """Like decode_uuid, but accept only canonical strings: those that encode_uuid returns.
-
-    Raises what base62.decode_canonical raises.
-    """
+    """Like decode_uuid, but accept only canonical strings: those that encode_uuid returns."""
     return _decode(column, base62.decode_uuid_canonical, alphabet, errors, type, _DECODED_UUIDS, -2)
 
 
@@ -566,10 +501,7 @@ def decode_uuid_fixed(
     column: object, width: SupportsIndex, alphabet: AnyAlphabet = Alphabet.STANDARD,
     *, errors: _Errors = "raise", type: _Type = pa.uuid(),
 ) -> _Array:
-    """Like decode_uuid, but accept only strings of the width: those that encode_fixed returns. For keys it is 22.
-
-    Raises what base62.decode_fixed raises.
-    """
+    """Like decode_uuid, but accept only strings of the width: those that encode_fixed returns. For keys it is 22."""
     places = _places(width)
     call = partial(base62.decode_uuid_fixed, width=places)
     return _decode(column, call, alphabet, errors, type, _DECODED_UUIDS, places)

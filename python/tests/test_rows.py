@@ -154,10 +154,8 @@ class Input:
 
     def convert(self, value: Any) -> Any:
         if not self.encodes:
-            if self.option in (-1, -2):
-                number = (base62.decode if self.option == -1 else base62.decode_canonical)(value, self.letters)
-            else:
-                number = base62.decode_fixed(value, self.option, self.letters)
+            decode = base62.decode_canonical if self.option == -2 else base62.decode
+            number = base62.decode_fixed(value, self.option, self.letters) if self.option >= 0 else decode(value, self.letters)
             if number > GREATEST.get(self.new_form, number):
                 raise ValueError
             return str(uuid.UUID(int=number)).encode() if self.new_form in TEXTS else number

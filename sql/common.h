@@ -151,6 +151,23 @@ static inline bool encode_width(const base62_alphabet *alphabet, base62_number n
                                     (unsigned)base62_digit_count(number), (unsigned)width);
 }
 
+/* Stores why a string is rejected, unless the function has TRY. A number of 2^63 or more has a function that takes it:
+ * wider, with the form behind its name. Otherwise wider is null. Returns false. It is kept out of loops over rows. */
+#ifdef __GNUC__
+__attribute__((__cold__, __noinline__))
+#endif
+static bool reject(const encoded *given, base62_status status, base62_bad_byte bad, const char *wider,
+                   call_error *error) {
+    const char *form = given->flags & FIXED ? "_fixed" : given->flags & CANONICAL ? "_canonical" : "";
+    if (given->flags & TRY)
+        return false;
+    if (wider == NULL)
+        fail_with_status(error, status, bad);
+    else
+        fail_with(error, OUT_OF_RANGE, "the number is 2^63 or more; use %s%s", wider, form);
+    return show(error, "'", given->text, given->length);
+}
+
 static inline bool decode_text(const encoded *given, base62_number *number, call_error *error) {
     base62_bad_byte bad = {0, 0};
     const base62_alphabet *alphabet = given->alphabet;
@@ -163,27 +180,15 @@ static inline bool decode_text(const encoded *given, base62_number *number, call
         status = CALL_WITH(alphabet, base62_decode_canonical, text, length, number, &bad);
     else
         status = CALL_WITH(alphabet, base62_decode, text, length, number, &bad);
-    if (status != BASE62_OK && !(given->flags & TRY)) {
-        fail_with_status(error, status, bad);
-        show(error, "'", text, length);
-    }
-    return status == BASE62_OK;
+    return status == BASE62_OK || reject(given, status, bad, NULL, error);
 }
 
-/* Decodes a number below 2^63. The error of a greater one names a function that takes it: wider, with the form behind
- * its name. */
+/* Decodes a number below 2^63. */
 static inline bool decode_int64(const encoded *given, const char *wider, int64_t *value, call_error *error) {
     base62_number number;
-    const char *form = given->flags & FIXED ? "_fixed" : given->flags & CANONICAL ? "_canonical" : "";
-    if (!decode_text(given, &number, error))
-        return false;
-    if (int64_of_number(number, value))
-        return true;
-    if (!(given->flags & TRY)) {
-        fail_with(error, OUT_OF_RANGE, "the number is 2^63 or more; use %s%s", wider, form);
-        show(error, "'", given->text, given->length);
-    }
-    return false;
+    base62_bad_byte none = {0, 0};
+    return decode_text(given, &number, error) &&
+           (int64_of_number(number, value) || reject(given, BASE62_OVERFLOW, none, wider, error));
 }
 
 /* Finds the numbers whose strings of the width begin with the prefix. If there are none, only sets *empty. */

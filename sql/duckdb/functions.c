@@ -24,6 +24,8 @@ struct chunk {
     int flags;
     idx_t row, rows;
     idx_t argument_count;
+    /* Whether any argument may be null in some row. */
+    bool has_nulls;
     struct column arguments[3], results;
     duckdb_vector output;
     /* The alphabet of an earlier row, since most queries have the same one in all rows. */
@@ -47,8 +49,11 @@ static void begin(struct chunk *chunk, duckdb_function_info info, duckdb_data_ch
     chunk->row = 0;
     chunk->rows = duckdb_data_chunk_get_size(input);
     chunk->argument_count = duckdb_data_chunk_get_column_count(input);
-    for (idx_t i = 0; i < chunk->argument_count; i++)
+    chunk->has_nulls = false;
+    for (idx_t i = 0; i < chunk->argument_count; i++) {
         chunk->arguments[i] = column_of(duckdb_data_chunk_get_vector(input, i));
+        chunk->has_nulls = chunk->has_nulls || chunk->arguments[i].validity != NULL;
+    }
     chunk->output = output;
     chunk->results = column_of(output);
     chunk->has_alphabet = false;
@@ -70,7 +75,7 @@ static bool is_null(const struct chunk *chunk) {
 
 /* Whether chunk->row is a row to compute. Rows with a null argument before it become null. */
 static bool skip_nulls(struct chunk *chunk) {
-    while (chunk->row < chunk->rows && is_null(chunk)) {
+    while (chunk->has_nulls && chunk->row < chunk->rows && is_null(chunk)) {
         set_null(chunk);
         chunk->row++;
     }

@@ -172,11 +172,10 @@ static void encode_fixed(sqlite3_context *context, int argc, sqlite3_value **arg
 /* Reads what the flags say: a string alone, or a string and a width. Returns 0 if the result is null or an error. */
 static int read_encoded(sqlite3_context *context, int argc, sqlite3_value **argv, base62_alphabet *copy,
                         encoded *given) {
-    int fixed = flags_of(context) & FIXED;
-    given->flags = flags_of(context);
-    return !any_null(argc, argv) && (!fixed || read_width(context, argc, argv, &given->width)) &&
-           read_alphabet(context, fixed ? 2 : 1, argc, argv, copy, &given->alphabet) &&
-           !(sqlite3_value_type(argv[0]) != SQLITE_TEXT && given->flags & TRY) &&
+    int flags = given->flags = flags_of(context);
+    return !any_null(argc, argv) && (!(flags & FIXED) || read_width(context, argc, argv, &given->width)) &&
+           read_alphabet(context, flags & FIXED ? 2 : 1, argc, argv, copy, &given->alphabet) &&
+           !(flags & TRY && sqlite3_value_type(argv[0]) != SQLITE_TEXT) &&
            read_text(context, "the string is not text", argv[0], &given->text, &given->length);
 }
 

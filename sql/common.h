@@ -116,13 +116,7 @@ static inline bool check_width(int64_t width, call_error *error) {
 
 /* What tells functions apart that share code. Those with CANONICAL or FIXED decode only canonical strings or those of
  * a width. Those with TRY store no error of a string. */
-enum {
-    CANONICAL = 1,
-    FIXED = 2,
-    TRY = 4,
-    OF_UUID = 8,
-    LAST = 16
-};
+enum { CANONICAL = 1, FIXED = 2, TRY = 4, OF_UUID = 8, LAST = 16 };
 
 /* A string to decode. Only FIXED has a width. */
 typedef struct {

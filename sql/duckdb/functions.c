@@ -235,11 +235,9 @@ static inline bool decode(struct chunk *chunk) {
         if (decoded)
             set_number(chunk, number);
     }
-    if (!decoded && !(given.flags & TRY))
-        return set_error(chunk, &error);
-    if (!decoded)
+    if (!decoded && given.flags & TRY)
         set_null(chunk);
-    return true;
+    return decoded || given.flags & TRY || set_error(chunk, &error);
 }
 
 static inline bool is_valid(struct chunk *chunk) {

@@ -57,139 +57,124 @@ COMMENT ON FUNCTION base62_encode_numeric_fixed(numeric, integer, base62_key)
 
 CREATE FUNCTION base62_decode(encoded text) RETURNS bigint
     AS 'MODULE_PATHNAME', 'pg_base62_decode_int8' LANGUAGE c IMMUTABLE STRICT PARALLEL SAFE;
-COMMENT ON FUNCTION base62_decode(text) IS 'the number that a base62 string represents';
+COMMENT ON FUNCTION base62_decode(text) IS 'the number of a base62 string';
 CREATE FUNCTION base62_decode(encoded text, alphabet text) RETURNS bigint
     AS 'MODULE_PATHNAME', 'pg_base62_decode_int8' LANGUAGE c IMMUTABLE STRICT PARALLEL SAFE;
-COMMENT ON FUNCTION base62_decode(text, text) IS 'the number that a string in a custom alphabet represents';
+COMMENT ON FUNCTION base62_decode(text, text) IS 'the number of a string in a custom alphabet';
 CREATE FUNCTION base62_decode_uuid(encoded text) RETURNS uuid
     AS 'MODULE_PATHNAME', 'pg_base62_decode_uuid' LANGUAGE c IMMUTABLE STRICT PARALLEL SAFE;
-COMMENT ON FUNCTION base62_decode_uuid(text) IS 'the UUID that a base62 string represents';
+COMMENT ON FUNCTION base62_decode_uuid(text) IS 'the UUID of a base62 string';
 CREATE FUNCTION base62_decode_uuid(encoded text, alphabet text) RETURNS uuid
     AS 'MODULE_PATHNAME', 'pg_base62_decode_uuid' LANGUAGE c IMMUTABLE STRICT PARALLEL SAFE;
-COMMENT ON FUNCTION base62_decode_uuid(text, text) IS 'the UUID that a string in a custom alphabet represents';
+COMMENT ON FUNCTION base62_decode_uuid(text, text) IS 'the UUID of a string in a custom alphabet';
 CREATE FUNCTION base62_decode_numeric(encoded text) RETURNS numeric
     AS 'MODULE_PATHNAME', 'pg_base62_decode_numeric' LANGUAGE c IMMUTABLE STRICT PARALLEL SAFE;
-COMMENT ON FUNCTION base62_decode_numeric(text) IS 'the numeric that a base62 string represents';
+COMMENT ON FUNCTION base62_decode_numeric(text) IS 'the numeric of a base62 string';
 CREATE FUNCTION base62_decode_numeric(encoded text, alphabet text) RETURNS numeric
     AS 'MODULE_PATHNAME', 'pg_base62_decode_numeric' LANGUAGE c IMMUTABLE STRICT PARALLEL SAFE;
-COMMENT ON FUNCTION base62_decode_numeric(text, text) IS 'the numeric that a string in a custom alphabet represents';
+COMMENT ON FUNCTION base62_decode_numeric(text, text) IS 'the numeric of a string in a custom alphabet';
 CREATE FUNCTION base62_decode_canonical(encoded text) RETURNS bigint
     AS 'MODULE_PATHNAME', 'pg_base62_decode_int8_canonical' LANGUAGE c IMMUTABLE STRICT PARALLEL SAFE;
-COMMENT ON FUNCTION base62_decode_canonical(text) IS 'the number that a base62 string without leading zeros represents';
+COMMENT ON FUNCTION base62_decode_canonical(text) IS 'the number of a shortest base62 string';
 CREATE FUNCTION base62_decode_canonical(encoded text, alphabet text) RETURNS bigint
     AS 'MODULE_PATHNAME', 'pg_base62_decode_int8_canonical' LANGUAGE c IMMUTABLE STRICT PARALLEL SAFE;
-COMMENT ON FUNCTION base62_decode_canonical(text, text)
-    IS 'the number that a string without leading zeros in a custom alphabet represents';
+COMMENT ON FUNCTION base62_decode_canonical(text, text) IS 'the number of a shortest string in a custom alphabet';
 CREATE FUNCTION base62_decode_uuid_canonical(encoded text) RETURNS uuid
     AS 'MODULE_PATHNAME', 'pg_base62_decode_uuid_canonical' LANGUAGE c IMMUTABLE STRICT PARALLEL SAFE;
-COMMENT ON FUNCTION base62_decode_uuid_canonical(text)
-    IS 'the UUID that a base62 string without leading zeros represents';
+COMMENT ON FUNCTION base62_decode_uuid_canonical(text) IS 'the UUID of a shortest base62 string';
 CREATE FUNCTION base62_decode_uuid_canonical(encoded text, alphabet text) RETURNS uuid
     AS 'MODULE_PATHNAME', 'pg_base62_decode_uuid_canonical' LANGUAGE c IMMUTABLE STRICT PARALLEL SAFE;
-COMMENT ON FUNCTION base62_decode_uuid_canonical(text, text)
-    IS 'the UUID that a string without leading zeros in a custom alphabet represents';
+COMMENT ON FUNCTION base62_decode_uuid_canonical(text, text) IS 'the UUID of a shortest string in a custom alphabet';
 CREATE FUNCTION base62_decode_numeric_canonical(encoded text) RETURNS numeric
     AS 'MODULE_PATHNAME', 'pg_base62_decode_numeric_canonical' LANGUAGE c IMMUTABLE STRICT PARALLEL SAFE;
-COMMENT ON FUNCTION base62_decode_numeric_canonical(text)
-    IS 'the numeric that a base62 string without leading zeros represents';
+COMMENT ON FUNCTION base62_decode_numeric_canonical(text) IS 'the numeric of a shortest base62 string';
 CREATE FUNCTION base62_decode_numeric_canonical(encoded text, alphabet text) RETURNS numeric
     AS 'MODULE_PATHNAME', 'pg_base62_decode_numeric_canonical' LANGUAGE c IMMUTABLE STRICT PARALLEL SAFE;
 COMMENT ON FUNCTION base62_decode_numeric_canonical(text, text)
-    IS 'the numeric that a string without leading zeros in a custom alphabet represents';
+    IS 'the numeric of a shortest string in a custom alphabet';
 CREATE FUNCTION base62_decode_fixed(encoded text, width integer) RETURNS bigint
     AS 'MODULE_PATHNAME', 'pg_base62_decode_int8_fixed' LANGUAGE c IMMUTABLE STRICT PARALLEL SAFE;
-COMMENT ON FUNCTION base62_decode_fixed(text, integer)
-    IS 'the number that a base62 string of exactly this width represents';
+COMMENT ON FUNCTION base62_decode_fixed(text, integer) IS 'the number of a base62 string of a width';
 CREATE FUNCTION base62_decode_fixed(encoded text, width integer, alphabet text) RETURNS bigint
     AS 'MODULE_PATHNAME', 'pg_base62_decode_int8_fixed' LANGUAGE c IMMUTABLE STRICT PARALLEL SAFE;
 COMMENT ON FUNCTION base62_decode_fixed(text, integer, text)
-    IS 'the number that a string of exactly this width in a custom alphabet represents';
+    IS 'the number of a string of a width in a custom alphabet';
 CREATE FUNCTION base62_decode_uuid_fixed(encoded text, width integer) RETURNS uuid
     AS 'MODULE_PATHNAME', 'pg_base62_decode_uuid_fixed' LANGUAGE c IMMUTABLE STRICT PARALLEL SAFE;
-COMMENT ON FUNCTION base62_decode_uuid_fixed(text, integer)
-    IS 'the UUID that a base62 string of exactly this width represents';
+COMMENT ON FUNCTION base62_decode_uuid_fixed(text, integer) IS 'the UUID of a base62 string of a width';
 CREATE FUNCTION base62_decode_uuid_fixed(encoded text, width integer, alphabet text) RETURNS uuid
     AS 'MODULE_PATHNAME', 'pg_base62_decode_uuid_fixed' LANGUAGE c IMMUTABLE STRICT PARALLEL SAFE;
 COMMENT ON FUNCTION base62_decode_uuid_fixed(text, integer, text)
-    IS 'the UUID that a string of exactly this width in a custom alphabet represents';
+    IS 'the UUID of a string of a width in a custom alphabet';
 CREATE FUNCTION base62_decode_numeric_fixed(encoded text, width integer) RETURNS numeric
     AS 'MODULE_PATHNAME', 'pg_base62_decode_numeric_fixed' LANGUAGE c IMMUTABLE STRICT PARALLEL SAFE;
-COMMENT ON FUNCTION base62_decode_numeric_fixed(text, integer)
-    IS 'the numeric that a base62 string of exactly this width represents';
+COMMENT ON FUNCTION base62_decode_numeric_fixed(text, integer) IS 'the numeric of a base62 string of a width';
 CREATE FUNCTION base62_decode_numeric_fixed(encoded text, width integer, alphabet text) RETURNS numeric
     AS 'MODULE_PATHNAME', 'pg_base62_decode_numeric_fixed' LANGUAGE c IMMUTABLE STRICT PARALLEL SAFE;
 COMMENT ON FUNCTION base62_decode_numeric_fixed(text, integer, text)
-    IS 'the numeric that a string of exactly this width in a custom alphabet represents';
+    IS 'the numeric of a string of a width in a custom alphabet';
+-- These return null for a string that the function without try rejects.
 CREATE FUNCTION base62_try_decode(encoded text) RETURNS bigint
     AS 'MODULE_PATHNAME', 'pg_base62_try_decode_int8' LANGUAGE c IMMUTABLE STRICT PARALLEL SAFE;
-COMMENT ON FUNCTION base62_try_decode(text) IS 'like base62_decode, but null for a string that it rejects';
+COMMENT ON FUNCTION base62_try_decode(text) IS 'the number of a base62 string, or null';
 CREATE FUNCTION base62_try_decode(encoded text, alphabet text) RETURNS bigint
     AS 'MODULE_PATHNAME', 'pg_base62_try_decode_int8' LANGUAGE c IMMUTABLE STRICT PARALLEL SAFE;
-COMMENT ON FUNCTION base62_try_decode(text, text)
-    IS 'like base62_decode in a custom alphabet, but null for a string that it rejects';
+COMMENT ON FUNCTION base62_try_decode(text, text) IS 'the number of a string in a custom alphabet, or null';
 CREATE FUNCTION base62_try_decode_uuid(encoded text) RETURNS uuid
     AS 'MODULE_PATHNAME', 'pg_base62_try_decode_uuid' LANGUAGE c IMMUTABLE STRICT PARALLEL SAFE;
-COMMENT ON FUNCTION base62_try_decode_uuid(text) IS 'like base62_decode_uuid, but null for a string that it rejects';
+COMMENT ON FUNCTION base62_try_decode_uuid(text) IS 'the UUID of a base62 string, or null';
 CREATE FUNCTION base62_try_decode_uuid(encoded text, alphabet text) RETURNS uuid
     AS 'MODULE_PATHNAME', 'pg_base62_try_decode_uuid' LANGUAGE c IMMUTABLE STRICT PARALLEL SAFE;
-COMMENT ON FUNCTION base62_try_decode_uuid(text, text)
-    IS 'like base62_decode_uuid in a custom alphabet, but null for a string that it rejects';
+COMMENT ON FUNCTION base62_try_decode_uuid(text, text) IS 'the UUID of a string in a custom alphabet, or null';
 CREATE FUNCTION base62_try_decode_numeric(encoded text) RETURNS numeric
     AS 'MODULE_PATHNAME', 'pg_base62_try_decode_numeric' LANGUAGE c IMMUTABLE STRICT PARALLEL SAFE;
-COMMENT ON FUNCTION base62_try_decode_numeric(text)
-    IS 'like base62_decode_numeric, but null for a string that it rejects';
+COMMENT ON FUNCTION base62_try_decode_numeric(text) IS 'the numeric of a base62 string, or null';
 CREATE FUNCTION base62_try_decode_numeric(encoded text, alphabet text) RETURNS numeric
     AS 'MODULE_PATHNAME', 'pg_base62_try_decode_numeric' LANGUAGE c IMMUTABLE STRICT PARALLEL SAFE;
-COMMENT ON FUNCTION base62_try_decode_numeric(text, text)
-    IS 'like base62_decode_numeric in a custom alphabet, but null for a string that it rejects';
+COMMENT ON FUNCTION base62_try_decode_numeric(text, text) IS 'the numeric of a string in a custom alphabet, or null';
 CREATE FUNCTION base62_try_decode_canonical(encoded text) RETURNS bigint
     AS 'MODULE_PATHNAME', 'pg_base62_try_decode_int8_canonical' LANGUAGE c IMMUTABLE STRICT PARALLEL SAFE;
-COMMENT ON FUNCTION base62_try_decode_canonical(text)
-    IS 'like base62_decode_canonical, but null for a string that it rejects';
+COMMENT ON FUNCTION base62_try_decode_canonical(text) IS 'the number of a shortest base62 string, or null';
 CREATE FUNCTION base62_try_decode_canonical(encoded text, alphabet text) RETURNS bigint
     AS 'MODULE_PATHNAME', 'pg_base62_try_decode_int8_canonical' LANGUAGE c IMMUTABLE STRICT PARALLEL SAFE;
 COMMENT ON FUNCTION base62_try_decode_canonical(text, text)
-    IS 'like base62_decode_canonical in a custom alphabet, but null for a string that it rejects';
+    IS 'the number of a shortest string in a custom alphabet, or null';
 CREATE FUNCTION base62_try_decode_uuid_canonical(encoded text) RETURNS uuid
     AS 'MODULE_PATHNAME', 'pg_base62_try_decode_uuid_canonical' LANGUAGE c IMMUTABLE STRICT PARALLEL SAFE;
-COMMENT ON FUNCTION base62_try_decode_uuid_canonical(text)
-    IS 'like base62_decode_uuid_canonical, but null for a string that it rejects';
+COMMENT ON FUNCTION base62_try_decode_uuid_canonical(text) IS 'the UUID of a shortest base62 string, or null';
 CREATE FUNCTION base62_try_decode_uuid_canonical(encoded text, alphabet text) RETURNS uuid
     AS 'MODULE_PATHNAME', 'pg_base62_try_decode_uuid_canonical' LANGUAGE c IMMUTABLE STRICT PARALLEL SAFE;
 COMMENT ON FUNCTION base62_try_decode_uuid_canonical(text, text)
-    IS 'like base62_decode_uuid_canonical in a custom alphabet, but null for a string that it rejects';
+    IS 'the UUID of a shortest string in a custom alphabet, or null';
 CREATE FUNCTION base62_try_decode_numeric_canonical(encoded text) RETURNS numeric
     AS 'MODULE_PATHNAME', 'pg_base62_try_decode_numeric_canonical' LANGUAGE c IMMUTABLE STRICT PARALLEL SAFE;
-COMMENT ON FUNCTION base62_try_decode_numeric_canonical(text)
-    IS 'like base62_decode_numeric_canonical, but null for a string that it rejects';
+COMMENT ON FUNCTION base62_try_decode_numeric_canonical(text) IS 'the numeric of a shortest base62 string, or null';
 CREATE FUNCTION base62_try_decode_numeric_canonical(encoded text, alphabet text) RETURNS numeric
     AS 'MODULE_PATHNAME', 'pg_base62_try_decode_numeric_canonical' LANGUAGE c IMMUTABLE STRICT PARALLEL SAFE;
 COMMENT ON FUNCTION base62_try_decode_numeric_canonical(text, text)
-    IS 'like base62_decode_numeric_canonical in a custom alphabet, but null for a string that it rejects';
+    IS 'the numeric of a shortest string in a custom alphabet, or null';
 CREATE FUNCTION base62_try_decode_fixed(encoded text, width integer) RETURNS bigint
     AS 'MODULE_PATHNAME', 'pg_base62_try_decode_int8_fixed' LANGUAGE c IMMUTABLE STRICT PARALLEL SAFE;
-COMMENT ON FUNCTION base62_try_decode_fixed(text, integer)
-    IS 'like base62_decode_fixed, but null for a string that it rejects';
+COMMENT ON FUNCTION base62_try_decode_fixed(text, integer) IS 'the number of a base62 string of a width, or null';
 CREATE FUNCTION base62_try_decode_fixed(encoded text, width integer, alphabet text) RETURNS bigint
     AS 'MODULE_PATHNAME', 'pg_base62_try_decode_int8_fixed' LANGUAGE c IMMUTABLE STRICT PARALLEL SAFE;
 COMMENT ON FUNCTION base62_try_decode_fixed(text, integer, text)
-    IS 'like base62_decode_fixed in a custom alphabet, but null for a string that it rejects';
+    IS 'the number of a string of a width in a custom alphabet, or null';
 CREATE FUNCTION base62_try_decode_uuid_fixed(encoded text, width integer) RETURNS uuid
     AS 'MODULE_PATHNAME', 'pg_base62_try_decode_uuid_fixed' LANGUAGE c IMMUTABLE STRICT PARALLEL SAFE;
-COMMENT ON FUNCTION base62_try_decode_uuid_fixed(text, integer)
-    IS 'like base62_decode_uuid_fixed, but null for a string that it rejects';
+COMMENT ON FUNCTION base62_try_decode_uuid_fixed(text, integer) IS 'the UUID of a base62 string of a width, or null';
 CREATE FUNCTION base62_try_decode_uuid_fixed(encoded text, width integer, alphabet text) RETURNS uuid
     AS 'MODULE_PATHNAME', 'pg_base62_try_decode_uuid_fixed' LANGUAGE c IMMUTABLE STRICT PARALLEL SAFE;
 COMMENT ON FUNCTION base62_try_decode_uuid_fixed(text, integer, text)
-    IS 'like base62_decode_uuid_fixed in a custom alphabet, but null for a string that it rejects';
+    IS 'the UUID of a string of a width in a custom alphabet, or null';
 CREATE FUNCTION base62_try_decode_numeric_fixed(encoded text, width integer) RETURNS numeric
     AS 'MODULE_PATHNAME', 'pg_base62_try_decode_numeric_fixed' LANGUAGE c IMMUTABLE STRICT PARALLEL SAFE;
 COMMENT ON FUNCTION base62_try_decode_numeric_fixed(text, integer)
-    IS 'like base62_decode_numeric_fixed, but null for a string that it rejects';
+    IS 'the numeric of a base62 string of a width, or null';
 CREATE FUNCTION base62_try_decode_numeric_fixed(encoded text, width integer, alphabet text) RETURNS numeric
     AS 'MODULE_PATHNAME', 'pg_base62_try_decode_numeric_fixed' LANGUAGE c IMMUTABLE STRICT PARALLEL SAFE;
 COMMENT ON FUNCTION base62_try_decode_numeric_fixed(text, integer, text)
-    IS 'like base62_decode_numeric_fixed in a custom alphabet, but null for a string that it rejects';
+    IS 'the numeric of a string of a width in a custom alphabet, or null';
 CREATE FUNCTION base62_is_valid(encoded text) RETURNS boolean
     AS 'MODULE_PATHNAME', 'pg_base62_is_valid' LANGUAGE c IMMUTABLE STRICT PARALLEL SAFE;
 COMMENT ON FUNCTION base62_is_valid(text) IS 'whether base62_decode_uuid accepts a string';

@@ -192,32 +192,26 @@ static void decode(sqlite3_context *context, int argc, sqlite3_value **argv) {
         set_error(context, &error);
 }
 
-/* Decodes 16 bytes. Returns 0 if the result is null or an error. */
-static int decode_bytes(sqlite3_context *context, int argc, sqlite3_value **argv,
-                        unsigned char uuid[BASE62_UUID_LENGTH]) {
+/* Decodes a UUID, as a string with OF_UUID, or as a blob. */
+static void decode_bytes(sqlite3_context *context, int argc, sqlite3_value **argv) {
     base62_alphabet copy;
     encoded given;
     base62_number number;
-    call_error error;
-    if (!read_encoded(context, argc, argv, &copy, &given))
-        return 0;
-    if (!decode_text(&given, &number, &error))
-        return given.flags & TRY ? 0 : set_error(context, &error);
-    base62_to_uuid(number, uuid);
-    return 1;
-}
-
-static void decode_blob(sqlite3_context *context, int argc, sqlite3_value **argv) {
-    unsigned char uuid[BASE62_UUID_LENGTH];
-    if (decode_bytes(context, argc, argv, uuid))
-        sqlite3_result_blob(context, uuid, sizeof uuid, SQLITE_TRANSIENT);
-}
-
-static void decode_uuid(sqlite3_context *context, int argc, sqlite3_value **argv) {
     unsigned char uuid[BASE62_UUID_LENGTH];
     char string[BASE62_UUID_STRING_LENGTH];
-    if (!decode_bytes(context, argc, argv, uuid))
+    call_error error;
+    if (!read_encoded(context, argc, argv, &copy, &given))
         return;
+    if (!decode_text(&given, &number, &error)) {
+        if (!(given.flags & TRY))
+            set_error(context, &error);
+        return;
+    }
+    base62_to_uuid(number, uuid);
+    if (!(given.flags & OF_UUID)) {
+        sqlite3_result_blob(context, uuid, sizeof uuid, SQLITE_TRANSIENT);
+        return;
+    }
     base62_uuid_to_string(uuid, string);
     sqlite3_result_text(context, string, sizeof string, SQLITE_TRANSIENT);
 }
@@ -290,23 +284,23 @@ static int create_functions(sqlite3 *db) {
         {"base62_encode_fixed", 2, 3, 0, encode_fixed},
         {"base62_encode_uuid_fixed", 2, 3, OF_UUID, encode_fixed},
         {"base62_decode", 1, 2, 0, decode},
-        {"base62_decode_uuid", 1, 2, 0, decode_uuid},
-        {"base62_decode_blob", 1, 2, 0, decode_blob},
+        {"base62_decode_uuid", 1, 2, OF_UUID, decode_bytes},
+        {"base62_decode_blob", 1, 2, 0, decode_bytes},
         {"base62_decode_canonical", 1, 2, CANONICAL, decode},
-        {"base62_decode_uuid_canonical", 1, 2, CANONICAL, decode_uuid},
-        {"base62_decode_blob_canonical", 1, 2, CANONICAL, decode_blob},
+        {"base62_decode_uuid_canonical", 1, 2, OF_UUID | CANONICAL, decode_bytes},
+        {"base62_decode_blob_canonical", 1, 2, CANONICAL, decode_bytes},
         {"base62_decode_fixed", 2, 3, FIXED, decode},
-        {"base62_decode_uuid_fixed", 2, 3, FIXED, decode_uuid},
-        {"base62_decode_blob_fixed", 2, 3, FIXED, decode_blob},
+        {"base62_decode_uuid_fixed", 2, 3, OF_UUID | FIXED, decode_bytes},
+        {"base62_decode_blob_fixed", 2, 3, FIXED, decode_bytes},
         {"base62_try_decode", 1, 2, TRY, decode},
-        {"base62_try_decode_uuid", 1, 2, TRY, decode_uuid},
-        {"base62_try_decode_blob", 1, 2, TRY, decode_blob},
+        {"base62_try_decode_uuid", 1, 2, OF_UUID | TRY, decode_bytes},
+        {"base62_try_decode_blob", 1, 2, TRY, decode_bytes},
         {"base62_try_decode_canonical", 1, 2, CANONICAL | TRY, decode},
-        {"base62_try_decode_uuid_canonical", 1, 2, CANONICAL | TRY, decode_uuid},
-        {"base62_try_decode_blob_canonical", 1, 2, CANONICAL | TRY, decode_blob},
+        {"base62_try_decode_uuid_canonical", 1, 2, OF_UUID | CANONICAL | TRY, decode_bytes},
+        {"base62_try_decode_blob_canonical", 1, 2, CANONICAL | TRY, decode_bytes},
         {"base62_try_decode_fixed", 2, 3, FIXED | TRY, decode},
-        {"base62_try_decode_uuid_fixed", 2, 3, FIXED | TRY, decode_uuid},
-        {"base62_try_decode_blob_fixed", 2, 3, FIXED | TRY, decode_blob},
+        {"base62_try_decode_uuid_fixed", 2, 3, OF_UUID | FIXED | TRY, decode_bytes},
+        {"base62_try_decode_blob_fixed", 2, 3, FIXED | TRY, decode_bytes},
         {"base62_is_valid", 1, 2, TRY, is_valid},
         {"base62_is_canonical", 1, 2, CANONICAL | TRY, is_valid},
         {"base62_first_string", 1, 2, 0, string_bound},

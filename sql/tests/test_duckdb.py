@@ -146,20 +146,18 @@ class Values(Case):
         self.check_errors({f"base62_{name}({literal(s)}{last[letters]})": message(error, s)
                            for name, (letters, s, error) in zip(names, table)})
 
-    def test_exact(self) -> None:
-        found: list[tuple[Any, ...]] = []
-        rejected: list[tuple[Any, ...]] = []
+    def test_strings_of_a_width(self) -> None:
+        table: list[tuple[Any, ...]] = []
         errors: dict[str, str] = {}
-        kinds = itertools.cycle(KINDS)
-        for letters, width, field, *result in (it for it in of_ascii("exact") if 0 < int(it[1]) <= WIDEST):
-            s = unquote_to_bytes(field)
-            if result[0] == "number":
-                found.append((letters, s.decode(), result[1], UUID(int=int(result[1]))))
-            else:
-                rejected.append((letters, s, int(width)))
-                errors[f"base62_decode{next(kinds)}_fixed({literal(s)}, {width}, {literal(letters)})"] = message(result, s)
-        self.check_rows("letters, s, n, u", found, self.decodings("_fixed"))
-        self.check_rows("letters, s, width", rejected, self.nulls("_fixed(s, width, letters)"))
+        for letters, width, field, kind, *found in (it for it in of_ascii("exact") if 0 < int(it[1]) <= WIDEST):
+            s, number = unquote_to_bytes(field), found[0] if kind == "number" else None
+            table.append((letters, int(width), s, number, number and UUID(int=int(number))))
+            if not number:
+                name = f"base62_decode{KINDS[len(errors) % 3]}_fixed"
+                errors[f"{name}({literal(s)}, {width}, {literal(letters)})"] = message([kind, *found], s)
+        given = zip(KINDS, ("TRY_CAST(n AS BIGINT)", "n::UHUGEINT", "u"))
+        calls = [f"base62_try_decode{kind}_fixed(s, width, letters) IS NOT DISTINCT FROM {it}" for kind, it in given]
+        self.check_rows("letters, width, s, n, u", table, calls)
         self.check_errors(errors)
 
     def test_widths(self) -> None:
@@ -309,6 +307,18 @@ class Queries(Case):
             found = row(f"SELECT id::VARCHAR AS id, sum(id)::VARCHAR AS sum FROM '{folder}/ids.parquet' GROUP BY id;", made)
         self.assertEqual(found, {"id": str(number), "sum": str(number)})
 
+    def test_joins(self) -> None:
+        """Which types README joins and sums as integers: a join that rounds finds each row twice."""
+        kinds = ("BIGINT", "UBIGINT", "HUGEINT", "DECIMAL(38, 0)", "UHUGEINT")
+        columns = ", ".join(f"n::{kind} AS \"{kind}\"" for kind in kinds)
+        made = f"CREATE TABLE t AS SELECT {columns} FROM (SELECT unnest([{2**53}, {2**53 + 1}]) AS n);\n"
+        pairs = [*itertools.product(kinds[:4], repeat=2), ("UHUGEINT", "UBIGINT"), ("UHUGEINT", "HUGEINT")]
+        joins = ", ".join(f"(SELECT count(*) FROM t JOIN t u ON t.\"{one}\" = u.\"{other}\")" for one, other in pairs)
+        self.assertEqual(row(f"SELECT [{joins}] AS counts;", made)["counts"], [2] * (len(pairs) - 1) + [4])
+        sums = ", ".join(f"typeof(sum(\"{kind}\"))" for kind in kinds)
+        wanted = ["HUGEINT", "HUGEINT", "HUGEINT", "DECIMAL(38,0)", "DOUBLE"]
+        self.assertEqual(row(f"SELECT [{sums}] AS sums FROM t;", made)["sums"], wanted)
+
     def test_row_groups(self) -> None:
         """BETWEEN scans a table, and not all of its row groups."""
         plan = shell("CREATE TABLE link AS SELECT i AS id FROM range(1000000) r(i); EXPLAIN ANALYZE SELECT * FROM link "
@@ -342,8 +352,8 @@ class Queries(Case):
         """A query ends with the first error of a chunk. TRY and a function that tries make null of such rows alone."""
         made = "CREATE TABLE t AS SELECT CASE WHEN i >= 4990 THEN i || '-' ELSE base62_encode(i) END AS s FROM range(5000) r(i);\n"
         counts = row("SELECT count(*) AS n, count(TRY(base62_decode(s))) AS numbers, count(base62_try_decode(s)) AS tried, "
-                     "count(base62_try_decode_uuid(s)) AS uuids FROM t;", made)
-        self.assertEqual(counts, {"n": 5000, "numbers": 4990, "tried": 4990, "uuids": 4990})
+                     "count(base62_try_decode_uhugeint_fixed(s, strlen(s))) AS fixed FROM t;", made)
+        self.assertEqual(counts, {"n": 5000, "numbers": 4990, "tried": 4990, "fixed": 4990})
         ran = shell(made + "SELECT max(base62_decode(s)) FROM t;\nSELECT 1337 AS next;")
         self.assertIn(message(["byte", "45", "4"], b"4990-"), ran.stderr)
         self.assertIn("1337", ran.stdout)

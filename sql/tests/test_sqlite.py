@@ -13,8 +13,8 @@ from typing import Any
 from urllib.parse import unquote_to_bytes
 from uuid import UUID
 
-from values import ALPHABET, ALTERNATIVE, BIGINT, HEADER, NEGATIVE, NO_ALPHABETS, OWN, REPEATED, STANDARD, TEXTS, WIDEST
-from values import WIDTH, functions_of, is_large, message, narrow, of_ascii, rows, shown, text
+from values import ALPHABET, ALTERNATIVE, BIGINT, HEADER, NEGATIVE, NO_ALPHABETS, OWN, README, REPEATED, STANDARD, TEXTS
+from values import WIDEST, WIDTH, functions_of, is_large, message, narrow, of_ascii, rows, shown, text
 
 if not hasattr(sqlite3.Connection, "enable_load_extension"):
     sys.exit(f"{sys.executable} can't load extensions of SQLite. Set PYTHON to one that can, such as Debian's.")
@@ -278,7 +278,9 @@ class Arguments(Case):
 TABLES = """
 CREATE TABLE link (id INTEGER PRIMARY KEY, slug TEXT AS (base62_encode(id)) UNIQUE CHECK (base62_is_canonical(slug)));
 CREATE TABLE item (u BLOB PRIMARY KEY, key TEXT AS (base62_encode_uuid_key(u)) STORED,
-    code TEXT AS (base62_encode_uuid_fixed(u, 23)) CHECK (base62_is_valid(code) AND base62_decode_blob(code) = u));
+    code TEXT AS (base62_encode_uuid_fixed(u, 23)) CHECK (base62_is_valid(code) AND base62_decode_blob_fixed(code, 23) = u));
+CREATE TABLE page (id INTEGER PRIMARY KEY, slug TEXT AS (base62_encode(id)) STORED UNIQUE);
+INSERT INTO page VALUES (1337);
 CREATE INDEX item_key ON item (key);
 CREATE INDEX item_text ON item (base62_encode_uuid(u));
 CREATE INDEX item_prefix ON item (u) WHERE key <= base62_last_string('3');
@@ -287,7 +289,9 @@ PLANS = [
     ("SELECT * FROM link WHERE slug = base62_encode(1337)", "SEARCH link USING INDEX sqlite_autoindex_link_1 (slug=?)"),
     ("SELECT * FROM link WHERE id BETWEEN base62_first_number('A', 11) AND base62_last_number('A', 11)",
      "SEARCH link USING INTEGER PRIMARY KEY (rowid>? AND rowid<?)"),
-    ("SELECT * FROM link WHERE id = base62_try_decode('LZ')", "SEARCH link USING INTEGER PRIMARY KEY (rowid=?)"),
+    ("SELECT * FROM link WHERE id = base62_try_decode_canonical('LZ')", "SEARCH link USING INTEGER PRIMARY KEY (rowid=?)"),
+    ("SELECT * FROM link WHERE id > CASE WHEN base62_is_valid(?) THEN base62_first_number(?, 11) END",
+     "SEARCH link USING INTEGER PRIMARY KEY (rowid>?)", "L-", "L-"),
     ("SELECT u FROM item WHERE u = base62_decode_blob('LZ')",
      "SEARCH item USING COVERING INDEX sqlite_autoindex_item_1 (u=?)"),
     ("SELECT code FROM item WHERE base62_encode_uuid(u) = 'LZ'", "SEARCH item USING INDEX item_text (<expr>=?)"),
@@ -314,10 +318,20 @@ class Tables(Case):
             plan = self.db.execute("EXPLAIN QUERY PLAN " + query, given).fetchall()
             self.assertEqual([step[3] for step in plan], [wanted], query)
 
+    def test_prefixes(self) -> None:
+        """README's query finds the ids of the shortest strings with a prefix, each once, by the index."""
+        (query,) = re.findall(r"(?s)\n(WITH width .*?);", README.replace("'L'", "?1").replace(", target", ""))
+        plan = self.db.execute("EXPLAIN QUERY PLAN " + query, ("L",)).fetchall()
+        self.assertEqual(plan[-1][3], "SEARCH link USING INTEGER PRIMARY KEY (rowid>? AND rowid<?)")
+        strings = [it for n, it in TEXTS.items() if n <= BIGINT]
+        for prefix in {string[:length] for string in strings for length in (1, 2, 11)} | {"00", "01"}:
+            found = self.db.execute(query, (prefix,)).fetchall()
+            self.assertEqual(sorted(it for it, in found), sorted(it for it in strings if it.startswith(prefix)), prefix)
+
     def test_trigger(self) -> None:
         """A trigger before a row has an id computes its columns for -1."""
         for table, column in (("bare", "base62_encode(id)"), ("guarded", "CASE WHEN id >= 0 THEN base62_encode(id) END")):
-            self.db.executescript(f"CREATE TABLE {table} (id INTEGER PRIMARY KEY, slug TEXT AS ({column}) UNIQUE);"
+            self.db.executescript(f"CREATE TABLE {table} (id INTEGER PRIMARY KEY, slug TEXT AS ({column}) STORED UNIQUE);"
                                   f"CREATE TRIGGER before_{table} BEFORE INSERT ON {table} BEGIN SELECT 1; END;")
         with self.assertRaisesRegex(sqlite3.OperationalError, NEGATIVE.format(-1)):
             self.db.execute("INSERT INTO bare VALUES (NULL)")
@@ -359,6 +373,7 @@ class Tables(Case):
                     other.execute(query)
             read = other.execute("SELECT key FROM item ORDER BY key LIMIT 1").fetchone()
             self.assertEqual(read, ("0" * KEY,))
+            self.assertEqual(other.execute("SELECT * FROM page WHERE slug = 'LZ'").fetchall(), [(1337, "LZ")])
             other.close()
 
 

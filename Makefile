@@ -1,6 +1,6 @@
 # What people run at the top of the repository. `make` prints it.
 
-parts = translate c rust python js sql bench dist pages
+parts = translate c rust compare python js sql bench dist pages
 
 help: ## print this list
 	@sed -n 's/^\([a-z-]*\):.* ## /  make \1	/p' $(MAKEFILE_LIST) | expand -t 24

@@ -28,10 +28,10 @@ COUNT = 500
 PYTHON = "/usr/bin/python3" if os.path.exists("/usr/bin/python3") else sys.executable
 WHEELS = "/usr/share/python-wheels"
 FETCHING_NOTHING = ["--no-index", f"--find-links={WHEELS}"] if os.path.exists(WHEELS) else ["--no-build-isolation"]
-# Runs a command where DuckDB or pyarrow is, in the root of Debian unstable, with a folder as /mnt.
+# Runs a command where DuckDB or pyarrow is, in the root of Debian testing, with a folder as /mnt.
 IN_UNSTABLE = """cd "$0" && . scripts/helpers.bash
 is_installed "$1" || { echo "$1 is missing" >&2 && exit 1; }
-within() { local work=$1 && in_unstable "${@:2}"; }
+within() { local work=$1 && in_testing "${@:2}"; }
 within "${@:2}"
 """
 CARGO = """[package]

@@ -1,5 +1,5 @@
 #!/usr/bin/env python3
-"""Prints docs/VERSIONS.md, by what `make check` printed on each Debian: scripts/versions.py FILE.."""
+"""Prints tests/VERSIONS.md, by what `make check` printed on each Debian: scripts/versions.py FILE.."""
 
 import re
 import sys

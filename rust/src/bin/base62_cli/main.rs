@@ -28,7 +28,7 @@ use fault::ToolFault;
 use hint::HintingInput;
 use std::process::ExitCode;
 use std::{env, ffi::OsString, io};
-use streams::{Output, print, report};
+use streams::{Output, print, print_error, report};
 
 const HELP: &str = "\
 Usage: base62_cli [OPTION]
@@ -68,7 +68,7 @@ fn main() -> ExitCode {
     match outcome {
         Ok(()) => ExitCode::SUCCESS,
         Err(fault) => {
-            report(fault);
+            print_error(fault);
             ExitCode::FAILURE
         }
     }

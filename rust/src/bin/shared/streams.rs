@@ -44,10 +44,15 @@ pub(crate) fn print(bytes: &[u8]) -> io::Result<()> {
     Output(io::stdout()).write_all(bytes)
 }
 
-/// Writes one line to standard error. If this fails, only the exit status reports the error.
+/// Writes one line to standard error, after the program's name.
 pub(crate) fn report(message: impl Display) {
+    print_error(format_args!("{}: {message}", env!("CARGO_BIN_NAME")));
+}
+
+/// Writes one line to standard error. If this fails, only the exit status reports the error.
+pub(crate) fn print_error(message: impl Display) {
     let mut line = Bytes::new();
-    if writeln!(line, "{}: {message}", env!("CARGO_BIN_NAME")).is_ok() {
+    if writeln!(line, "{message}").is_ok() {
         let _ = io::stderr().write_all(line.as_slice());
     }
 }

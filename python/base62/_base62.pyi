@@ -220,10 +220,10 @@ def encode_rows(
 
 def decode_rows(
     alphabet: Alphabet,
-    is_canonical: bool,
+    width: int,
     source: tuple[str, int, int, object, object, object],
     result: tuple[str, object, object, object],
     coerces: bool,
     /,
 ) -> tuple[int, int, int]:
-    """Like encode_rows, but decode rows of strings."""
+    """Like encode_rows, but decode rows of strings of the width, of any length if it is -1, or canonical ones if -2."""

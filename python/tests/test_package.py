@@ -43,7 +43,7 @@ class Package(unittest.TestCase):
         for other in (None, types.ModuleType("pyarrow")):
             with unittest.mock.patch.dict(sys.modules, {"pyarrow": other}):
                 self.assertEqual(reimported().encode(1337), "LZ")
-                with self.assertRaisesRegex(ImportError, r"needs pyarrow 18 or later: install base62-proved\[columns\]$"):
+                with self.assertRaisesRegex(ImportError, "needs pyarrow: install pyarrow 18 or later$"):
                     reimported("base62.columns")
 
     def test_version(self) -> None:

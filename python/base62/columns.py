@@ -105,7 +105,7 @@ _STRINGS = _Kind(
         **{same: same for same in (pa.string(), pa.binary(), pa.large_string(), pa.large_binary())},
         **{pa.null(): pa.string(), pa.string_view(): pa.large_string(), pa.binary_view(): pa.large_binary()},
     },
-    [(pa.types.is_fixed_size_binary, "cast it to binary"), (pa.types.is_primitive, "read it as strings"), *_OTHER_HINTS],
+    [(pa.types.is_fixed_size_binary, "cast it to binary"), (pa.types.is_primitive, "read strings"), *_OTHER_HINTS],
 )
 _SIXTEEN_BYTES = dict.fromkeys((pa.uuid(), pa.binary(16)), pa.binary(16))
 _UUIDS = _Kind(
@@ -201,7 +201,7 @@ def _to_arrow(column: Any, kind: _Kind) -> _Array | None:
     if types == {UUID}:
         return _to_sixteen_bytes(column, pa.uuid())
     are_integers = all(hasattr(it, "__index__") and it is not bool for it in types)
-    if not are_integers and not any(all(issubclass(it, one) for it in types) for one in (str, bytes, Decimal, pa.Scalar)):
+    if not are_integers and not any(all(issubclass(it, of) for it in types) for of in (str, bytes, Decimal, pa.Scalar)):
         return None
     for wide in (None, pa.uint64()):
         try:
@@ -215,15 +215,10 @@ def _to_arrow(column: Any, kind: _Kind) -> _Array | None:
     return _to_sixteen_bytes(column, pa.binary(16)) if kind is _NUMBERS else None
 
 
-def _is_missing(value: object) -> bool:
-    if value is None or type(value).__name__ == "MaskedConstant":
-        return True
-    try:
-        scalar = pa.scalar(value, from_pandas=True)
-    except (pa.ArrowException, OverflowError, UnicodeError):
-        return False
-    # NaN of NumPy's narrow floats is valid for pyarrow.
-    return not scalar.is_valid or pa.types.is_floating(scalar.type) and scalar.as_py() != scalar.as_py()
+def _is_missing(value: Any) -> bool:
+    names = {it.__name__ for it in type(value).__mro__}
+    is_float = not names.isdisjoint(("float", "floating"))
+    return is_float and value != value or not names.isdisjoint(("NoneType", "NAType", "MaskedConstant"))
 
 
 def _value_of(scalar: pa.Scalar) -> Any:
@@ -418,22 +413,17 @@ def encode_fixed(
 
 
 def encode_key(column: object, *, errors: _Errors = "raise", type: _Type = pa.string()) -> _Array:
-    """Like encode, but encode to keys: standard strings of 22 characters, which sort in numeric order.
-
-    >>> from base62 import columns
-    >>> columns.encode_key([1337]).to_pylist()
-    ['00000000000000000000LZ']
-    """
+    """Like encode, but encode to keys: standard strings of 22 characters, which sort in numeric order."""
     return encode_fixed(column, 22, errors=errors, type=type)
 
 
 def decode(
     column: object, alphabet: AnyAlphabet = Alphabet.STANDARD, *, errors: _Errors = "raise", type: _Type = pa.int64()
 ) -> _Array:
-    """Decode a column of strings or bytes to int64, or to uint64 or decimal128(38). Leading zeros are ignored.
+    """Decode a column of strings or bytes to int64, uint64 or decimal128(38). Leading zeros are ignored.
 
-    pandas rounds integers above 2**53 to floats, without an error: in a merge of uint64 with int64, and where rows are
-    missing. pandas.array(columns.decode(codes), "int64[pyarrow]") keeps them as they are.
+    pandas makes floats of uint64 in a merge with int64, and of any integers beside missing rows, and so rounds them
+    above 2**53, without an error. pandas.array(columns.decode(codes), "int64[pyarrow]") keeps them as they are.
 
     >>> from base62 import columns
     >>> columns.decode(["LZ", b"00LZ"]).to_pylist()
@@ -476,14 +466,12 @@ def decode_fixed(
 def decode_uuid(
     column: object, alphabet: AnyAlphabet = Alphabet.STANDARD, *, errors: _Errors = "raise", type: _Type = pa.uuid()
 ) -> _Array:
-    """Like decode, but decode any number below 2**128 to uuid, or to binary(16), string or large_string.
+    """Like decode, but decode any number below 2**128 to uuid, binary(16), string or large_string.
 
     Strings are lowercase with hyphens.
 
     >>> from base62 import columns
     >>> import pyarrow
-    >>> columns.decode_uuid(["YLmNWW2NwaipfRR50HIPA"]).to_pylist()
-    [UUID('12345678-1234-5678-1234-567812345678')]
     >>> columns.decode_uuid(["YLmNWW2NwaipfRR50HIPA"], type=pyarrow.string()).to_pylist()
     ['12345678-1234-5678-1234-567812345678']
     """

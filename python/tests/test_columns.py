@@ -2,15 +2,12 @@
 # Copyright (c) 2026 the maintainers of base62 for Rattle
 """Tests of columns by the values of tests/values.tsv and by the functions for one value, with pyarrow and pandas."""
 
-import contextlib
 import doctest
-import gc
 import importlib.util
 import io
 import random
 import shutil
 import subprocess
-import sys
 import tempfile
 import types
 import unittest
@@ -28,7 +25,6 @@ from urllib.parse import unquote_to_bytes
 import base62
 from calls import HIGH, NAME, WIDE, Call, Indexed, RaisesTestCase
 from paths import readme
-from test_base62 import others_run
 from test_values import ALPHABETS, KINDS, OF_ASCII, forms_of_text, rows
 
 try:
@@ -190,21 +186,18 @@ class Arrays(ColumnsTestCase):
                 self.check(columns.encode_uuid, column, texts, pa.string())
         for of_type in TEXT_TYPES:
             for column in forms_of(pa.array(texts).cast(of_type)):
-                for call in (columns.decode_uuid, columns.decode_uuid_canonical):
-                    self.check(call, column, names, pa.uuid())
-                strings = self.each(str, names)
-                self.check(lambda it: columns.decode_uuid(it, type=pa.string()), column, strings, pa.string())
+                for of_result, form in UUID_TYPES.items():
+                    self.check(lambda it: columns.decode_uuid(it, type=of_result), column, self.each(form, names), of_result)
 
     def test_strings(self) -> None:
         numbers = self.some(63)
-        keys = self.each(base62.encode_key, numbers)
+        keys = pa.array(self.each(base62.encode_key, numbers))
         for of_type in TEXT_TYPES:
             for column in forms_of(pa.array(self.each(base62.encode, numbers)).cast(of_type)):
-                self.check(columns.decode_canonical, column, numbers, pa.int64())
                 for of_result in LIMITS:
-                    self.check(lambda it: columns.decode(it, type=of_result), column, numbers, of_result)
-            self.check(columns.decode, pa.array(keys).cast(of_type), numbers, pa.int64())
-            self.check(lambda it: columns.decode_fixed(it, 22), pa.array(keys).cast(of_type), numbers, pa.int64())
+                    self.check(lambda it: columns.decode_canonical(it, type=of_result), column, numbers, of_result)
+            for call in (columns.decode, lambda it: columns.decode_fixed(it, 22)):
+                self.check(call, keys.cast(of_type), numbers, pa.int64())
 
     def test_dictionaries(self) -> None:
         """Values that no row has may be invalid, and many. Of others the first row is reported."""
@@ -245,11 +238,9 @@ class Arrays(ColumnsTestCase):
         self.assertEqual(columns.encode_fixed(pa.chunked_array([[None]] * 2, pa.uint8()), 2**30).type, pa.string())
 
     def test_shared_strings(self) -> None:
-        """Strings of 2^31 bytes and more, which share those of a dictionary or a view. Only LZ is valid."""
-        texts = pa.array(["-" * 2**27, "LZ"])
-        views = pa.concat_arrays([texts.cast(pa.string_view())] * 17)
-        for column in (pa.DictionaryArray.from_arrays([0, 1] * 17, texts), views):
-            self.check(lambda it: columns.decode(it, errors="coerce"), column, [None, 1337] * 17)
+        """Strings of 2^31 bytes and more, which share those of a view. Only LZ is valid."""
+        views = pa.concat_arrays([pa.array(["-" * 2**27, "LZ"], pa.string_view())] * 17)
+        self.check(lambda it: columns.decode(it, errors="coerce"), views, [None, 1337] * 17)
 
 
 class Objects(ColumnsTestCase):
@@ -424,8 +415,8 @@ class Recipes(ColumnsTestCase):
 
 
 CUSTOM = ALPHABETS["standard"][::-1]
-NUMBERS = [5, -1, 2**63, 2**64, np.int8(5), np.uint64(2**63), np.uint8(53), Indexed(5), 1.5, 2.0, float("nan"), True, None, pd.NA,
-           np.float16(1.5), np.float32("nan"), np.longdouble(1.5), np.bool_(True), 5j, Fraction(5)]
+NUMBERS = [5, -1, 2**63, 2**64, np.int8(5), np.uint64(2**63), np.uint8(53), Indexed(5), 1.5, 2.0, float("nan"), True, None,
+           pd.NA, np.float16(1.5), np.float32("nan"), np.longdouble(1.5), np.bool_(True), 5j, Fraction(5)]
 OTHERS = ["LZ", "not-a-uuid-here!", str(NAME), b"LZ", NAME.bytes, bytearray(b"LZ"), memoryview(NAME.bytes), np.str_("LZ"),
           memoryview(b"LZLZ").cast("I"), np.bytes_(b"LZ"), np.void(bytes(16)), NAME, np.timedelta64(5, "ns"), [5], {"a": 5},
           np.datetime64("2026-01-01", "ns"), np.datetime64("2026-01-01", "D"), pd.Timestamp("2026-01-01"), object()]
@@ -562,20 +553,16 @@ class Arguments(ColumnsTestCase):
                          for it in (OWN, pa.opaque(pa.binary(16), "uhugeint", "DuckDB")))
         cases: list[tuple[Call, Any, str, str]] = [
             (columns.encode, pa.array([1.0]), "double", "in pandas as int64.pyarrow."),
-            (columns.encode, np.array([1.0, np.nan]), "double", "floats are rounded above 2[*][*]53"),
             (columns.encode, pa.array([True]), "bool", "cast it to uint8"),
-            (columns.encode, pd.to_datetime(["2026-01-01"]), "timestamp", "cast it to an integer type"),
             (columns.encode, np.ma.array(["2026-01-01"], "M8[ns]"), "timestamp", "cast it to an integer type"),
             (columns.encode, [Decimal("1.0")], "decimal128.2, 1.", "cast it to decimal128.38, 0., or"),
             (columns.encode, pa.array([5], pa.decimal256(5)), "decimal256.5, 0.", "pass a list of int"),
             (columns.encode, ["1"], "string", "encode_uuid takes UUIDs; cast numbers to uint64"),
             (columns.encode, [bytes(16)], "binary", "cast numbers to uint64 or binary.16."),
             (columns.encode, pa.array([bytes(8)], pa.binary(8)), "fixed_size_binary.8.", "integers, decimal128 of scale 0"),
-            (columns.encode, pa.array([[1]]), "list<item: int64>", "integers, decimal128 of scale 0"),
             (columns.encode, pd.Series([1.5]).astype("category"), "double", "in pandas as int64.pyarrow."),
             (columns.encode_uuid, [1], "int64", "encode takes integers"),
-            (columns.decode, [1337], "int64", "read it as strings"),
-            (columns.decode, [1.5], "double", "read it as strings"),
+            (columns.decode, [1337], "int64", "read strings"),
             (columns.decode, pa.array([TEXT.encode()], pa.binary(22)), "fixed_size_binary.22.", "cast it to binary"),
             *((call, *case) for call in (columns.encode, columns.encode_uuid, columns.decode) for case in (
                 (pa.RunEndEncodedArray.from_arrays([1], ["1"]), "run_end_encoded", "decode it by .*run_end_decode"),
@@ -588,57 +575,12 @@ class Arguments(ColumnsTestCase):
                 with self.assertRaisesRegex(TypeError, f"^the column has the type {name}.*, not .*{hint}"):
                     call(column, errors=errors)
 
-
-class Runtime(ColumnsTestCase):
-    def test_file_system(self) -> None:
-        """Threads that read the column take the GIL."""
-        fs, dataset = importlib.import_module("pyarrow.fs"), importlib.import_module("pyarrow.dataset")
-        file = io.BytesIO()
-        parquet.write_table(pa.table({"id": range(100_000)}), file, row_group_size=1000)
-
-        class Files(fs.FileSystemHandler):  # type: ignore
-            open_input_file = lambda self, path: pa.PythonFile(io.BytesIO(file.getvalue()), mode="r")
-            get_file_info = lambda self, paths: [fs.FileInfo(path, fs.FileType.File, size=file.tell()) for path in paths]
-            get_type_name = lambda self: "bytes"
-            normalize_path = lambda self, path: path
-
-        Files.__abstractmethods__ = frozenset()
-        found = dataset.dataset("ids.parquet", filesystem=fs.PyFileSystem(Files()), format="parquet")
-        result = columns.encode(found.scanner(batch_size=500).to_reader())
-        self.assertEqual(result.to_pylist(), [base62.encode(number) for number in range(100_000)])
-
-    def test_gil(self) -> None:
-        numbers, strings = pa.array(range(100_000)), columns.encode(range(100_000))
-        for call, column in ((columns.encode, numbers), (columns.decode, strings), (columns.decode_uuid, strings)):
-            self.assertTrue(others_run(lambda: call(column)))
-
     def test_size(self) -> None:
         """A result keeps no memory for strings that are longer than its own."""
         before = pa.total_allocated_bytes()
         result = columns.encode([1] * 1000)
         self.assertLess(pa.total_allocated_bytes() - before, 6000)
         self.assertEqual(len(result), 1000)
-
-    def test_leaks(self) -> None:
-        """A thousand calls with new items, valid and not, leave no objects and no buffers."""
-
-        def run() -> None:
-            for number, errors, function in product(range(2**70, 2**70 + 1000), ("raise", "coerce"), FUNCTIONS):
-                call, _, given, *of_function = function
-                column = [*of_function[:2], str(number), number, number % 2**63, uuid.UUID(int=number)][number % 3 :]
-                with contextlib.suppress(TypeError, ValueError):
-                    call(column[: number % 4], *given, errors=errors)
-
-        def state() -> tuple[int, int]:
-            gc.collect()
-            return sys.getallocatedblocks(), pa.total_allocated_bytes()
-
-        run()
-        before = state()
-        run()
-        blocks, size = state()
-        self.assertLess(blocks - before[0], 500)
-        self.assertEqual(size, before[1])
 
 
 def load_tests(loader: unittest.TestLoader, tests: unittest.TestSuite, pattern: object) -> unittest.TestSuite:

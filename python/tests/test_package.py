@@ -143,7 +143,7 @@ class Modules(unittest.TestCase):
 
     def test_other_pythons(self) -> None:
         """Where the extension cannot find what it uses of CPython, it converts arguments by Python's own functions."""
-        with unittest.mock.patch.multiple(_types, ISASCII=len, BYTES_SIZE=bytes.__basicsize__ + 8):
+        with unittest.mock.patch.multiple(_types, ISASCII=len, BYTES_SIZE=bytes.__basicsize__ - 16):
             again = load_extension("base62._base62")
         custom = again.Alphabet(CUSTOM)
         for alphabet, text in ((custom, "LZ"), (again.Alphabet.ALTERNATIVE, "lz")):

@@ -340,12 +340,13 @@ def _encode(
     column: object, call: Callable[..., str], alphabet: AnyAlphabet, errors: _Errors, of_result: _Type,
     kind: _Kind = _NUMBERS, width: int = -1,
 ) -> _Array:
-    characters = Alphabet(alphabet)
+    characters, given = Alphabet(alphabet), () if width < 0 else (width,)
     # Raises an exception for an alphabet that is not ASCII.
     base62.encode(0, characters)
     _check_type(of_result, pa.string(), pa.large_string())
     convert_rows = partial(_base62.encode_rows, characters, width)
-    return _Conversion(kind, of_result, errors, width, partial(call, alphabet=characters), convert_rows)(column)
+    convert_one = lambda value: call(value, *given, characters)
+    return _Conversion(kind, of_result, errors, width, convert_one, convert_rows)(column)
 
 
 def _decode(
@@ -353,11 +354,11 @@ def _decode(
     types: _Decoded, width: int = -1,
 ) -> _Array:
     """Decode by the width of _base62.decode_rows, and by the function for one value."""
-    characters = Alphabet(alphabet)
+    characters, given = Alphabet(alphabet), () if width < 0 else (width,)
     _check_type(of_result, *types)
     size, finish = types[of_result]
     convert_rows = partial(_base62.decode_rows, characters, width)
-    convert_one = lambda text: finish(call(text, alphabet=characters))
+    convert_one = lambda text: finish(call(text, *given, characters))
     return _Conversion(_STRINGS, of_result, errors, size, convert_one, convert_rows)(column)
 
 
@@ -408,8 +409,7 @@ def encode_fixed(
     >>> columns.encode_fixed([1337, None], 4).to_pylist()
     ['00LZ', None]
     """
-    places = _places(width)
-    return _encode(column, partial(base62.encode_fixed, width=places), alphabet, errors, type, width=places)
+    return _encode(column, base62.encode_fixed, alphabet, errors, type, width=_places(width))
 
 
 def encode_key(column: object, *, errors: _Errors = "raise", type: _Type = pa.string()) -> _Array:
@@ -458,9 +458,7 @@ def decode_fixed(
     >>> columns.decode_fixed(["00LZ", "LZ"], 4, errors="coerce").to_pylist()
     [1337, None]
     """
-    places = _places(width)
-    call = partial(base62.decode_fixed, width=places)
-    return _decode(column, call, alphabet, errors, type, _DECODED_NUMBERS, places)
+    return _decode(column, base62.decode_fixed, alphabet, errors, type, _DECODED_NUMBERS, _places(width))
 
 
 def decode_uuid(
@@ -490,6 +488,4 @@ def decode_uuid_fixed(
     *, errors: _Errors = "raise", type: _Type = pa.uuid(),
 ) -> _Array:
     """Like decode_uuid, but accept only strings of the width: those that encode_fixed returns. For keys it is 22."""
-    places = _places(width)
-    call = partial(base62.decode_uuid_fixed, width=places)
-    return _decode(column, call, alphabet, errors, type, _DECODED_UUIDS, places)
+    return _decode(column, base62.decode_uuid_fixed, alphabet, errors, type, _DECODED_UUIDS, _places(width))

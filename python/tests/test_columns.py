@@ -204,9 +204,9 @@ class Arrays(ColumnsTestCase):
         numbers = {"LZ": 1337, "z": 61, "-": None, None: None, "~": None}
         values = pa.array([*numbers, *["?"] * 100])
         for rows, bad in (([0, 1, None, 0, 3], None), ([None, 0, 4, 2], 2), ([3, 2, 4] * 100, 1)):
-            indices = pa.array(rows, pa.int16())
+            indices: Any = pa.array(rows, pa.int16())
             column = pa.chunked_array([dictionary(pa.array(["1"])), pa.DictionaryArray.from_arrays(indices, values)])
-            expected = [1, *(None if it is None else [*numbers.values()][it] for it in rows)]
+            expected = [1, *(numbers[it] for it in values.take(indices).to_pylist())]
             self.check(lambda it: columns.decode(it, errors="coerce"), column, expected, pa.int64())
             if bad is None:
                 self.check(columns.decode, column, expected, pa.int64())
@@ -216,11 +216,14 @@ class Arrays(ColumnsTestCase):
                 self.assertEqual(error.row, bad + 1)
 
     def test_empty(self) -> None:
+        """Columns with no row, and with missing ones only."""
         for call, of_type in ((columns.encode, pa.int8()), (columns.encode_uuid, pa.uuid()),
                               (columns.decode, pa.string_view()), (columns.decode_uuid, pa.binary())):
-            empty, of_result = pa.array([], of_type), types_of(call)[0]
+            empty, of_result, nan = pa.array([], of_type), types_of(call)[0], float("nan")
             for column in (empty, [], pa.chunked_array([], of_type), pa.chunked_array([empty]), np.array([]), pd.Series([])):
                 self.check(call, column, [], of_result)
+            for column in ([None], [nan], [pd.NA], pd.Series([None]), pd.Series([nan]), np.array([nan])):
+                self.check(call, column, [None], of_result)
 
     def test_two_gibibytes(self) -> None:
         """The last string of a column is decoded again."""
@@ -318,55 +321,9 @@ class Objects(ColumnsTestCase):
         error = self.raised(base62.InvalidByteError, columns.decode, pa.array([b"LZ", b"\xff"]).view(pa.string()))
         self.assertEqual((error.byte, error.row), (0xFF, 1))
 
-    def test_missing_only(self) -> None:
-        for column in ([None], [float("nan")], [pd.NA], pd.Series([None]), pd.Series([float("nan")]), np.array([np.nan])):
-            self.check(columns.encode, column, [None], pa.string())
-            self.check(columns.decode, column, [None], pa.int64())
-            self.check(columns.decode_uuid, column, [None], pa.uuid())
-
 
 class Recipes(ColumnsTestCase):
     """What README says of pandas, for numbers above 2^53."""
-
-    def check_joins(self, keys: list[Any], column: Any, others: list[Any]) -> None:
-        """Joins of links, whose ids are such a column, with orders of others are those of Python's dicts."""
-        values = lambda series: [None if pd.isna(it) else it for it in series.tolist()]
-        of_order, of_link = ({key: row for row, key in enumerate(it) if key is not None} for it in (others, keys))
-        orders, links = pd.DataFrame({"id": others, "order": range(len(others))}), pd.DataFrame({"link": range(len(keys))})
-        links["id"] = column
-        ids, found = links["id"], links["id"].dropna()
-        both = [(key, order, of_link[key]) for key, order in of_order.items() if key in of_link]
-        left = [(key, of_order.get(key), link) for link, key in enumerate(keys)]
-        outer = left + [(key, order, None) for key, order in of_order.items() if key not in of_link]
-        more = pd.DataFrame({"link": [*range(1, len(keys) + 5, 2)]})
-        for how, expected in (("inner", both), ("left", left), ("outer", outer)):
-            merged, beside = links.merge(orders, how, "id"), more.merge(links, how, "link")
-            self.assertCountEqual(zip(*(values(merged[it]) for it in ("id", "order", "link"))), expected)
-            self.assertEqual(values(beside["id"]), [keys[it] if it < len(keys) else None for it in beside["link"]])
-        sums = pd.concat([links, links]).groupby("id", sort=False)["link"].sum()
-        for series, wanted in (
-            (ids.isin(orders["id"]), [key in of_order for key in keys]),
-            (orders["id"].isin(found), [key in of_link for key in others]),
-            (pd.concat([ids, orders["id"]]), keys + others),
-            (found.map(of_order), [of_order.get(key) for key in of_link]),
-            (pd.concat([found, found]).drop_duplicates(), [*of_link]),
-            *((sums.index, [*of_link]), (sums, [2 * link for link in of_link.values()])),
-        ):
-            self.assertEqual(values(series), wanted)
-
-    def test_joins(self) -> None:
-        random.seed(62)
-        numbers = [(1_700_000_000_000 + row // 8) << 22 | row % 8 for row in range(20_000)]
-        names = [uuid.UUID(int=number << 64) for number in numbers]
-        for keys, encode, recipe in (
-            (numbers, columns.encode, lambda codes: pd.array(columns.decode(codes), "int64[pyarrow]")),
-            ([*map(str, names)], columns.encode_uuid, lambda codes: columns.decode_uuid(codes, type=pa.string())),
-            (names, columns.encode_uuid, lambda codes: columns.decode_uuid(codes).to_pylist()),
-        ):
-            for is_sorted, has_nulls in product((True, False), repeat=2):
-                rows: list[Any] = keys[::2] if is_sorted else random.sample(keys, 10_000)
-                rows = [None if has_nulls and row % 7 == 3 else key for row, key in enumerate(rows)]
-                self.check_joins(rows, recipe(encode(rows)), keys[::3] if is_sorted else random.sample(keys, 7_000))
 
     def test_rounded(self) -> None:
         """Where pandas rounds uint64 and int64, and int64[pyarrow] before dropna()."""
@@ -377,7 +334,7 @@ class Recipes(ColumnsTestCase):
             self.assertEqual(len(narrow.to_frame().merge(column[::-1], on="id")), 2 if is_exact else 4)
             exact = [it.dtype == "int64" for it in (pd.concat([column, narrow]), column + narrow)]
             self.assertEqual({*exact, not narrow.isin(column[:1])[1]}, {is_exact})
-        recipe = lambda it: pd.array(columns.decode(it), "int64[pyarrow]")
+        recipe: Call = lambda it: pd.array(columns.decode(it), "int64[pyarrow]")
         for decode in (columns.decode, recipe):
             frame, more = pd.DataFrame({"id": decode(codes[::2]), "row": [0, 1]}), pd.DataFrame({"row": [0, 1, 2]})
             added, updated = frame[["row"]].copy(), frame.copy()
@@ -441,7 +398,7 @@ def types_of(call: Call) -> list[Any]:
     """The types of its results, of which the first is that without an argument."""
     if "encode" in call.__name__:
         return [pa.string(), pa.large_string()]
-    return [*(UUID_TYPES if "uuid" in call.__name__ else LIMITS)]
+    return [*UUID_TYPES] if "uuid" in call.__name__ else [*LIMITS]
 
 
 OWN: Any = type("Own", (pa.ExtensionType,), {"__arrow_ext_serialize__": lambda self: b""})(pa.binary(16), "own")
@@ -456,8 +413,9 @@ class Arguments(ColumnsTestCase):
                     self.raised(TypeError, call, [value], *alphabet)
                     continue
                 result, of_types = one(value, *given, *alphabet), types_of(call)
-                for named in ({}, *({"type": it} for it in of_types)):
-                    of_type = named.get("type", of_types[0])
+                for of_type in (None, *of_types):
+                    named: dict[str, Any] = {} if of_type is None else {"type": of_type}
+                    of_type = of_type or of_types[0]
                     expected = [UUID_TYPES[of_type](result) if isinstance(result, uuid.UUID) else result, None]
                     for row, errors in ((None, "raise"), (bad, "coerce")):
                         convert = partial(call, **named, errors=errors)
@@ -508,7 +466,7 @@ class Arguments(ColumnsTestCase):
             except (TypeError, ValueError) as error:
                 return type(error)
 
-        is_missing = lambda it: it is None or it is pd.NA or isinstance(it, (float, np.floating)) and it != it
+        is_missing: Call = lambda it: it is None or it is pd.NA or isinstance(it, (float, np.floating)) and it != it
         for call, one, given, *_ in FUNCTIONS:
             for pair in product(NUMBERS + OTHERS, repeat=2):
                 expected = each(lambda it: [None if is_missing(value) else one(value, *given) for value in it], pair)

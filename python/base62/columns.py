@@ -109,8 +109,7 @@ _STRINGS = _Kind(
 )
 _SIXTEEN_BYTES = dict.fromkeys((pa.uuid(), pa.binary(16)), pa.binary(16))
 _UUIDS = _Kind(
-    "uuid, binary or strings",
-    _STRINGS.types | _SIXTEEN_BYTES,
+    "uuid, binary or strings", _STRINGS.types | _SIXTEEN_BYTES,
     [(pa.types.is_integer, "encode takes integers"), *_OTHER_HINTS],
 )
 _NUMBERS = _Kind(
@@ -390,12 +389,7 @@ def encode(
 def encode_uuid(
     column: object, alphabet: AnyAlphabet = Alphabet.STANDARD, *, errors: _Errors = "raise", type: _Type = pa.string()
 ) -> _Array:
-    """Like encode, but encode UUIDs: uuid.UUID objects, 16 bytes, or strings as base62.encode_uuid takes them.
-
-    >>> from base62 import columns
-    >>> columns.encode_uuid(["12345678-1234-5678-1234-567812345678"]).to_pylist()
-    ['YLmNWW2NwaipfRR50HIPA']
-    """
+    """Like encode, but encode UUIDs: uuid.UUID objects, 16 bytes, or strings as base62.encode_uuid takes them."""
     return _encode(column, base62.encode_uuid, alphabet, errors, type, _UUIDS)
 
 
@@ -439,12 +433,7 @@ def decode(
 def decode_canonical(
     column: object, alphabet: AnyAlphabet = Alphabet.STANDARD, *, errors: _Errors = "raise", type: _Type = pa.int64()
 ) -> _Array:
-    """Like decode, but accept only canonical strings: those that encode returns.
-
-    >>> from base62 import columns
-    >>> columns.decode_canonical(["LZ", "00LZ"], errors="coerce").to_pylist()
-    [1337, None]
-    """
+    """Like decode, but accept only canonical strings: those that encode returns."""
     return _decode(column, base62.decode_canonical, alphabet, errors, type, _DECODED_NUMBERS, -2)
 
 

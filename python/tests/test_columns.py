@@ -125,10 +125,6 @@ class Values(ColumnsTestCase):
             if name in OF_ASCII:
                 call = lambda it: columns.encode_fixed(it, int(width), ALPHABETS[name])
                 self.check(call, [None, int(number)], [None, unquote_to_bytes(text).decode()], pa.string())
-        for name, number, width in rows("narrow"):
-            if name in OF_ASCII:
-                call = lambda it: columns.encode_fixed(it, int(width), ALPHABETS[name], errors="coerce")
-                self.check(call, pa.array([int(number).to_bytes(16, "big")], pa.binary(16)), [None])
 
     def test_exact(self) -> None:
         for name, width, text, kind, *digits in rows("exact"):
@@ -137,13 +133,6 @@ class Values(ColumnsTestCase):
                 self.check(lambda it: columns.decode_uuid_fixed(it, *given), [good, None], [uuid.UUID(int=number), None])
                 narrow = number if number < 2**63 else None
                 self.check(lambda it: columns.decode_fixed(it, *given, errors="coerce"), pa.array([good]), [narrow])
-
-    def test_uuid_strings(self) -> None:
-        found = [(unquote_to_bytes(escaped).decode(), name) for escaped, name in rows("form")]
-        expected = [None if name == "none" else base62.encode_uuid(uuid.UUID(name)) for _, name in found]
-        for of_type in TEXT_TYPES[:3]:
-            column = pa.array([text for text, _ in found]).cast(of_type)
-            self.check(lambda it: columns.encode_uuid(it, errors="coerce"), column, expected)
 
 
 class Arrays(ColumnsTestCase):
@@ -517,7 +506,6 @@ class Arguments(ColumnsTestCase):
             (columns.encode, pa.array([5], pa.decimal256(5)), "decimal256.5, 0.", "pass a list of int"),
             (columns.encode, ["1"], "string", "encode_uuid takes UUIDs; cast numbers to uint64"),
             (columns.encode, [bytes(16)], "binary", "cast numbers to uint64 or binary.16."),
-            (columns.encode, pa.array([bytes(8)], pa.binary(8)), "fixed_size_binary.8.", "integers, decimal128 of scale 0"),
             (columns.encode, pd.Series([1.5]).astype("category"), "double", "in pandas as int64.pyarrow."),
             (columns.encode_uuid, [1], "int64", "encode takes integers"),
             (columns.decode, [1337], "int64", "read strings"),

@@ -19,7 +19,7 @@ from typing import Any
 
 import base62
 from base62 import _base62
-from calls import LETTERS, Call
+from calls import LETTERS
 from test_base62 import others_run
 
 SIZES = {"L": 8, "l": 8, "d": 16, "w": 16, "u": 4, "z": 4, "U": 8, "Z": 8}
@@ -151,12 +151,12 @@ class Input:
     def convert(self, value: Any) -> Any:
         named: dict[str, Any] = {"alphabet": self.letters} | ({"width": self.option} if self.option >= 0 else {})
         if not self.encodes:
-            decode: Call = base62.decode_canonical if self.option == -2 else base62.decode
+            decode: Any = base62.decode_canonical if self.option == -2 else base62.decode
             number = base62.decode_fixed(value, **named) if self.option >= 0 else decode(value, **named)
             if number > GREATEST.get(self.new_form, number):
                 raise ValueError
             return str(uuid.UUID(int=number)).encode() if self.new_form in TEXTS else number
-        encode: Call = base62.encode_fixed if self.option >= 0 else base62.encode
+        encode: Any = base62.encode_fixed if self.option >= 0 else base62.encode
         return encode(base62.decode(base62.encode_uuid(value)) if self.form in TEXTS else value, **named).encode()
 
     def expected(self) -> list[Any] | None:

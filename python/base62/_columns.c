@@ -161,9 +161,9 @@ static int set_null(struct conversion *conversion, Py_ssize_t row, enum outcome 
 
 /* Rows */
 
-static enum outcome encode_row(const struct conversion *conversion, Py_ssize_t row, size_t *length) {
+static enum outcome encode_row(struct conversion *conversion, Py_ssize_t row) {
     const struct source *source = &conversion->source;
-    const struct result *result = &conversion->result;
+    struct result *result = &conversion->result;
     base62_number number;
     if (is_null(source, source->offset + row))
         return MISSING;
@@ -172,21 +172,19 @@ static enum outcome encode_row(const struct conversion *conversion, Py_ssize_t r
         return outcome;
     char *place = (char *)result->values.buf + result->used;
     size_t left = (size_t)(result->values.len - result->used), width = (size_t)conversion->width;
-    *length = conversion->width < 0 ? base62_encode_with(conversion->alphabet, number, place, left)
-                                    : base62_encode_fixed_with(conversion->alphabet, number, place, width);
-    return *length == 0 ? INVALID : VALID;
+    size_t length = conversion->width < 0 ? base62_encode_with(conversion->alphabet, number, place, left)
+                                          : base62_encode_fixed_with(conversion->alphabet, number, place, width);
+    result->used += (Py_ssize_t)length;
+    return length == 0 ? INVALID : VALID;
 }
 
 /* Returns the outcome of the row that ends the conversion, if it is before the end. */
 static enum outcome encode_until(struct conversion *conversion, Py_ssize_t end) {
-    struct result *result = &conversion->result;
     for (; conversion->row < end; conversion->row++) {
-        size_t length = 0;
-        enum outcome outcome = encode_row(conversion, conversion->row, &length);
+        enum outcome outcome = encode_row(conversion, conversion->row);
         if (outcome != VALID && !set_null(conversion, conversion->row, outcome))
             return outcome;
-        result->used += (Py_ssize_t)length;
-        store_offset(result, conversion->row + 1);
+        store_offset(&conversion->result, conversion->row + 1);
     }
     return VALID;
 }

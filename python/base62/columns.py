@@ -113,12 +113,11 @@ _STRINGS = _Kind(
         **{same: same for same in (pa.string(), pa.binary(), pa.large_string(), pa.large_binary())},
         **{pa.null(): pa.string(), pa.string_view(): pa.large_string(), pa.binary_view(): pa.large_binary()},
     },
-    [(pa.types.is_fixed_size_binary, "cast it to binary"), (pa.types.is_primitive, "read it as strings"), *_OTHER_HINTS],
+    [(pa.types.is_fixed_size_binary, "cast it to binary"), (pa.types.is_primitive, "read strings"), *_OTHER_HINTS],
 )
 _SIXTEEN_BYTES = dict.fromkeys((pa.uuid(), pa.binary(16)), pa.binary(16))
 _UUIDS = _Kind(
-    "uuid, binary or strings",
-    _STRINGS.types | _SIXTEEN_BYTES,
+    "uuid, binary or strings", _STRINGS.types | _SIXTEEN_BYTES,
     [(pa.types.is_integer, "encode takes integers"), *_OTHER_HINTS],
 )
 _NUMBERS = _Kind(
@@ -209,7 +208,7 @@ def _to_arrow(column: Any, kind: _Kind) -> _Array | None:
     if types == {UUID}:
         return _to_sixteen_bytes(column, pa.uuid())
     are_integers = all(hasattr(it, "__index__") and it is not bool for it in types)
-    if not are_integers and not any(all(issubclass(it, one) for it in types) for one in (str, bytes, Decimal, pa.Scalar)):
+    if not are_integers and not any(all(issubclass(it, of) for it in types) for of in (str, bytes, Decimal, pa.Scalar)):
         return None
     for wide in (None, pa.uint64()):
         try:
@@ -223,15 +222,10 @@ def _to_arrow(column: Any, kind: _Kind) -> _Array | None:
     return _to_sixteen_bytes(column, pa.binary(16)) if kind is _NUMBERS else None
 
 
-def _is_missing(value: object) -> bool:
-    if value is None or type(value).__name__ == "MaskedConstant":
-        return True
-    try:
-        scalar = pa.scalar(value, from_pandas=True)
-    except (pa.ArrowException, OverflowError, UnicodeError):
-        return False
-    # NaN of NumPy's narrow floats is valid for pyarrow.
-    return not scalar.is_valid or pa.types.is_floating(scalar.type) and scalar.as_py() != scalar.as_py()
+def _is_missing(value: Any) -> bool:
+    names = {it.__name__ for it in type(value).__mro__}
+    is_float = not names.isdisjoint(("float", "floating"))
+    return is_float and value != value or not names.isdisjoint(("NoneType", "NAType", "MaskedConstant"))
 
 
 def _value_of(scalar: pa.Scalar) -> Any:
@@ -353,12 +347,13 @@ def _encode(
     column: object, call: Callable[..., str], alphabet: AnyAlphabet, errors: _Errors, of_result: _Type,
     kind: _Kind = _NUMBERS, width: int = -1,
 ) -> _Array:
-    characters = Alphabet(alphabet)
+    characters, given = Alphabet(alphabet), () if width < 0 else (width,)
     # Raises an exception for an alphabet that is not ASCII.
     base62.encode(0, characters)
     _check_type(of_result, pa.string(), pa.large_string())
     convert_rows = partial(_base62.encode_rows, characters, width)
-    return _Conversion(kind, of_result, errors, width, partial(call, alphabet=characters), convert_rows)(column)
+    convert_one = lambda value: call(value, *given, characters)
+    return _Conversion(kind, of_result, errors, width, convert_one, convert_rows)(column)
 
 
 def _decode(
@@ -366,11 +361,11 @@ def _decode(
     types: _Decoded, width: int = -1,
 ) -> _Array:
     """Decode by the width of _base62.decode_rows, and by the function for one value."""
-    characters = Alphabet(alphabet)
+    characters, given = Alphabet(alphabet), () if width < 0 else (width,)
     _check_type(of_result, *types)
     size, finish = types[of_result]
     convert_rows = partial(_base62.decode_rows, characters, width)
-    convert_one = lambda text: finish(call(text, alphabet=characters))
+    convert_one = lambda text: finish(call(text, *given, characters))
     return _Conversion(_STRINGS, of_result, errors, size, convert_one, convert_rows)(column)
 
 
@@ -402,12 +397,7 @@ def encode(
 def encode_uuid(
     column: object, alphabet: AnyAlphabet = Alphabet.STANDARD, *, errors: _Errors = "raise", type: _Type = pa.string()
 ) -> _Array:
-    """Like encode, but encode UUIDs: uuid.UUID objects, 16 bytes, or strings as base62.encode_uuid takes them.
-
-    >>> from base62 import columns
-    >>> columns.encode_uuid(["12345678-1234-5678-1234-567812345678"]).to_pylist()
-    ['YLmNWW2NwaipfRR50HIPA']
-    """
+    """Like encode, but encode UUIDs: uuid.UUID objects, 16 bytes, or strings as base62.encode_uuid takes them."""
     return _encode(column, base62.encode_uuid, alphabet, errors, type, _UUIDS)
 
 
@@ -421,27 +411,21 @@ def encode_fixed(
     >>> columns.encode_fixed([1337, None], 4).to_pylist()
     ['00LZ', None]
     """
-    places = _places(width)
-    return _encode(column, partial(base62.encode_fixed, width=places), alphabet, errors, type, width=places)
+    return _encode(column, base62.encode_fixed, alphabet, errors, type, width=_places(width))
 
 
 def encode_key(column: object, *, errors: _Errors = "raise", type: _Type = pa.string()) -> _Array:
-    """Like encode, but encode to keys: standard strings of 22 characters, which sort in numeric order.
-
-    >>> from base62 import columns
-    >>> columns.encode_key([1337]).to_pylist()
-    ['00000000000000000000LZ']
-    """
+    """Like encode, but encode to keys: standard strings of 22 characters, which sort in numeric order."""
     return encode_fixed(column, 22, errors=errors, type=type)
 
 
 def decode(
     column: object, alphabet: AnyAlphabet = Alphabet.STANDARD, *, errors: _Errors = "raise", type: _Type = pa.int64()
 ) -> _Array:
-    """Decode a column of strings or bytes to int64, or to uint64 or decimal128(38). Leading zeros are ignored.
+    """Decode a column of strings or bytes to int64, uint64 or decimal128(38). Leading zeros are ignored.
 
-    pandas rounds integers above 2**53 to floats, without an error: in a merge of uint64 with int64, and where rows are
-    missing. pandas.array(columns.decode(codes), "int64[pyarrow]") keeps them as they are.
+    pandas makes floats of uint64 in a merge with int64, and of any integers beside missing rows, and so rounds them
+    above 2**53, without an error. pandas.array(columns.decode(codes), "int64[pyarrow]") keeps them as they are.
 
     >>> from base62 import columns
     >>> columns.decode(["LZ", b"00LZ"]).to_pylist()
@@ -457,12 +441,7 @@ def decode(
 def decode_canonical(
     column: object, alphabet: AnyAlphabet = Alphabet.STANDARD, *, errors: _Errors = "raise", type: _Type = pa.int64()
 ) -> _Array:
-    """Like decode, but accept only canonical strings: those that encode returns.
-
-    >>> from base62 import columns
-    >>> columns.decode_canonical(["LZ", "00LZ"], errors="coerce").to_pylist()
-    [1337, None]
-    """
+    """Like decode, but accept only canonical strings: those that encode returns."""
     return _decode(column, base62.decode_canonical, alphabet, errors, type, _DECODED_NUMBERS, -2)
 
 
@@ -476,22 +455,18 @@ def decode_fixed(
     >>> columns.decode_fixed(["00LZ", "LZ"], 4, errors="coerce").to_pylist()
     [1337, None]
     """
-    places = _places(width)
-    call = partial(base62.decode_fixed, width=places)
-    return _decode(column, call, alphabet, errors, type, _DECODED_NUMBERS, places)
+    return _decode(column, base62.decode_fixed, alphabet, errors, type, _DECODED_NUMBERS, _places(width))
 
 
 def decode_uuid(
     column: object, alphabet: AnyAlphabet = Alphabet.STANDARD, *, errors: _Errors = "raise", type: _Type = pa.uuid()
 ) -> _Array:
-    """Like decode, but decode any number below 2**128 to uuid, or to binary(16), string or large_string.
+    """Like decode, but decode any number below 2**128 to uuid, binary(16), string or large_string.
 
     Strings are lowercase with hyphens.
 
     >>> from base62 import columns
     >>> import pyarrow
-    >>> columns.decode_uuid(["YLmNWW2NwaipfRR50HIPA"]).to_pylist()
-    [UUID('12345678-1234-5678-1234-567812345678')]
     >>> columns.decode_uuid(["YLmNWW2NwaipfRR50HIPA"], type=pyarrow.string()).to_pylist()
     ['12345678-1234-5678-1234-567812345678']
     """
@@ -510,6 +485,4 @@ def decode_uuid_fixed(
     *, errors: _Errors = "raise", type: _Type = pa.uuid(),
 ) -> _Array:
     """Like decode_uuid, but accept only strings of the width: those that encode_fixed returns. For keys it is 22."""
-    places = _places(width)
-    call = partial(base62.decode_uuid_fixed, width=places)
-    return _decode(column, call, alphabet, errors, type, _DECODED_UUIDS, places)
+    return _decode(column, base62.decode_uuid_fixed, alphabet, errors, type, _DECODED_UUIDS, _places(width))

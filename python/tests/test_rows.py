@@ -62,7 +62,7 @@ class Input:
 
     def __init__(self, of: random.Random, encodes: bool) -> None:
         self.of, self.encodes, self.letters = of, encodes, of.choice(ALPHABETS)
-        self.form, self.new_form = map(of.choice, FORMS[encodes])
+        self.form, self.new_form = (of.choice(it) for it in FORMS[encodes])
         # A width, or -1. To decode canonical strings it is -2.
         self.option = of.choice([-1, -1 if encodes else -2, 5, 22, of.randrange(40)])
         self.offset, self.count, self.coerces = of.choice([0, of.randrange(20)]), of.randrange(20), of.random() < 0.5
@@ -122,12 +122,11 @@ class Input:
 
     def has_rows(self) -> bool:
         last = self.offset + self.count
-        if self.form not in FORMS[self.encodes][0] or self.new_form not in FORMS[self.encodes][1]:
-            return False
-        if self.offset < 0 or self.count < 0 or last > 2**40:
-            return False
         return (
-            len(self.values) >= (last + (self.form in TEXTS)) * SIZES[self.form]
+            self.form in FORMS[self.encodes][0]
+            and self.new_form in FORMS[self.encodes][1]
+            and self.offset >= 0 and self.count >= 0 and last <= 2**40
+            and len(self.values) >= (last + (self.form in TEXTS)) * SIZES[self.form]
             and (self.validity is None or len(self.validity) * 8 >= last)
             and len(self.new[0]) * 8 >= self.count
             and (self.new_form not in TEXTS or len(self.new[1]) >= (self.count + 1) * SIZES[self.new_form])
@@ -139,13 +138,10 @@ class Input:
         i = self.offset + row
         if self.validity is not None and not self.validity[i // 8] >> i % 8 & 1:
             return None
-        if self.form not in TEXTS:
-            size = SIZES[self.form]
-            given = self.values[i * size : i * size + size].tobytes()
-            if self.form == "w":
-                return int.from_bytes(given, "big")
-            return int.from_bytes(given, sys.byteorder, signed=self.form != "L")
         size = SIZES[self.form]
+        if self.form not in TEXTS:
+            given, order = self.values[i * size : i * size + size].tobytes(), "big" if self.form == "w" else sys.byteorder
+            return int.from_bytes(given, order, signed=self.form in "ld")
         ends = struct.unpack(f"=2{CODES[self.form]}", self.values[i * size : i * size + 2 * size].tobytes())
         if not 0 <= ends[0] <= ends[1] <= len(self.characters):
             raise LookupError
@@ -153,17 +149,15 @@ class Input:
         return text.decode() if self.encodes and self.form in "uU" else text
 
     def convert(self, value: Any) -> Any:
+        named: dict[str, Any] = {"alphabet": self.letters} | ({"width": self.option} if self.option >= 0 else {})
         if not self.encodes:
-            decode = base62.decode_canonical if self.option == -2 else base62.decode
-            number = base62.decode_fixed(value, self.option, self.letters) if self.option >= 0 else decode(value, self.letters)
+            decode: Any = base62.decode_canonical if self.option == -2 else base62.decode
+            number = base62.decode_fixed(value, **named) if self.option >= 0 else decode(value, **named)
             if number > GREATEST.get(self.new_form, number):
                 raise ValueError
             return str(uuid.UUID(int=number)).encode() if self.new_form in TEXTS else number
-        if self.form in TEXTS:
-            value = base62.decode(base62.encode_uuid(value))
-        if self.option < 0:
-            return base62.encode(value, self.letters).encode()
-        return base62.encode_fixed(value, self.option, self.letters).encode()
+        encode: Any = base62.encode_fixed if self.option >= 0 else base62.encode
+        return encode(base62.decode(base62.encode_uuid(value)) if self.form in TEXTS else value, **named).encode()
 
     def expected(self) -> list[Any] | None:
         """The rows of the result before the first invalid one, or None if the array is malformed."""

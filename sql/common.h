@@ -164,16 +164,14 @@ static bool reject(const encoded *given, base62_status status, base62_bad_byte b
 
 static inline bool decode_text(const encoded *given, base62_number *number, call_error *error) {
     base62_bad_byte bad = {0, 0};
-    const base62_alphabet *alphabet = given->alphabet;
     const char *text = given->text;
-    size_t length = given->length;
     base62_status status;
     if (given->flags & FIXED)
-        status = CALL_WITH(alphabet, base62_decode_fixed, text, length, given->width, number, &bad);
+        status = CALL_WITH(given->alphabet, base62_decode_fixed, text, given->length, given->width, number, &bad);
     else if (given->flags & CANONICAL)
-        status = CALL_WITH(alphabet, base62_decode_canonical, text, length, number, &bad);
+        status = CALL_WITH(given->alphabet, base62_decode_canonical, text, given->length, number, &bad);
     else
-        status = CALL_WITH(alphabet, base62_decode, text, length, number, &bad);
+        status = CALL_WITH(given->alphabet, base62_decode, text, given->length, number, &bad);
     return status == BASE62_OK || reject(given, status, bad, NULL, error);
 }
 

@@ -24,7 +24,6 @@ struct chunk {
     int flags;
     idx_t row, rows;
     idx_t argument_count;
-    /* Whether any argument may be null in some row. */
     bool has_nulls;
     struct column arguments[3], results;
     duckdb_vector output;

@@ -229,11 +229,8 @@ static inline bool decode(struct chunk *chunk) {
         return false;
     if (chunk->results.type == DUCKDB_TYPE_BIGINT)
         decoded = decode_int64(&given, "base62_decode_uhugeint", (int64_t *)chunk->results.data + chunk->row, &error);
-    else {
-        decoded = decode_text(&given, &number, &error);
-        if (decoded)
-            set_number(chunk, number);
-    }
+    else if ((decoded = decode_text(&given, &number, &error)))
+        set_number(chunk, number);
     if (!decoded && given.flags & TRY)
         set_null(chunk);
     return decoded || given.flags & TRY || set_error(chunk, &error);

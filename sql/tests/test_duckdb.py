@@ -118,15 +118,11 @@ class Values(Case):
             f"base62_try_decode{call} IS NOT DISTINCT FROM TRY_CAST(n AS BIGINT)",
         ]
 
-    @staticmethod
-    def nulls(call: str) -> list[str]:
-        """That those that try return null: the form, and the arguments."""
-        return [f"base62_try_decode{kind}{call} IS NULL" for kind in KINDS]
-
     def test_zeros(self) -> None:
         table = [(letters, s, n, UUID(int=int(n))) for letters, s, n in of_ascii("zeros")]
         calls = ["base62_is_valid(s, letters)", "NOT base62_is_canonical(s, letters)"]
-        calls += self.decodings("") + self.decodings("_fixed") + self.nulls("_canonical(s, letters)")
+        calls += self.decodings("") + self.decodings("_fixed")
+        calls += [f"base62_try_decode{kind}_canonical(s, letters) IS NULL" for kind in KINDS]
         self.check_rows("letters, s, n, u", table, calls)
         for name in ("decode_canonical", "decode_uhugeint_canonical", "decode_uuid_canonical"):
             self.check_errors({f"base62_{name}({literal(s)}, {literal(letters)})": message(["zero"], s.encode())
@@ -136,7 +132,7 @@ class Values(Case):
         """Strings that are not UTF-8, or contain a null byte, among them."""
         table = [(letters, unquote_to_bytes(field), error) for letters, field, *error in of_ascii("refused")]
         calls = ["NOT base62_is_valid(s, letters)", "NOT base62_is_canonical(s, letters)"]
-        calls += self.nulls("(s, letters)") + self.nulls("_canonical(s, letters)")
+        calls += [f"base62_try_decode{kind}{form}(s, letters) IS NULL" for kind in KINDS for form in ("", "_canonical")]
         self.check_rows("letters, s", [it[:2] for it in table], calls)
         # The functions take turns, since each error takes DuckDB a millisecond.
         names = itertools.cycle(f"decode{kind}{form}" for kind in KINDS for form in ("", "_canonical"))

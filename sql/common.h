@@ -146,43 +146,44 @@ static inline bool encode_width(const base62_alphabet *alphabet, base62_number n
 }
 
 /* Stores why a string is rejected, unless the function has TRY. A number of 2^63 or more has a function that takes it:
- * wider, with the form behind its name. Otherwise wider is null. Returns false. It is kept out of loops over rows. */
+ * wider, with the form behind its name. Otherwise wider is null. This function is kept out of loops over rows. */
 #ifdef __GNUC__
 __attribute__((__cold__, __noinline__))
 #endif
-static bool reject(const encoded *given, base62_status status, base62_bad_byte bad, const char *wider,
+static void reject(const encoded *given, base62_status status, base62_bad_byte bad, const char *wider,
                    call_error *error) {
     const char *form = given->flags & FIXED ? "_fixed" : given->flags & CANONICAL ? "_canonical" : "";
     if (given->flags & TRY)
-        return false;
+        return;
     if (wider == NULL)
         fail_with_status(error, status, bad);
     else
         fail_with(error, OUT_OF_RANGE, "the number is 2^63 or more; use %s%s", wider, form);
-    return show(error, "'", given->text, given->length);
+    show(error, "'", given->text, given->length);
 }
 
 static inline bool decode_text(const encoded *given, base62_number *number, call_error *error) {
     base62_bad_byte bad = {0, 0};
-    const base62_alphabet *alphabet = given->alphabet;
     const char *text = given->text;
-    size_t length = given->length;
     base62_status status;
     if (given->flags & FIXED)
-        status = CALL_WITH(alphabet, base62_decode_fixed, text, length, given->width, number, &bad);
+        status = CALL_WITH(given->alphabet, base62_decode_fixed, text, given->length, given->width, number, &bad);
     else if (given->flags & CANONICAL)
-        status = CALL_WITH(alphabet, base62_decode_canonical, text, length, number, &bad);
+        status = CALL_WITH(given->alphabet, base62_decode_canonical, text, given->length, number, &bad);
     else
-        status = CALL_WITH(alphabet, base62_decode, text, length, number, &bad);
-    return status == BASE62_OK || reject(given, status, bad, NULL, error);
+        status = CALL_WITH(given->alphabet, base62_decode, text, given->length, number, &bad);
+    if (status != BASE62_OK)
+        reject(given, status, bad, NULL, error);
+    return status == BASE62_OK;
 }
 
 /* Decodes a number below 2^63. */
 static inline bool decode_int64(const encoded *given, const char *wider, int64_t *value, call_error *error) {
     base62_number number;
-    base62_bad_byte none = {0, 0};
-    return decode_text(given, &number, error) &&
-           (int64_of_number(number, value) || reject(given, BASE62_OVERFLOW, none, wider, error));
+    bool decoded = decode_text(given, &number, error), fits = decoded && int64_of_number(number, value);
+    if (decoded && !fits)
+        reject(given, BASE62_OVERFLOW, (base62_bad_byte){0, 0}, wider, error);
+    return fits;
 }
 
 /* Finds the numbers whose strings of the width begin with the prefix. If there are none, only sets *empty. */

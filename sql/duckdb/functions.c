@@ -24,7 +24,6 @@ struct chunk {
     int flags;
     idx_t row, rows;
     idx_t argument_count;
-    /* Whether any argument may be null in some row. */
     bool has_nulls;
     struct column arguments[3], results;
     duckdb_vector output;
@@ -230,11 +229,8 @@ static inline bool decode(struct chunk *chunk) {
         return false;
     if (chunk->results.type == DUCKDB_TYPE_BIGINT)
         decoded = decode_int64(&given, "base62_decode_uhugeint", (int64_t *)chunk->results.data + chunk->row, &error);
-    else {
-        decoded = decode_text(&given, &number, &error);
-        if (decoded)
-            set_number(chunk, number);
-    }
+    else if ((decoded = decode_text(&given, &number, &error)))
+        set_number(chunk, number);
     if (!decoded && given.flags & TRY)
         set_null(chunk);
     return decoded || given.flags & TRY || set_error(chunk, &error);

@@ -183,11 +183,10 @@ CREATE FUNCTION base62_is_valid(encoded text, alphabet text) RETURNS boolean
 COMMENT ON FUNCTION base62_is_valid(text, text) IS 'whether base62_decode_uuid accepts a string in a custom alphabet';
 CREATE FUNCTION base62_is_canonical(encoded text) RETURNS boolean
     AS 'MODULE_PATHNAME', 'pg_base62_is_canonical' LANGUAGE c IMMUTABLE STRICT PARALLEL SAFE;
-COMMENT ON FUNCTION base62_is_canonical(text) IS 'whether base62_decode_uuid_canonical accepts a string';
+COMMENT ON FUNCTION base62_is_canonical(text) IS 'whether a base62 string is canonical';
 CREATE FUNCTION base62_is_canonical(encoded text, alphabet text) RETURNS boolean
     AS 'MODULE_PATHNAME', 'pg_base62_is_canonical' LANGUAGE c IMMUTABLE STRICT PARALLEL SAFE;
-COMMENT ON FUNCTION base62_is_canonical(text, text)
-    IS 'whether base62_decode_uuid_canonical accepts a string in a custom alphabet';
+COMMENT ON FUNCTION base62_is_canonical(text, text) IS 'whether a string in a custom alphabet is canonical';
 
 -- The strings with a prefix are those from the first to the last, and both are null if there is none. If a prefix were
 -- text, a column under the order of a language would silently be searched in that order.
@@ -208,36 +207,32 @@ COMMENT ON FUNCTION base62_last_string(base62_key, integer) IS 'the last string 
 -- there is none. Those of bigint end at 2^63 - 1.
 CREATE FUNCTION base62_first_number(prefix text, width integer) RETURNS bigint
     AS 'MODULE_PATHNAME', 'pg_base62_first_int8' LANGUAGE c IMMUTABLE STRICT PARALLEL SAFE;
-COMMENT ON FUNCTION base62_first_number(text, integer)
-    IS 'the first number below 2^63 whose base62 string of a width begins with a prefix';
+COMMENT ON FUNCTION base62_first_number(text, integer) IS 'the first bigint whose string of a width has a prefix';
 CREATE FUNCTION base62_first_number(prefix text, width integer, alphabet text) RETURNS bigint
     AS 'MODULE_PATHNAME', 'pg_base62_first_int8' LANGUAGE c IMMUTABLE STRICT PARALLEL SAFE;
 COMMENT ON FUNCTION base62_first_number(text, integer, text)
-    IS 'the first number below 2^63 whose string of a width in a custom alphabet begins with a prefix';
+    IS 'the first bigint whose string of a width in a custom alphabet has a prefix';
 CREATE FUNCTION base62_last_number(prefix text, width integer) RETURNS bigint
     AS 'MODULE_PATHNAME', 'pg_base62_last_int8' LANGUAGE c IMMUTABLE STRICT PARALLEL SAFE;
-COMMENT ON FUNCTION base62_last_number(text, integer)
-    IS 'the last number below 2^63 whose base62 string of a width begins with a prefix';
+COMMENT ON FUNCTION base62_last_number(text, integer) IS 'the last bigint whose string of a width has a prefix';
 CREATE FUNCTION base62_last_number(prefix text, width integer, alphabet text) RETURNS bigint
     AS 'MODULE_PATHNAME', 'pg_base62_last_int8' LANGUAGE c IMMUTABLE STRICT PARALLEL SAFE;
 COMMENT ON FUNCTION base62_last_number(text, integer, text)
-    IS 'the last number below 2^63 whose string of a width in a custom alphabet begins with a prefix';
+    IS 'the last bigint whose string of a width in a custom alphabet has a prefix';
 CREATE FUNCTION base62_first_numeric(prefix text, width integer) RETURNS numeric
     AS 'MODULE_PATHNAME', 'pg_base62_first_numeric' LANGUAGE c IMMUTABLE STRICT PARALLEL SAFE;
-COMMENT ON FUNCTION base62_first_numeric(text, integer)
-    IS 'the first number whose base62 string of a width begins with a prefix';
+COMMENT ON FUNCTION base62_first_numeric(text, integer) IS 'the first number whose string of a width has a prefix';
 CREATE FUNCTION base62_first_numeric(prefix text, width integer, alphabet text) RETURNS numeric
     AS 'MODULE_PATHNAME', 'pg_base62_first_numeric' LANGUAGE c IMMUTABLE STRICT PARALLEL SAFE;
 COMMENT ON FUNCTION base62_first_numeric(text, integer, text)
-    IS 'the first number whose string of a width in a custom alphabet begins with a prefix';
+    IS 'the first number whose string of a width in a custom alphabet has a prefix';
 CREATE FUNCTION base62_last_numeric(prefix text, width integer) RETURNS numeric
     AS 'MODULE_PATHNAME', 'pg_base62_last_numeric' LANGUAGE c IMMUTABLE STRICT PARALLEL SAFE;
-COMMENT ON FUNCTION base62_last_numeric(text, integer)
-    IS 'the last number whose base62 string of a width begins with a prefix';
+COMMENT ON FUNCTION base62_last_numeric(text, integer) IS 'the last number whose string of a width has a prefix';
 CREATE FUNCTION base62_last_numeric(prefix text, width integer, alphabet text) RETURNS numeric
     AS 'MODULE_PATHNAME', 'pg_base62_last_numeric' LANGUAGE c IMMUTABLE STRICT PARALLEL SAFE;
 COMMENT ON FUNCTION base62_last_numeric(text, integer, text)
-    IS 'the last number whose string of a width in a custom alphabet begins with a prefix';
+    IS 'the last number whose string of a width in a custom alphabet has a prefix';
 
 CREATE FUNCTION base62_version() RETURNS text
     AS 'MODULE_PATHNAME', 'pg_base62_version' LANGUAGE c STABLE STRICT PARALLEL SAFE;

@@ -273,7 +273,6 @@ SQL_FUNCTION(pg_base62_encode_numeric, encode(fcinfo, get_numeric(fcinfo, 0)))
 
 SQL_FUNCTION(pg_base62_encode_int8_key, encode_fixed(fcinfo, get_int8(fcinfo, 0)))
 SQL_FUNCTION(pg_base62_encode_uuid_key, encode_fixed(fcinfo, get_uuid(fcinfo, 0)))
-
 SQL_FUNCTION(pg_base62_encode_int8_fixed, encode_fixed(fcinfo, get_int8(fcinfo, 0)))
 SQL_FUNCTION(pg_base62_encode_uuid_fixed, encode_fixed(fcinfo, get_uuid(fcinfo, 0)))
 SQL_FUNCTION(pg_base62_encode_numeric_fixed, encode_fixed(fcinfo, get_numeric(fcinfo, 0)))
@@ -287,7 +286,6 @@ SQL_FUNCTION(pg_base62_decode_numeric_canonical, decode_numeric(fcinfo, CANONICA
 SQL_FUNCTION(pg_base62_decode_int8_fixed, decode_int8(fcinfo, FIXED))
 SQL_FUNCTION(pg_base62_decode_uuid_fixed, decode_uuid(fcinfo, FIXED))
 SQL_FUNCTION(pg_base62_decode_numeric_fixed, decode_numeric(fcinfo, FIXED))
-
 SQL_FUNCTION(pg_base62_try_decode_int8, decode_int8(fcinfo, TRY))
 SQL_FUNCTION(pg_base62_try_decode_uuid, decode_uuid(fcinfo, TRY))
 SQL_FUNCTION(pg_base62_try_decode_numeric, decode_numeric(fcinfo, TRY))

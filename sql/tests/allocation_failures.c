@@ -73,7 +73,6 @@ static const struct {
     {"SELECT base62_decode_canonical('0' || t) FROM stored", NULL},
     {"SELECT base62_decode_fixed(t, 2) || base62_decode_uuid_fixed(t, 2) FROM stored", "1337" UUID},
     {"SELECT hex(base62_decode_blob_fixed('zeQ', 3, own)) FROM stored", "00000000000000000000000000000539"},
-    {"SELECT base62_decode_fixed(t, 3) FROM stored", NULL},
     {"SELECT base62_try_decode_fixed(t, 2) || base62_try_decode_uuid_canonical(t) FROM stored", "1337" UUID},
     {"SELECT coalesce(base62_try_decode_fixed(t, 3), base62_try_decode_canonical('0' || t), '') FROM stored", ""},
     {"SELECT base62_is_valid(t) FROM stored", "1"},

@@ -88,6 +88,8 @@ class Values(Case):
             else:
                 self.assertEqual(self.result("decode_uuid", self.result("encode_uuid", given)), uuid)
                 self.assertEqual(self.result("encode_uuid_key", given), self.result("encode_uuid_key", UUID(uuid).bytes))
+        for name in ("base62_decode_uuid", "base62_decode_blob"):
+            self.assertEqual(self.db.execute(f"SELECT {name}('1') < {name}('2')").fetchone(), (1,))
 
     def test_zeros(self) -> None:
         for letters, encoded, digits in of_ascii("zeros"):

@@ -49,8 +49,8 @@ SELECT base62_encode(61, a) FROM unnest(ARRAY[own(), left(own(), 61) || '-']) a;
 SELECT call, result_of(call) FROM (VALUES
         ('number', ARRAY[$$encode(-1, '01')$$, $$encode_fixed(-1, 0, '01')$$, $$encode_numeric(-0.5, '01')$$,
             $$encode_numeric_fixed('-Infinity', 0)$$]),
-        ('width', ARRAY[$$encode_fixed(62, 0, '01')$$, $$decode_fixed('-', 0, '01')$$, $$try_decode_fixed('-', 0, '01')$$,
-            $$first_number('-', 0, '01')$$, $$last_number('-', 1001)$$, $$first_numeric('-', -1)$$,
+        ('width', ARRAY[$$encode_fixed(62, 0, '01')$$, $$decode_fixed('-', 0, '01')$$, $$first_number('-', 0, '01')$$,
+            $$try_decode_fixed('-', 0, '01')$$, $$last_number('-', 1001)$$, $$first_numeric('-', -1)$$,
             $$last_string('-', 0)$$])) raised (error, calls),
     unnest(calls) call
     WHERE (result_of(call) LIKE '_____ the ' || error || ' is %') IS NOT TRUE;

@@ -45,13 +45,11 @@ const STATUSES = [
 const TWO_TO_32 = 2 ** 32;
 const TWO_TO_64 = 2n ** 64n;
 const TWO_TO_128 = 2n ** 128n;
-const URN = 'urn:uuid:';
-const HYPHEN = 45;
 
 // The addresses of the arguments and results of a call, above the stack and the data of the WebAssembly. A number has
-// two halves of 64 bits, the higher first, each little-endian: byte i of a UUID is at i ^ 7. A range is its least and
-// its greatest number. At BAD_BYTE are an index, of four bytes, and then the byte. An alphabet has ALPHABET_LENGTH
-// characters, and the library's form of it has ALPHABET_SIZE bytes. At UUID are the bytes of one in their order.
+// two halves of 64 bits, the higher first, each little-endian. A range is its least and its greatest number. At BAD_BYTE
+// are an index, of four bytes, and then the byte. An alphabet has ALPHABET_LENGTH characters, and the library's form of
+// it has ALPHABET_SIZE bytes.
 const NUMBER = 0x18000;
 const GREATEST = NUMBER + 16;
 const BAD_BYTE = GREATEST + 16;
@@ -89,18 +87,6 @@ const { set: setBytes } = typedArray;
 // V8 has many internal forms of strings, and finds a property slowly once it was read from five of them. So these
 // methods are found once, and common paths read the length of '' + text, which V8 knows to be a string.
 const [charCodeAt, codePointAt] = [''.charCodeAt, ''.codePointAt].map((it) => it.call.bind(it));
-
-// Returns the value of a hexadecimal digit, or -1. The bit 32 makes a letter lowercase.
-function digitOf(code) {
-  if (code >= 48 && code <= 57) return code - 48;
-  return (code | 32) >= 97 && (code | 32) <= 102 ? (code | 32) - 87 : -1;
-}
-
-// Returns what is in the braces of a UUID or after its urn:uuid:, if it has either.
-function unframed(uuid) {
-  if (uuid.startsWith('{') && uuid.endsWith('}')) return uuid.slice(1, -1);
-  return uuid.slice(0, URN.length).toLowerCase() === URN ? uuid.slice(URN.length) : uuid;
-}
 
 // V8 compares by === slowly once types have differed. So both are strings here, and objects in writeAlphabet.
 const isUint8Array = (value) => (typeOf.call(value) ?? '') === 'Uint8Array';
@@ -196,7 +182,9 @@ function instantiate(module) {
   return { library, enter, leave, bytes, words, halves };
 }
 
-function createArguments({ bytes, words, halves }) {
+function createArguments({ library, bytes, words, halves, enter, leave }) {
+  const { base62_from_uuid, base62_uuid_from_string } = library;
+
   function writeNumber(number) {
     if (typeof number === 'bigint') return writeBigInt(number);
     if (typeof number !== 'number') throw notANumber(number);
@@ -214,24 +202,22 @@ function createArguments({ bytes, words, halves }) {
   }
 
   function writeUuid(uuid) {
-    if (typeof uuid === 'string') return writeUuidString(uuid);
-    if (!isUint8Array(uuid)) throw notAUuid(uuid);
-    if (lengthOf.call(uuid) !== UUID_LENGTH) throw invalidUuid();
-    for (let i = 0; i < UUID_LENGTH; i++) bytes[NUMBER + (i ^ 7)] = uuid[i];
+    if (typeof uuid === 'string') writeUuidString(uuid);
+    else writeUuidBytes(uuid);
+    enter();
+    leave(base62_from_uuid(NUMBER, UUID));
   }
 
-  // Without a regular expression: one may be compiled in any call, which on an exhausted stack is a SyntaxError.
   function writeUuidString(string) {
-    const digits = ('' + string).length === 36 ? string : unframed(string);
-    const { length } = '' + digits;
-    if (length !== 32 && length !== 36) throw invalidUuid();
-    for (let i = 0, at = 0; i < UUID_LENGTH; i++, at += 2) {
-      const hasHyphen = length === 36 && (i === 4 || i === 6 || i === 8 || i === 10);
-      if (hasHyphen && charCodeAt(digits, at++) !== HYPHEN) throw invalidUuid();
-      const byte = (digitOf(charCodeAt(digits, at)) << 4) | digitOf(charCodeAt(digits, at + 1));
-      if (byte < 0) throw invalidUuid();
-      bytes[NUMBER + (i ^ 7)] = byte;
-    }
+    const size = writeText(string);
+    enter();
+    if (leave(base62_uuid_from_string(TEXT, size, UUID)) !== OK) throw invalidUuid();
+  }
+
+  function writeUuidBytes(uuid) {
+    if (!isUint8Array(uuid)) throw notAUuid(uuid);
+    if (lengthOf.call(uuid) !== UUID_LENGTH) throw invalidUuid();
+    setBytes.call(bytes, uuid, UUID);
   }
 
   // Writes the first piece of a text. Returns its length. If it is less than PIECE_LENGTH, nothing follows. Nearly all

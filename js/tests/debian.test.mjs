@@ -1,8 +1,9 @@
 // Tests the examples in JavaScript, and the package as Debian's Express and jsdom use it, if they are installed.
 import assert from 'node:assert/strict';
+import { execFileSync } from 'node:child_process';
 import { randomBytes } from 'node:crypto';
 import { once } from 'node:events';
-import { cpSync, existsSync, mkdirSync, mkdtempSync, readFileSync, rmSync, symlinkSync } from 'node:fs';
+import { cpSync, existsSync, mkdirSync, mkdtempSync, readFileSync, rmSync, symlinkSync, writeFileSync } from 'node:fs';
 import { createRequire } from 'node:module';
 import { tmpdir } from 'node:os';
 import { join } from 'node:path';
@@ -84,6 +85,29 @@ test('routes of Express accept the strings that they return', needsExpress, asyn
   } finally {
     server.close();
   }
+});
+
+const needsPostgresql = { skip: !existsSync('/usr/bin/pg_virtualenv') && 'install postgresql and postgresql-common' };
+
+test('PostgreSQL finds the ids of a prefix by the index, as README says', needsPostgresql, async () => {
+  const readme = readFileSync(join(js, 'README.md'), 'utf8');
+  const [, code] = /```js fourth.mjs\n([^]*?)```/.exec(readme);
+  const [, query] = /pool\.query\(\n *`(.*?)`/s.exec(readme);
+  writeFileSync(join(folder, 'ranges.mjs'), `${code}\nexport { rangesOf };`);
+  const ranges = (await example('ranges.mjs')).rangesOf('LZ');
+  const bounds = [0, 1].map((i) => `'{${ranges.map((range) => range[i])}}'`).join();
+  const input = `CREATE TABLE link (id bigint PRIMARY KEY);
+    INSERT INTO link SELECT generate_series(0, 100000);
+    ANALYZE link;
+    PREPARE found AS ${query};
+    EXECUTE found(${bounds});
+    EXPLAIN EXECUTE found(${bounds});`;
+  // Several tests may run servers at a time: each takes another port, and none that a client is given.
+  const server = ['-t', '-c', `--port=${10_000 + (process.pid % 20_000)}`];
+  const printed = execFileSync('pg_virtualenv', [...server, 'psql', '-XAtq'], { input, encoding: 'utf8' });
+  const ids = [...Array(100_001).keys()].filter((id) => encode(id).startsWith('LZ'));
+  assert.deepEqual(printed.match(/^\d+$/gm).map(Number).sort((a, b) => a - b), ids);
+  assert.match(printed, /Index Only Scan using link_pkey/);
 });
 
 // Most tests of front ends run in it.

@@ -191,7 +191,7 @@ test('calls go on after the stack has run out in one', () => {
 // The functions of the runtime that calls call. Each may throw because the stack is exhausted.
 const builtins = [
   [Object.getPrototypeOf(Uint8Array.prototype), 'set', 'slice'],
-  [String.prototype, 'charCodeAt', 'endsWith', 'lastIndexOf', 'padStart', 'slice', 'startsWith', 'toLowerCase'],
+  [String.prototype, 'charCodeAt', 'lastIndexOf', 'padStart', 'slice'],
   [WeakMap.prototype, 'get', 'set'],
   [Function.prototype, 'call'],
   [Math, 'max', 'min'],

@@ -28,6 +28,7 @@ HEAD = r"""
 #   refused   ALPHABET  TEXT  FAULT            both decodings reject the text with this error
 #   fixed     ALPHABET  NUMBER  WIDTH  TEXT    the text of WIDTH letters, which decoding accepts
 #   narrow    ALPHABET  NUMBER  WIDTH          the number has no text of WIDTH letters
+#   exact     ALPHABET  WIDTH  TEXT  RESULT    what decoding returns that accepts only texts of WIDTH letters
 #   range     ALPHABET  WIDTH  PREFIX  RANGE   the numbers whose texts of WIDTH letters begin with the prefix
 #   uuid      NUMBER  UUID  TEXT               the number as a UUID, and its canonical standard text
 #   form      STRING  UUID | none              a string that stands for a UUID, in lowercase with hyphens, or for none
@@ -35,7 +36,8 @@ HEAD = r"""
 #
 # FAULT  empty | overflow | byte BYTE INDEX
 #        in messages also: zero (a leading one) | narrow (a buffer is too small) | none (no text has the prefix) |
-#        repeated BYTE INDEX (in an alphabet)
+#        length (is not the width) | uuid (a string is none) | repeated BYTE INDEX (in an alphabet)
+# RESULT number NUMBER | length | FAULT
 # RANGE  numbers LEAST GREATEST | none | byte BYTE INDEX
 #
 # tests/test_coverage.py checks what occurs. Alphabets are of ASCII and not, and ascend and do not. Over each one there
@@ -131,6 +133,11 @@ def decoded_canonical(letters: bytes, text: bytes) -> Result:
     return ("zero",) if answer[0] == "number" and needless else answer
 
 
+def decoded_fixed(letters: bytes, width: int, text: bytes) -> Result:
+    """The same, where another length than the width is a fault, before all others."""
+    return decoded(letters, text) if len(text) == width else ("length",)
+
+
 def range_of(letters: bytes, width: int, prefix: bytes) -> Result:
     """The least and the greatest number whose text of the width begins with the prefix."""
     if named := first_bad(letters, prefix):
@@ -157,6 +164,8 @@ def message(fault: Result) -> str:
         "zero": "Encoded input has a leading zero",
         "narrow": "Buffer too small to encode the number",
         "none": "No string of this width begins with the prefix",
+        "length": "Encoded input does not have the given width",
+        "uuid": "Not a UUID",
         "repeated": "Alphabet repeats the byte b'{}' at index {}",
     }
     word, *named = fault
@@ -226,6 +235,33 @@ KNOWN_FIXED: list[tuple[int, int, bytes | None]] = [
     (LARGEST, 22, b"7n42DGM5Tflk9n8mt7Fhc7"),
     (LARGEST, 23, b"07n42DGM5Tflk9n8mt7Fhc7"),
     (1337, 100, b"0" * 98 + b"LZ"),
+]
+KNOWN_EXACT: list[tuple[int, bytes, Result]] = [
+    (0, b"", ("empty",)),
+    (0, b"0", ("length",)),
+    (1, b"", ("length",)),
+    (1, b"0", ("number", 0)),
+    (1, b"LZ", ("length",)),
+    (2, b"LZ", ("number", 1337)),
+    (3, b"LZ", ("length",)),
+    (2, b"0LZ", ("length",)),
+    (3, b"0LZ", ("number", 1337)),
+    (3, b"LZ-", ("byte", 45, 2)),
+    (4, b"LZ-", ("length",)),
+    (22, b"!" * 21, ("length",)),
+    (22, b"!" + b"0" * 21, ("byte", 33, 0)),
+    (22, b"0" * 20 + b"LZ", ("number", 1337)),
+    (22, b"0" * 21 + b"LZ", ("length",)),
+    (22, b"7n42DGM5Tflk9n8mt7Fhc7", ("number", LARGEST)),
+    (22, b"7n42DGM5Tflk9n8mt7Fhc8", ("overflow",)),
+    (22, b"z" * 23, ("length",)),
+    (23, b"z" * 23, ("overflow",)),
+    (23, b"07n42DGM5Tflk9n8mt7Fhc7", ("number", LARGEST)),
+    (100, b"0" * 98 + b"LZ", ("number", 1337)),
+    # Modulo 256 or 2^32 these widths are the length.
+    (258, b"LZ", ("length",)),
+    (2**32 + 2, b"LZ", ("length",)),
+    (2**64 - 1, b"LZ", ("length",)),
 ]
 LEAST_OF_7 = 305719766687397141968255334843504656384
 KNOWN_RANGES: list[tuple[int, bytes, Result]] = [
@@ -331,6 +367,8 @@ KNOWN_MESSAGES: list[tuple[str, Result]] = [
     ("Buffer too small to encode the number", ("narrow",)),
     ("Encoded input has a leading zero", ("zero",)),
     ("No string of this width begins with the prefix", ("none",)),
+    ("Encoded input does not have the given width", ("length",)),
+    ("Not a UUID", ("uuid",)),
 ]
 
 
@@ -345,6 +383,8 @@ def check_model() -> None:
         assert decoded(STANDARD, text) == decoded_canonical(STANDARD, text) == fault, text
     for number, width, filled in KNOWN_FIXED:
         assert fixed_text(STANDARD, number, width) == filled, (number, width)
+    for width, text, answer in KNOWN_EXACT:
+        assert decoded_fixed(STANDARD, width, text) == answer, (width, text)
     for width, prefix, answer in KNOWN_RANGES:
         assert range_of(STANDARD, width, prefix) == answer, (width, prefix)
     assert range_of(ALTERNATIVE, 2, b"l") == ("numbers", 1302, 1363)
@@ -497,6 +537,18 @@ def rows_of_widths(alphabet: str, step: int) -> Iterator[Row]:
             yield "fixed", alphabet, number, width, text
 
 
+def rows_of_exact(alphabet: str, step: int) -> Iterator[Row]:
+    """Texts at their own length, and at widths beside it."""
+    letters = LETTERS[alphabet]
+    pairs = [(width, text) for width, text, _ in KNOWN_EXACT]
+    for text in [text_of(STANDARD, number) for number in some_numbers(2 * step)] + [*refused_texts()][:: 2 * step]:
+        padded = text.rjust(KEY, b"0")
+        pairs += [(len(text) + beside, text) for beside in (-1, 0, 1)] + [(KEY, text), (len(padded), padded)]
+    for width, standard in dict.fromkeys(pairs):
+        text = over(letters, standard)
+        yield "exact", alphabet, width, text, *decoded_fixed(letters, width, text)
+
+
 def rows_of_ranges(alphabet: str, step: int) -> Iterator[Row]:
     letters = LETTERS[alphabet]
     pairs = [(width, prefix) for width, prefix, _ in KNOWN_RANGES]
@@ -523,6 +575,7 @@ def rows() -> Iterator[Row]:
         step = {"standard": 1, "alternative": 2}.get(alphabet, 7)
         yield from rows_of_texts(alphabet, step)
         yield from rows_of_widths(alphabet, 7 * step)
+        yield from rows_of_exact(alphabet, 7 * step)
         yield from rows_of_ranges(alphabet, 2 * step)
     for number in [number for number, *_ in KNOWN_UUIDS] + numbers()[::8]:
         yield "uuid", number, str(uuid.UUID(int=number)), text_of(STANDARD, number)

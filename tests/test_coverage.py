@@ -12,7 +12,7 @@ FILE = Path(__file__).with_name("values.tsv")
 LINES = FILE.read_text("ascii").splitlines()
 ROWS = [line.split("\t") for line in LINES if not line.startswith("#")]
 LARGEST = 2**128 - 1
-FAULTS = {"empty", "overflow", "byte", "zero", "narrow", "none", "repeated"}
+FAULTS = {"empty", "overflow", "byte", "zero", "narrow", "none", "length", "uuid", "repeated"}
 
 
 def rows(kind: str, *first: str) -> list[list[str]]:
@@ -77,6 +77,9 @@ class Coverage(unittest.TestCase):
             self.has([(width, zeros) for width in range(2, 23) for zeros in (0, 1)], fixed, name)
             narrow = [(int(width), length.get(number, 0) - int(width)) for number, width in rows("narrow", name)]
             self.has([(width, 1) for width in range(22)], narrow, name)
+            exact = [(int(width), len(unquote_to_bytes(text)), word) for width, text, word, *_ in rows("exact", name)]
+            self.has([(length + more, length) for length in range(1, 23) for more in (-1, 0, 1)], [it[:2] for it in exact], name)
+            self.has(["number", "length", "byte", "overflow"], [word for width, _, word in exact if width == 22], name)
             ranges = rows("range", name)
             self.has(["numbers", "none", "byte"], [kind for _, _, kind, *_ in ranges], name)
             self.has(map(str, [0, 1, 11, 21, 22, 23, 2**32 - 1]), [width for width, *_ in ranges], name)

@@ -16,7 +16,7 @@ encode them.
 >>> frame = dask.dataframe.read_csv(f"{folder.name}/keys-*.csv", dtype={"key": "string"})
 >>> frame.npartitions, len(frame)
 (4, 2000)
->>> int(frame["key"].map_partitions(decode_partition, meta=("id", "uint64")).sum().compute()), sum(range(2_000))
+>>> int(frame["key"].map_partitions(decode_partition, meta=("id", "int64")).sum().compute()), sum(range(2_000))
 (1999000, 1999000)
 
 Keys sort as their numbers do, so partitions by ranges of keys are those by ranges of numbers, and the keys of a prefix

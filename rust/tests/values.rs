@@ -6,7 +6,8 @@
 mod support;
 
 use base62::{
-    Alphabet, AlphabetError, CanonicalError, DecodeError, EncodeError, ParseAlphabetError,
+    Alphabet, AlphabetError, CanonicalError, DecodeError, EncodeError, FixedError,
+    ParseAlphabetError,
 };
 use base62::{encode_fixed_str, encode_fixed_str_with, encode_key, encode_key_str};
 use base62::{prefix_range, prefix_range_with};
@@ -65,6 +66,9 @@ fn decoding() {
             calls!(alphabet:
                 decode_canonical decode_alternative_canonical decode_canonical_with(&text),
                 it => assert_eq!(it, canonical));
+            calls!(alphabet:
+                decode_fixed decode_alternative_fixed decode_fixed_with(&text, text.len()),
+                it => assert_eq!(it, num.map_err(FixedError::Decode)));
             calls!(alphabet: decode_uuid_canonical decode_alternative_uuid_canonical
                 decode_uuid_canonical_with(&text), it => assert_eq!(it, uuid));
         });
@@ -201,12 +205,22 @@ fn fixed_widths() {
                 check(&|buf| encode_fixed_str(num, buf).map(str::as_bytes));
                 if width == 22 {
                     assert_eq!(Ok(&encode_key(num)[..]), expected);
+                    assert_eq!(base62::decode_key(encode_key(num)), Ok(num));
                     check(&|buf| Ok(encode_key_str(num, buf.try_into().unwrap()).as_bytes()));
                 }
             }
             if let Ok(text) = expected {
                 calls!(alphabet: decode decode_alternative decode_with(text),
                     it => assert_eq!(it, Ok(num)));
+                for w in [0, width - 1, width, width + 1] {
+                    let found = if w == width {
+                        Ok(num)
+                    } else {
+                        Err(FixedError::WrongLength)
+                    };
+                    calls!(alphabet: decode_fixed decode_alternative_fixed decode_fixed_with(text, w),
+                        it => assert_eq!(it, found));
+                }
             }
         });
     }
@@ -239,6 +253,7 @@ fn messages() {
     let text_of = |error: DecodeError| {
         let text = error.to_string();
         assert_eq!(CanonicalError::Decode(error).to_string(), text);
+        assert_eq!(FixedError::Decode(error).to_string(), text);
         text
     };
     let overflow = text_of(DecodeError::ArithmeticOverflow);

@@ -94,7 +94,7 @@ export function digitCount(number: Integer): number;
  *   README.
  * @throws {Base62Error} `EMPTY_INPUT` if it is empty, `INVALID_BYTE` if a byte is not in the alphabet, `OVERFLOW` if
  *   it represents 2**128 or more, or has more than 22 bytes after its leading zeros. If the string has several errors,
- *   docs/DEFINITIONS.md of the repository says which one is thrown.
+ *   docs/DECODING.md of the repository says which one is thrown.
  */
 export function decode(text: EncodedString, alphabet?: Alphabet): bigint;
 

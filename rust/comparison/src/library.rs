@@ -31,7 +31,7 @@ struct BadByte {
 #[repr(C)]
 pub struct Alphabet([u8; 318]);
 
-// .ci/compare tells the linker where it is.
+// scripts/check-compare tells the linker where it is.
 #[link(name = "base62_c", kind = "static")]
 extern "C" {
     fn base62_encode_key(number: Number, key: &mut [u8; 22]);

@@ -265,7 +265,6 @@ class Widths(RaisesTestCase):
             (lambda width: base62.encode_fixed(1337, width), "00LZ"),
             (lambda width: base62.prefix_range("00L", width), (1302, 1363)),
             (lambda width: base62.decode_fixed("00LZ", width), 1337),
-            (lambda width: base62.decode_uuid_fixed("00LZ", width), uuid.UUID(int=1337)),
         ]
         for call, answer in calls:
             self.assertEqual(call(Indexed(4)), answer)

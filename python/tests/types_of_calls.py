@@ -74,7 +74,6 @@ def wrong(number: int, name: UUID, text: str, custom: Alphabet, view: memoryview
     base62.decode_uuid(text, number)  # type: ignore[arg-type]
     base62.decode_uuid_canonical(name)  # type: ignore[arg-type]
     base62.decode_uuid_canonical(text, number)  # type: ignore[arg-type]
-    base62.decode_uuid_fixed(text, name)  # type: ignore[arg-type]
     Alphabet(number)  # type: ignore[arg-type]
     custom.characters  # type: ignore[attr-defined]
     custom.name = text  # type: ignore[attr-defined]

@@ -4,11 +4,13 @@
 /*
  * Encodes unsigned integers below 2^128 in base 62, and decodes them: the functions that base62.h declares.
  *
- * It follows, function by function where that reads well in C, the library in crates/base62/src, which is written and
- * proved in the language Rattle. Frama-C proves this file too, for a size_t of 64 bits and of 32: c/proof has the
- * contracts. A line "//@ assert requires" is a precondition for Frama-C. A function that writes count digits of n also
- * requires n < 62^count. u128_mul_64 and u64_ilog2 use an extension of the compiler if it has one, which is tested, not
- * proved.
+ * It follows the library in crates/base62/src, which is written and proved in the language Rattle. Here the decoder
+ * splits a text before its last ten digits, and looks for an invalid byte a second time to report it. There, no strings
+ * for UUIDs are read or written.
+ *
+ * Frama-C proves this file too, for a size_t of 64 bits and of 32: c/proof has the contracts. A line "//@ assert
+ * requires" is a precondition for Frama-C. A function that writes count digits of n also requires n < 62^count.
+ * u128_mul_64 and u64_ilog2 use an extension of the compiler if it has one, which is tested, not proved.
  *
  * Indexes are not checked: the proof shows that each is in bounds. Nothing is allocated, and there is no state. It is
  * C99, for machines of 32 or 64 bits and of either byte order. With BASE62_NO_INT128, u128_mul_64 uses no integer of
@@ -21,10 +23,10 @@
 #include <stddef.h>
 #include <stdint.h>
 
-#if CHAR_BIT != 8
+#if defined CHAR_BIT && CHAR_BIT != 8
 #error "base62.c is for bytes of 8 bits"
 #endif
-#if SIZE_MAX < 0xffffffff
+#if defined SIZE_MAX && SIZE_MAX < 0xffffffff
 #error "base62.c is for a size_t of 32 bits or more"
 #endif
 #if '0' != 48 || 'A' != 65 || 'a' != 97
@@ -367,7 +369,7 @@ static B62_ALWAYS_INLINE u128 divide_by_62_10(u128 n) {
  * 2^128 / 62^10 units: 21 * 2^64, which wraps to 0, plus the first factor, plus the second factor / 2^64, rounded up.
  * The third factor is 2^123 / 62^10 + 0.12.
  */
-static B62_ALWAYS_INLINE uint64_t last_10(u128 n) {
+static B62_ALWAYS_INLINE uint64_t last_10_as_fraction(u128 n) {
     const uint64_t first = n.high * UINT64_C(18054599902933494364);
     const uint64_t second = u128_mul_64(n.high, UINT64_C(2913576609842229563)).high;
     const uint64_t third = u128_shift_right_1_to_63(u128_mul_64(n.low, UINT64_C(12669882045338564947)), 59).low;
@@ -409,12 +411,12 @@ static void write_narrow(const Tables *tables, uint64_t n, size_t count, uint8_t
 static void write_wide(const Tables *tables, u128 n, size_t count, uint8_t *buffer) {
     //@ assert requires: 11 <= count && count <= 22;
     if (count > 20) {
-        const uint64_t low = last_10(n);
+        const uint64_t low = last_10_as_fraction(n);
         const u128 parts = divide_by_62_20(n, low);
         write_1_or_2(tables, (uint32_t)parts.high, count - 20, buffer);
         write_20(tables, parts.low, low, buffer + (count - 20));
     } else if (count == 20) {
-        const uint64_t low = last_10(n);
+        const uint64_t low = last_10_as_fraction(n);
         write_20(tables, divide_by_62_20(n, low).low, low, buffer);
     } else {
         const u128 parts = divide_by_62_10(n);
@@ -575,7 +577,7 @@ static B62_ALWAYS_INLINE base62_status decode_up_to_22(const Tables *tables, con
 /* Returns how many zeros a text begins with. */
 static B62_ALWAYS_INLINE size_t count_zeros(const Tables *tables, const uint8_t *text, size_t length) {
     //@ assert requires: 0 < length;
-    /* Most texts have none. Without this test, code by clang is slower for them. */
+    /* Most texts have none. Without this test, code by GCC is slower for short ones. */
     if (text[0] != tables->letters[0]) return 0;
     size_t zeros = 1;
     while (zeros < length && text[zeros] == tables->letters[0]) zeros++;
@@ -595,27 +597,26 @@ static base62_status store_bad_byte(const uint8_t *text, size_t index, base62_ba
     return BASE62_INVALID_BYTE;
 }
 
-/* Returns the error of a text whose count of leading zeros is given, and of whose at most 22 other characters one is
-   invalid. */
-static base62_status error_of(const Tables *tables, const uint8_t *text, size_t length, size_t zeros,
+/* Returns the error of a text that has an invalid byte among the at most 22 that follow its leading zeros. */
+static base62_status find_error(const Tables *tables, const uint8_t *text, size_t length, size_t zeros,
     base62_bad_byte *bad) {
     const size_t count = length - zeros;
     const uint8_t *rest = text + zeros;
-    const size_t digits = count_valid(tables, rest, count);
-    if (count == 22 && digits >= 10) {
+    const size_t valid = count_valid(tables, rest, count);
+    if (count == 22 && valid >= 10) {
         const uint64_t first = read_10(tables, rest);
         if (first > B62_GREATEST_FIRST_10) return BASE62_OVERFLOW;
     }
-    return store_bad_byte(text, zeros + digits, bad);
+    return store_bad_byte(text, zeros + valid, bad);
 }
 
-/* Decodes a text that is not empty, and whose count of leading zeros is given. */
-static base62_status decode_rest(const Tables *tables, const uint8_t *text, size_t length, size_t zeros,
+/* Decodes a text that is not empty, given its count of leading zeros. */
+static base62_status decode_after_zeros(const Tables *tables, const uint8_t *text, size_t length, size_t zeros,
     base62_number *number, base62_bad_byte *bad) {
     const size_t count = length - zeros;
     if (count > BASE62_MAX_DIGITS) return BASE62_OVERFLOW;
     const base62_status status = decode_up_to_22(tables, text + zeros, count, number);
-    if (status == BASE62_INVALID_BYTE) return error_of(tables, text, length, zeros, bad);
+    if (status == BASE62_INVALID_BYTE) return find_error(tables, text, length, zeros, bad);
     return status;
 }
 
@@ -629,16 +630,16 @@ static B62_ALWAYS_INLINE base62_status decode_over(const Tables *tables, const u
     } else if (count <= 20) {
         if (decode_11_to_20(tables, text + zeros, count, number)) return BASE62_OK;
     } else {
-        return decode_rest(tables, text, length, zeros, number, bad);
+        return decode_after_zeros(tables, text, length, zeros, number, bad);
     }
-    return error_of(tables, text, length, zeros, bad);
+    return find_error(tables, text, length, zeros, bad);
 }
 
 /* Returns the status of a text that has a leading zero and other characters after it, so is not canonical. */
 static base62_status decode_padded(const Tables *tables, const uint8_t *text, size_t length, base62_bad_byte *bad) {
     base62_number number = {0, 0};
     const size_t zeros = count_zeros(tables, text, length);
-    const base62_status status = decode_rest(tables, text, length, zeros, &number, bad);
+    const base62_status status = decode_after_zeros(tables, text, length, zeros, &number, bad);
     if (status == BASE62_OK) return BASE62_NOT_CANONICAL;
     return status;
 }
@@ -735,8 +736,8 @@ static base62_status decode_prefix(const Tables *tables, const uint8_t *prefix, 
         if (status == BASE62_OK) return BASE62_OK;
     }
     /* An invalid byte is reported even if the number would be 2^128 or more. */
-    const size_t digits = count_valid(tables, prefix, length);
-    if (digits < length) return store_bad_byte(prefix, digits, bad);
+    const size_t valid = count_valid(tables, prefix, length);
+    if (valid < length) return store_bad_byte(prefix, valid, bad);
     return BASE62_NO_MATCH;
 }
 
@@ -799,29 +800,39 @@ void base62_to_uuid(base62_number number, unsigned char uuid[BASE62_UUID_LENGTH]
 
 /* -------------------- Strings for UUIDs -------------------- */
 
-static const uint8_t B62_URN[] = "urn:uuid:";
-static const uint8_t B62_HEX_DIGITS[] = "0123456789abcdef";
+static const uint8_t B62_URN_TEXT[] = "urn:uuid:";
+
+/* Returns the character of a hexadecimal digit. */
+static uint8_t hex_digit(uint32_t digit) {
+    //@ assert requires: digit < 16;
+    return (uint8_t)(digit < 10 ? '0' + digit : 'a' + (digit - 10));
+}
+
+/* Returns an uppercase character of ASCII in lowercase, and any other byte as it is. */
+static uint8_t lower(uint8_t byte) {
+    return byte >= 'A' && byte <= 'Z' ? (uint8_t)(byte + 32) : byte;
+}
 
 /* Returns the value of a hexadecimal digit in either case, or 16 for any other byte. */
-static B62_ALWAYS_INLINE uint32_t hex_value(uint8_t byte) {
-    if (byte >= '0' && byte <= '9') return (uint32_t)byte - '0';
-    if (byte >= 'A' && byte <= 'F') return (uint32_t)byte - 'A' + 10;
-    if (byte >= 'a' && byte <= 'f') return (uint32_t)byte - 'a' + 10;
+static uint32_t hex_value(uint8_t byte) {
+    const uint32_t c = lower(byte);
+    if (c >= '0' && c <= '9') return c - '0';
+    if (c >= 'a' && c <= 'f') return c - 'a' + 10;
     return 16;
 }
 
-/* Returns the index of the first digit of a byte of a UUID, in a string with hyphens or without. */
-static B62_ALWAYS_INLINE size_t hex_index(size_t byte, bool has_hyphens) {
-    if (!has_hyphens) return byte * 2;
+/* Returns the index of the two digits of a byte in a string for a UUID, with hyphens or without. */
+static size_t pair_index(size_t byte, bool hyphens) {
+    //@ assert requires: byte < 16;
+    if (!hyphens) return byte * 2;
     return byte * 2 + (byte > 3) + (byte > 5) + (byte > 7) + (byte > 9);
 }
 
-/* Stores the bytes of 32 digits, with hyphens among them or without, unless one is no digit. Returns whether they are
-   stored. */
-static bool read_hex(const uint8_t *text, bool has_hyphens, uint8_t *uuid) {
+/* Stores the bytes of 32 digits from start on, unless one is invalid. Returns whether they are stored. */
+static bool read_pairs(const uint8_t *text, size_t start, bool hyphens, uint8_t *uuid) {
     uint8_t bytes[BASE62_UUID_LENGTH] = {0};
     for (size_t i = 0; i < BASE62_UUID_LENGTH; i++) {
-        const size_t index = hex_index(i, has_hyphens);
+        const size_t index = start + pair_index(i, hyphens);
         const uint32_t high = hex_value(text[index]), low = hex_value(text[index + 1]);
         if (high > 15 || low > 15) return false;
         bytes[i] = (uint8_t)(high * 16 + low);
@@ -833,41 +844,41 @@ static bool read_hex(const uint8_t *text, bool has_hyphens, uint8_t *uuid) {
 /* Returns whether a text begins with "urn:uuid:" in either case. */
 static bool has_urn(const uint8_t *text, size_t length) {
     if (length < 9) return false;
-    for (size_t i = 0; i < 9; i++) {
-        const uint8_t byte = text[i];
-        const uint8_t lower = byte >= 'A' && byte <= 'Z' ? (uint8_t)(byte + 32) : byte;
-        if (lower != B62_URN[i]) return false;
-    }
+    for (size_t i = 0; i < 9; i++)
+        if (lower(text[i]) != B62_URN_TEXT[i]) return false;
     return true;
 }
 
-/* Stores the UUID of a text without braces or "urn:uuid:". Returns whether it is one. */
-static bool read_uuid(const uint8_t *text, size_t length, uint8_t *uuid) {
-    if (length == 32) return read_hex(text, false, uuid);
-    if (length != BASE62_UUID_STRING_LENGTH) return false;
-    if (text[8] != '-' || text[13] != '-' || text[18] != '-' || text[23] != '-') return false;
-    return read_hex(text, true, uuid);
+static bool has_hyphens(const uint8_t *text, size_t start) {
+    return text[start + 8] == '-' && text[start + 13] == '-' && text[start + 18] == '-' && text[start + 23] == '-';
+}
+
+static bool is_in_braces(const uint8_t *text, size_t length) {
+    return length > 1 && text[0] == '{' && text[length - 1] == '}';
+}
+
+/* Stores the UUID whose digits are the characters from start on, with hyphens if they are 36. Returns whether they are
+   those of a UUID. */
+static bool read_uuid(const uint8_t *text, size_t start, size_t count, uint8_t *uuid) {
+    if (count == 32) return read_pairs(text, start, false, uuid);
+    if (count != BASE62_UUID_STRING_LENGTH || !has_hyphens(text, start)) return false;
+    return read_pairs(text, start, true, uuid);
 }
 
 base62_status base62_uuid_from_string(const char *string, size_t length, unsigned char uuid[BASE62_UUID_LENGTH]) {
     const uint8_t *text = (const uint8_t *)string;
-    size_t start = 0, end = length;
-    if (length > 1 && text[0] == '{' && text[length - 1] == '}') {
-        start = 1;
-        end = length - 1;
-    } else if (has_urn(text, length)) {
-        start = 9;
-    }
-    return read_uuid(text + start, end - start, uuid) ? BASE62_OK : BASE62_INVALID_UUID;
+    const bool is_stored = is_in_braces(text, length) ? read_uuid(text, 1, length - 2, uuid)
+        : has_urn(text, length) ? read_uuid(text, 9, length - 9, uuid) : read_uuid(text, 0, length, uuid);
+    return is_stored ? BASE62_OK : BASE62_INVALID_UUID;
 }
 
 void base62_uuid_to_string(const unsigned char uuid[BASE62_UUID_LENGTH], char string[BASE62_UUID_STRING_LENGTH]) {
     uint8_t *text = (uint8_t *)string;
     fill_bytes(text, '-', BASE62_UUID_STRING_LENGTH);
     for (size_t i = 0; i < BASE62_UUID_LENGTH; i++) {
-        const size_t index = hex_index(i, true);
-        text[index] = B62_HEX_DIGITS[uuid[i] / 16];
-        text[index + 1] = B62_HEX_DIGITS[uuid[i] % 16];
+        const size_t index = pair_index(i, true);
+        text[index] = hex_digit(uuid[i] / 16);
+        text[index + 1] = hex_digit(uuid[i] % 16);
     }
 }
 
@@ -895,11 +906,6 @@ static size_t append(uint8_t *message, size_t length, const uint8_t *part, size_
     return length + part_length;
 }
 
-static uint8_t hex_digit(uint32_t digit) {
-    //@ assert requires: digit < 16;
-    return (uint8_t)(digit < 10 ? '0' + digit : 'a' + (digit - 10));
-}
-
 /* Appends a printable ASCII character as itself, but quotes, backslashes, tabs and ends of lines as in C. Appends any
    other byte as \x and two hexadecimal digits. */
 static size_t append_escaped(uint8_t *message, size_t length, uint8_t byte) {
@@ -921,15 +927,15 @@ static size_t append_escaped(uint8_t *message, size_t length, uint8_t byte) {
 
 static size_t append_decimal(uint8_t *message, size_t length, size_t number) {
     /* From the last digit to the first. */
-    uint8_t digits[20] = {0};
+    uint8_t decimals[20] = {0};
     size_t start = 19;
     while (number >= 10) {
-        digits[start] = (uint8_t)('0' + number % 10);
+        decimals[start] = (uint8_t)('0' + number % 10);
         number /= 10;
         start -= 1;
     }
-    digits[start] = (uint8_t)('0' + number);
-    return append(message, length, digits + start, 20 - start);
+    decimals[start] = (uint8_t)('0' + number);
+    return append(message, length, decimals + start, 20 - start);
 }
 
 static size_t append_byte_at_index(uint8_t *message, size_t length, uint8_t byte, size_t index) {

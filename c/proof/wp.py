@@ -127,11 +127,13 @@ def tree(file):
 
 
 def code(file):
-    """Each definition of a file as tree has printed it, but for a mark that changes no code, and for the literals before it."""
+    """Each definition of a file as tree has printed it, but for a mark that changes no code, for line breaks, and for the
+    literals before it."""
     def counted(text):
         names = {}
         return re.sub(r"__constr_expr(_\d+)?", lambda found: names.setdefault(found[0], f"literal_{len(names)}"), text)
-    return sorted(map(counted, (file.parent / "tree.tsv.c").read_text().replace("__inline ", "").split("\f")))
+    text = re.sub(r"\n *", " ", (file.parent / "tree.tsv.c").read_text().replace("__inline ", ""))
+    return sorted(map(counted, text.split("\f")))
 
 
 # The lemmas of a file, in the place of a function.

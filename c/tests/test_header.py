@@ -17,7 +17,8 @@ HEADER = "#include <base62.h>\n"
 SOURCE = '#include "base62.c"\n'
 MACROS = {"BASE62_H", "BASE62_VERSION", "BASE62_VERSION_MAJOR", "BASE62_VERSION_MINOR", "BASE62_VERSION_PATCH"}
 MACROS |= {"BASE62_VERSION_NUMBER", "BASE62_MAX_DIGITS", "BASE62_KEY_LENGTH", "BASE62_ALPHABET_LENGTH"}
-MACROS |= {"BASE62_UUID_LENGTH", "BASE62_MAX_ERROR_MESSAGE", "BASE62_STANDARD_ALPHABET", "BASE62_ALTERNATIVE_ALPHABET"}
+MACROS |= {"BASE62_UUID_LENGTH", "BASE62_UUID_STRING_LENGTH", "BASE62_MAX_ERROR_MESSAGE"}
+MACROS |= {"BASE62_STANDARD_ALPHABET", "BASE62_ALTERNATIVE_ALPHABET"}
 
 # A valid argument for each parameter type, and a variable for each type of result. PROGRAM declares the variables.
 ARGUMENTS = {
@@ -25,6 +26,7 @@ ARGUMENTS = {
     "size_t": "sizeof text",
     "char[62]": "letters",
     "char[22]": "letters",
+    "char[36]": "letters",
     "base62_alphabet *": "&alphabet",
     "unsigned char[16]": "uuid",
     "base62_number": "number",
@@ -38,7 +40,7 @@ ARGUMENTS = {
     "uint64_t *": "&half",
 }
 RESULTS = {"base62_number": "number", "base62_status": "status", "base62_u128": "wide", "size_t": "size"}
-RESULTS |= {"int": "is_short", "uint32_t": "version"}
+RESULTS |= {"uint32_t": "version"}
 PROGRAM = """#include <base62.h>
 char text[5], letters[BASE62_ALPHABET_LENGTH];
 unsigned char uuid[BASE62_UUID_LENGTH];
@@ -50,7 +52,6 @@ base62_status status;
 base62_u128 wide;
 uint64_t half;
 size_t size;
-int is_short;
 uint32_t version;
 int main(void) {
 """
@@ -97,7 +98,7 @@ def calls(name, result, parameters):
         return f"{before}{name}({', '.join(given)});"
 
     yield call(), None
-    yield call(before=""), "unused-result" if has_pointers and result in ("size_t", "int", "base62_status") else None
+    yield call(before=""), "unused-result" if has_pointers and result in ("size_t", "base62_status") else None
     for place, (it, parameter) in enumerate(zip(types, parameters)):
         if re.search(r"[*\[]", it):
             yield call(place=place, argument="NULL"), "nonnull"

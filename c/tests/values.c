@@ -12,8 +12,13 @@
 
 enum { LINE = 1024, MOST_FIELDS = 8, MOST_TEXT = 512, MOST_ALPHABETS = 8, AROUND = 128 };
 
-/* The size of version 4, which callers of the shared library allocate. */
+/* The size in this major version, which callers of the shared library allocate. */
 typedef char alphabet_has_318_bytes[sizeof(base62_alphabet) == 318 ? 1 : -1];
+
+/* Its numbers of statuses, which are compiled into callers too. */
+typedef char statuses_are_numbered[BASE62_OK == 0 && BASE62_BUFFER_TOO_SMALL == 1 && BASE62_EMPTY_INPUT == 2
+    && BASE62_INVALID_BYTE == 3 && BASE62_OVERFLOW == 4 && BASE62_NO_MATCH == 5 && BASE62_REPEATED_CHARACTER == 6
+    && BASE62_NOT_CANONICAL == 7 && BASE62_WRONG_LENGTH == 8 && BASE62_INVALID_UUID == 9 ? 1 : -1];
 
 /* What stands at a byte and at a number that no call has written. */
 #define FILLER 0xa5
@@ -156,6 +161,8 @@ static base62_status status_field(size_t i, base62_bad_byte *bad) {
         {"none", BASE62_NO_MATCH, 0},
         {"repeated", BASE62_REPEATED_CHARACTER, 1},
         {"zero", BASE62_NOT_CANONICAL, 0},
+        {"length", BASE62_WRONG_LENGTH, 0},
+        {"uuid", BASE62_INVALID_UUID, 0},
     };
     for (size_t k = 0; k < sizeof words / sizeof *words; k++)
         if (strcmp(field(i), words[k].word) == 0) {
@@ -179,6 +186,7 @@ struct named {
     size_t (*encode_fixed)(base62_number, char *, size_t);
     base62_status (*decode)(const char *, size_t, base62_number *, base62_bad_byte *);
     base62_status (*decode_canonical)(const char *, size_t, base62_number *, base62_bad_byte *);
+    base62_status (*decode_fixed)(const char *, size_t, size_t, base62_number *, base62_bad_byte *);
 };
 
 static struct named alphabets[MOST_ALPHABETS];
@@ -203,12 +211,14 @@ static void set_built_in(struct named *alphabet) {
         alphabet->encode_fixed = base62_encode_fixed;
         alphabet->decode = base62_decode;
         alphabet->decode_canonical = base62_decode_canonical;
+        alphabet->decode_fixed = base62_decode_fixed;
     } else if (strcmp(alphabet->name, "alternative") == 0) {
         alphabet->letters = BASE62_ALTERNATIVE_ALPHABET;
         alphabet->encode = base62_encode_alternative;
         alphabet->encode_fixed = base62_encode_alternative_fixed;
         alphabet->decode = base62_decode_alternative;
         alphabet->decode_canonical = base62_decode_alternative_canonical;
+        alphabet->decode_fixed = base62_decode_alternative_fixed;
     }
 }
 
@@ -284,7 +294,7 @@ static void check_inline(base62_number number) {
     const base62_number short_one = base62_from_u64(number.low);
     uint64_t value = UNWRITTEN;
     expect_of_row(short_one.high == 0 && short_one.low == number.low, "from_u64");
-    expect_of_row(base62_to_u64(number, &value) == (number.high == 0), "to_u64");
+    expect_of_row(base62_to_u64(number, &value) == (number.high == 0 ? BASE62_OK : BASE62_OVERFLOW), "to_u64");
     expect_of_row(value == (number.high == 0 ? number.low : UNWRITTEN), "the value of to_u64");
 #ifdef __SIZEOF_INT128__
     const base62_u128 wide = base62_to_u128(number);
@@ -357,6 +367,32 @@ static void check_narrow(void) {
     expect_fixed(size_field(3), "", 0);
 }
 
+/* A text of another length is not read: here it is in a guard page. */
+static void check_exact(void) {
+    char text[MOST_TEXT];
+    struct results found = unwritten, wanted = unwritten;
+    const struct named *alphabet = alphabet_field(1);
+    if (!is_size(2))
+        return;
+    const size_t width = size_field(2), length = text_field(3, text);
+    const char *from = copy_guarded(text, length);
+    base62_status status = BASE62_OK;
+    if (strcmp(field(4), "number") == 0)
+        wanted.number = number_field(5);
+    else
+        status = status_field(4, &wanted.bad);
+    if (status == BASE62_WRONG_LENGTH)
+        from = written + GUARDED;
+    expect_results(base62_decode_fixed_with(alphabet->made[at_end], from, length, width, &found.number, &found.bad),
+                   status, &found, wanted, "decode_fixed_with");
+    if (alphabet->letters == NULL)
+        return;
+    expect_results(alphabet->decode_fixed(from, length, width, &found.number, &found.bad), status, &found, wanted,
+                   "decode_fixed");
+    if (is_standard(alphabet) && width == BASE62_KEY_LENGTH)
+        expect_results(base62_decode_key(from, length, &found.number, &found.bad), status, &found, wanted, "decode_key");
+}
+
 static void check_range(void) {
     char prefix[MOST_TEXT];
     struct results found = unwritten, wanted = unwritten;
@@ -382,15 +418,20 @@ static void check_range(void) {
         expect_results(base62_key_range(from, length, &found.range, &found.bad), status, &found, wanted, "key_range");
 }
 
+/* Writes the bytes of a UUID in lowercase with hyphens. */
+static void uuid_field(size_t i, char *bytes) {
+    const char *c = field(i);
+    for (size_t k = 0; k < BASE62_UUID_LENGTH; k++, c += 2) {
+        c += *c == '-';
+        const char pair[3] = {c[0], c[1], 0};
+        bytes[k] = (char)strtoul(pair, NULL, 16);
+    }
+}
+
 static void check_uuid(void) {
     const base62_number number = number_field(1);
     char bytes[BASE62_UUID_LENGTH];
-    const char *c = field(2);
-    for (size_t i = 0; i < sizeof bytes; i++, c += 2) {
-        c += *c == '-';
-        const char pair[3] = {c[0], c[1], 0};
-        bytes[i] = (char)strtoul(pair, NULL, 16);
-    }
+    uuid_field(2, bytes);
     const unsigned char *from = (const unsigned char *)copy_guarded(bytes, sizeof bytes);
     expect_of_row(same(base62_from_uuid(from), number), "from_uuid");
     base62_to_uuid(number, (unsigned char *)fresh(sizeof bytes));
@@ -412,8 +453,23 @@ static void check_message(void) {
     }
 }
 
-/* The library has no strings for UUIDs. */
 static void check_form(void) {
+    char string[MOST_TEXT], bytes[BASE62_UUID_LENGTH];
+    const size_t length = text_field(1, string);
+    const char *from = copy_guarded(string, length);
+    unsigned char *uuid = (unsigned char *)fresh(sizeof bytes);
+    const base62_status status = base62_uuid_from_string(from, length, uuid);
+    if (strcmp(field(2), "none") == 0) {
+        expect_of_row(status == BASE62_INVALID_UUID, "uuid_from_string");
+        expect_text(0, sizeof bytes, "", 0, "no UUID");
+        return;
+    }
+    uuid_field(2, bytes);
+    expect_of_row(status == BASE62_OK, "uuid_from_string");
+    expect_text(sizeof bytes, sizeof bytes, bytes, sizeof bytes, "the UUID");
+    base62_uuid_to_string((const unsigned char *)copy_guarded(bytes, sizeof bytes), fresh(BASE62_UUID_STRING_LENGTH));
+    expect_text(BASE62_UUID_STRING_LENGTH, BASE62_UUID_STRING_LENGTH, field(2), BASE62_UUID_STRING_LENGTH,
+                "uuid_to_string");
 }
 
 static struct {
@@ -424,7 +480,7 @@ static struct {
     {"alphabet", check_alphabet, 0}, {"repeated", check_repeated, 0}, {"encode", check_encode, 0},
     {"zeros", check_zeros, 0},       {"refused", check_refused, 0},   {"fixed", check_fixed, 0},
     {"narrow", check_narrow, 0},     {"range", check_range, 0},       {"uuid", check_uuid, 0},
-    {"message", check_message, 0},   {"form", check_form, 0},
+    {"message", check_message, 0},   {"form", check_form, 0},         {"exact", check_exact, 0},
 };
 
 static const size_t kind_count = sizeof kinds / sizeof *kinds;
@@ -442,7 +498,7 @@ static void check_row(void) {
 
 /* What has no row: statuses without a text, and the constants of the header. */
 static void check_rest(void) {
-    const base62_status none[] = {BASE62_OK, (base62_status)8, (base62_status)-1};
+    const base62_status none[] = {BASE62_OK, (base62_status)10, (base62_status)-1};
     for (size_t i = 0; i < sizeof none / sizeof *none; i++)
         expect(base62_error_message(none[i], unwritten.bad, fresh(100), 100) == 0, "the text of no status");
     expect(base62_version_number() == BASE62_VERSION_NUMBER, "the version");

@@ -63,8 +63,9 @@ static inline int unpack(const struct parameters *signature, PyObject *const *ar
                          PyObject *found[3]) {
     if (kwnames != NULL || nargs < signature->least || nargs > signature->most)
         return parse(signature, args, nargs, kwnames, found);
-    for (Py_ssize_t i = 0; i < signature->most; i++)
-        found[i] = i < nargs ? args[i] : NULL;
+    found[0] = args[0];
+    found[1] = nargs > 1 ? args[1] : NULL;
+    found[2] = nargs > 2 ? args[2] : NULL;
     return 0;
 }
 

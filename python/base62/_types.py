@@ -53,7 +53,7 @@ class EmptyInputError(DecodeError):
 class TooLargeError(DecodeError):
     """A string represents 2**128 or more.
 
-    If a string has several errors, docs/DEFINITIONS.md of the project says which one is raised.
+    If a string has several errors, docs/DECODING.md of the project says which one is raised.
     """
 
 

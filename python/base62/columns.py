@@ -42,8 +42,16 @@ except (ImportError, AttributeError) as error:
     raise ImportError("base62.columns needs pyarrow: install pyarrow 18 or later") from error
 
 __all__ = [
-    *("decode", "decode_canonical", "decode_fixed", "decode_uuid", "decode_uuid_canonical", "decode_uuid_fixed"),
-    *("encode", "encode_fixed", "encode_key", "encode_uuid"),
+    "decode",
+    "decode_canonical",
+    "decode_fixed",
+    "decode_uuid",
+    "decode_uuid_canonical",
+    "decode_uuid_fixed",
+    "encode",
+    "encode_fixed",
+    "encode_key",
+    "encode_uuid",
 ]
 
 if TYPE_CHECKING:

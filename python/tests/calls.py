@@ -90,7 +90,6 @@ def valid_calls() -> Iterator[Invocation]:
     yield invocation(base62.decode_key, TEXT)
     yield invocation(base62.prefix_range, prefix="0", width=40, alphabet=CUSTOM)
     yield invocation(base62.encode, number=WIDE, alphabet=LETTERS)
-    yield invocation(base62.decode, "LZ", alphabet=CUSTOM)
     yield invocation(base62.Alphabet, CUSTOM)
     yield from (invocation(base62.key_bounds, prefix) for prefix in ("8", "7n"))
     for value in (uuid.UUID(int=WIDE), OtherUUID(int=WIDE), str(uuid.UUID(int=WIDE)), bytes(16)):

@@ -26,6 +26,7 @@ class Queries(unittest.TestCase):
         db.executemany("INSERT INTO item VALUES (?)", [(it,) for it in ids])
         for number, text in texts.items():
             self.assertEqual(find(text), (number,) if number < 2**63 else None)
+            self.assertRaises(ValueError, find, "0" + text)
         for prefix in {text[:length] + more for text in texts.values() for length in range(12) for more in ("", "0")}:
             self.assertEqual([*find_prefix(prefix)], [(it,) for it in ids if texts[it].startswith(prefix)], prefix)
         statements: list[str] = []

@@ -145,8 +145,7 @@ class Modules(unittest.TestCase):
         """Where the extension cannot find what it uses of CPython, it converts arguments by Python's own functions."""
         with unittest.mock.patch.multiple(_types, ISASCII=len, BYTES_SIZE=bytes.__basicsize__ - 16):
             again = load_extension("base62._base62")
-        custom = again.Alphabet(CUSTOM)
-        for alphabet, text in ((custom, "LZ"), (again.Alphabet.ALTERNATIVE, "lz")):
+        for alphabet, text in ((again.Alphabet(CUSTOM), "LZ"), (again.Alphabet.ALTERNATIVE, "lz")):
             number = base62.decode(text, bytes(alphabet))
             self.assertEqual((again.decode(text, alphabet), again.encode(number, alphabet)), (number, text))
             source, new = ("L", 0, 1, None, number.to_bytes(8, sys.byteorder), None), [*map(bytearray, (1, 16, 11))]

@@ -5,6 +5,7 @@
 import itertools
 import sys
 import uuid
+from typing import Any
 from urllib.parse import unquote_to_bytes
 
 import base62
@@ -105,10 +106,9 @@ class Values(RaisesTestCase):
 
     def test_exact(self) -> None:
         for name, width, escaped, *expected in rows("exact"):
-            calls: list[Call] = [
-                lambda text: base62.decode_fixed(text, int(width), ALPHABETS[name]),
-                lambda text: base62.decode_uuid_fixed(text, int(width), ALPHABETS[name]).int,
-            ]
+            given: Any = int(width), ALPHABETS[name]
+            calls: list[Call] = [lambda text: base62.decode_fixed(text, *given)]
+            calls.append(lambda text: base62.decode_uuid_fixed(text, *given).int)
             if (name, width) == ("standard", "22"):
                 calls.append(base62.decode_key)
             for call, text in itertools.product(calls, forms_of_text(escaped)):

@@ -181,8 +181,7 @@ def _types_of_objects(column: Any) -> set[type]:
     objects = getattr(getattr(column, "dtype", None), "categories", column)
     has_objects = hasattr(objects, "__iter__") and getattr(objects, "dtype", object) == object
     found = set(map(type, objects)) if has_objects else set()
-    # Floats may be NaN.
-    return {it for it in found if it.__name__ not in ("NoneType", "NAType", "float")}
+    return {it for it in found if it.__name__ not in ("NoneType", "NAType", "float")}  # Floats may be NaN.
 
 
 def _to_sixteen_bytes(column: Any, of_type: _Type) -> pa.Array | None:
@@ -196,7 +195,7 @@ def _to_sixteen_bytes(column: Any, of_type: _Type) -> pa.Array | None:
 
 
 def _to_arrow(column: Any, kind: _Kind) -> _Array | None:
-    """Return a column as pyarrow has it, or None if pyarrow converts its values otherwise than base62 does, or not."""
+    """Return a column as pyarrow has it, or None if it converts values otherwise than base62 does, or not at all."""
     if isinstance(column, (pa.Array, pa.ChunkedArray)):
         return column
     if hasattr(column, "__arrow_c_array__"):
@@ -215,8 +214,7 @@ def _to_arrow(column: Any, kind: _Kind) -> _Array | None:
             found = pa.array(column, wide, from_pandas=True)
             return None if types and pa.types.is_floating(found.type) else found
         except OverflowError:
-            # All values are integers then. Of floats, pyarrow would take the integer parts.
-            continue
+            continue  # All values are integers then. Of floats, pyarrow would take the integer parts.
         except (pa.ArrowException, UnicodeError):
             return None
     return _to_sixteen_bytes(column, pa.binary(16)) if kind is _NUMBERS else None
@@ -338,8 +336,7 @@ class _Conversion:
 
 
 def _check_type(of_result: _Type, *types: _Type) -> None:
-    # A type equals its name.
-    if not isinstance(of_result, pa.DataType) or of_result not in types:
+    if not isinstance(of_result, pa.DataType) or of_result not in types:  # A type equals its name.
         raise TypeError(f"the type of the result is pyarrow's {' or '.join(map(str, types))}, not {of_result!r}")
 
 
@@ -348,8 +345,7 @@ def _encode(
     kind: _Kind = _NUMBERS, width: int = -1,
 ) -> _Array:
     characters, given = Alphabet(alphabet), () if width < 0 else (width,)
-    # Raises an exception for an alphabet that is not ASCII.
-    base62.encode(0, characters)
+    base62.encode(0, characters)  # Raises an exception for an alphabet that is not ASCII.
     _check_type(of_result, pa.string(), pa.large_string())
     convert_rows = partial(_base62.encode_rows, characters, width)
     convert_one = lambda value: call(value, *given, characters)
@@ -424,8 +420,9 @@ def decode(
 ) -> _Array:
     """Decode a column of strings or bytes to int64, uint64 or decimal128(38). Leading zeros are ignored.
 
-    pandas makes floats of uint64 in a merge with int64, and of any integers beside missing rows, and so rounds them
-    above 2**53, without an error. pandas.array(columns.decode(codes), "int64[pyarrow]") keeps them as they are.
+    pandas makes floats of uint64 in a merge with int64, and of any integers beside missing rows, as left and outer
+    merges, reindex, shift, pivot and update do. So it rounds them above 2**53, without an error. A column of
+    pandas.array(columns.decode(codes), "int64[pyarrow]") keeps them as they are.
 
     >>> from base62 import columns
     >>> columns.decode(["LZ", b"00LZ"]).to_pylist()

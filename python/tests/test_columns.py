@@ -505,7 +505,7 @@ class Arguments(ColumnsTestCase):
             (columns.encode, [Decimal("1.0")], "decimal128.2, 1.", "cast it to decimal128.38, 0., or"),
             (columns.encode, pa.array([5], pa.decimal256(5)), "decimal256.5, 0.", "pass a list of int"),
             (columns.encode, ["1"], "string", "encode_uuid takes UUIDs; cast numbers to uint64"),
-            (columns.encode, [bytes(16)], "binary", "cast numbers to uint64 or binary.16."),
+            (columns.encode, np.array([bytes(8)], "V8"), "binary", "cast numbers to uint64 or binary.16."),
             (columns.encode, pd.Series([1.5]).astype("category"), "double", "in pandas as int64.pyarrow."),
             (columns.encode_uuid, [1], "int64", "encode takes integers"),
             (columns.decode, [1337], "int64", "read strings"),

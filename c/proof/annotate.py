@@ -27,7 +27,7 @@ ANNOTATIONS = ("numbers faults powers digits alphabets tables readers decoder te
 
 def laws():
     """The text of all laws and examples."""
-    return (FOLDER / "laws.c").read_text() + (FOLDER / "examples.c").read_text()
+    return "".join((FOLDER / name).read_text() for name in ("laws.c", "uuid_laws.c", "examples.c"))
 
 
 def expanded(text):

@@ -292,6 +292,26 @@ base62_status decode(OVER, int is_strict, const char *text, size_t length, base6
         : base62_decode_with(alphabet, text, length, number, bad);
 }
 
+/* With a width, a text of another length is rejected unread, and any other is decoded as above. */
+/*@ requires ALPHABET && FORM(width) && how != SHORTEST && \valid(number) && \valid(bad);
+    requires length == width ==> TEXT_VALID(text, length);
+    requires \separated(number, bad, text + (0 .. length - 1)) && APART(number) && APART(bad);
+    assigns *number, *bad;
+    ensures other: length != width ==> \result == BASE62_WRONG_LENGTH;
+    ensures decoded: length == width ==> \result == decoding{Pre}(letters, BYTES(text), length);
+    ensures number: \result == BASE62_OK ==> denotes{Pre}(letters, BYTES(text), length, number_of(*number));
+    ensures no_number: \result != BASE62_OK ==> *number == \old(*number);
+    TELLS_BAD_BYTE(text, length)
+*/
+base62_status decode_fixed(OVER, form how, size_t width, const char *text, size_t length, base62_number *number,
+                           base62_bad_byte *bad) {
+    if (length == width) compute_bad_index(letters, BYTES(text), length);
+    if (how == KEY) return base62_decode_key(text, length, number, bad);
+    if (letters == standard_letters) return base62_decode_fixed(text, length, width, number, bad);
+    if (letters == alternative_letters) return base62_decode_alternative_fixed(text, length, width, number, bad);
+    return base62_decode_fixed_with(alphabet, text, length, width, number, bad);
+}
+
 /* The calls for ranges have none over the alternative letters. */
 #define RANGES ALPHABET && FORM(width) && how != SHORTEST && letters != ALTERNATIVE_LETTERS
 
@@ -362,6 +382,7 @@ void uninitialized(const base62_alphabet *alphabet, const char *text, size_t len
     base62_encode_fixed_with(alphabet, number, places, width);
     base62_decode_with(alphabet, text, length, &number, &bad);
     base62_decode_canonical_with(alphabet, text, length, &number, &bad);
+    base62_decode_fixed_with(alphabet, text, length, width, &number, &bad);
     base62_prefix_range_with(alphabet, text, length, width, &range, &bad);
 }
 
@@ -400,22 +421,33 @@ static int compare(const char *p, const char *q, size_t n) {
     return 0;
 }
 
-/* Canonical decoding accepts the text that an encoder writes, and no other. */
-/*@ requires ALPHABET && TEXT_VALID(p, n); assigns \nothing;
+/* For each encoder there is a decoder that accepts exactly what it writes: a text is read as a number exactly if it is
+   written for this number. */
+/*@ requires ALPHABET && FORM(size) && (how == SHORTEST ==> size == BASE62_MAX_DIGITS) && TEXT_VALID(p, n);
+    requires \valid(buffer + (0 .. size - 1)) && APART(buffer + (0 .. size - 1));
+    requires \separated(buffer + (0 .. size - 1), p + (0 .. n - 1));
+    assigns buffer[0 .. size - 1];
     ensures \result == 1;
 */
-int one_strict_text(OVER, base62_number number, const char *p, size_t n) {
-    char text[BASE62_MAX_DIGITS];
+int one_text(OVER, form how, base62_number number, const char *p, size_t n, char *buffer, size_t size) {
     base62_number again;
     base62_bad_byte bad;
-    const size_t length = encode(letters, alphabet, SHORTEST, number, text, sizeof text);
+    const size_t length = encode(letters, alphabet, how, number, buffer, size);
+    compute_bad_index(letters, BYTES(buffer), length);
+    shortest(letters, BYTES(buffer), length, number);
     shortest(letters, BYTES(p), n, number);
-    if (compute_bad_index(letters, BYTES(p), n) == n && n == length) {
-        compute_bad_index(letters, BYTES(text), n);
-        two_texts(letters, BYTES(p), BYTES(text), n);
-    }
-    const int is_same = n == length && compare(p, text, n) == 0;
-    return decode(letters, alphabet, 1, p, n, &again, &bad) != BASE62_OK || !same(again, number) || is_same;
+    const size_t bad_index = compute_bad_index(letters, BYTES(p), n);
+    if (bad_index == n && n == length) two_texts(letters, BYTES(p), BYTES(buffer), n);
+    is_decoded(letters, BYTES(p), n);
+    //@ assert other: bad_index < n && n == length ==> BYTES(p)[bad_index] != BYTES(buffer)[bad_index];
+    const int is_written = length > 0 && n == length && compare(p, buffer, n) == 0;
+    const base62_status status = how == SHORTEST ? decode(letters, alphabet, 1, p, n, &again, &bad)
+        : decode_fixed(letters, alphabet, how, size, p, n, &again, &bad);
+    const int is_accepted = status == BASE62_OK && same(again, number);
+    //@ assert number: is_written == 1 ==> denotes(letters, BYTES(p), n, number_of(number));
+    //@ assert written: is_written == 1 ==> is_accepted == 1;
+    //@ assert accepted: is_accepted == 1 ==> denotes(letters, BYTES(p), n, number_of(number)) && n == length;
+    return is_written == is_accepted;
 }
 
 /* -------------------- Order -------------------- */
@@ -533,12 +565,12 @@ base62_number number_back_again(const unsigned char *uuid, unsigned char *again)
 
 /*@ requires \valid(value);
     assigns *value;
-    ensures \result == 0 || \result == 1;
-    ensures \result == 1 <==> number_of(number) < ACSL_2_64;
-    ensures \result == 1 ==> *value == number_of(number);
-    ensures \result == 0 ==> *value == \old(*value);
+    ensures \result == BASE62_OK || \result == BASE62_OVERFLOW;
+    ensures \result == BASE62_OK <==> number_of(number) < ACSL_2_64;
+    ensures \result == BASE62_OK ==> *value == number_of(number);
+    ensures \result != BASE62_OK ==> *value == \old(*value);
 */
-int half(base62_number number, uint64_t *value) { return base62_to_u64(number, value); }
+base62_status half(base62_number number, uint64_t *value) { return base62_to_u64(number, value); }
 
 //@ assigns \nothing; ensures number_of(\result) == value;
 base62_number of_half(uint64_t value) { return base62_from_u64(value); }

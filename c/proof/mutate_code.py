@@ -25,7 +25,7 @@ OPERATORS = [
     (r"\bBASE62_(?:BUFFER_TOO_SMALL|REPEATED_CHARACTER)\b", "BASE62_OVERFLOW"),
     (NUMBER, r"(\g<0> + 1)"), (r"\bB62_(?:POWER_\d+|[A-Z]+_[A-Z_]+\d*|OK|OVERFLOW)\b(?!\()", r"(\g<0> + 1)"),
     (r"\bBASE62_(?:MAX_DIGITS|KEY_LENGTH)\b", r"(\g<0> + 1)"), (r"\bBASE62_OVERFLOW\b", "BASE62_OK"),
-    (r"\bBASE62_(?:OK|EMPTY_INPUT|INVALID_BYTE|NO_MATCH|NOT_CANONICAL)\b", "BASE62_OVERFLOW"), (STATEMENT, ";"),
+    (r"\bBASE62_(?:OK|EMPTY_INPUT|INVALID_BYTE|NO_MATCH|NOT_CANONICAL|WRONG_LENGTH|INVALID_UUID)\b", "BASE62_OVERFLOW"), (STATEMENT, ";"),
 ]
 TABLES = [
     ("B62_GREATEST", NUMBER, "greatest"),
@@ -53,8 +53,11 @@ SAME = {
     # A call stores another value, or this one is not read.
     "decode_padded: base62_number number = {(0 + 1), 0};", "decode_padded: base62_number number = {0, (0 + 1)};",
     # All bytes are written again.
-    "append_decimal: uint8_t digits[20] = {(0 + 1)};", "base62_alphabet_init: uint8_t digits[256] = {(0 + 1)};",
+    "append_decimal: uint8_t decimals[20] = {(0 + 1)};", "base62_alphabet_init: uint8_t digits[256] = {(0 + 1)};",
     "base62_error_message: uint8_t message[BASE62_MAX_ERROR_MESSAGE] = {(0 + 1)};",
+    "read_pairs: uint8_t bytes[BASE62_UUID_LENGTH] = {(0 + 1)};",
+    # One character is not two.
+    "is_in_braces: return length >= 1 && text[0] == '{' && text[length - 1] == '}';",
 }
 
 # Of two arguments of these the order does not matter.

@@ -31,9 +31,10 @@ LAWS = {
     "logic integer bad_index": "compute_bad_index", "logic integer zeros_from": "compute_leading_zeros",
     "predicate denotes": "shortest decode", "logic integer count_from": "compute_count",
     "predicate encodes": "encode compute_count uninitialized",
-    "logic integer decoding": "is_decoded decode uninitialized",
+    "logic integer decoding": "is_decoded decode decode_fixed uninitialized",
     "logic integer least_of": "is_in_range find_range is_beyond range_is_exact uninitialized",
     "/*@ requires \\valid_read(characters": "makes", "logic integer uuid_value": "number_back_again",
+    "static const unsigned char urn_text": wp.LEMMAS + " begins_with_urn one_kind read_uuid write_uuid one_uuid escape",
     "number_of(\\result) == value": "of_half half version", "logic integer escape_length": "escape",
     "logic integer without_decimals": "compute_decimals index_again",
     "logic integer byte_at_index_length": "texts_by_example index_again",
@@ -73,19 +74,17 @@ SAME = {
     r": width == 0 || n > width || \false ? BASE62_NO_MATCH",
     ": width == 0 || n > width || least_of(letters, prefix, n, width) > ACSL_2_128 ? BASE62_NO_MATCH",
     *(f"n {it} : uuid_value(uuid, n - 1) * 256 + uuid[n - 1];" for it in ("< 0 ? 0", "<= 0 ? 1")),
-    r"ensures \result == (number_of(number) <= ACSL_2_64 ? 1 : 0);",
-    r"ensures \result == (number_of(number) < ACSL_2_64 ? 1 : 1);",
+    r"ensures \result == (number_of(number) <= ACSL_2_64 ? BASE62_OK : BASE62_OVERFLOW);",
     "(ACSL_HAS(text, start, byte_text, 7) && ACSL_ESCAPED(text, start + (7 - 1), byte) \\",
     "ACSL_HAS(text, 1, invalid_text, 35) && ACSL_BYTE_AT_INDEX(text, 35, bad.byte, bad.index)) \\",
     "ACSL_HAS(text, 1, repeated_text, 21) && ACSL_BYTE_AT_INDEX(text, 21, bad.byte, bad.index)) \\",
     "ACSL_HAS(text, 0, repeated_text, 21) && ACSL_BYTE_AT_INDEX(text, (21 - 1), bad.byte, bad.index)) \\",
     # It says more of a text that is not written, and no text has one byte.
     *(rf"ensures ACSL_MESSAGE(BYTES(buffer), \result {it}, status, bad);" for it in (">= 0", "> 1")),
-    # The first bad byte of n bytes is at n at most, and 1 is the greatest answer.
+    # The first bad byte of n bytes is at n at most.
     "n > 0 && bad_index(letters, text, n) >= n && value(letters, text, n) == number;",
     "n < 0 ? 0 : bad_index(letters, text, n - 1) == n - 1 && digit(letters, text[n - 1]) < 62 ? n",
     "n <= 0 ? 0 : bad_index(letters, text, n - 1) >= n - 1 && digit(letters, text[n - 1]) < 62 ? n",
-    r"ensures *value == (\result >= 1 ? number_of(number) : \old(*value));",
     # No number has 23 digits, nor one of 64 bits 21 decimals, more than 22 bytes are an overflow already, and no number
     # with zeros behind it is 2^128.
     "c <= 20 && without_decimals(number, c) > 0 ? decimal_from(number, c + 1) : c;",

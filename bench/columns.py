@@ -4,13 +4,16 @@ A call takes time without any row too, so that each array has each number so man
 some are greater, 128.
 """
 
+from functools import partial
+
 import plain
+import pyarrow
 from base62 import columns
 
 COPIES = 1000
 numbers, _, rounds = plain.arguments()
 strings = columns.encode(numbers * COPIES)
-decode = columns.decode if max(numbers) < 2**64 else columns.decode_uuid
+decode = partial(columns.decode, type=pyarrow.uint64()) if max(numbers) < 2**64 else columns.decode_uuid
 arrays = {"encode": decode(strings), "decode": strings}
 calls = [("base62.columns", "encode", columns.encode), ("base62.columns", "decode", decode)]
 plain.measure(calls, rounds, lambda name, call: call(arrays[name]), len(strings))

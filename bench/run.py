@@ -28,10 +28,10 @@ COUNT = 500
 PYTHON = "/usr/bin/python3" if os.path.exists("/usr/bin/python3") else sys.executable
 WHEELS = "/usr/share/python-wheels"
 FETCHING_NOTHING = ["--no-index", f"--find-links={WHEELS}"] if os.path.exists(WHEELS) else ["--no-build-isolation"]
-# Runs a command where DuckDB or pyarrow is, in the root of Debian unstable, with a folder as /mnt.
-IN_UNSTABLE = """cd "$0" && . scripts/helpers.bash
+# Runs a command where DuckDB or pyarrow is, in the root of Debian testing, with a folder as /mnt.
+IN_TESTING = """cd "$0" && . scripts/helpers.bash
 is_installed "$1" || { echo "$1 is missing" >&2 && exit 1; }
-within() { local work=$1 && in_unstable "${@:2}"; }
+within() { local work=$1 && in_testing "${@:2}"; }
 within "${@:2}"
 """
 CARGO = """[package]
@@ -106,7 +106,7 @@ def time_columns(work):
         within, folder = ["env"], work
         run(PYTHON, "-c", "import pyarrow")
     except Missing:
-        within, folder = ["bash", "-c", IN_UNSTABLE, TOP, "pyarrow", work, "env"], Path("/mnt")
+        within, folder = ["bash", "-c", IN_TESTING, TOP, "pyarrow", work, "env"], Path("/mnt")
     # The file of the strings has another path there.
     program = f'python3 {folder}/bench/columns.py {folder}/texts "$1"'
     return [*within, f"PYTHONPATH={folder}/site", "sh", "-c", program]
@@ -123,7 +123,7 @@ def time_sqlite(work):
 
 
 def time_duckdb(work):
-    within, folder = ([], work) if shutil.which("duckdb") else (["bash", "-c", IN_UNSTABLE, TOP, "duckdb", work], Path("/mnt"))
+    within, folder = ([], work) if shutil.which("duckdb") else (["bash", "-c", IN_TESTING, TOP, "duckdb", work], Path("/mnt"))
     copy(work, "c", "sql")
     run(*within, "make", "-C", folder / "sql", "duckdb")
     return [PYTHON, BENCH / "duckdb.py", folder / "sql/duckdb/base62.duckdb_extension", *within, "duckdb"]

@@ -801,6 +801,15 @@ void base62_to_uuid(base62_number number, unsigned char uuid[BASE62_UUID_LENGTH]
 /* -------------------- Strings for UUIDs -------------------- */
 
 static const uint8_t B62_URN_TEXT[] = "urn:uuid:";
+/* Where the two digits of each byte are in a string with hyphens. */
+static const uint8_t B62_PAIR_INDEXES[BASE62_UUID_LENGTH] = {
+    0, 2, 4, 6, 9, 11, 14, 16, 19, 21, 24, 26, 28, 30, 32, 34,
+};
+/* The values of hexadecimal digits, from '0' to 'f', and 16 for the other bytes between them. */
+static const uint8_t B62_HEX_VALUES[55] = {
+    0, 1, 2, 3, 4, 5, 6, 7, 8, 9, 16, 16, 16, 16, 16, 16, 16, 10, 11, 12, 13, 14, 15, 16, 16, 16, 16, 16,
+    16, 16, 16, 16, 16, 16, 16, 16, 16, 16, 16, 16, 16, 16, 16, 16, 16, 16, 16, 16, 16, 10, 11, 12, 13, 14, 15,
+};
 
 /* Returns the character of a hexadecimal digit. */
 static uint8_t hex_digit(uint32_t digit) {
@@ -814,22 +823,19 @@ static uint8_t lower(uint8_t byte) {
 }
 
 /* Returns the value of a hexadecimal digit in either case, or 16 for any other byte. */
-static uint32_t hex_value(uint8_t byte) {
-    const uint32_t c = lower(byte);
-    if (c >= '0' && c <= '9') return c - '0';
-    if (c >= 'a' && c <= 'f') return c - 'a' + 10;
-    return 16;
+static B62_ALWAYS_INLINE uint32_t hex_value(uint8_t byte) {
+    if (byte < '0' || byte > 'f') return 16;
+    return B62_HEX_VALUES[byte - '0'];
 }
 
 /* Returns the index of the two digits of a byte in a string for a UUID, with hyphens or without. */
-static size_t pair_index(size_t byte, bool hyphens) {
+static B62_ALWAYS_INLINE size_t pair_index(size_t byte, bool hyphens) {
     //@ assert requires: byte < 16;
-    if (!hyphens) return byte * 2;
-    return byte * 2 + (byte > 3) + (byte > 5) + (byte > 7) + (byte > 9);
+    return hyphens ? B62_PAIR_INDEXES[byte] : byte * 2;
 }
 
 /* Stores the bytes of 32 digits from start on, unless one is invalid. Returns whether they are stored. */
-static bool read_pairs(const uint8_t *text, size_t start, bool hyphens, uint8_t *uuid) {
+static B62_ALWAYS_INLINE bool read_pairs(const uint8_t *text, size_t start, bool hyphens, uint8_t *uuid) {
     uint8_t bytes[BASE62_UUID_LENGTH] = {0};
     for (size_t i = 0; i < BASE62_UUID_LENGTH; i++) {
         const size_t index = start + pair_index(i, hyphens);

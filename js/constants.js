@@ -8,6 +8,7 @@ export const ALPHABET_LENGTH = 62;
 export const STANDARD_ALPHABET = '0123456789ABCDEFGHIJKLMNOPQRSTUVWXYZabcdefghijklmnopqrstuvwxyz';
 export const ALTERNATIVE_ALPHABET = '0123456789abcdefghijklmnopqrstuvwxyzABCDEFGHIJKLMNOPQRSTUVWXYZ';
 export const UUID_LENGTH = 16;
+export const UUID_STRING_LENGTH = 36;
 export const MAX_ERROR_MESSAGE = 77;
 export const ALPHABET_SIZE = 318;
 export const OK = 0;
@@ -18,6 +19,8 @@ export const OVERFLOW = 4;
 export const NO_MATCH = 5;
 export const REPEATED_CHARACTER = 6;
 export const NOT_CANONICAL = 7;
+export const WRONG_LENGTH = 8;
+export const INVALID_UUID = 9;
 export const STATUSES = [
   'OK',
   'BUFFER_TOO_SMALL',
@@ -27,4 +30,6 @@ export const STATUSES = [
   'NO_MATCH',
   'REPEATED_CHARACTER',
   'NOT_CANONICAL',
+  'WRONG_LENGTH',
+  'INVALID_UUID',
 ];

@@ -54,7 +54,8 @@ export function encodeFixed(value: Integer | Uuid, width: number, alphabet?: Alp
 
 /**
  * Encodes a number or a UUID as a key: exactly 22 characters of the standard alphabet. Keys sort in numeric order,
- * and in the order of their UUIDs' bytes.
+ * and in the order of their UUIDs' bytes. {@link decodeKey} decodes a key to its number, and {@link decodeUuidFixed}
+ * with a width of 22 to its UUID; {@link decodeCanonical} rejects those that begin with a zero.
  *
  * @example
  * console.log(encodeKey(1337)); // 00000000000000000000LZ
@@ -84,12 +85,16 @@ export function digitCount(number: Integer): number;
 /**
  * Decodes a string of any length. Leading zeros are ignored.
  *
+ * Each encoder has a decoder that accepts exactly its strings: {@link encode} has {@link decodeCanonical},
+ * {@link encodeFixed} has {@link decodeFixed}, and {@link encodeKey} has {@link decodeKey}.
+ *
  * @example
  * console.log(decode('LZ')); // 1337n
- * @returns the number that the string represents, from 0n to 2n ** 128n - 1n
+ * @returns the number that the string represents, from 0n to 2n ** 128n - 1n. It may exceed a 64-bit column: see the
+ *   README.
  * @throws {Base62Error} `EMPTY_INPUT` if it is empty, `INVALID_BYTE` if a byte is not in the alphabet, `OVERFLOW` if
  *   it represents 2**128 or more, or has more than 22 bytes after its leading zeros. If the string has several errors,
- *   docs/DEFINITIONS.md of the repository says which one is thrown.
+ *   docs/DECODING.md of the repository says which one is thrown.
  */
 export function decode(text: EncodedString, alphabet?: Alphabet): bigint;
 
@@ -122,6 +127,37 @@ export function decodeCanonical(text: EncodedString, alphabet?: Alphabet): bigin
 export function decodeNumberCanonical(text: EncodedString, alphabet?: Alphabet): number;
 
 /**
+ * Like {@link decode}, but accepts only strings of exactly `width` bytes, which are those that {@link encodeFixed}
+ * returns for this width. Each number has at most one.
+ *
+ * @example
+ * console.log(decodeFixed('00LZ', 4)); // 1337n
+ * @param width an integer from 0 to 2**53 - 1. No string of width 0 is accepted.
+ * @throws {Base62Error} `OUT_OF_RANGE` for any other width, `WRONG_LENGTH` if the string does not have the width,
+ *   otherwise as {@link decode}
+ */
+export function decodeFixed(text: EncodedString, width: number, alphabet?: Alphabet): bigint;
+
+/**
+ * Like {@link decodeFixed}, but returns a `number`, from 0 to 2**53 - 1.
+ *
+ * @example
+ * console.log(decodeNumberFixed('00LZ', 4)); // 1337
+ * @throws {Base62Error} as {@link decodeFixed}, and `UNSAFE_INTEGER` if the number is above 2**53 - 1
+ */
+export function decodeNumberFixed(text: EncodedString, width: number, alphabet?: Alphabet): number;
+
+/**
+ * Decodes a key: like {@link decodeFixed} with a width of 22 in the standard alphabet. It accepts only keys, which are
+ * what {@link encodeKey} returns. For a key of a UUID, use {@link decodeUuidFixed} with a width of 22.
+ *
+ * @example
+ * console.log(decodeKey('00000000000000000000LZ')); // 1337n
+ * @throws {Base62Error} `WRONG_LENGTH` if the string does not have 22 bytes, otherwise as {@link decode}
+ */
+export function decodeKey(text: EncodedString): bigint;
+
+/**
  * Decodes a string to the UUID of its number, in lowercase with hyphens. Each number below 2**128 has one: the bits of
  * the version and the variant are not checked.
  *
@@ -137,6 +173,16 @@ export function decodeUuid(text: EncodedString, alphabet?: Alphabet): string;
  * @throws {Base62Error} as {@link decodeCanonical}
  */
 export function decodeUuidCanonical(text: EncodedString, alphabet?: Alphabet): string;
+
+/**
+ * Like {@link decodeUuid}, but accepts only strings of exactly `width` bytes, as {@link decodeFixed} does. With a width
+ * of 22 these are the keys of UUIDs, which {@link encodeKey} returns.
+ *
+ * @example
+ * console.log(decodeUuidFixed('2aUyqjCzEIiEcYMKj7TZtw', 22)); // 550e8400-e29b-41d4-a716-446655440000
+ * @throws {Base62Error} as {@link decodeFixed}
+ */
+export function decodeUuidFixed(text: EncodedString, width: number, alphabet?: Alphabet): string;
 
 /**
  * Returns the least and the greatest number whose strings of `width` characters begin with `prefix`. Exactly the
@@ -204,6 +250,7 @@ export class Base62Error extends RangeError {
     | 'OVERFLOW'
     | 'REPEATED_CHARACTER'
     | 'NOT_CANONICAL'
+    | 'WRONG_LENGTH'
     | 'OUT_OF_RANGE'
     | 'UNSAFE_INTEGER'
     | 'INVALID_UUID'

@@ -7,6 +7,7 @@ import { load } from './module.js';
 import { wasm } from './wasm.js';
 
 export const {
-  Alphabet, Base62Error, decode, decodeCanonical, decodeNumber, decodeNumberCanonical, decodeUuid, decodeUuidCanonical,
-  digitCount, encode, encodeFixed, encodeKey, encodeUuid, keyBounds, keyRange, prefixRange,
+  Alphabet, Base62Error, decode, decodeCanonical, decodeFixed, decodeKey, decodeNumber, decodeNumberCanonical,
+  decodeNumberFixed, decodeUuid, decodeUuidCanonical, decodeUuidFixed, digitCount, encode, encodeFixed, encodeKey,
+  encodeUuid, keyBounds, keyRange, prefixRange,
 } = load(compile(wasm));

@@ -12,6 +12,7 @@ const ALPHABET_LENGTH = 62;
 const STANDARD_ALPHABET = '0123456789ABCDEFGHIJKLMNOPQRSTUVWXYZabcdefghijklmnopqrstuvwxyz';
 const ALTERNATIVE_ALPHABET = '0123456789abcdefghijklmnopqrstuvwxyzABCDEFGHIJKLMNOPQRSTUVWXYZ';
 const UUID_LENGTH = 16;
+const UUID_STRING_LENGTH = 36;
 const MAX_ERROR_MESSAGE = 77;
 const ALPHABET_SIZE = 318;
 const OK = 0;
@@ -22,6 +23,8 @@ const OVERFLOW = 4;
 const NO_MATCH = 5;
 const REPEATED_CHARACTER = 6;
 const NOT_CANONICAL = 7;
+const WRONG_LENGTH = 8;
+const INVALID_UUID = 9;
 const STATUSES = [
   'OK',
   'BUFFER_TOO_SMALL',
@@ -31,33 +34,37 @@ const STATUSES = [
   'NO_MATCH',
   'REPEATED_CHARACTER',
   'NOT_CANONICAL',
+  'WRONG_LENGTH',
+  'INVALID_UUID',
 ];
 
-// Hand-written. The public functions, over a compiled base62.wasm. They check and convert arguments and results, and
-// add and skip leading zeros of long strings. The other rules of encoding are in c/base62.c, from which it is compiled.
+// Hand-written. The public functions, over a compiled base62.wasm. They check and convert arguments and results, add and
+// skip leading zeros of long strings, and count the bytes of long or invalid ones. The other rules of encoding are in
+// c/base62.c, from which it is compiled.
 
 const TWO_TO_32 = 2 ** 32;
 const TWO_TO_64 = 2n ** 64n;
 const TWO_TO_128 = 2n ** 128n;
-const HEXADECIMAL = '0123456789abcdef';
-const URN = 'urn:uuid:';
-const HYPHEN = 45;
 
 // The addresses of the arguments and results of a call, above the stack and the data of the WebAssembly. A number has
-// two halves of 64 bits, the higher first, each little-endian: byte i of a UUID is at i ^ 7. A range is its least and
-// its greatest number. At BAD_BYTE are an index, of four bytes, and then the byte. An alphabet has ALPHABET_LENGTH
-// characters, and the library's form of it has ALPHABET_SIZE bytes.
+// two halves of 64 bits, the higher first, each little-endian. A range is its least and its greatest number. At BAD_BYTE
+// are an index, of four bytes, and then the byte. An alphabet has ALPHABET_LENGTH characters, and the library's form of
+// it has ALPHABET_SIZE bytes.
 const NUMBER = 0x18000;
 const GREATEST = NUMBER + 16;
 const BAD_BYTE = GREATEST + 16;
 const ALPHABET = BAD_BYTE + 16;
-const TEXT = ALPHABET + ALPHABET_SIZE;
+const UUID = ALPHABET + ALPHABET_SIZE;
+const TEXT = UUID + UUID_LENGTH;
 
 if (!globalThis.WebAssembly) throw new Error('base62-proved needs WebAssembly, which this runtime does not have');
 // Typed arrays have the byte order of the processor. The memory of WebAssembly is little-endian.
 if (new Uint8Array(Uint16Array.of(1).buffer)[0] !== 1) throw new Error('base62-proved needs a little-endian processor');
 
-const defineReadOnly = (object, name, value) => Object.defineProperty(object, name, { value, enumerable: true });
+// Descriptors inherit nothing, since a program may give Object.prototype a property such as `get`.
+const defineProperty = (object, name, descriptor) =>
+  Object.defineProperty(object, name, { __proto__: null, ...descriptor });
+const defineReadOnly = (object, name, value) => defineProperty(object, name, { value, enumerable: true });
 
 class Base62Error extends RangeError {
   constructor(message, code, byte, index) {
@@ -70,7 +77,7 @@ class Base62Error extends RangeError {
 }
 
 // The name is assignable, like that of a built-in error.
-Object.defineProperty(Base62Error.prototype, 'name', { value: 'Base62Error', writable: true, configurable: true });
+defineProperty(Base62Error.prototype, 'name', { value: 'Base62Error', writable: true, configurable: true });
 
 // A subclass can override `length` and the like, so the getters of %TypedArray% read them.
 const typedArray = Object.getPrototypeOf(Uint8Array.prototype);
@@ -81,25 +88,15 @@ const { set: setBytes } = typedArray;
 // methods are found once, and common paths read the length of '' + text, which V8 knows to be a string.
 const [charCodeAt, codePointAt] = [''.charCodeAt, ''.codePointAt].map((it) => it.call.bind(it));
 
-// Returns the value of a hexadecimal digit, or -1. The bit 32 makes a letter lowercase.
-function digitOf(code) {
-  if (code >= 48 && code <= 57) return code - 48;
-  return (code | 32) >= 97 && (code | 32) <= 102 ? (code | 32) - 87 : -1;
-}
-
-// Returns what is in the braces of a UUID or after its urn:uuid:, if it has either.
-function unframed(uuid) {
-  if (uuid.startsWith('{') && uuid.endsWith('}')) return uuid.slice(1, -1);
-  return uuid.slice(0, URN.length).toLowerCase() === URN ? uuid.slice(URN.length) : uuid;
-}
-
 // V8 compares by === slowly once types have differed. So both are strings here, and objects in writeAlphabet.
 const isUint8Array = (value) => (typeOf.call(value) ?? '') === 'Uint8Array';
 const partOf = (array, start, size) => new Uint8Array(bufferOf.call(array), offsetOf.call(array) + start, size);
 const isUnsignedSafeInteger = (number) => Number.isSafeInteger(number) && number >= 0;
+// Names the type of a value, of which no code is run.
+const nameOfType = (value) => (value === null ? 'null' : typeOf.call(value) ?? typeof value);
 
 function checkWidth(width) {
-  if (typeof width !== 'number') throw new TypeError('a width is a Number');
+  if (typeof width !== 'number') throw new TypeError(`a width is a Number, not ${nameOfType(width)}`);
   if (!isUnsignedSafeInteger(width)) throw new Base62Error('a width is an integer from 0 to 2**53 - 1', 'OUT_OF_RANGE');
 }
 
@@ -107,12 +104,22 @@ const outOfRange = () =>
   new Base62Error('a number is an integer from 0 to 2**128 - 1, or to 2**53 - 1 as a Number', 'OUT_OF_RANGE');
 
 function notANumber(given) {
-  const wanted = 'a number is a Number or a BigInt';
-  return new TypeError(typeof given === 'string' ? `${wanted}, not a string: give BigInt('1337')` : wanted);
+  const hint = typeof given === 'string' ? ": give BigInt('1337')" : '';
+  return new TypeError(`a number is a Number or a BigInt, not ${nameOfType(given)}${hint}`);
 }
 
-const notAText = () => new TypeError('an encoded string or a prefix is a string or a Uint8Array');
-const notAValue = () => new TypeError('a value is a Number, a BigInt, or a UUID as a string or a Uint8Array');
+function notAText(given) {
+  return new TypeError(`an encoded string or a prefix is a string or a Uint8Array, not ${nameOfType(given)}`);
+}
+
+function notAUuid(given) {
+  return new TypeError(`a UUID is a string or a Uint8Array, not ${nameOfType(given)}`);
+}
+
+function notAValue(given) {
+  const wanted = 'a value is a Number, a BigInt, or a UUID as a string or a Uint8Array';
+  return new TypeError(`${wanted}, not ${nameOfType(given)}`);
+}
 
 function invalidUuid() {
   const forms = 'with hyphens or without, in braces or after urn:uuid:';
@@ -130,6 +137,25 @@ function notAnAlphabet(given) {
 // A text is an encoded string or a prefix. The memory has room for 10,000 code units, of at most three bytes each. A
 // longer text goes in pieces of this length: for decoding the first and that at startOf, for a range all from there on.
 const PIECE_LENGTH = 10_000;
+
+// A size_t has 32 bits, so a greater width is passed as the greatest size_t. A piece is so much shorter than either that
+// the result is the same. The range is all numbers if the piece has only zeros, and else none.
+const toSize = (width) => Math.min(width, TWO_TO_32 - 1);
+
+// The number of bytes of a code point in UTF-8. A lone surrogate has its own three.
+const sizeOfPoint = (point) => (point < 0x80 ? 1 : point < 0x800 ? 2 : point < 0x10000 ? 3 : 4);
+
+// Returns whether a text has this many bytes. A string has as many as it has code units, or more.
+function hasSize(text, size) {
+  if (typeof text !== 'string') return lengthOf.call(text) === size;
+  let count = 0;
+  for (let i = 0; i < text.length && count <= size; i++) {
+    const point = codePointAt(text, i);
+    if (point > 0xffff) i++;
+    count += sizeOfPoint(point);
+  }
+  return count === size;
+}
 
 function instantiate(module) {
   const { exports: library } = new WebAssembly.Instance(module);
@@ -156,7 +182,9 @@ function instantiate(module) {
   return { library, enter, leave, bytes, words, halves };
 }
 
-function createArguments({ bytes, words, halves }) {
+function createArguments({ library, bytes, words, halves, enter, leave }) {
+  const { base62_from_uuid, base62_uuid_from_string } = library;
+
   function writeNumber(number) {
     if (typeof number === 'bigint') return writeBigInt(number);
     if (typeof number !== 'number') throw notANumber(number);
@@ -174,24 +202,22 @@ function createArguments({ bytes, words, halves }) {
   }
 
   function writeUuid(uuid) {
-    if (typeof uuid === 'string') return writeUuidString(uuid);
-    if (!isUint8Array(uuid)) throw new TypeError('a UUID is a string or a Uint8Array');
-    if (lengthOf.call(uuid) !== UUID_LENGTH) throw invalidUuid();
-    for (let i = 0; i < UUID_LENGTH; i++) bytes[NUMBER + (i ^ 7)] = uuid[i];
+    if (typeof uuid === 'string') writeUuidString(uuid);
+    else writeUuidBytes(uuid);
+    enter();
+    leave(base62_from_uuid(NUMBER, UUID));
   }
 
-  // Without a regular expression: one may be compiled in any call, which on an exhausted stack is a SyntaxError.
   function writeUuidString(string) {
-    const digits = ('' + string).length === 36 ? string : unframed(string);
-    const { length } = '' + digits;
-    if (length !== 32 && length !== 36) throw invalidUuid();
-    for (let i = 0, at = 0; i < UUID_LENGTH; i++, at += 2) {
-      const hasHyphen = length === 36 && (i === 4 || i === 6 || i === 8 || i === 10);
-      if (hasHyphen && charCodeAt(digits, at++) !== HYPHEN) throw invalidUuid();
-      const byte = (digitOf(charCodeAt(digits, at)) << 4) | digitOf(charCodeAt(digits, at + 1));
-      if (byte < 0) throw invalidUuid();
-      bytes[NUMBER + (i ^ 7)] = byte;
-    }
+    const size = writeText(string);
+    enter();
+    if (leave(base62_uuid_from_string(TEXT, size, UUID)) !== OK) throw invalidUuid();
+  }
+
+  function writeUuidBytes(uuid) {
+    if (!isUint8Array(uuid)) throw notAUuid(uuid);
+    if (lengthOf.call(uuid) !== UUID_LENGTH) throw invalidUuid();
+    setBytes.call(bytes, uuid, UUID);
   }
 
   // Writes the first piece of a text. Returns its length. If it is less than PIECE_LENGTH, nothing follows. Nearly all
@@ -214,7 +240,7 @@ function createArguments({ bytes, words, halves }) {
   const writePiece = (text, start) => (typeof text === 'string' ? writeUtf8(text, start) : writeBytes(text, start));
 
   function writeBytes(text, start) {
-    if (!isUint8Array(text)) throw notAText();
+    if (!isUint8Array(text)) throw notAText(text);
     const length = lengthOf.call(text);
     const size = Math.min(length - start, PIECE_LENGTH);
     setBytes.call(bytes, size === length ? text : partOf(text, start, size), TEXT);
@@ -230,8 +256,8 @@ function createArguments({ bytes, words, halves }) {
       const point = codePointAt(string, i);
       if (point > 0xffff) i++;
       // The first of several bytes starts with as many 1 bits as there are bytes. As a byte, -128 >> n starts with
-      // n + 1 of them. A lone surrogate becomes its own three bytes.
-      let remaining = point < 0x80 ? 0 : point < 0x800 ? 1 : point < 0x10000 ? 2 : 3;
+      // n + 1 of them.
+      let remaining = sizeOfPoint(point) - 1;
       bytes[at++] = remaining === 0 ? point : (-128 >> remaining) | (point >> (6 * remaining));
       while (remaining--) bytes[at++] = 128 | ((point >> (6 * remaining)) & 63);
     }
@@ -241,7 +267,9 @@ function createArguments({ bytes, words, halves }) {
   return { writeNumber, writeUuid, writeText, writePiece };
 }
 
-function createResults({ enter, leave, bytes, words, halves }) {
+function createResults({ library, enter, leave, bytes, words, halves }) {
+  const { base62_to_uuid, base62_uuid_to_string } = library;
+
   // If the upper half is 0, as its words show, no BigInt is created for it.
   function readBigInt(address) {
     const lower = halves[address / 8 + 1];
@@ -259,8 +287,7 @@ function createResults({ enter, leave, bytes, words, halves }) {
   }
 
   const readRange = () => [readBigInt(NUMBER), readBigInt(GREATEST)];
-  const text = new Uint8Array(bytes.buffer, TEXT, MAX_DIGITS);
-  const uuidCodes = Array.from('00000000-0000-0000-0000-000000000000', (it) => it.charCodeAt(0));
+  const text = new Uint8Array(bytes.buffer, TEXT, UUID_STRING_LENGTH);
 
   // V8 would keep the parts that += joins, in ten times the memory. So one call creates an encoded string, and slice
   // leaves out what stands behind it. The codes are its arguments, since an array of them takes longer. Most strings are
@@ -278,14 +305,15 @@ function createResults({ enter, leave, bytes, words, halves }) {
   }
 
   function readUuid(address) {
-    let at = 0;
-    for (let i = 0; i < UUID_LENGTH; i++) {
-      if (i === 4 || i === 6 || i === 8 || i === 10) at++;
-      const byte = bytes[address + (i ^ 7)];
-      uuidCodes[at++] = HEXADECIMAL.charCodeAt(byte >> 4);
-      uuidCodes[at++] = HEXADECIMAL.charCodeAt(byte & 15);
-    }
-    return String.fromCharCode(...uuidCodes);
+    enter();
+    base62_to_uuid(address, UUID);
+    leave(base62_uuid_to_string(UUID, TEXT));
+    return String.fromCharCode(
+      text[0], text[1], text[2], text[3], text[4], text[5], text[6], text[7], text[8], text[9], text[10],
+      text[11], text[12], text[13], text[14], text[15], text[16], text[17], text[18], text[19], text[20], text[21],
+      text[22], text[23], text[24], text[25], text[26], text[27], text[28], text[29], text[30], text[31], text[32],
+      text[33], text[34], text[35],
+    );
   }
 
   // STATUSES[status] is the name of the status, which is the error's code. The library counts an index from the start
@@ -353,7 +381,7 @@ function load(module) {
   const { readBigInt, readRange, readNumber, readText, readUuid, errorOf } = createResults(instance);
   const { Alphabet, writeAlphabet, zero } = createAlphabets(instance, writeText, errorOf);
   // V8 is slow to look up an export, so those that are called most are looked up once.
-  const { base62_decode_canonical_with, base62_decode_with, base62_encode_with } = library;
+  const { base62_decode_canonical_with, base62_decode_fixed_with, base62_decode_with, base62_encode_with } = library;
 
   function encodeWritten(alphabet) {
     writeAlphabet(alphabet);
@@ -375,7 +403,7 @@ function load(module) {
     checkWidth(width);
     if (typeof value === 'number' || typeof value === 'bigint') writeNumber(value);
     else if (typeof value === 'string' || isUint8Array(value)) writeUuid(value);
-    else throw notAValue();
+    else throw notAValue(value);
     writeAlphabet(alphabet);
     const length = leave(enter().base62_encode_fixed_with(ALPHABET, NUMBER, TEXT, Math.min(width, MAX_DIGITS)));
     if (length === 0) throw new Base62Error('the number needs more characters than the width', 'OUT_OF_RANGE');
@@ -425,18 +453,35 @@ function load(module) {
     if (status !== OK) throw errorOf(status, start);
   }
 
+  // Like decodeText, for a text of the width.
+  function decodeFixedText(text, width, alphabet) {
+    checkWidth(width);
+    const size = writeText(text);
+    writeAlphabet(alphabet);
+    enter();
+    const status = leave(base62_decode_fixed_with(ALPHABET, TEXT, size, toSize(width), NUMBER, BAD_BYTE));
+    if (status !== OK || size >= PIECE_LENGTH) decodeFixedSlowly(text, width);
+    return NUMBER;
+  }
+
+  function decodeFixedSlowly(text, width) {
+    if (!hasSize(text, width)) throw errorOf(WRONG_LENGTH, 0);
+    decodeSlowly(text, false);
+  }
+
   const decode = (text, alphabet) => readBigInt(decodeText(text, alphabet, false));
   const decodeCanonical = (text, alphabet) => readBigInt(decodeText(text, alphabet, true));
   const decodeNumber = (text, alphabet) => readNumber(decodeText(text, alphabet, false), 'decode');
   const decodeNumberCanonical = (text, alphabet) => readNumber(decodeText(text, alphabet, true), 'decodeCanonical');
   const decodeUuid = (text, alphabet) => readUuid(decodeText(text, alphabet, false));
   const decodeUuidCanonical = (text, alphabet) => readUuid(decodeText(text, alphabet, true));
+  const decodeFixed = (text, width, alphabet) => readBigInt(decodeFixedText(text, width, alphabet));
+  const decodeNumberFixed = (text, width, alphabet) => readNumber(decodeFixedText(text, width, alphabet), 'decodeFixed');
+  const decodeUuidFixed = (text, width, alphabet) => readUuid(decodeFixedText(text, width, alphabet));
+  const decodeKey = (text) => decodeFixed(text, KEY_LENGTH);
 
-  // A size_t has 32 bits, so a greater width is passed as the greatest size_t. A piece is so much shorter than either
-  // that the range is the same: all numbers if the piece has only zeros, and else none.
   function findRange(size, width) {
-    const width32 = Math.min(width, TWO_TO_32 - 1);
-    return leave(enter().base62_prefix_range_with(ALPHABET, TEXT, size, width32, NUMBER, BAD_BYTE));
+    return leave(enter().base62_prefix_range_with(ALPHABET, TEXT, size, toSize(width), NUMBER, BAD_BYTE));
   }
 
   function prefixRange(prefix, width, alphabet) {
@@ -478,8 +523,9 @@ function load(module) {
   }
 
   return {
-    Alphabet, Base62Error, decode, decodeCanonical, decodeNumber, decodeNumberCanonical, decodeUuid, decodeUuidCanonical,
-    digitCount, encode, encodeFixed, encodeKey, encodeUuid, keyBounds, keyRange, prefixRange,
+    Alphabet, Base62Error, decode, decodeCanonical, decodeFixed, decodeKey, decodeNumber, decodeNumberCanonical,
+    decodeNumberFixed, decodeUuid, decodeUuidCanonical, decodeUuidFixed, digitCount, encode, encodeFixed, encodeKey,
+    encodeUuid, keyBounds, keyRange, prefixRange,
   };
 }
 

@@ -41,8 +41,8 @@ declare -A packages=(
 # The oldest Rust that the crate is for, and the folder for the oldest one of Debian that can.
 oldest_rust=$(sed -n 's/^rust-version = "\(.*\)"$/\1/p' rust/Cargo.toml)
 old_rust=${XDG_CACHE_HOME:-~/.cache}/base62-rust
-# The root of Debian unstable, which scripts/fetch-unstable makes.
-unstable=${XDG_CACHE_HOME:-~/.cache}/base62-unstable
+# The root of Debian testing, which scripts/fetch-testing makes.
+testing=${XDG_CACHE_HOME:-~/.cache}/base62-testing
 
 # VERSION VERSION. Whether the first is not after the second.
 in_order() {
@@ -54,13 +54,19 @@ version_of() {
     [[ $("$1" --version) =~ \ ([0-9]+(\.[0-9]+)*) ]] && echo "${BASH_REMATCH[1]}"
 }
 
+# NAME TEXT. Says with which version of a tool a check has passed. The text is what the tool prints of it.
+passed_with() {
+    [[ $2 =~ [0-9]+(\.[0-9]+)? ]]
+    echo "passed with: $1 ${BASH_REMATCH[0]}"
+}
+
 # THING, by its name there.
 is_installed() {
     case $1 in
         # Of the system's Python, if there is one: Debian's setuptools works with no other.
         build | distributed | django | ensurepip | gmpy2 | pandas | pip | pydantic | shortuuid | sqlalchemy) PATH=/usr/bin:$PATH python3 -c "import $1" ;;
-        duckdb) command -v duckdb || cmp scripts/fetch-unstable "$unstable/fetched" ;;
-        pyarrow) PATH=/usr/bin:$PATH python3 -c "import pyarrow" || cmp scripts/fetch-unstable "$unstable/fetched" ;;
+        duckdb) command -v duckdb || cmp scripts/fetch-testing "$testing/fetched" ;;
+        pyarrow) PATH=/usr/bin:$PATH python3 -c "import pyarrow" || cmp scripts/fetch-testing "$testing/fetched" ;;
         cargo) in_order "$oldest_rust" "$(version_of cargo)" ;;
         cargo-clippy | rustfmt) is_installed cargo && command -v "$1" ;;
         # Debian's file, which serves each Python without a network.
@@ -77,9 +83,9 @@ is_installed() {
     esac >/dev/null 2>&1
 }
 
-# COMMAND.. Runs a command in the root of Debian unstable, at /srv, which is the current folder. /mnt is $work. What is
+# COMMAND.. Runs a command in the root of Debian testing, at /srv, which is the current folder. /mnt is $work. What is
 # mounted there ends with it. Without root this needs user namespaces.
-in_unstable() {
+in_testing() {
     local user=()
     ((EUID == 0)) || user=(--map-root-user)
     unshare --mount "${user[@]}" bash -euc '
@@ -87,7 +93,7 @@ in_unstable() {
         mount --bind . "$0/srv"
         mount --bind "$1" "$0/mnt"
         exec chroot "$0" env -i --chdir=/srv PATH=/usr/sbin:/usr/bin:/sbin:/bin HOME=/mnt LC_ALL=C.UTF-8 "${@:2}"' \
-        "$unstable" "$work" "$@"
+        "$testing" "$work" "$@"
 }
 
 # WHAT THING.. Says what is left out for lack of them, and the command that brings them. Under CI the check ends here.

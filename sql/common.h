@@ -5,7 +5,7 @@
  * errors. Every function is static, so that a program that links a module gets no further names from it.
  *
  * A function that returns bool writes its result and returns true, or stores why it fails in *error and returns false.
- * Decoding functions store nothing if error is null. A null alphabet is the standard one. */
+ * A null alphabet is the standard one. */
 #ifndef BASE62_COMMON_H
 #define BASE62_COMMON_H
 
@@ -103,7 +103,7 @@ static inline bool number_of_int64(int64_t value, base62_number *number, call_er
 /* Returns whether the number is below 2^63, and if so writes it. */
 static inline bool int64_of_number(base62_number number, int64_t *value) {
     uint64_t low;
-    if (!base62_to_u64(number, &low) || low > INT64_MAX)
+    if (base62_to_u64(number, &low) != BASE62_OK || low > INT64_MAX)
         return false;
     *value = (int64_t)low;
     return true;
@@ -113,6 +113,18 @@ static inline bool check_width(int64_t width, call_error *error) {
     bool valid = 1 <= width && width <= MAX_WIDTH;
     return valid || fail_with(error, INVALID_PARAMETER, "the width is not from 1 to 1000: %lld", (long long)width);
 }
+
+/* What tells functions apart that share code. Those with CANONICAL or FIXED decode only canonical strings or those of
+ * a width. Those with TRY store no error of a string. */
+enum { CANONICAL = 1, FIXED = 2, TRY = 4, OF_UUID = 8, LAST = 16 };
+
+/* A string to decode. Only FIXED has a width. */
+typedef struct {
+    int flags;
+    const base62_alphabet *alphabet;
+    const char *text;
+    size_t length, width;
+} encoded;
 
 /* Encoding, decoding and ranges */
 
@@ -133,32 +145,45 @@ static inline bool encode_width(const base62_alphabet *alphabet, base62_number n
                                     (unsigned)base62_digit_count(number), (unsigned)width);
 }
 
-static inline bool decode_text(const base62_alphabet *alphabet, const char *text, size_t length, bool canonical,
-                               base62_number *number, call_error *error) {
-    base62_bad_byte bad = {0, 0};
-    base62_status status = canonical ? CALL_WITH(alphabet, base62_decode_canonical, text, length, number, &bad)
-                                     : CALL_WITH(alphabet, base62_decode, text, length, number, &bad);
-    if (status != BASE62_OK && error != NULL) {
+/* Stores why a string is rejected, unless the function has TRY. A number of 2^63 or more has a function that takes it:
+ * wider, with the form behind its name. Otherwise wider is null. This function is kept out of loops over rows. */
+#ifdef __GNUC__
+__attribute__((__cold__, __noinline__))
+#endif
+static void reject(const encoded *given, base62_status status, base62_bad_byte bad, const char *wider,
+                   call_error *error) {
+    const char *form = given->flags & FIXED ? "_fixed" : given->flags & CANONICAL ? "_canonical" : "";
+    if (given->flags & TRY)
+        return;
+    if (wider == NULL)
         fail_with_status(error, status, bad);
-        show(error, "'", text, length);
-    }
+    else
+        fail_with(error, OUT_OF_RANGE, "the number is 2^63 or more; use %s%s", wider, form);
+    show(error, "'", given->text, given->length);
+}
+
+static inline bool decode_text(const encoded *given, base62_number *number, call_error *error) {
+    base62_bad_byte bad = {0, 0};
+    const char *text = given->text;
+    base62_status status;
+    if (given->flags & FIXED)
+        status = CALL_WITH(given->alphabet, base62_decode_fixed, text, given->length, given->width, number, &bad);
+    else if (given->flags & CANONICAL)
+        status = CALL_WITH(given->alphabet, base62_decode_canonical, text, given->length, number, &bad);
+    else
+        status = CALL_WITH(given->alphabet, base62_decode, text, given->length, number, &bad);
+    if (status != BASE62_OK)
+        reject(given, status, bad, NULL, error);
     return status == BASE62_OK;
 }
 
-/* Decodes a number below 2^63. The error of a greater one names a function that takes it: wider, or, if only canonical
- * strings are decoded, wider_canonical. */
-static inline bool decode_int64(const base62_alphabet *alphabet, const char *text, size_t length, bool canonical,
-                                const char *wider, int64_t *value, call_error *error) {
+/* Decodes a number below 2^63. */
+static inline bool decode_int64(const encoded *given, const char *wider, int64_t *value, call_error *error) {
     base62_number number;
-    if (!decode_text(alphabet, text, length, canonical, &number, error))
-        return false;
-    if (int64_of_number(number, value))
-        return true;
-    if (error != NULL) {
-        fail_with(error, OUT_OF_RANGE, "the number is 2^63 or more; use %s%s", wider, canonical ? "_canonical" : "");
-        show(error, "'", text, length);
-    }
-    return false;
+    bool decoded = decode_text(given, &number, error), fits = decoded && int64_of_number(number, value);
+    if (decoded && !fits)
+        reject(given, BASE62_OVERFLOW, (base62_bad_byte){0, 0}, wider, error);
+    return fits;
 }
 
 /* Finds the numbers whose strings of the width begin with the prefix. If there are none, only sets *empty. */

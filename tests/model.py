@@ -108,7 +108,7 @@ def first_bad(letters: bytes, text: bytes) -> Result | None:
 
 
 def decoded(letters: bytes, text: bytes) -> Result:
-    """The first case that fits, in the order of the table in docs/DEFINITIONS.md."""
+    """The first case that fits, in the order of docs/DECODING.md."""
     remaining = text.lstrip(letters[:1])
     named = first_bad(letters, text)
     if not text:

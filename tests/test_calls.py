@@ -35,11 +35,20 @@ def exported() -> dict[str, set[str]]:
     }
 
 
+def columns_of(name: str, head: str) -> dict[str, set[str]]:
+    """The names in each column, but the first, of the table that begins with this field."""
+    rows = re.findall(rf"(?m)^\| {head} \|.*\n(?:\|.*\n)+", text(name))[0].splitlines()
+    titles, _, *others = [row.split("|")[2:-1] for row in rows]
+    return {title.strip(): {it for row in others for it in re.findall(r"`([\w.]+)[`(]", row[i])} for i, title in enumerate(titles)}
+
+
 def listed() -> dict[str, set[str]]:
-    """The names by the columns of the page."""
-    rows = [line.strip("|").split("|") for line in text("docs/CALLS.md").splitlines() if line.startswith("|")]
-    head, _, *others = rows
-    return {name.strip(): {it for row in others for it in re.findall(r"`([\w.]+)`", row[i])} for i, name in enumerate(head) if i}
+    """The names of the page, and of SQL those of its README, which has more."""
+    columns, of_sql = columns_of("docs/CALLS.md", "function"), columns_of("sql/README.md", "returns")
+    in_all = of_sql.pop("in all three")
+    if columns.pop("SQL") != in_all:
+        raise SystemExit("docs/CALLS.md and sql/README.md differ in what all three databases have")
+    return columns | {title.removeprefix("only "): names | in_all for title, names in of_sql.items()}
 
 
 def main() -> None:

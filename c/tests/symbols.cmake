@@ -1,11 +1,11 @@
 # Which names the libraries have:
 #
-#     cmake -DNM=nm -DHEADER=FILE -DSTATIC=FILE [-DSHARED=FILE -DOVER_STATIC=FILE -DMAJOR=4]
-#         [-DIMPORT=FILE -DDLL=NAME -DMAJOR=4] -P symbols.cmake
+#     cmake -DNM=nm -DHEADER=FILE -DSTATIC=FILE [-DSHARED=FILE -DOVER_STATIC=FILE -DMAJOR=N]
+#         [-DIMPORT=FILE -DDLL=NAME -DMAJOR=N] -P symbols.cmake
 #
 # SHARED is a shared library of ELF, OVER_STATIC one that calls the static library, and IMPORT the import library of a DLL.
 
-# The functions that a minor version added, with their symbol versions, such as base62_NAME@@BASE62_4.5.
+# The functions that a minor version added, with their symbol versions, such as base62_NAME@@BASE62_N.1.
 set(later)
 
 # Some processors lack instructions for which the compiler calls its own library, and some flags make it test more.

@@ -12,7 +12,7 @@
 
 enum { LINE = 1024, MOST_FIELDS = 8, MOST_TEXT = 512, MOST_ALPHABETS = 8, AROUND = 128 };
 
-/* The size of version 4, which callers of the shared library allocate. */
+/* The size in this major version, which callers of the shared library allocate. */
 typedef char alphabet_has_318_bytes[sizeof(base62_alphabet) == 318 ? 1 : -1];
 
 /* Its numbers of statuses, which are compiled into callers too. */

@@ -3,7 +3,7 @@
 
 // Ids of 22 characters, from random UUIDs or from UUIDs by time.
 import { randomBytes, randomUUID } from 'node:crypto';
-import { encodeKey } from 'base62-proved';
+import { decodeUuidFixed, encodeKey } from 'base62-proved';
 
 export function randomId() {
   return encodeKey(randomUUID());
@@ -16,4 +16,9 @@ export function idByTime(milliseconds = Date.now()) {
   uuid[6] = 0x70 | (uuid[6] & 0x0f);
   uuid[8] = 0x80 | (uuid[8] & 0x3f);
   return encodeKey(uuid);
+}
+
+// The UUID of an id. Only keys are accepted, which are what encodeKey returns.
+export function uuidOfId(id) {
+  return decodeUuidFixed(id, 22);
 }

@@ -82,14 +82,15 @@ function encodersOfUuids({ encodeUuid, encodeKey, encodeFixed }) {
   return [[encodeUuid, 0], [encodeKey, 22], [(it) => encodeFixed(it, 23), 23]];
 }
 
-// A call with the fault of a row. There is none here for a long text, a letter outside ASCII, a prefix of no text, or a
-// narrow buffer.
+// A call with the fault of a row. There is none here for a long text, a letter outside ASCII, a prefix of no text, a
+// narrow buffer, or a UUID.
 function callWith(base62, [kind, byte, index]) {
-  const { Alphabet, decode, decodeCanonical } = base62;
+  const { Alphabet, decode, decodeCanonical, decodeKey } = base62;
   if (index > 10_000) return undefined;
   if (kind === 'empty') return () => decode('');
   if (kind === 'overflow') return () => decode('z'.repeat(22));
   if (kind === 'zero') return () => decodeCanonical('00');
+  if (kind === 'length') return () => decodeKey('LZ');
   // Of 62 different letters, none of which is the byte.
   const codes = [...Array(63).keys()].filter((it) => it !== Number(byte)).slice(0, 62);
   if (kind === 'byte') {
@@ -128,6 +129,7 @@ function contextOf(base62, rows) {
 const faults = {
   byte: 'INVALID_BYTE',
   empty: 'EMPTY_INPUT',
+  length: 'WRONG_LENGTH',
   overflow: 'OVERFLOW',
   zero: 'NOT_CANONICAL',
   repeated: 'REPEATED_CHARACTER',
@@ -139,7 +141,13 @@ function invalid(byte, index) {
   return ['INVALID_BYTE', `Encoded input contains the invalid byte b'${escape}' at index ${index}`, byte, index];
 }
 
-const decodersOf = (base62) => Object.keys(base62).filter((it) => it.startsWith('decode')).map((it) => base62[it]);
+// The calls that decode, but decodeKey. Those for a width get the length of the text, or another one.
+function decodersOf(base62, widthOf = (text) => text.length) {
+  return Object.keys(base62).filter((it) => /^decode(?!Key)/.test(it)).map((name) => {
+    const decoder = base62[name];
+    return name.endsWith('Fixed') ? (text, ...given) => decoder(text, widthOf(text), ...given) : decoder;
+  });
+}
 
 // What refuses takes of a fault.
 function wantedOf([kind, ...numbers], message) {
@@ -154,11 +162,14 @@ function sameNumber(base62, bigint, text, alphabet, refused) {
     same(base62.digitCount(number), text.length);
     same(base62.decodeNumber(text, alphabet), number);
     same(base62.decodeNumberCanonical(text, alphabet), number);
+    same(base62.decodeNumberFixed(text, text.length, alphabet), number);
   } else {
     const said = 'the number is above 2**53 - 1: use';
     refused(() => base62.encode(number, alphabet), 'OUT_OF_RANGE');
     refused(() => base62.decodeNumber(text, alphabet), 'UNSAFE_INTEGER', `${said} decode`);
     refused(() => base62.decodeNumberCanonical(text, alphabet), 'UNSAFE_INTEGER', `${said} decodeCanonical`);
+    const ofFixed = () => base62.decodeNumberFixed(text, text.length, alphabet);
+    refused(ofFixed, 'UNSAFE_INTEGER', `${said} decodeFixed`);
   }
 }
 
@@ -187,6 +198,7 @@ const tests = {
       const text = textOf(field);
       same(base62.encodeFixed(BigInt(digits), Number(width), alphabets[name]), text);
       same(base62.decode(text, alphabets[name]), BigInt(digits));
+      same(base62.decodeFixed(text, Number(width), alphabets[name]), BigInt(digits));
       if (name === 'standard' && width === '22') same(base62.encodeKey(BigInt(digits)), text);
     }
     const message = 'the number needs more characters than the width';
@@ -196,6 +208,27 @@ const tests = {
     }
     same(base62.encodeFixed(1337, 1e6), 'LZ'.padStart(1e6, '0'));
     same(base62.encodeFixed(1337, 1e6, alphabet), 'Pd'.padStart(1e6, '2'));
+  },
+
+  'decoding at a width accepts only texts of that width'({ base62, rowsOf, alphabets, refused }) {
+    const { decodeFixed, decodeKey, decodeNumberFixed, decodeUuidFixed } = base62;
+    for (const [name, width, field, kind, ...numbers] of rowsOf('exact')) {
+      for (const text of formsOf(textOf(field))) {
+        const given = [text, Number(width), alphabets[name]];
+        const calls = [() => decodeFixed(...given)];
+        if (name === 'standard') calls.push(() => decodeFixed(text, Number(width)));
+        if (name === 'standard' && width === '22') calls.push(() => decodeKey(text));
+        if (kind === 'number') {
+          for (const call of calls) same(call(), BigInt(numbers[0]));
+          same(decodeUuidFixed(...given), uuidOf(BigInt(numbers[0])));
+        } else {
+          calls.push(() => decodeNumberFixed(...given), () => decodeUuidFixed(...given));
+          // A width may be no Number.
+          const wanted = Number(width) < 2 ** 53 ? wantedOf([kind, ...numbers]) : ['OUT_OF_RANGE'];
+          for (const call of calls) refused(call, ...wanted);
+        }
+      }
+    }
   },
 
   'leading zeros change no number, and are not canonical'({ base62, rowsOf, alphabets, refused }) {
@@ -216,6 +249,7 @@ const tests = {
       const bytes = Uint8Array.from(uuid.replaceAll('-', '').match(/../g), (it) => parseInt(it, 16));
       for (const [call, width] of encodersOfUuids(base62)) {
         for (const form of [uuid, bytes]) same(call(form), text.padStart(width, '0'));
+        if (width > 0) same(base62.decodeUuidFixed(call(uuid), width), uuid);
       }
       same(uuidOf(BigInt(digits)), uuid);
     }
@@ -240,7 +274,6 @@ const tests = {
   },
 
   'invalid numbers are rejected'({ base62, refused }) {
-    const wanted = 'a number is a Number or a BigInt';
     // No string has the second width.
     const ofUuids = [base62.encodeKey, ...[22, 2 ** 40].map((width) => (it) => base62.encodeFixed(it, width))];
     const calls = [base62.encode, base62.digitCount, ...ofUuids];
@@ -256,10 +289,8 @@ const tests = {
       for (const call of [base62.encode, base62.digitCount]) refusesType(() => call(wrong));
       for (const call of ofUuids) refused(() => call(wrong), 'INVALID_UUID');
     }
-    same(faultOf(() => base62.encode('1337')).message, `${wanted}, not a string: give BigInt('1337')`);
-    same(faultOf(() => base62.encode(true)).message, wanted);
-    const ofValue = 'a value is a Number, a BigInt, or a UUID as a string or a Uint8Array';
-    for (const wrong of [undefined, true, {}]) same(faultOf(() => base62.encodeKey(wrong)).message, ofValue);
+    const hint = "a number is a Number or a BigInt, not string: give BigInt('1337')";
+    same(faultOf(() => base62.encode('1337')).message, hint);
     same(base62.encode(-0), '0');
     same(base62.digitCount(-0), 1);
   },
@@ -267,10 +298,12 @@ const tests = {
   'invalid widths are rejected'({ base62, refused }) {
     for (const width of [-1, 1.5, NaN, Infinity, 2 ** 53]) {
       refused(() => base62.encodeFixed(5, width), 'OUT_OF_RANGE');
+      refused(() => base62.decodeFixed('5', width), 'OUT_OF_RANGE');
       refused(() => base62.prefixRange('', width), 'OUT_OF_RANGE');
     }
     for (const width of ['5', 5n, undefined, null, convertible, trap]) {
       refusesType(() => base62.encodeFixed(5, width));
+      refusesType(() => base62.decodeFixed('5', width));
       refusesType(() => base62.prefixRange('', width));
     }
     refused(() => base62.encodeFixed(0, 0), 'OUT_OF_RANGE');
@@ -310,7 +343,13 @@ const tests = {
         for (let count = 1; count <= 12; count++) {
           const text = prefix + character.repeat(count) + suffix;
           const found = ['INVALID_BYTE', undefined, byte, prefix.length];
-          refused(() => base62.decode(text), ...(letters + size * count > 22 ? ['OVERFLOW'] : found));
+          const wanted = letters + size * count > 22 ? ['OVERFLOW'] : found;
+          const width = prefix.length + size * count + suffix.length;
+          refused(() => base62.decode(text), ...wanted);
+          refused(() => base62.decodeFixed(text, width), ...wanted);
+          for (const other of [text.length, width - 1, width + 1]) {
+            if (other !== width) refused(() => base62.decodeFixed(text, other), 'WRONG_LENGTH');
+          }
           refused(() => base62.prefixRange(text, 7), ...found);
         }
       }
@@ -320,10 +359,10 @@ const tests = {
   'arguments of wrong types are rejected'({ base62, alphabet, Alphabet, standard }) {
     const others = [undefined, null, 5, 5n, true, [], ['LZ'], {}, Symbol('LZ'), Object('LZ'), convertible, trap];
     const arrays = [new Uint8ClampedArray(2), new Int8Array(2), new ArrayBuffer(2), new DataView(new ArrayBuffer(2))];
-    const { keyRange, keyBounds } = base62;
-    const decoders = decodersOf(base62);
+    const { decodeKey, encodeUuid, keyRange, keyBounds } = base62;
+    const decoders = decodersOf(base62, () => 2);
     for (const other of [...others, ...arrays, new Proxy(new Uint8Array(2), {})]) {
-      for (const call of [...decoders, keyRange, keyBounds, base62.encodeUuid]) refusesType(() => call(other));
+      for (const call of [...decoders, decodeKey, keyRange, keyBounds, encodeUuid]) refusesType(() => call(other));
       refusesType(() => new Alphabet(other));
       if (other !== undefined) refusesType(() => base62.encode(5, other));
     }
@@ -333,6 +372,23 @@ const tests = {
       refusesType(() => base62.prefixRange('LZ', 7, other));
       refusesType(() => base62.encodeFixed(5, 7, other));
       refusesType(() => base62.encodeUuid(new Uint8Array(16), other));
+    }
+  },
+
+  'the error names the type of what was passed'({ base62 }) {
+    const text = 'an encoded string or a prefix is a string or a Uint8Array';
+    const value = 'a value is a Number, a BigInt, or a UUID as a string or a Uint8Array';
+    const calls = [
+      [base62.decode, text],
+      [base62.keyRange, text],
+      [base62.encode, 'a number is a Number or a BigInt'],
+      [base62.encodeUuid, 'a UUID is a string or a Uint8Array'],
+      [base62.encodeKey, value],
+      [(it) => base62.decodeFixed('LZ', it), 'a width is a Number'],
+    ];
+    const given = { undefined, null: null, boolean: true, symbol: Symbol(), object: {}, function: trap };
+    for (const [name, it] of Object.entries({ ...given, Int8Array: new Int8Array(16) })) {
+      for (const [call, wanted] of calls) same(faultOf(() => call(it)).message, `${wanted}, not ${name}`);
     }
   },
 
@@ -418,13 +474,24 @@ const tests = {
       same(call('decode', `${zeros}${one}${zero}`), 62n);
       same(call('decode', zeros + zero), 0n);
       same(call('decode', `${zeros}${one}${zero.repeat(21)}`), 62n ** 21n);
+      const decodeFixed = (text, width) => base62.decodeFixed(form(text), width, alphabet);
+      same(decodeFixed(`${zeros}${one}${zero}`, count + 2), 62n);
+      refused(() => decodeFixed(`${zeros}${one}\x7f`, count + 2), ...invalid(127, count + 1));
+      for (const width of [count + 1, count + 3, count + 2 + 2 ** 32, Number.MAX_SAFE_INTEGER]) {
+        for (const last of [zero, '\x7f']) refused(() => decodeFixed(`${zeros}${one}${last}`, width), 'WRONG_LENGTH');
+      }
       refused(() => call('decode', `${zeros}${one}${zero.repeat(22)}`), 'OVERFLOW');
       refused(() => call('decode', `${zeros}${one}\x7f`), ...invalid(127, count + 1));
       for (const last of count > 0 ? [zero, one] : []) {
         refused(() => call('decodeCanonical', zeros + last), 'NOT_CANONICAL');
       }
     });
-    refused(() => base62.decode('\u20ac'.repeat(25000)), 'OVERFLOW');
+    for (const [character, size] of [['\u20ac', 3], ['\u{1f600}', 4]]) {
+      const text = character.repeat(25_000);
+      refused(() => base62.decode(text), 'OVERFLOW');
+      refused(() => base62.decodeFixed(text, size * 25_000), 'OVERFLOW');
+      refused(() => base62.decodeFixed(text, text.length), 'WRONG_LENGTH');
+    }
   },
 
   'prefixes of each length are read'({ base62, refused, forEachLength }) {

@@ -41,6 +41,7 @@ test('a call keeps nothing in the heap', () => {
       decode('7n42DGM5Tflk9n8mt7Fhc7');
       base62.decodeNumber('LZ');
       base62.decodeUuid('LZ');
+      base62.decodeKey('2aUyqjCzEIiEcYMKj7TZtw');
       base62.encodeUuid(bytes);
       base62.keyRange('L');
       new Alphabet(custom);
@@ -74,6 +75,26 @@ test('properties of errors and alphabets are enumerable and read-only', () => {
   });
 });
 
+test('no descriptor inherits what Object.prototype has', () => {
+  const module = compiled();
+  for (const name of ['configurable', 'get', 'set', 'writable']) {
+    Object.prototype[name] = true;
+    let copy;
+    let thrown;
+    try {
+      copy = load(module);
+      copy.decode('LZ-');
+    } catch (error) {
+      thrown = error;
+    } finally {
+      delete Object.prototype[name];
+    }
+    assert.ok(copy && thrown instanceof copy.Base62Error, `${thrown}`);
+    const wanted = { value: 2, writable: false, enumerable: true, configurable: false };
+    assert.deepEqual(Object.getOwnPropertyDescriptor(thrown, 'index'), wanted);
+  }
+});
+
 // A copy of the package, and the stack pointer of its WebAssembly.
 function copyWithStack() {
   const { Instance } = WebAssembly;
@@ -91,7 +112,8 @@ function copyWithStack() {
 const long = new Uint8Array(Buffer.from('LZ'.padStart(70_000, '0')));
 
 // Calls of a copy that use all of it, and what each returns.
-function callsOf({ Alphabet, decode, decodeUuid, encode, encodeFixed, encodeUuid, keyRange }) {
+function callsOf(copy) {
+  const { Alphabet, decode, decodeFixed, decodeKey, decodeUuid, encode, encodeFixed, encodeUuid, keyRange } = copy;
   const alphabet = new Alphabet(custom);
   return [
     [() => decode(long), 1337n],
@@ -104,6 +126,13 @@ function callsOf({ Alphabet, decode, decodeUuid, encode, encodeFixed, encodeUuid
     [() => decode('Pd'.padStart(20_000, '2'), alphabet), 1337n],
     [() => decode('LZ-'), "Encoded input contains the invalid byte b'-' at index 2"],
     [() => decode('LZ\u20ac'), "Encoded input contains the invalid byte b'\\xe2' at index 2"],
+    [() => decodeFixed('LZ', 2), 1337n],
+    [() => decodeFixed('LZ', 3), 'Encoded input does not have the given width'],
+    [() => decodeFixed('LZ\u20ac', 5), "Encoded input contains the invalid byte b'\\xe2' at index 2"],
+    [() => decodeFixed(long, 70_000), 1337n],
+    [() => decodeKey('7n42DGM5Tflk9n8mt7Fhc7'), 2n ** 128n - 1n],
+    [() => copy.decodeNumberFixed('00LZ', 4), 1337],
+    [() => copy.decodeUuidFixed('2aUyqjCzEIiEcYMKj7TZtw', 22), '550e8400-e29b-41d4-a716-446655440000'],
     [() => keyRange('5')[0], 5n * 62n ** 21n],
     [() => encodeFixed(1337, 30, alphabet), 'Pd'.padStart(30, '2')],
     [() => encodeUuid('550e8400-e29b-41d4-a716-446655440000'), '2aUyqjCzEIiEcYMKj7TZtw'],
@@ -162,7 +191,7 @@ test('calls go on after the stack has run out in one', () => {
 // The functions of the runtime that calls call. Each may throw because the stack is exhausted.
 const builtins = [
   [Object.getPrototypeOf(Uint8Array.prototype), 'set', 'slice'],
-  [String.prototype, 'charCodeAt', 'endsWith', 'lastIndexOf', 'padStart', 'slice', 'startsWith', 'toLowerCase'],
+  [String.prototype, 'charCodeAt', 'lastIndexOf', 'padStart', 'slice'],
   [WeakMap.prototype, 'get', 'set'],
   [Function.prototype, 'call'],
   [Math, 'max', 'min'],

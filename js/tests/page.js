@@ -38,7 +38,7 @@ for (const [id, text, mark, message] of [
   ['number', '340282366920938463463374607431768211456', undefined, 'The number is 2^128 or more'],
   ['number', '12x', 'x', 'The character at index 2 is not a digit'],
   ['hexadecimal', 'fg', 'g', 'The character at index 1 is not a digit'],
-  ['key', '00LZ', undefined, 'A key has 22 characters, not 4'],
+  ['key', '00LZ', undefined, 'Encoded input does not have the given width'],
 ]) {
   type(id, text);
   checks.push([text, shownAt(id), [mark, message, [id], 5]]);

@@ -6,12 +6,14 @@ import * as module from 'base62-proved/module';
 type Same<A, B> = (<T>() => T extends A ? 1 : 2) extends <T>() => T extends B ? 1 : 2 ? true : false;
 type AllOf<T extends true[]> = T;
 type Decodes<T> = (text: EncodedString, alphabet?: Alphabet) => T;
+type DecodesFixed<T> = (text: EncodedString, width: number, alphabet?: Alphabet) => T;
 type Code =
   | 'EMPTY_INPUT'
   | 'INVALID_BYTE'
   | 'OVERFLOW'
   | 'REPEATED_CHARACTER'
   | 'NOT_CANONICAL'
+  | 'WRONG_LENGTH'
   | 'OUT_OF_RANGE'
   | 'UNSAFE_INTEGER'
   | 'INVALID_UUID'
@@ -31,6 +33,10 @@ export type Checks = AllOf<
     Same<typeof base62.decodeCanonical, Decodes<bigint>>,
     Same<typeof base62.decodeNumber, Decodes<number>>,
     Same<typeof base62.decodeNumberCanonical, Decodes<number>>,
+    Same<typeof base62.decodeFixed, DecodesFixed<bigint>>,
+    Same<typeof base62.decodeNumberFixed, DecodesFixed<number>>,
+    Same<typeof base62.decodeKey, (text: EncodedString) => bigint>,
+    Same<typeof base62.decodeUuidFixed, DecodesFixed<string>>,
     Same<typeof base62.decodeUuid, Decodes<string>>,
     Same<typeof base62.decodeUuidCanonical, Decodes<string>>,
     Same<typeof base62.prefixRange, (prefix: EncodedString, width: number, alphabet?: Alphabet) => [bigint, bigint] | null>,

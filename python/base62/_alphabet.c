@@ -49,12 +49,9 @@ static PyObject *new_alphabet_of(struct state *state, PyTypeObject *type, PyObje
     Py_DecRef(tuple);
     if (object == NULL)
         return NULL;
-    if ((char *)fields_of(state, object) != PyBytes_AsString(object) + BASE62_ALPHABET_LENGTH + 1) {
-        PyErr_SetString(PyExc_SystemError, "bytes has another layout");
-        Py_DecRef(object);
-        return NULL;
-    }
-    *fields_of(state, object) = *fields;
+    state->has_fields = (char *)fields_of(state, object) == PyBytes_AsString(object) + BASE62_ALPHABET_LENGTH + 1;
+    if (state->has_fields)
+        *fields_of(state, object) = *fields;
     return object;
 }
 
@@ -134,9 +131,7 @@ static PyType_Slot alphabet_slots[] = {
 
 static int add_type(PyObject *module) {
     struct state *state = PyModule_GetState(module);
-    PyObject *size = PyObject_GetAttrString((PyObject *)&PyBytes_Type, "__basicsize__");
-    state->bytes_basicsize = size == NULL ? -1 : PyLong_AsSsize_t(size);
-    Py_DecRef(size);
+    state->bytes_basicsize = PyLong_AsSsize_t(state->objects[BYTES_SIZE]);
     if (state->bytes_basicsize < 0)
         return 0;
     PyType_Spec spec = {

@@ -63,8 +63,9 @@ static inline int unpack(const struct parameters *signature, PyObject *const *ar
                          PyObject *found[3]) {
     if (kwnames != NULL || nargs < signature->least || nargs > signature->most)
         return parse(signature, args, nargs, kwnames, found);
-    for (Py_ssize_t i = 0; i < signature->most; i++)
-        found[i] = i < nargs ? args[i] : NULL;
+    found[0] = args[0];
+    found[1] = nargs > 1 ? args[1] : NULL;
+    found[2] = nargs > 2 ? args[2] : NULL;
     return 0;
 }
 
@@ -144,14 +145,15 @@ int steal_bytes_or_raise(PyObject *bytes, struct text *text) {
     return -1;
 }
 
-/* An ASCII str is its own UTF-8. PyUnicode_AsUTF8AndSize caches a UTF-8 copy in a non-ASCII str, so such a str is
-   encoded separately. */
+/* The bytes must not change until the library has read them, so to_bytes copies what a thread or a process can write to.
+   An ASCII str is its own UTF-8. PyUnicode_AsUTF8AndSize caches a UTF-8 copy in a non-ASCII str, so such a str is encoded
+   separately. */
 int text_or_raise(struct state *state, PyObject *argument, struct text *text) {
     if (!PyUnicode_Check(argument)) {
         PyObject *bytes = PyBytes_Check(argument) ? new_ref(argument) : convert(state, TO_BYTES, argument);
         return steal_bytes_or_raise(bytes, text);
     }
-    PyObject *is_ascii = state->str_isascii(argument, NULL);
+    PyObject *is_ascii = state->str_isascii == NULL ? new_ref(Py_False) : state->str_isascii(argument, NULL);
     if (is_ascii == NULL)
         return -1;
     Py_DecRef(is_ascii);
@@ -163,11 +165,11 @@ int text_or_raise(struct state *state, PyObject *argument, struct text *text) {
 }
 
 /* Borrows the fields of an Alphabet. From characters it creates such fields in *storage. */
-static const struct alphabet *alphabet_or_raise(struct state *state, PyObject *argument, struct alphabet *storage) {
+const struct alphabet *alphabet_or_raise(struct state *state, PyObject *argument, struct alphabet *storage) {
     PyObject *object = argument == NULL ? borrow(state, STANDARD) : argument;
     if (object == NULL)
         return NULL;
-    if ((PyObject *)Py_TYPE(object) == state->objects[ALPHABET])
+    if ((PyObject *)Py_TYPE(object) == state->objects[ALPHABET] && state->has_fields)
         return fields_of(state, object);
     PyObject *characters = characters_or_raise(state, object, storage);
     Py_DecRef(characters);
@@ -207,6 +209,7 @@ PyObject *raise_status(struct state *state, base62_status status, base62_bad_byt
         [BASE62_OVERFLOW] = TOO_LARGE_ERROR,
         [BASE62_REPEATED_CHARACTER] = ALPHABET_ERROR,
         [BASE62_NOT_CANONICAL] = NOT_CANONICAL_ERROR,
+        [BASE62_WRONG_LENGTH] = WRONG_LENGTH_ERROR,
     };
     char message[BASE62_MAX_ERROR_MESSAGE];
     size_t length = base62_error_message(status, bad, message, sizeof message);
@@ -301,20 +304,23 @@ DEFINE_CALL(digit_count, "O", 1, 1, digit_count_or_raise(state, found[0]), "numb
 
 typedef PyObject *new_result(struct state *, base62_number);
 
-/* Decodes the text of a call by a function of the library, and returns the number as an object. */
-static inline PyObject *decode_or_raise(decode_with *decode, new_result *new, struct state *state,
-                                        PyObject *const found[3]) {
+/* Decodes a text, and returns the number as an object. If decode is NULL, base62_decode_fixed_with decodes it, which alone
+   has a width. Inlined, a call has its decoder as a constant. */
+static inline Py_ALWAYS_INLINE PyObject *decode_or_raise(decode_with *decode, size_t width, new_result *new,
+                                                         struct state *state, PyObject *argument, PyObject *characters) {
     struct text text;
-    if (text_or_raise(state, found[0], &text) != 0)
+    if (text_or_raise(state, argument, &text) != 0)
         return NULL;
     base62_number number;
     base62_bad_byte bad = {0, 0};
     base62_status status = BASE62_OK;
     struct alphabet storage;
-    const struct alphabet *alphabet = alphabet_or_raise(state, found[1], &storage);
+    const struct alphabet *alphabet = alphabet_or_raise(state, characters, &storage);
     if (alphabet != NULL) {
-        PyThreadState *saved = release_gil_if_long((size_t)text.length);
-        status = decode(&alphabet->tables, text.bytes, (size_t)text.length, &number, &bad);
+        size_t length = (size_t)text.length;
+        PyThreadState *saved = release_gil_if_long(length);
+        status = decode != NULL ? decode(&alphabet->tables, text.bytes, length, &number, &bad)
+                                : base62_decode_fixed_with(&alphabet->tables, text.bytes, length, width, &number, &bad);
         restore_gil(saved);
     }
     Py_DecRef(text.owner);
@@ -323,12 +329,24 @@ static inline PyObject *decode_or_raise(decode_with *decode, new_result *new, st
     return status == BASE62_OK ? new(state, number) : raise_status(state, status, bad);
 }
 
-DEFINE_CALL(decode, "O|O", 1, 2, decode_or_raise(base62_decode_with, new_int, state, found), "text", "alphabet")
-DEFINE_CALL(decode_canonical, "O|O", 1, 2, decode_or_raise(base62_decode_canonical_with, new_int, state, found),
-            "text", "alphabet")
-DEFINE_CALL(decode_uuid, "O|O", 1, 2, decode_or_raise(base62_decode_with, new_uuid, state, found), "text", "alphabet")
-DEFINE_CALL(decode_uuid_canonical, "O|O", 1, 2, decode_or_raise(base62_decode_canonical_with, new_uuid, state, found),
-            "text", "alphabet")
+static inline Py_ALWAYS_INLINE PyObject *decode_fixed_or_raise(new_result *new, struct state *state,
+                                                               PyObject *const found[3]) {
+    size_t width;
+    return width_or_raise(found[1], &width) == 0 ? decode_or_raise(NULL, width, new, state, found[0], found[2]) : NULL;
+}
+
+#define DEFINE_DECODER(name, decode, new)                                                                              \
+    DEFINE_CALL(name, "O|O", 1, 2, decode_or_raise(decode, 0, new, state, found[0], found[1]), "text", "alphabet")
+#define DEFINE_FIXED_DECODER(name, new)                                                                                \
+    DEFINE_CALL(name, "OO|O", 2, 3, decode_fixed_or_raise(new, state, found), "text", "width", "alphabet")
+
+DEFINE_DECODER(decode, base62_decode_with, new_int)
+DEFINE_DECODER(decode_canonical, base62_decode_canonical_with, new_int)
+DEFINE_DECODER(decode_uuid, base62_decode_with, new_uuid)
+DEFINE_DECODER(decode_uuid_canonical, base62_decode_canonical_with, new_uuid)
+DEFINE_FIXED_DECODER(decode_fixed, new_int)
+DEFINE_FIXED_DECODER(decode_uuid_fixed, new_uuid)
+DEFINE_CALL(decode_key, "O", 1, 1, decode_or_raise(NULL, BASE62_KEY_LENGTH, new_int, state, found[0], NULL), "text")
 
 static PyObject *range_or_raise(struct state *state, PyObject *argument, size_t width, PyObject *characters) {
     struct text prefix;
@@ -374,8 +392,11 @@ static PyMethodDef calls[] = {
     CALL(digit_count),
     CALL(decode),
     CALL(decode_canonical),
+    CALL(decode_fixed),
+    CALL(decode_key),
     CALL(decode_uuid),
     CALL(decode_uuid_canonical),
+    CALL(decode_uuid_fixed),
     CALL(key_range),
     CALL(prefix_range),
     {NULL, NULL, 0, NULL},
@@ -406,23 +427,14 @@ static int import_types(PyObject **objects) {
     return ok;
 }
 
-/* Finds the C function of str.isascii. Returns 0, with an exception, if there is none. */
-static int find_isascii(PyCFunction *isascii) {
-    PyObject *empty = PyUnicode_FromString("");
-    PyObject *method = empty == NULL ? NULL : PyObject_GetAttrString(empty, "isascii");
-    if (method != NULL && PyCFunction_GetFlags(method) == METH_NOARGS)
-        *isascii = PyCFunction_GetFunction(method);
-    if (*isascii == NULL && PyErr_Occurred() == NULL)
-        PyErr_SetString(PyExc_SystemError, "str.isascii is not what it was");
-    Py_DecRef(method);
-    Py_DecRef(empty);
-    return *isascii != NULL;
-}
-
 static int execute(PyObject *module) {
     struct state *state = PyModule_GetState(module);
-    int ok = state != NULL && import_types(state->objects) && find_isascii(&state->str_isascii) &&
-             add_uuid_names(state) && add_alphabets(module) && add_calls(module);
+    if (state == NULL || !import_types(state->objects))
+        return -1;
+    PyObject *isascii = state->objects[ISASCII];
+    if (PyCFunction_Check(isascii) && PyCFunction_GetFlags(isascii) == METH_NOARGS)
+        state->str_isascii = PyCFunction_GetFunction(isascii);
+    int ok = add_uuid_names(state) && add_alphabets(module) && add_calls(module);
     return ok ? PyModule_AddStringConstant(module, "__version__", BASE62_VERSION) : -1;
 }
 

@@ -24,10 +24,13 @@
     DO(INT_TO_UUID, "int_to_uuid")                                                                                     \
     DO(UUID, "UUID")                                                                                                   \
     DO(UNKNOWN, "UNKNOWN")                                                                                             \
+    DO(ISASCII, "ISASCII")                                                                                             \
+    DO(BYTES_SIZE, "BYTES_SIZE")                                                                                       \
     DO(EMPTY_INPUT_ERROR, "EmptyInputError")                                                                           \
     DO(INVALID_BYTE_ERROR, "InvalidByteError")                                                                         \
     DO(TOO_LARGE_ERROR, "TooLargeError")                                                                               \
     DO(NOT_CANONICAL_ERROR, "NotCanonicalError")                                                                       \
+    DO(WRONG_LENGTH_ERROR, "WrongLengthError")                                                                         \
     DO(ALPHABET_ERROR, "AlphabetError")                                                                                \
     DO(OUT_OF_RANGE_ERROR, "OutOfRangeError")
 
@@ -49,9 +52,10 @@ enum {
 
 struct state {
     PyObject *objects[OBJECT_COUNT];
-    /* The size of a bytes object without its items. */
+    /* The size of a bytes object without its items, and whether the fields of an Alphabet follow them. */
     Py_ssize_t bytes_basicsize;
-    /* The C function of str.isascii. */
+    int has_fields;
+    /* The C function of str.isascii, or NULL. */
     PyCFunction str_isascii;
 };
 
@@ -76,7 +80,7 @@ static inline PyObject *new_ref(PyObject *object) {
     return object;
 }
 
-/* The fields that Alphabet adds to bytes. bytes has a variable size, so they follow its items. */
+/* The fields that Alphabet adds to bytes, if has_fields. bytes has a variable size, so they follow its items. */
 static inline struct alphabet *fields_of(const struct state *state, PyObject *object) {
     return (struct alphabet *)((char *)object + state->bytes_basicsize + Py_SIZE(object));
 }
@@ -87,6 +91,7 @@ PyObject *convert(struct state *state, int converter, PyObject *argument);
 int number_or_raise(struct state *state, PyObject *argument, base62_number *number);
 int steal_bytes_or_raise(PyObject *bytes, struct text *text);
 int text_or_raise(struct state *state, PyObject *argument, struct text *text);
+const struct alphabet *alphabet_or_raise(struct state *state, PyObject *argument, struct alphabet *storage);
 PyObject *new_int(struct state *state, base62_number number);
 PyObject *raise_status(struct state *state, base62_status status, base62_bad_byte bad);
 

@@ -65,8 +65,8 @@ def encode_fixed(number: Number, width: SupportsIndex, alphabet: AnyAlphabet = A
     """Return the encoded string of a number, padded with leading zeros to exactly width characters.
 
     Strings of the same width sort in numeric order if the alphabet's characters are in ascending byte
-    order, as in Alphabet.STANDARD. decode accepts them. Only memory limits the width: above 64, a buffer
-    of width bytes is allocated besides the result.
+    order, as in Alphabet.STANDARD. decode_fixed decodes them. Only memory limits the width: above 64, a
+    buffer of width bytes is allocated besides the result.
 
     Raises OutOfRangeError if the number has more characters, ValueError if the width is negative,
     MemoryError if an allocation fails, and what encode raises.
@@ -79,7 +79,7 @@ def encode_fixed(number: Number, width: SupportsIndex, alphabet: AnyAlphabet = A
 def encode_key(number: Number) -> str:
     """Return the key of a number: its standard string, padded with leading zeros to 22 characters.
 
-    Keys sort in numeric order. decode accepts them. Raises OutOfRangeError as encode does.
+    Keys sort in numeric order. decode_key decodes them. Raises OutOfRangeError as encode does.
 
     >>> import base62
     >>> base62.encode_key(1337)
@@ -99,7 +99,9 @@ def digit_count(number: Number) -> int:
 def decode(text: EncodedString, alphabet: AnyAlphabet = Alphabet.STANDARD) -> int:
     """Return the number that a string represents, from 0 to 2**128 - 1. Leading zeros are ignored.
 
-    A str is encoded as UTF-8 first. A bytearray, a memoryview and a non-ASCII str are copied.
+    To accept only what an encoder returns, call decode_canonical for encode, decode_fixed for
+    encode_fixed, or decode_key for encode_key. A str is encoded as UTF-8 first. A bytearray, a memoryview
+    and a non-ASCII str are copied.
 
     Raises EmptyInputError, InvalidByteError or TooLargeError, and what Alphabet raises.
 
@@ -125,11 +127,36 @@ def decode_canonical(text: EncodedString, alphabet: AnyAlphabet = Alphabet.STAND
     base62.NotCanonicalError: Encoded input has a leading zero
     """
 
+def decode_fixed(text: EncodedString, width: SupportsIndex, alphabet: AnyAlphabet = Alphabet.STANDARD) -> int:
+    """Like decode, but accept only strings of exactly width bytes: those that encode_fixed returns.
+
+    Each number has at most one. Raises WrongLengthError if the string has another length, ValueError if
+    the width is negative, and otherwise what decode raises.
+
+    >>> import base62
+    >>> base62.decode_fixed("00LZ", 4)
+    1337
+    >>> base62.decode_fixed("LZ", 4)
+    Traceback (most recent call last):
+    base62.WrongLengthError: Encoded input does not have the given width
+    """
+
+def decode_key(text: EncodedString) -> int:
+    """Like decode, but accept only keys: those that encode_key returns, of which each number has one.
+
+    Raises WrongLengthError if the string does not have 22 bytes, and otherwise what decode raises.
+
+    >>> import base62
+    >>> base62.decode_key("00000000000000000000LZ")
+    1337
+    """
+
 def decode_uuid(text: EncodedString, alphabet: AnyAlphabet = Alphabet.STANDARD) -> UUID:
     """Return the UUID whose 128-bit integer a string represents.
 
     Every integer below 2**128 is the int of exactly one UUID: the bits of its version and variant are
-    not checked. Raises what decode raises.
+    not checked. To accept only what an encoder returns, call decode_uuid_canonical for encode_uuid, or
+    decode_uuid_fixed for encode_fixed and, with the width 22, for encode_key. Raises what decode raises.
 
     >>> import base62
     >>> base62.decode_uuid("YLmNWW2NwaipfRR50HIPA")
@@ -140,6 +167,12 @@ def decode_uuid_canonical(text: EncodedString, alphabet: AnyAlphabet = Alphabet.
     """Like decode_uuid, but accept only canonical strings: those that encode_uuid returns.
 
     Raises what decode_canonical raises.
+    """
+
+def decode_uuid_fixed(text: EncodedString, width: SupportsIndex, alphabet: AnyAlphabet = Alphabet.STANDARD) -> UUID:
+    """Like decode_uuid, but accept only strings of exactly width bytes: those that encode_fixed returns.
+
+    Raises what decode_fixed raises.
     """
 
 def key_range(prefix: EncodedString) -> tuple[int, int] | None:
@@ -187,10 +220,10 @@ def encode_rows(
 
 def decode_rows(
     alphabet: Alphabet,
-    is_canonical: bool,
+    width: int,
     source: tuple[str, int, int, object, object, object],
     result: tuple[str, object, object, object],
     coerces: bool,
     /,
 ) -> tuple[int, int, int]:
-    """Like encode_rows, but decode rows of strings."""
+    """Like encode_rows, but decode rows of strings of the width, of any length if it is -1, or canonical ones if -2."""

@@ -2,8 +2,9 @@
 /* Copyright (c) 2026 the maintainers of base62 for Rattle */
 
 /* Hand-written. The loops of base62.columns over the buffers of Arrow arrays. Whatever these contain, nothing outside
-   of them is read or written. A type is a letter of Arrow's C data interface: uint64 L, int64 l, decimal128 d,
-   fixed_size_binary(16) w, string u, binary z, large_string U, large_binary Z. */
+   of them is read or written, if what a call reads does not change until it returns: it runs without the GIL. A type
+   is a letter of Arrow's C data interface: uint64 L, int64 l, decimal128 d, fixed_size_binary(16) w, string u,
+   binary z, large_string U, large_binary Z. */
 #include "_base62.h"
 
 /* An array to read: so many rows, from an offset on. A buffer that it lacks is NULL. */
@@ -24,10 +25,12 @@ struct result {
 struct conversion {
     struct source source;
     struct result result;
+    struct alphabet storage;
     const base62_alphabet *alphabet;
-    /* Of encoding: the width, or -1 for no leading zeros. Of decoding: whether leading zeros are invalid. */
-    Py_ssize_t option;
-    decode_with *decode;
+    /* The width, or ANY_WIDTH, or of decoding CANONICAL. */
+    Py_ssize_t width;
+    /* Of decoding: the greatest number of the type of the result. */
+    base62_number greatest;
     /* Invalid rows become null. Otherwise the first one ends the conversion. */
     int coerces;
     /* The rows that are converted. */
@@ -35,6 +38,9 @@ struct conversion {
 };
 
 enum outcome { VALID, MISSING, INVALID, MALFORMED };
+
+/* In place of a width. ANY_WIDTH encodes canonical strings, and decodes any. */
+enum { ANY_WIDTH = -1, CANONICAL = -2 };
 
 /* 2^64 - 1 has so many. */
 enum { MAX_DIGITS_OF_64_BITS = 11 };
@@ -120,11 +126,28 @@ static void store_offset(const struct result *result, Py_ssize_t row) {
         memcpy(place_at(&result->offsets, row, sizeof small), &small, sizeof small);
 }
 
-static void store_number(const struct result *result, Py_ssize_t row, base62_number number) {
-    if (result->type == 'w')
-        base62_to_uuid(number, place_at(&result->values, row, BASE62_UUID_LENGTH));
-    else
+/* Stores a decoded number. A null row has 0, or no string. */
+static void store_number(struct result *result, Py_ssize_t row, base62_number number, int is_valid) {
+    const uint64_t halves[2] = {PY_BIG_ENDIAN ? number.high : number.low, PY_BIG_ENDIAN ? number.low : number.high};
+    unsigned char uuid[BASE62_UUID_LENGTH];
+    switch (result->type) {
+    case 'L':
+    case 'l':
         memcpy(place_at(&result->values, row, sizeof number.low), &number.low, sizeof number.low);
+        return;
+    case 'd':
+        memcpy(place_at(&result->values, row, sizeof halves), halves, sizeof halves);
+        return;
+    case 'w':
+        base62_to_uuid(number, place_at(&result->values, row, sizeof uuid));
+        return;
+    }
+    if (is_valid) {
+        base62_to_uuid(number, uuid);
+        base62_uuid_to_string(uuid, (char *)result->values.buf + result->used);
+        result->used += BASE62_UUID_STRING_LENGTH;
+    }
+    store_offset(result, row + 1);
 }
 
 /* Makes a row null. Returns 0 if it ends the conversion instead. */
@@ -138,9 +161,9 @@ static int set_null(struct conversion *conversion, Py_ssize_t row, enum outcome 
 
 /* Rows */
 
-static enum outcome encode_row(const struct conversion *conversion, Py_ssize_t row, size_t *length) {
+static enum outcome encode_row(struct conversion *conversion, Py_ssize_t row) {
     const struct source *source = &conversion->source;
-    const struct result *result = &conversion->result;
+    struct result *result = &conversion->result;
     base62_number number;
     if (is_null(source, source->offset + row))
         return MISSING;
@@ -148,40 +171,47 @@ static enum outcome encode_row(const struct conversion *conversion, Py_ssize_t r
     if (outcome != VALID)
         return outcome;
     char *place = (char *)result->values.buf + result->used;
-    size_t left = (size_t)(result->values.len - result->used), width = (size_t)conversion->option;
-    *length = conversion->option < 0 ? base62_encode_with(conversion->alphabet, number, place, left)
-                                     : base62_encode_fixed_with(conversion->alphabet, number, place, width);
-    return *length == 0 ? INVALID : VALID;
+    size_t left = (size_t)(result->values.len - result->used), width = (size_t)conversion->width;
+    size_t length = conversion->width < 0 ? base62_encode_with(conversion->alphabet, number, place, left)
+                                          : base62_encode_fixed_with(conversion->alphabet, number, place, width);
+    result->used += (Py_ssize_t)length;
+    return length == 0 ? INVALID : VALID;
 }
 
 /* Returns the outcome of the row that ends the conversion, if it is before the end. */
 static enum outcome encode_until(struct conversion *conversion, Py_ssize_t end) {
-    struct result *result = &conversion->result;
     for (; conversion->row < end; conversion->row++) {
-        size_t length = 0;
-        enum outcome outcome = encode_row(conversion, conversion->row, &length);
+        enum outcome outcome = encode_row(conversion, conversion->row);
         if (outcome != VALID && !set_null(conversion, conversion->row, outcome))
             return outcome;
-        result->used += (Py_ssize_t)length;
-        store_offset(result, conversion->row + 1);
+        store_offset(&conversion->result, conversion->row + 1);
     }
     return VALID;
+}
+
+static base62_status decode_text(const struct conversion *conversion, struct text text, base62_number *number) {
+    const base62_alphabet *alphabet = conversion->alphabet;
+    base62_bad_byte bad;
+    size_t length = (size_t)text.length, width = (size_t)conversion->width;
+    if (conversion->width >= 0)
+        return base62_decode_fixed_with(alphabet, text.bytes, length, width, number, &bad);
+    decode_with *decode = conversion->width == CANONICAL ? base62_decode_canonical_with : base62_decode_with;
+    return decode(alphabet, text.bytes, length, number, &bad);
 }
 
 static inline enum outcome decode_row(const struct conversion *conversion, Py_ssize_t row, int is_large,
                                       base62_number *number) {
     const struct source *source = &conversion->source;
     struct text text;
-    base62_bad_byte bad;
     if (is_null(source, source->offset + row))
         return MISSING;
     enum outcome outcome = read_text(source, source->offset + row, is_large, &text);
     if (outcome != VALID)
         return outcome;
-    if (conversion->decode(conversion->alphabet, text.bytes, (size_t)text.length, number, &bad) != BASE62_OK)
+    if (decode_text(conversion, text, number) != BASE62_OK)
         return INVALID;
-    int type = conversion->result.type;
-    return type != 'w' && (number->high != 0 || (type == 'l' && number->low > INT64_MAX)) ? INVALID : VALID;
+    base62_number most = conversion->greatest;
+    return number->high > most.high || (number->high == most.high && number->low > most.low) ? INVALID : VALID;
 }
 
 static enum outcome decode_until(struct conversion *conversion, Py_ssize_t end) {
@@ -198,7 +228,7 @@ static enum outcome decode_until(struct conversion *conversion, Py_ssize_t end) 
                 return outcome;
             number = base62_from_u64(0);
         }
-        store_number(&conversion->result, row, number);
+        store_number(&conversion->result, row, number, outcome == VALID);
     }
     conversion->row = row;
     return VALID;
@@ -206,8 +236,16 @@ static enum outcome decode_until(struct conversion *conversion, Py_ssize_t end) 
 
 /* Calls */
 
+/* strchr would cut another number to a letter. */
 static int is_type(int type, const char *types) {
-    return type != 0 && strchr(types, type) != NULL;
+    return type > 0 && type < 128 && strchr(types, type) != NULL;
+}
+
+static base62_number greatest_of(int type) {
+    static const base62_number of_decimal128 = {.high = 0x4b3b4ca85a86c47a, .low = 0x098a223fffffffff}; /* 10^38 - 1 */
+    if (type == 'L' || type == 'l')
+        return base62_from_u64(type == 'l' ? INT64_MAX : UINT64_MAX);
+    return type == 'd' ? of_decimal128 : (base62_number){.high = UINT64_MAX, .low = UINT64_MAX};
 }
 
 static int has(const Py_buffer *buffer, Py_ssize_t count, Py_ssize_t size) {
@@ -254,14 +292,15 @@ static int parse_conversion(PyObject *module, PyObject *args, struct conversion 
     struct state *state = PyModule_GetState(module);
     struct source *source = &conversion->source;
     struct result *result = &conversion->result;
-    PyObject *alphabet, *type = borrow(state, ALPHABET);
+    PyObject *alphabet = PyTuple_GetItem(args, 0), *type = borrow(state, ALPHABET);
     *conversion = (struct conversion){.row = 0};
-    if (type == NULL ||
-        !PyArg_ParseTuple(args, "O!n(Cnnz*z*z*)(Cw*w*w*)p", type, &alphabet, &conversion->option, &source->type,
+    const struct alphabet *fields = alphabet == NULL ? NULL : alphabet_or_raise(state, alphabet, &conversion->storage);
+    if (type == NULL || fields == NULL ||
+        !PyArg_ParseTuple(args, "O!n(Cnnz*z*z*)(Cw*w*w*)p", type, &alphabet, &conversion->width, &source->type,
                           &source->offset, &source->count, &source->validity, &source->values, &source->characters,
                           &result->type, &result->validity, &result->offsets, &result->values, &conversion->coerces))
         return -1;
-    conversion->alphabet = &fields_of(state, alphabet)->tables;
+    conversion->alphabet = &fields->tables;
     if (source->characters.buf == NULL)
         source->characters.buf = (char *)"";
     return 0;
@@ -288,8 +327,8 @@ PyObject *encode_rows(PyObject *module, PyObject *args) {
         return NULL;
     int type = conversion.source.type;
     Py_ssize_t most = type == 'L' || type == 'l' ? MAX_DIGITS_OF_64_BITS : BASE62_MAX_DIGITS;
-    if (conversion.option >= 0)
-        most = conversion.option;
+    if (conversion.width >= 0)
+        most = conversion.width;
     enum outcome outcome = MALFORMED;
     if (is_type(type, "LldwuzUZ") && is_type(conversion.result.type, "uU") && has_rows(&conversion, most))
         outcome = convert_rows(&conversion, encode_until);
@@ -300,10 +339,11 @@ PyObject *decode_rows(PyObject *module, PyObject *args) {
     struct conversion conversion;
     if (parse_conversion(module, args, &conversion) != 0)
         return NULL;
-    conversion.decode = conversion.option ? base62_decode_canonical_with : base62_decode_with;
+    int type = conversion.result.type;
+    conversion.greatest = greatest_of(type);
     enum outcome outcome = MALFORMED;
-    if (is_type(conversion.source.type, "uzUZ") && is_type(conversion.result.type, "Llw") &&
-        has_rows(&conversion, size_of(conversion.result.type)))
+    if (is_type(conversion.source.type, "uzUZ") && is_type(type, "LldwuU") &&
+        has_rows(&conversion, is_text(type) ? BASE62_UUID_STRING_LENGTH : size_of(type)))
         outcome = convert_rows(&conversion, decode_until);
     return finish(&conversion, outcome);
 }

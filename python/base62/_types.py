@@ -13,6 +13,10 @@ AnyUUID = UUID | str | bytes
 # What UUID(int=..) stores in is_safe, if a UUID has no other attributes. Then the extension creates it by setting them.
 _SLOTS = getattr(UUID, "__slots__", None)
 UNKNOWN = SafeUUID.unknown if _SLOTS == ("int", "is_safe", "__weakref__") else None
+# Where a Python calls ISASCII in another way, to_bytes converts each str. Where it has the fields that a subclass adds to
+# bytes in another place, an Alphabet is checked on each call.
+ISASCII = "".isascii
+BYTES_SIZE = bytes.__basicsize__
 
 
 class _BadByteError(ValueError):
@@ -49,12 +53,16 @@ class EmptyInputError(DecodeError):
 class TooLargeError(DecodeError):
     """A string represents 2**128 or more.
 
-    If a string has several errors, docs/DEFINITIONS.md of the project says which one is raised.
+    If a string has several errors, docs/DECODING.md of the project says which one is raised.
     """
 
 
 class NotCanonicalError(DecodeError):
     """A string represents a number, but has a leading zero."""
+
+
+class WrongLengthError(DecodeError):
+    """A string does not have the given width."""
 
 
 class InvalidByteError(_BadByteError, DecodeError):

@@ -4,50 +4,14 @@
 /* Hand-written. UUIDs as arguments and as results. */
 #include "_base62.h"
 
-/* One more than the value of each hexadecimal digit. */
-static const unsigned char digits[256] = {
-    ['0'] = 1,  ['1'] = 2,  ['2'] = 3,  ['3'] = 4,  ['4'] = 5,  ['5'] = 6,  ['6'] = 7,  ['7'] = 8,
-    ['8'] = 9,  ['9'] = 10, ['a'] = 11, ['b'] = 12, ['c'] = 13, ['d'] = 14, ['e'] = 15, ['f'] = 16,
-    ['A'] = 11, ['B'] = 12, ['C'] = 13, ['D'] = 14, ['E'] = 15, ['F'] = 16,
-};
-
-/* Removes braces, or urn:uuid:, from a string for a UUID. */
-static void remove_frame(struct text *text) {
-    static const char urn[] = "urn:uuid:";
-    const Py_ssize_t urn_length = sizeof urn - 1;
-    if (text->length >= 2 && text->bytes[0] == '{' && text->bytes[text->length - 1] == '}') {
-        text->bytes++;
-        text->length -= 2;
-    } else if (text->length >= urn_length && PyOS_strnicmp(text->bytes, urn, urn_length) == 0) {
-        text->bytes += urn_length;
-        text->length -= urn_length;
-    }
-}
-
-/* Reads a string for a UUID, as docs/DEFINITIONS.md defines it. Returns -1 if it is none. */
-static int read_string(struct text text, unsigned char uuid[BASE62_UUID_LENGTH]) {
-    remove_frame(&text);
-    int has_hyphens = text.length == 2 * BASE62_UUID_LENGTH + 4;
-    if (!has_hyphens && text.length != 2 * BASE62_UUID_LENGTH)
-        return -1;
-    const unsigned char *next = (const unsigned char *)text.bytes;
-    for (int i = 0; i < BASE62_UUID_LENGTH; i++, next += 2) {
-        if (has_hyphens && (i == 4 || i == 6 || i == 8 || i == 10) && *next++ != '-')
-            return -1;
-        unsigned int high = digits[next[0]], low = digits[next[1]];
-        if (high == 0 || low == 0)
-            return -1;
-        uuid[i] = (unsigned char)((high - 1) << 4 | (low - 1));
-    }
-    return 0;
-}
-
 /* Reads a string for a UUID, or its 16 bytes. Returns -1 if it is neither. */
 int read_uuid(struct text text, int is_string, base62_number *number) {
     unsigned char uuid[BASE62_UUID_LENGTH];
-    if (is_string ? read_string(text, uuid) != 0 : text.length != BASE62_UUID_LENGTH)
+    if (!is_string && text.length == BASE62_UUID_LENGTH)
+        memcpy(uuid, text.bytes, sizeof uuid);
+    else if (!is_string || base62_uuid_from_string(text.bytes, (size_t)text.length, uuid) != BASE62_OK)
         return -1;
-    *number = base62_from_uuid(is_string ? uuid : (const unsigned char *)text.bytes);
+    *number = base62_from_uuid(uuid);
     return 0;
 }
 

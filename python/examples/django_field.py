@@ -14,9 +14,9 @@
 >>> forms.modelform_factory(Link, fields=["id"])(instance=Link(id=1337)).initial
 {'id': 'LZ'}
 >>> Link(id=2, target="https://example.org/c").full_clean()
->>> Link(id="LZ-", target="https://example.org/d").full_clean()
+>>> Link(id="00LZ", target="https://example.org/d").full_clean()
 Traceback (most recent call last):
-django.core.exceptions.ValidationError: {'id': ["Encoded input contains the invalid byte b'-' at index 2"]}
+django.core.exceptions.ValidationError: {'id': ['Encoded input has a leading zero']}
 """
 
 from typing import Any
@@ -40,7 +40,7 @@ TYPES = {
 
 
 class KeyField(models.Field):
-    """A column of keys. The vendor of MariaDB is mysql too."""
+    """A column of keys, which forms have as shortest strings. The vendor of MariaDB is mysql too."""
 
     def db_type(self, connection: Any) -> str:
         if connection.vendor not in TYPES:
@@ -50,7 +50,7 @@ class KeyField(models.Field):
     def to_python(self, value: Any) -> Any:
         try:
             if isinstance(value, str):
-                return base62.decode(value)
+                return base62.decode_canonical(value)
             if value is not None:
                 base62.digit_count(value)
         except ValueError as error:
@@ -58,7 +58,7 @@ class KeyField(models.Field):
         return value
 
     def from_db_value(self, value: str | None, *rest: object) -> int | None:
-        return None if value is None else base62.decode(value)
+        return None if value is None else base62.decode_key(value)
 
     def get_prep_value(self, value: Any) -> str | None:
         return None if value is None else base62.encode_key(self.to_python(value))

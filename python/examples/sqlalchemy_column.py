@@ -39,7 +39,7 @@ class Key(sqlalchemy.types.TypeDecorator):
         return None if value is None else base62.encode_key(value)
 
     def process_result_value(self, value: Any, dialect: Any) -> int | None:
-        return None if value is None else base62.decode(value)
+        return None if value is None else base62.decode_key(value)
 
 
 metadata = sqlalchemy.MetaData()

@@ -7,6 +7,7 @@ import uuid
 from array import array
 from collections.abc import Callable, Iterator
 from dataclasses import dataclass
+from functools import partial
 from typing import Any
 
 import base62
@@ -25,17 +26,10 @@ ERRORS = [base62.AlphabetError, base62.OutOfRangeError, *base62.DecodeError.__su
 Call = Callable[..., Any]
 Invocation = tuple[Call, tuple[Any, ...], dict[str, Any]]
 # Calls that take an alphabet.
-OF_ALPHABETS: list[Call] = [
-    base62.Alphabet,
-    lambda letters: base62.encode(1, letters),
-    lambda letters: base62.encode_uuid(NAME, letters),
-    lambda letters: base62.encode_fixed(1, 5, letters),
-    lambda letters: base62.decode("9", letters),
-    lambda letters: base62.decode_canonical("9", letters),
-    lambda letters: base62.decode_uuid("", letters),
-    lambda letters: base62.decode_uuid_canonical("9", letters),
-    lambda letters: base62.prefix_range("9", 5, letters),
-]
+OF_ALPHABETS: list[Call] = [base62.Alphabet, partial(base62.encode, 1), partial(base62.encode_uuid, NAME)]
+OF_ALPHABETS += [partial(base62.encode_fixed, 1, 5), partial(base62.prefix_range, "9", 5)]
+OF_ALPHABETS += [partial(base62.decode, "9"), partial(base62.decode_canonical, "9"), partial(base62.decode_fixed, "9", 1)]
+OF_ALPHABETS += [partial(base62.decode_uuid, ""), partial(base62.decode_uuid_canonical, "9"), partial(base62.decode_uuid_fixed, "9", 5)]
 
 
 class OtherUUID(uuid.UUID):
@@ -70,21 +64,21 @@ def invocation(call: Call, *given: Any, **named: Any) -> Invocation:
 
 
 def valid_calls() -> Iterator[Invocation]:
+    of_numbers: list[Call] = [base62.encode, base62.digit_count, base62.encode_key, partial(base62.encode_fixed, width=22)]
     for number in (1337, WIDE, uuid.UUID(int=WIDE), True):
-        yield invocation(base62.encode, number)
-        yield invocation(base62.digit_count, number)
-        yield invocation(base62.encode_key, number)
-        yield invocation(base62.encode_fixed, number, 22)
+        yield from (invocation(call, number) for call in of_numbers)
     for letters in (base62.Alphabet.ALTERNATIVE, LETTERS, CUSTOM, CUSTOM.encode()):
         yield invocation(base62.encode, WIDE, letters)
         yield invocation(base62.decode, "LZ", letters)
         yield invocation(base62.decode_canonical, "LZ", letters)
+        yield invocation(base62.decode_fixed, "LZ", 2, letters)
         yield invocation(base62.encode_fixed, WIDE, 65, letters)
         yield invocation(base62.prefix_range, "0", 40, letters)
     texts: list[Any] = ["LZ", TEXT, TEXT.encode(), bytearray(TEXT, "ascii"), memoryview(b"0L0Z")[::2]]
     for text in texts:
         yield invocation(base62.decode, text)
         yield invocation(base62.decode_canonical, text[-1:])
+        yield invocation(base62.decode_fixed, text, Indexed(len(text)))
         yield invocation(base62.key_range, text[:2])
         yield invocation(base62.prefix_range, text[:2], 22)
     for shown in (LETTERS, base62.Alphabet.STANDARD):
@@ -92,12 +86,12 @@ def valid_calls() -> Iterator[Invocation]:
         yield invocation(base62.Alphabet, shown)
         yield invocation(shown.__reduce__)
     yield invocation(base62.decode_uuid_canonical, TEXT)
+    yield invocation(base62.decode_uuid_fixed, TEXT, width=22)
+    yield invocation(base62.decode_key, TEXT)
     yield invocation(base62.prefix_range, prefix="0", width=40, alphabet=CUSTOM)
     yield invocation(base62.encode, number=WIDE, alphabet=LETTERS)
-    yield invocation(base62.decode, "LZ", alphabet=CUSTOM)
     yield invocation(base62.Alphabet, CUSTOM)
-    yield invocation(base62.key_bounds, "8")
-    yield invocation(base62.key_bounds, "7n")
+    yield from (invocation(base62.key_bounds, prefix) for prefix in ("8", "7n"))
     for value in (uuid.UUID(int=WIDE), OtherUUID(int=WIDE), str(uuid.UUID(int=WIDE)), bytes(16)):
         yield invocation(base62.encode_uuid, value)
     for text in ("LZ", TEXT, bytearray(TEXT, "ascii")):
@@ -125,6 +119,9 @@ def invalid_calls() -> Iterator[Invocation]:
         (base62.decode, [("",), ("-",), (b"-",), (bytearray(b"-"),), ("é",), ("\ud800",), ("z" * 22,), (5,)]),
         (base62.decode, [(array("H", [48]),), (memoryview(array("H", [48])),)]),
         (base62.decode_canonical, [("00LZ",), ("",), ("é",), (5,)]),
+        (base62.decode_fixed, [("LZ", 3), ("é", 2), (5, 1), (bytearray(b"LZ"), -1), ("LZ", "2"), ("LZ",), ("1", 1, REPEATED)]),
+        (base62.decode_uuid_fixed, [("LZ", 2**64 + 2), ("", 0), (b"LZ", 2, None)]),
+        (base62.decode_key, [("LZ",), ("z" * 22,), (bytearray(22),), (5,)]),
         (base62.encode_uuid, [("",), ("é" * 32,), (b"",), (5,), (uuid.UUID(int=1), HIGH), (str(uuid.UUID(int=1)), None)]),
         (base62.decode_uuid, [("",), ("-",), ("é",), ("z" * 22,), (5,), ("1", REPEATED)]),
         (base62.encode_fixed, [(1337, 1), (1, -1), (1, -(2**64)), (1, "1"), (-1, 5), (1,)]),

@@ -15,6 +15,7 @@ import time
 import unittest
 import uuid
 from array import array
+from functools import partial
 from typing import Any, SupportsIndex
 
 import base62
@@ -35,23 +36,19 @@ except base62.InvalidByteError as error:
 """
 
 # The alternative alphabet has the standard letters, so that both have the same bad bytes.
-OF_NUMBERS: list[Call] = [
-    base62.encode,
-    base62.digit_count,
-    base62.encode_key,
-    lambda number: base62.encode_fixed(number, 22),
-    lambda number: base62.encode_fixed(number, 5000, Alphabet.ALTERNATIVE),
-]
-OF_TEXTS: list[Call] = [
-    base62.decode,
-    base62.decode_canonical,
-    base62.decode_uuid,
-    base62.decode_uuid_canonical,
-    base62.key_range,
-    base62.key_bounds,
-    lambda prefix: base62.prefix_range(prefix, 22),
-    lambda prefix: base62.prefix_range(prefix, 5000, Alphabet.ALTERNATIVE),
-]
+OF_NUMBERS: list[Call] = [base62.encode, base62.digit_count, base62.encode_key, partial(base62.encode_fixed, width=22)]
+OF_NUMBERS += [partial(base62.encode_fixed, width=5000, alphabet=Alphabet.ALTERNATIVE)]
+OF_TEXTS: list[Call] = [base62.decode, base62.decode_canonical, base62.decode_uuid, base62.decode_uuid_canonical]
+OF_TEXTS += [base62.key_range, base62.key_bounds, partial(base62.prefix_range, width=22)]
+OF_TEXTS += [partial(base62.prefix_range, width=5000, alphabet=Alphabet.ALTERNATIVE)]
+OF_TEXTS += [lambda text: base62.decode_fixed(text, width_of(text), Alphabet.ALTERNATIVE)]
+# What a DecodeError may be, without the attributes of a bad byte.
+OF_DECODING = base62.EmptyInputError, base62.TooLargeError, base62.NotCanonicalError, base62.WrongLengthError
+
+
+def width_of(text: Any) -> int:
+    """The bytes of a text, which may be of another type."""
+    return len(str.encode(text, "utf-8", "surrogatepass")) if isinstance(text, str) else 2
 
 
 def others_run(call: Call) -> bool:
@@ -254,17 +251,20 @@ class Alphabets(RaisesTestCase):
 class Widths(RaisesTestCase):
     def test_wide(self) -> None:
         for width in (64, 65, 4095, 4096, 5000):
-            self.assertEqual(base62.encode_fixed(61, width, CUSTOM), CUSTOM[0] * (width - 1) + CUSTOM[61])
+            text = CUSTOM[0] * (width - 1) + CUSTOM[61]
+            self.assertEqual((base62.encode_fixed(61, width, CUSTOM), base62.decode_fixed(text, width, CUSTOM)), (text, 61))
         self.assertEqual(base62.decode("0" * 5000 + TEXT), WIDE)
         for width in (sys.maxsize, sys.maxsize + 1, 2**64 + 4, 2**70):
             self.assertEqual(base62.prefix_range(CUSTOM[0] * 5000, width, CUSTOM), (0, WIDE))
             self.assertIsNone(base62.prefix_range(CUSTOM[1], width, CUSTOM))
             self.raised(MemoryError, base62.encode_fixed, 1, width)
+            self.raised(base62.WrongLengthError, base62.decode_fixed, "00LZ", width)
 
     def test_widths(self) -> None:
         calls: list[tuple[Call, object]] = [
             (lambda width: base62.encode_fixed(1337, width), "00LZ"),
             (lambda width: base62.prefix_range("00L", width), (1302, 1363)),
+            (lambda width: base62.decode_fixed("00LZ", width), 1337),
         ]
         for call, answer in calls:
             self.assertEqual(call(Indexed(4)), answer)
@@ -298,7 +298,7 @@ class Faults(RaisesTestCase):
         digits = "12345678" * 4
         given: list[str | bytes] = [b"", bytes(15), bytes(17), bytes(32), digits.encode()]
         forms = "with hyphens or without, in braces or after urn:uuid:"
-        for one in (*given, "\ud800" * 32, f"{{{digits})", f"({digits}}}"):
+        for one in (*given, "\ud800" * 32):
             error = self.raised(ValueError, base62.encode_uuid, one)
             self.assertEqual(str(error), f"a UUID is 32 hexadecimal digits, {forms}, or 16 bytes")
 
@@ -334,16 +334,14 @@ class Faults(RaisesTestCase):
     def test_kinds(self) -> None:
         """What an except clause catches, in the order in which a name is looked up."""
         bad_byte = "_BadByteError"
-        kinds: list[tuple[type[ValueError], list[str]]] = [
-            (base62.DecodeError, []),
-            (base62.EmptyInputError, ["DecodeError"]),
-            (base62.TooLargeError, ["DecodeError"]),
-            (base62.NotCanonicalError, ["DecodeError"]),
-            (base62.InvalidByteError, [bad_byte, "DecodeError"]),
-            (base62.AlphabetError, [bad_byte]),
-            (base62.OutOfRangeError, ["OverflowError", "ArithmeticError"]),
-        ]
-        for kind, above in kinds:
+        kinds: dict[type[ValueError], list[str]] = {
+            **dict.fromkeys(OF_DECODING, ["DecodeError"]),
+            base62.DecodeError: [],
+            base62.InvalidByteError: [bad_byte, "DecodeError"],
+            base62.AlphabetError: [bad_byte],
+            base62.OutOfRangeError: ["OverflowError", "ArithmeticError"],
+        }
+        for kind, above in kinds.items():
             names = [kind.__name__, *above, "ValueError", "Exception", "BaseException", "object"]
             self.assertEqual([base.__name__ for base in kind.__mro__], names)
             self.assertEqual(vars(kind("said")), {"byte": 0, "index": 0} if bad_byte in above else {})
@@ -352,9 +350,8 @@ class Faults(RaisesTestCase):
         """An exception that a program creates, and copies."""
         made = [kind("said", 45, 4) for kind in (base62.InvalidByteError, base62.AlphabetError)]
         self.assertEqual([vars(error) for error in made], [{"byte": 45, "index": 4}] * 2)
-        others = (base62.EmptyInputError, base62.TooLargeError, base62.NotCanonicalError, base62.DecodeError)
         caught = self.raised(base62.InvalidByteError, base62.decode, "00LZ-")
-        for error in (caught, *made, *(kind("said") for kind in others)):
+        for error in (caught, *made, *(kind("said") for kind in (*OF_DECODING, base62.DecodeError))):
             for again in copies(error):
                 self.assertIs(type(again), type(error))
                 self.assertEqual((str(again), vars(again)), (str(error), vars(error)))

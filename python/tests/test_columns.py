@@ -3,11 +3,12 @@
 """Tests of columns by the values of tests/values.tsv and by the functions for one value, with pyarrow and pandas."""
 
 import doctest
-import gc
 import importlib.util
 import io
 import random
-import sys
+import shutil
+import subprocess
+import tempfile
 import types
 import unittest
 import uuid
@@ -16,6 +17,7 @@ from collections import UserDict
 from collections.abc import Iterator
 from decimal import Decimal
 from fractions import Fraction
+from functools import partial
 from itertools import product
 from typing import Any
 from urllib.parse import unquote_to_bytes
@@ -23,7 +25,6 @@ from urllib.parse import unquote_to_bytes
 import base62
 from calls import HIGH, NAME, WIDE, Call, Indexed, RaisesTestCase
 from paths import readme
-from test_base62 import others_run
 from test_values import ALPHABETS, KINDS, OF_ASCII, forms_of_text, rows
 
 try:
@@ -32,10 +33,15 @@ try:
 except ImportError as error:
     raise unittest.SkipTest(f"{error.name} is not installed") from None
 np: Any = importlib.import_module("numpy")
+csv: Any = importlib.import_module("pyarrow.csv")
+parquet: Any = importlib.import_module("pyarrow.parquet")
 columns: Any = importlib.import_module("base62.columns")
 
 TEXT = "2aUyqjCzEIiEcYMKj7TZtw"
 NUMBER_TYPES = [getattr(pa, f"{sign}int{bits}")() for bits in (8, 16, 32, 64) for sign in ("", "u")]
+LIMITS = {pa.int64(): 2**63, pa.uint64(): 2**64, pa.decimal128(38): 10**38}
+UUID_TYPES: dict[Any, Call] = {
+    pa.uuid(): lambda it: it, pa.binary(16): lambda it: it.bytes, pa.string(): str, pa.large_string(): str}
 TEXT_TYPES = [pa.string(), pa.large_string(), pa.string_view(), pa.binary(), pa.large_binary(), pa.binary_view()]
 
 
@@ -87,22 +93,27 @@ class Values(ColumnsTestCase):
     def test_decode(self) -> None:
         for name, alphabet in ALPHABETS.items():
             found = [(int(digits), forms_of_text(text)) for it, digits, text in rows("encode") if it == name]
-            names = [uuid.UUID(int=number) for number, _ in found]
-            narrow = [number if number < 2**64 else None for number, _ in found]
-            for column in (pa.array([texts[0] for _, texts in found]), [texts[-1] for _, texts in found]):
+            # The last column is of strings and bytes.
+            mixed = [texts[row % len(texts)] for row, (_, texts) in enumerate(found)]
+            for column in (pa.array([texts[0] for _, texts in found]), [texts[-1] for _, texts in found], mixed):
                 for call in (columns.decode, columns.decode_canonical):
-                    self.check(lambda it: call(it, alphabet, errors="coerce"), column, narrow, pa.uint64())
+                    for of_type, limit in LIMITS.items():
+                        numbers = [number if number < limit else None for number, _ in found]
+                        self.check(lambda it: call(it, alphabet, errors="coerce", type=of_type), column, numbers, of_type)
                 for call in (columns.decode_uuid, columns.decode_uuid_canonical):
-                    self.check(lambda it: call(it, alphabet), column, names, pa.uuid())
+                    for of_type, form in UUID_TYPES.items():
+                        names = [form(uuid.UUID(int=number)) for number, _ in found]
+                        self.check(lambda it: call(it, alphabet, type=of_type), column, names, of_type)
 
     def test_errors(self) -> None:
         """Each string that is rejected, behind a null: its error and its row, or a null."""
-        refused = [(name, text, expected, "") for name, text, *expected in rows("refused")]
+        refused: list[Any] = [(name, text, expected, "") for name, text, *expected in rows("refused")]
         refused += [(name, text, ["zero"], "_canonical") for name, text, _ in rows("zeros")]
-        for name, text, expected, suffix in refused:
+        exact = [(name, text, expected, "_fixed", int(width)) for name, width, text, *expected in rows("exact")]
+        for name, text, expected, suffix, *given in refused + [row for row in exact if row[2][0] != "number"]:
             calls = [getattr(columns, f"{call}{suffix}") for call in ("decode", "decode_uuid")]
             for bad in forms_of_text(text):
-                error = self.raised(KINDS[expected[0]], calls[len(text) % 2], [None, bad], ALPHABETS[name])
+                error = self.raised(KINDS[expected[0]], calls[len(text) % 2], [None, bad], *given, ALPHABETS[name])
                 notes = [f"Row 1 of the column is {bad!r}"] if len(repr(bad)) < 80 else error.__notes__
                 wanted = dict(zip(("byte", "index"), map(int, expected[1:]))) | {"row": 1, "__notes__": notes}
                 self.assertEqual(vars(error), wanted)
@@ -114,17 +125,14 @@ class Values(ColumnsTestCase):
             if name in OF_ASCII:
                 call = lambda it: columns.encode_fixed(it, int(width), ALPHABETS[name])
                 self.check(call, [None, int(number)], [None, unquote_to_bytes(text).decode()], pa.string())
-        for name, number, width in rows("narrow"):
-            if name in OF_ASCII:
-                call = lambda it: columns.encode_fixed(it, int(width), ALPHABETS[name], errors="coerce")
-                self.check(call, pa.array([int(number).to_bytes(16, "big")], pa.binary(16)), [None])
 
-    def test_uuid_strings(self) -> None:
-        found = [(unquote_to_bytes(escaped).decode(), name) for escaped, name in rows("form")]
-        expected = [None if name == "none" else base62.encode_uuid(uuid.UUID(name)) for _, name in found]
-        for of_type in TEXT_TYPES[:3]:
-            column = pa.array([text for text, _ in found]).cast(of_type)
-            self.check(lambda it: columns.encode_uuid(it, errors="coerce"), column, expected)
+    def test_exact(self) -> None:
+        for name, width, text, kind, *digits in rows("exact"):
+            for good in forms_of_text(text) if kind == "number" else []:
+                given, number = (int(width), ALPHABETS[name]), int(digits[0])
+                self.check(lambda it: columns.decode_uuid_fixed(it, *given), [good, None], [uuid.UUID(int=number), None])
+                narrow = number if number < 2**63 else None
+                self.check(lambda it: columns.decode_fixed(it, *given, errors="coerce"), pa.array([good]), [narrow])
 
 
 class Arrays(ColumnsTestCase):
@@ -167,29 +175,44 @@ class Arrays(ColumnsTestCase):
                 self.check(columns.encode_uuid, column, texts, pa.string())
         for of_type in TEXT_TYPES:
             for column in forms_of(pa.array(texts).cast(of_type)):
-                for call in (columns.decode_uuid, columns.decode_uuid_canonical):
-                    self.check(call, column, names, pa.uuid())
+                for of_result, form in UUID_TYPES.items():
+                    self.check(lambda it: columns.decode_uuid(it, type=of_result), column, self.each(form, names), of_result)
 
     def test_strings(self) -> None:
         numbers = self.some(63)
-        keys = self.each(base62.encode_key, numbers)
+        keys = pa.array(self.each(base62.encode_key, numbers))
         for of_type in TEXT_TYPES:
             for column in forms_of(pa.array(self.each(base62.encode, numbers)).cast(of_type)):
-                self.check(columns.decode_canonical, column, numbers, pa.uint64())
-                self.check(lambda it: columns.decode(it, type=pa.int64()), column, numbers, pa.int64())
-            self.check(columns.decode, pa.array(keys).cast(of_type), numbers, pa.uint64())
+                for of_result in LIMITS:
+                    self.check(lambda it: columns.decode_canonical(it, type=of_result), column, numbers, of_result)
+            for call in (columns.decode, lambda it: columns.decode_fixed(it, 22)):
+                self.check(call, keys.cast(of_type), numbers, pa.int64())
+
+    def test_dictionaries(self) -> None:
+        """Values that no row has may be invalid, and many. Of others the first row is reported."""
+        numbers = {"LZ": 1337, "z": 61, "-": None, None: None, "~": None}
+        values = pa.array([*numbers, *["?"] * 100])
+        for rows, bad in (([0, 1, None, 0, 3], None), ([None, 0, 4, 2], 2), ([3, 2, 4] * 100, 1)):
+            indices: Any = pa.array(rows, pa.int16())
+            column = pa.chunked_array([dictionary(pa.array(["1"])), pa.DictionaryArray.from_arrays(indices, values)])
+            expected = [1, *(numbers[it] for it in values.take(indices).to_pylist())]
+            self.check(lambda it: columns.decode(it, errors="coerce"), column, expected, pa.int64())
+            if bad is None:
+                self.check(columns.decode, column, expected, pa.int64())
+            else:
+                error = self.raised(base62.InvalidByteError, columns.decode, column)
+                self.assertEqual(error.__notes__, [f"Row {error.row} of the column is {column[bad + 1].as_py()!r}"])
+                self.assertEqual(error.row, bad + 1)
 
     def test_empty(self) -> None:
-        for call, of_type, of_result in (
-            (columns.encode, pa.int8(), pa.string()),
-            (columns.encode_uuid, pa.uuid(), pa.string()),
-            (columns.decode, pa.string_view(), pa.uint64()),
-            (columns.decode_uuid, pa.binary(), pa.uuid()),
-        ):
-            empty = pa.array([], of_type)
-            empties = [empty, [], pa.chunked_array([], of_type), pa.chunked_array([empty]), np.array([]), pd.Series([])]
-            for column in empties:
+        """Columns with no row, and with missing ones only."""
+        for call, of_type in ((columns.encode, pa.int8()), (columns.encode_uuid, pa.uuid()),
+                              (columns.decode, pa.string_view()), (columns.decode_uuid, pa.binary())):
+            empty, of_result, nan = pa.array([], of_type), types_of(call)[0], float("nan")
+            for column in (empty, [], pa.chunked_array([], of_type), pa.chunked_array([empty]), np.array([]), pd.Series([])):
                 self.check(call, column, [], of_result)
+            for column in ([None], [nan], [pd.NA], pd.Series([None]), pd.Series([nan]), np.array([nan])):
+                self.check(call, column, [None], of_result)
 
     def test_two_gibibytes(self) -> None:
         """The last string of a column is decoded again."""
@@ -207,11 +230,9 @@ class Arrays(ColumnsTestCase):
         self.assertEqual(columns.encode_fixed(pa.chunked_array([[None]] * 2, pa.uint8()), 2**30).type, pa.string())
 
     def test_shared_strings(self) -> None:
-        """Strings of 2^31 bytes and more, which share those of a dictionary or a view. Only LZ is valid."""
-        texts = pa.array(["-" * 2**27, "LZ"])
-        views = pa.concat_arrays([texts.cast(pa.string_view())] * 17)
-        for column in (pa.DictionaryArray.from_arrays([0, 1] * 17, texts), views):
-            self.check(lambda it: columns.decode(it, errors="coerce"), column, [None, 1337] * 17)
+        """Strings of 2^31 bytes and more, which share those of a view. Only LZ is valid."""
+        views = pa.concat_arrays([pa.array(["-" * 2**27, "LZ"], pa.string_view())] * 17)
+        self.check(lambda it: columns.decode(it, errors="coerce"), views, [None, 1337] * 17)
 
 
 class Objects(ColumnsTestCase):
@@ -226,19 +247,16 @@ class Objects(ColumnsTestCase):
             [float("nan") if it is None else it for it in numbers],
             [pd.NA if it is None else Decimal(it) for it in numbers],
             [pa.scalar(it, pa.int64()) for it in numbers],
-            *(np.array(numbers, object), np.array(numbers, object).flat),
+            *(np.array(numbers, object), np.array(numbers, object).flat, [1337, np.ma.masked, 0, 2**63 - 1]),
             np.ma.array([1337, 5, 0, 2**63 - 1], ">i8", mask=[0, 1, 0, 0]),
-            [1337, np.ma.masked, 0, 2**63 - 1],
             pd.Series(numbers, dtype="Int64", index=[5, 5, 5, 5]),
             *(pd.Series(numbers, dtype=it) for it in ("uint64[pyarrow]", object)),
             # As those of pandas 3.
             type("Series", (pd.Series,), {"__arrow_c_stream__": None})(numbers, dtype=object),
-            pd.Series(pd.array(numbers, "Int64")).astype("category"),
-            pd.array(numbers, "UInt64"),
+            *(pd.Series(pd.array(numbers, "Int64")).astype("category"), pd.array(numbers, "UInt64")),
             pd.DataFrame({"id": pd.array(numbers, "Int64")}, index=[5, 4, 3, 2]),
         ):
-            found = columns.encode(column)
-            self.assertEqual(found.to_pylist(), texts, column)
+            self.assertEqual(columns.encode(column).to_pylist(), texts, column)
         self.check(columns.encode, range(60, 63), ["y", "z", "10"])
         self.check(columns.encode, pd.Index([61, 62]), ["z", "10"])
         self.check(columns.encode, pd.RangeIndex(2**63 - 1, 2**63 + 1), ["AzL8n0Y58m7", "AzL8n0Y58m8"])
@@ -248,7 +266,7 @@ class Objects(ColumnsTestCase):
     def test_wide_integers(self) -> None:
         """Lists that pyarrow has no type for."""
         lists: list[list[Any]] = [[2**63, 0, None], [2**64, 1, float("nan"), np.float32("nan")], [True, 2, None]]
-        for numbers in [*lists, [NAME, 2**128 - 1, None]]:
+        for numbers in [*lists, [2**64, np.uint8(5), Indexed(7), None, pd.NA], [True, None], [NAME, 2**128 - 1, None]]:
             texts = [None if it is None or it is pd.NA or it != it else base62.encode(it) for it in numbers]
             for column in (numbers, (it for it in numbers), np.array(numbers, object), pd.Series(numbers, dtype=object)):
                 self.check(columns.encode, column, texts, pa.string())
@@ -257,14 +275,9 @@ class Objects(ColumnsTestCase):
 
     def test_uuids(self) -> None:
         for column in (
-            [NAME, None],
-            [NAME.bytes, None],
-            [str(NAME), None],
-            [str(NAME), NAME, NAME.bytes, None],
-            pd.Series([str(NAME), NAME.bytes], dtype="category"),
-            pd.Series([NAME, None, float("nan")]),
-            pd.Series([NAME.hex, None], dtype="string"),
-            pd.Series([NAME.urn, None], dtype="category"),
+            *([NAME], [NAME, None], [NAME.bytes, None], [str(NAME), None], [str(NAME), NAME, NAME.bytes, None]),
+            *(pd.Series([NAME, None, float("nan")]), pd.Series([str(NAME), NAME.bytes], dtype="category")),
+            *(pd.Series([NAME.hex, None], dtype="string"), pd.Series([NAME.urn, None], dtype="category")),
         ):
             self.check(columns.encode_uuid, column, [None if pd.isna(it) else TEXT for it in column], pa.string())
         # NumPy cuts zeros at the end of S16.
@@ -272,8 +285,9 @@ class Objects(ColumnsTestCase):
         for form in ("S16", "V16"):
             column = np.array([NAME.bytes, zeros], form)
             for it in (column, np.ma.array(column), pd.Series(column), pd.Series(column).array):
-                with warnings.catch_warnings(action="error"):
-                    self.check(columns.encode_uuid, it, [TEXT, base62.encode_uuid(zeros)])
+                for call in (columns.encode_uuid, columns.encode):
+                    with warnings.catch_warnings(action="error"):
+                        self.check(call, it, [TEXT, base62.encode_uuid(zeros)])
         self.check(columns.encode, [NAME, uuid.UUID(int=WIDE)], [TEXT, "7n42DGM5Tflk9n8mt7Fhc7"])
 
     def test_strings(self) -> None:
@@ -296,24 +310,59 @@ class Objects(ColumnsTestCase):
         error = self.raised(base62.InvalidByteError, columns.decode, pa.array([b"LZ", b"\xff"]).view(pa.string()))
         self.assertEqual((error.byte, error.row), (0xFF, 1))
 
-    def test_missing_only(self) -> None:
-        for column in ([None], [float("nan")], [pd.NA], pd.Series([None]), pd.Series([float("nan")]), np.array([np.nan])):
-            self.check(columns.encode, column, [None], pa.string())
-            self.check(columns.decode, column, [None], pa.uint64())
-            self.check(columns.decode_uuid, column, [None], pa.uuid())
 
-    def test_pandas(self) -> None:
-        """Results are assigned by position, and numbers above 2^53 are kept, with missing ones among them."""
-        frame = pd.DataFrame({"id": pd.array([1337, None, 2**63 + 1], "UInt64")}, index=[9, 8, 7])
-        frame["code"] = columns.encode(frame["id"])
-        self.assertEqual(frame["code"].where(frame["code"].notna(), None).tolist(), ["LZ", None, "AzL8n0Y58m9"])
-        frame["back"] = pd.array(columns.decode(frame["code"]), "uint64[pyarrow]")
-        self.assertEqual(frame["back"].tolist(), [1337, pd.NA, 2**63 + 1])
+class Recipes(ColumnsTestCase):
+    """What README says of pandas, for numbers above 2^53."""
+
+    def test_rounded(self) -> None:
+        """Where pandas rounds uint64 and int64, and int64[pyarrow] before dropna()."""
+        ids = [2**60 + 1, None, 2**60 + 3]
+        codes = columns.encode(ids)
+        narrow, wide = (pd.Series(columns.decode(codes[::2], type=it()).to_numpy(), name="id") for it in (pa.int64, pa.uint64))
+        for column, is_exact in ((wide, False), (narrow, True)):
+            self.assertEqual(len(narrow.to_frame().merge(column[::-1], on="id")), 2 if is_exact else 4)
+            exact = [it.dtype == "int64" for it in (pd.concat([column, narrow]), column + narrow)]
+            self.assertEqual({*exact, not narrow.isin(column[:1])[1]}, {is_exact})
+        recipe: Call = lambda it: pd.array(columns.decode(it), "int64[pyarrow]")
+        for decode in (columns.decode, recipe):
+            frame, more = pd.DataFrame({"id": decode(codes[::2]), "row": [0, 1]}), pd.DataFrame({"row": [0, 1, 2]})
+            added, updated = frame[["row"]].copy(), frame.copy()
+            added.loc[:0, "id"] = decode(codes[:1])
+            updated.update(pd.DataFrame({"id": decode(codes[2:])}))
+            found = [pd.Series(decode(codes)), added["id"], updated["id"], frame["id"].reindex([0, 2]), frame["id"].shift()]
+            found += [frame.pivot(columns="row", values="id")[0], *(more.merge(frame, it)["id"] for it in ("left", "outer"))]
+            self.assertEqual({int(it.dropna().iloc[0]) in ids for it in found}, {decode is recipe})
+        column = pd.Series(recipe(codes), name="id")
+        for used, is_exact in ((column, False), (column.dropna(), True)):
+            found = [used.map(lambda it: it), used.apply(lambda it: it), used.to_numpy(), used.to_frame().to_dict("list")["id"]]
+            exact = [int(it[0]) == ids[0] for it in found] + [len(used.drop_duplicates()) == len(used)]
+            self.assertEqual({*exact, not pd.Series(ids[2:]).isin(used.loc[:1])[0]}, {is_exact})
+
+    def test_csv(self) -> None:
+        """Which strings are nulls for pyarrow."""
+        null, by_type = {"strings_can_be_null": True}, {"null_values": [""], "column_types": {"code": pa.string()}}
+        for given, expected in (({}, ["NA", "", "LZ"]), (null, [None, None, "LZ"]), (null | by_type, ["NA", None, "LZ"])):
+            table = csv.read_csv(io.BytesIO(b"code,row\nNA,1\n,2\nLZ,3\n"), convert_options=csv.ConvertOptions(**given))
+            self.assertEqual(table["code"].to_pylist(), expected)
+
+    @unittest.skipUnless(shutil.which("duckdb"), "DuckDB is not installed")
+    def test_duckdb(self) -> None:
+        """UUIDs and wide numbers in Parquet are such there, and come back."""
+        names, numbers = columns.encode_uuid([NAME, None]), columns.encode([2**64, None])
+        table = pa.table({"name": columns.decode_uuid(names), "number": columns.decode(numbers, type=pa.decimal128(38))})
+        with tempfile.TemporaryDirectory() as folder:
+            parquet.write_table(table, f"{folder}/in.parquet")
+            rows = f"SELECT *, typeof(name) || typeof(number) AS types FROM '{folder}/in.parquet'"
+            subprocess.run(["duckdb", "-c", f"COPY ({rows}) TO '{folder}/out.parquet'"], check=True)
+            found = parquet.read_table(f"{folder}/out.parquet")
+        self.assertEqual({*found["types"].to_pylist()}, {"UUIDDECIMAL(38,0)"})
+        self.assertEqual(columns.encode_uuid(found["name"]).combine_chunks(), names)
+        self.assertEqual(columns.encode(found["number"]).combine_chunks(), numbers)
 
 
 CUSTOM = ALPHABETS["standard"][::-1]
-NUMBERS = [5, -1, 2**63, 2**64, np.int8(5), np.uint64(2**63), np.uint8(53), Indexed(5), 1.5, 2.0, float("nan"), np.float16(1.5),
-           np.float32("nan"), np.longdouble(1.5), np.bool_(True), 5j, Fraction(5), None, pd.NA]
+NUMBERS = [5, -1, 2**63, 2**64, np.int8(5), np.uint64(2**63), np.uint8(53), Indexed(5), 1.5, 2.0, float("nan"), True, None,
+           pd.NA, np.float16(1.5), np.float32("nan"), np.longdouble(1.5), np.bool_(True), 5j, Fraction(5)]
 OTHERS = ["LZ", "not-a-uuid-here!", str(NAME), b"LZ", NAME.bytes, bytearray(b"LZ"), memoryview(NAME.bytes), np.str_("LZ"),
           memoryview(b"LZLZ").cast("I"), np.bytes_(b"LZ"), np.void(bytes(16)), NAME, np.timedelta64(5, "ns"), [5], {"a": 5},
           np.datetime64("2026-01-01", "ns"), np.datetime64("2026-01-01", "D"), pd.Timestamp("2026-01-01"), object()]
@@ -327,9 +376,21 @@ FUNCTIONS: list[tuple[Call, Call, tuple[int, ...], Any, Any, Any]] = [
     (columns.encode_uuid, base62.encode_uuid, (), NAME.bytes, b"5", 5),
     (columns.decode, base62.decode, (), "LZ", "L-", 5),
     (columns.decode_canonical, base62.decode_canonical, (), "LZ", "", 5),
+    (columns.decode_fixed, base62.decode_fixed, (3,), "0LZ", "LZ", 5),
     (columns.decode_uuid, base62.decode_uuid, (), "LZ", "LZ~", 5),
     (columns.decode_uuid_canonical, base62.decode_uuid_canonical, (), b"LZ", b"\xff", NAME),
+    (columns.decode_uuid_fixed, base62.decode_uuid_fixed, (2,), b"LZ", b"L-", NAME),
 ]
+
+
+def types_of(call: Call) -> list[Any]:
+    """The types of its results, of which the first is that without an argument."""
+    if "encode" in call.__name__:
+        return [pa.string(), pa.large_string()]
+    return [*UUID_TYPES] if "uuid" in call.__name__ else [*LIMITS]
+
+
+OWN: Any = type("Own", (pa.ExtensionType,), {"__arrow_ext_serialize__": lambda self: b""})(pa.binary(16), "own")
 
 
 class Arguments(ColumnsTestCase):
@@ -340,21 +401,22 @@ class Arguments(ColumnsTestCase):
                 if call is columns.encode_key and alphabet:
                     self.raised(TypeError, call, [value], *alphabet)
                     continue
-                of_types = [pa.string(), pa.large_string()] if "encode" in call.__name__ else [pa.uint64(), pa.int64()]
-                if call.__name__.startswith("decode_uuid"):
-                    self.raised(TypeError, call, [value], *alphabet, type=pa.uuid())
-                    of_types = []
-                expected = one(value, *given, *alphabet)
-                optional: list[dict[str, Any]] = [{}, *({"type": it} for it in of_types)]
-                for named in optional:
-                    self.check(lambda it: call(it, *given, *alphabet, **named), [value, None], [expected, None])
-                    coerced = call([value, bad], *given, *alphabet, errors="coerce", **named)
-                    self.assertEqual(coerced.to_pylist(), [expected, None])
-                    self.assertEqual(coerced.type, named.get("type", coerced.type))
+                result, of_types = one(value, *given, *alphabet), types_of(call)
+                for of_type in (None, *of_types):
+                    named: dict[str, Any] = {} if of_type is None else {"type": of_type}
+                    of_type = of_type or of_types[0]
+                    expected = [UUID_TYPES[of_type](result) if isinstance(result, uuid.UUID) else result, None]
+                    for row, errors in ((None, "raise"), (bad, "coerce")):
+                        convert = partial(call, **named, errors=errors)
+                        self.check(lambda it: convert(it, *given, *alphabet), [value, row], expected, of_type)
 
     def test_rows(self) -> None:
-        """The exception is that of the function for one value. Rows are counted over chunks."""
-        for call, one, given, value, bad, _ in FUNCTIONS:
+        """The exception is that of the function for one value. Rows are counted over chunks. An object of another type
+        raises TypeError, also if invalid rows become null."""
+        for call, one, given, value, bad, wrong in FUNCTIONS:
+            for errors in ("raise", "coerce"):
+                self.raised(TypeError, call, [wrong], *given, errors=errors)
+                self.assertEqual(self.raised(TypeError, call, [value, None, object()], *given, errors=errors).row, 2)
             with self.assertRaises(ValueError) as caught:
                 one(bad, *given)
             expected = caught.exception
@@ -369,26 +431,21 @@ class Arguments(ColumnsTestCase):
         for of_type in (pa.int8(), pa.int64(), pa.decimal128(5)):
             error = self.raised(base62.OutOfRangeError, columns.encode, pa.array([0, -1, -5], of_type))
             self.assertEqual((error.row, error.__notes__), (1, ["Row 1 of the column is -1"]))
-        error = self.raised(base62.OutOfRangeError, columns.encode_fixed, pa.array([NAME.bytes], pa.binary(16)), 2)
-        self.assertEqual(error.__notes__, [f"Row 0 of the column is {NAME!r}"])
+        sixteen = pa.array([NAME.bytes], pa.binary(16))
+        for column, shown in ((sixteen, NAME.int), (sixteen.cast(pa.uuid()), NAME), ([NAME], NAME), ([2**64, 1], 2**64)):
+            error = self.raised(base62.OutOfRangeError, columns.encode_fixed, column, 2)
+            self.assertEqual(error.__notes__, [f"Row 0 of the column is {shown!r}"])
         error = self.raised(base62.OutOfRangeError, columns.encode, [2**200, 5])
         self.assertEqual(error.row, 0)
-        for of_type, bits, text in ((pa.uint64(), 64, "LygHa16AHYG"), (pa.int64(), 63, "AzL8n0Y58m8")):
-            below = base62.encode(2**bits - 1)
-            self.check(lambda it: columns.decode(it, type=of_type, errors="coerce"), [below, text], [2**bits - 1, None])
+        for of_type, limit in LIMITS.items():
+            below, text = base62.encode(limit - 1), base62.encode(limit)
+            self.check(lambda it: columns.decode(it, type=of_type, errors="coerce"), [below, text], [limit - 1, None])
             for column in ([below, text], [below, bytearray(text, "ascii")], [below, text, "\ud800"]):
                 error = self.raised(base62.OutOfRangeError, columns.decode, column, type=of_type)
-                self.assertEqual((str(error), error.row), (f"the number is not from 0 to 2**{bits} - 1", 1))
+                shown = {2**63: "2**63", 2**64: "2**64"}.get(limit, "10**38")
+                self.assertEqual((str(error), error.row), (f"the number is not from 0 to {shown} - 1", 1))
         error = self.raised(base62.TooLargeError, columns.decode, ["LZ", "-" * 300])
         self.assertEqual(error.__notes__, ["Row 1 of the column is '" + 74 * "-" + "..."])
-
-    def test_objects(self) -> None:
-        """An object of another type raises TypeError, also if invalid rows become null."""
-        for call, one, given, value, _, wrong in FUNCTIONS:
-            for errors in ("raise", "coerce"):
-                self.raised(TypeError, call, [wrong], *given, errors=errors)
-                error = self.raised(TypeError, call, [value, None, object()], *given, errors=errors)
-                self.assertEqual(error.row, 2)
 
     def test_mixed(self) -> None:
         """Lists of two objects, of which pyarrow converts some otherwise, and ends the process for some."""
@@ -398,9 +455,7 @@ class Arguments(ColumnsTestCase):
             except (TypeError, ValueError) as error:
                 return type(error)
 
-        def is_missing(value: Any) -> bool:
-            return value is None or value is pd.NA or isinstance(value, (float, np.floating)) and value != value
-
+        is_missing: Call = lambda it: it is None or it is pd.NA or isinstance(it, (float, np.floating)) and it != it
         for call, one, given, *_ in FUNCTIONS:
             for pair in product(NUMBERS + OTHERS, repeat=2):
                 expected = each(lambda it: [None if is_missing(value) else one(value, *given) for value in it], pair)
@@ -410,9 +465,9 @@ class Arguments(ColumnsTestCase):
 
     def test_wrong(self) -> None:
         for call, _, given, value, _, _ in FUNCTIONS:
+            two = {"a": [value], "b": [value]}
             for column in (5, None, object(), "LZ", b"LZ", bytearray(b"LZ"), np.array(5), np.array([[76, 90]], np.uint8),
-                           {0: value}, UserDict({0: value}), [{"a": value}], pd.DataFrame(), pd.DataFrame({"a": [value], "b": [value]}),
-                           pa.table({"a": [value], "b": [value]})):
+                           {0: value}, UserDict({0: value}), [{"a": value}], pd.DataFrame(), pd.DataFrame(two), pa.table(two)):
                 self.raised(TypeError, call, column, *given)
             for errors in ("null", "ignore", None, True):
                 error = self.raised(ValueError, call, [value], *given, errors=errors)
@@ -422,15 +477,18 @@ class Arguments(ColumnsTestCase):
                     self.assertRaises(ValueError, call, [value], *given, alphabet)
                 for other in (None, 5):
                     self.raised(TypeError, call, [value], *given, other)
-            if not call.__name__.startswith("decode_uuid"):
-                for of_type in (None, "string", "uint64", pa.int32(), pa.uuid(), pa.binary()):
-                    self.raised(TypeError, call, [], *given, type=of_type)
+            for of_type in (None, "string", "uint64", pa.int32(), pa.binary(), pa.decimal128(37), OWN,
+                            *({*UUID_TYPES, *LIMITS} - {*types_of(call)})):
+                self.raised(TypeError, call, [], *given, type=of_type)
         for call in (columns.encode, columns.encode_uuid, lambda it, letters: columns.encode_fixed(it, 5, letters)):
             error = self.raised(ValueError, call, [NAME], HIGH)
             self.assertEqual(str(error), "an alphabet for encoding has ASCII characters")
         self.check(lambda it: columns.decode(it, HIGH), [HIGH[5:6]], [5])
-        for width, kind in ((-1, ValueError), (-(2**70), ValueError), ("1", TypeError), (0, base62.OutOfRangeError)):
-            self.raised(kind, columns.encode_fixed, [1], width)
+        for call in (columns.encode_fixed, columns.decode_fixed, columns.decode_uuid_fixed):
+            for width, kind in ((-1, ValueError), (-(2**70), ValueError), ("1", TypeError)):
+                self.raised(kind, call, [], width)
+        self.raised(base62.OutOfRangeError, columns.encode_fixed, [1], 0)
+        self.raised(base62.WrongLengthError, columns.decode_fixed, ["1"], 2**70)
         for width in (2**62, 2**70):
             self.assertRaises(MemoryError, columns.encode_fixed, [1, 2], width)
         index = Indexed(1337)
@@ -438,30 +496,24 @@ class Arguments(ColumnsTestCase):
 
     def test_types(self) -> None:
         """A column of another type is named, with what to pass instead."""
-        opaque = pa.opaque(pa.binary(16), "uhugeint", "DuckDB")
-        uhugeint = pa.ExtensionArray.from_storage(opaque, pa.array([bytes(16)], pa.binary(16)))
-        ends = pa.RunEndEncodedArray.from_arrays([1], ["1"])
+        own, uhugeint = (pa.ExtensionArray.from_storage(it, pa.array([bytes(16)], pa.binary(16)))
+                         for it in (OWN, pa.opaque(pa.binary(16), "uhugeint", "DuckDB")))
         cases: list[tuple[Call, Any, str, str]] = [
-            (columns.encode, pa.array([1.0]), "double", "in pandas as Int64"),
-            (columns.encode, np.array([1.0, np.nan]), "double", "floats are rounded above 2[*][*]53"),
+            (columns.encode, pa.array([1.0]), "double", "in pandas as int64.pyarrow."),
             (columns.encode, pa.array([True]), "bool", "cast it to uint8"),
-            (columns.encode, pd.to_datetime(["2026-01-01"]), "timestamp", "cast it to an integer type"),
             (columns.encode, np.ma.array(["2026-01-01"], "M8[ns]"), "timestamp", "cast it to an integer type"),
             (columns.encode, [Decimal("1.0")], "decimal128.2, 1.", "cast it to decimal128.38, 0., or"),
             (columns.encode, pa.array([5], pa.decimal256(5)), "decimal256.5, 0.", "pass a list of int"),
-            (columns.encode, uhugeint, "extension<arrow.opaque.*uhugeint", "cast it to UBIGINT, HUGEINT or UUID in DuckDB"),
-            (columns.encode_uuid, uhugeint, "extension<arrow.opaque", "uuid, binary or strings"),
             (columns.encode, ["1"], "string", "encode_uuid takes UUIDs; cast numbers to uint64"),
-            (columns.encode, [bytes(16)], "binary", "cast numbers to uint64 or binary.16."),
-            (columns.encode, pa.array([bytes(8)], pa.binary(8)), "fixed_size_binary.8.", "integers, decimal128 of scale 0"),
-            (columns.encode, pa.array([[1]]), "list<item: int64>", "integers, decimal128 of scale 0"),
-            (columns.encode, pd.Series([1.5]).astype("category"), "double", "in pandas as Int64"),
+            (columns.encode, np.array([bytes(8)], "V8"), "binary", "cast numbers to uint64 or binary.16."),
+            (columns.encode, pd.Series([1.5]).astype("category"), "double", "in pandas as int64.pyarrow."),
             (columns.encode_uuid, [1], "int64", "encode takes integers"),
-            (columns.decode, [1337], "int64", "read it as strings"),
-            (columns.decode, [1.5], "double", "read it as strings"),
+            (columns.decode, [1337], "int64", "read strings"),
             (columns.decode, pa.array([TEXT.encode()], pa.binary(22)), "fixed_size_binary.22.", "cast it to binary"),
-            *((call, ends, "run_end_encoded", "decode it by pyarrow.compute.run_end_decode") for call in (
-                columns.encode, columns.encode_uuid, columns.decode)),
+            *((call, *case) for call in (columns.encode, columns.encode_uuid, columns.decode) for case in (
+                (pa.RunEndEncodedArray.from_arrays([1], ["1"]), "run_end_encoded", "decode it by .*run_end_decode"),
+                (own, "extension<own", "pass its storage"),
+                (uhugeint, "extension<arrow.opaque.*uhugeint", "cast it to UBIGINT, HUGEINT or UUID in DuckDB"))),
             (columns.decode_uuid, [NAME], "extension<arrow.uuid>", "strings or binary"),
         ]
         for call, column, name, hint in cases:
@@ -469,60 +521,12 @@ class Arguments(ColumnsTestCase):
                 with self.assertRaisesRegex(TypeError, f"^the column has the type {name}.*, not .*{hint}"):
                     call(column, errors=errors)
 
-
-class Runtime(ColumnsTestCase):
-    def test_file_system(self) -> None:
-        """Threads that read the column take the GIL."""
-        fs, dataset = importlib.import_module("pyarrow.fs"), importlib.import_module("pyarrow.dataset")
-        file = io.BytesIO()
-        importlib.import_module("pyarrow.parquet").write_table(pa.table({"id": range(100_000)}), file, row_group_size=1000)
-
-        class Files(fs.FileSystemHandler):  # type: ignore
-            open_input_file = lambda self, path: pa.PythonFile(io.BytesIO(file.getvalue()), mode="r")
-            get_file_info = lambda self, paths: [fs.FileInfo(path, fs.FileType.File, size=file.tell()) for path in paths]
-            get_type_name = lambda self: "bytes"
-            normalize_path = lambda self, path: path
-
-        Files.__abstractmethods__ = frozenset()
-        found = dataset.dataset("ids.parquet", filesystem=fs.PyFileSystem(Files()), format="parquet")
-        result = columns.encode(found.scanner(batch_size=500).to_reader())
-        self.assertEqual(result.to_pylist(), [base62.encode(number) for number in range(100_000)])
-
-    def test_gil(self) -> None:
-        numbers, strings = pa.array(range(100_000)), columns.encode(range(100_000))
-        for call, column in ((columns.encode, numbers), (columns.decode, strings), (columns.decode_uuid, strings)):
-            self.assertTrue(others_run(lambda: call(column)))
-
     def test_size(self) -> None:
         """A result keeps no memory for strings that are longer than its own."""
         before = pa.total_allocated_bytes()
         result = columns.encode([1] * 1000)
         self.assertLess(pa.total_allocated_bytes() - before, 6000)
         self.assertEqual(len(result), 1000)
-
-    def test_leaks(self) -> None:
-        """A thousand calls with new items, valid and not, leave no objects and no buffers."""
-
-        def run() -> None:
-            for number in range(2**70, 2**70 + 1000):
-                for call, _, given, value, bad, wrong in FUNCTIONS:
-                    column = [value, bad, str(number), number, number % 2**63, uuid.UUID(int=number)][number % 3 :]
-                    for errors in ("raise", "coerce"):
-                        try:
-                            call(column[: number % 4], *given, errors=errors)
-                        except (TypeError, ValueError):
-                            pass
-
-        def state() -> tuple[int, int]:
-            gc.collect()
-            return sys.getallocatedblocks(), pa.total_allocated_bytes()
-
-        run()
-        before = state()
-        run()
-        blocks, size = state()
-        self.assertLess(blocks - before[0], 500)
-        self.assertEqual(size, before[1])
 
 
 def load_tests(loader: unittest.TestLoader, tests: unittest.TestSuite, pattern: object) -> unittest.TestSuite:

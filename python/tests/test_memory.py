@@ -129,14 +129,10 @@ class AllocationCount(AllocationTestCase):
     def test_alphabet(self) -> None:
         """A call with an Alphabet allocates at most its result, which may be an int of CPython's free lists. It creates
         no object of letters."""
-        kept: list[tuple[Call, tuple[Any, ...]]] = [
-            (base62.encode, (1337,)),
-            (base62.encode_fixed, (1337, 22)),
-            (base62.decode, ("LZ",)),
-            (base62.decode_canonical, ("LZ",)),
-        ]
+        kept: list[Any] = [(base62.encode, 1337), (base62.encode_fixed, 1337, 22), (base62.decode, "LZ")]
+        kept += [(base62.decode_canonical, "LZ"), (base62.decode_fixed, "LZ", 2)]
         for alphabet in (base62.Alphabet.STANDARD, base62.Alphabet.ALTERNATIVE, LETTERS):
-            for call, given in kept:
+            for call, *given in kept:
                 # The first sweep fills CPython's free lists.
                 self.sweep(call, *given, alphabet)
                 self.failures = 0

@@ -21,8 +21,9 @@ from typing import Any
 
 import base62
 from base62 import _base62, _types
-from calls import CUSTOM, ERRORS
+from calls import CUSTOM, ERRORS, TEXT
 from paths import PACKAGE, TOP, readme
+from test_memory import load_extension
 
 # The calls, and the type that is called too.
 CALLS: list[Any] = [getattr(base62, it) for it in base62.__all__ if it == "Alphabet" or it.islower()]
@@ -42,7 +43,7 @@ class Package(unittest.TestCase):
         for other in (None, types.ModuleType("pyarrow")):
             with unittest.mock.patch.dict(sys.modules, {"pyarrow": other}):
                 self.assertEqual(reimported().encode(1337), "LZ")
-                with self.assertRaisesRegex(ImportError, r"needs pyarrow 18 or later: install base62-proved\[columns\]$"):
+                with self.assertRaisesRegex(ImportError, "needs pyarrow: install pyarrow 18 or later$"):
                     reimported("base62.columns")
 
     def test_version(self) -> None:
@@ -65,8 +66,8 @@ class Package(unittest.TestCase):
 
     def test_signatures(self) -> None:
         """Calls take their parameters by name, in any order."""
-        values: dict[str, object] = {"number": 1337, "text": "LZ", "width": 4, "prefix": "00L", "characters": CUSTOM}
-        values |= {"value": uuid.UUID(int=1337), "alphabet": base62.Alphabet(CUSTOM)}
+        values: dict[str, object] = {"number": 1337, "text": TEXT, "width": 22, "prefix": "00L", "characters": CUSTOM}
+        values |= {"value": uuid.UUID(int=1337), "alphabet": base62.Alphabet.ALTERNATIVE}
         for call in CALLS:
             parameters = inspect.signature(call).parameters
             given = {name: values[name] for name in reversed(parameters)}
@@ -139,6 +140,17 @@ class Modules(unittest.TestCase):
         with unittest.mock.patch("uuid.UUID", Other):
             again = reimported()
         self.assertEqual(vars(again.decode_uuid("LZ")), {"number": 1337})
+
+    def test_other_pythons(self) -> None:
+        """Where the extension cannot find what it uses of CPython, it converts arguments by Python's own functions."""
+        with unittest.mock.patch.multiple(_types, ISASCII=len, BYTES_SIZE=bytes.__basicsize__ - 16):
+            again = load_extension("base62._base62")
+        for alphabet, text in ((again.Alphabet(CUSTOM), "LZ"), (again.Alphabet.ALTERNATIVE, "lz")):
+            number = base62.decode(text, bytes(alphabet))
+            self.assertEqual((again.decode(text, alphabet), again.encode(number, alphabet)), (number, text))
+            source, new = ("L", 0, 1, None, number.to_bytes(8, sys.byteorder), None), [*map(bytearray, (1, 16, 11))]
+            self.assertEqual(again.encode_rows(alphabet, -1, source, ("U", *new), False), (1, 2, 0))
+            self.assertEqual(new[2][:2], text.encode())
 
     def test_gc_traverse(self) -> None:
         """The collector finds the objects that the module and an alphabet refer to."""

@@ -25,6 +25,9 @@ from test_base62 import others_run
 SIZES = {"L": 8, "l": 8, "d": 16, "w": 16, "u": 4, "z": 4, "U": 8, "Z": 8}
 CODES = {"L": "Q", "l": "q", "u": "i", "z": "i", "U": "q", "Z": "q"}
 TEXTS = "uzUZ"
+# The types of a column and of a result, of encoding and of decoding.
+FORMS = {True: ("LldwuzUZ", "uU"), False: (TEXTS, "LldwuU")}
+GREATEST = {"l": 2**63 - 1, "L": 2**64 - 1, "d": 10**38 - 1}
 ALPHABETS = [base62.Alphabet.STANDARD, LETTERS]
 # No input has more rows than a run of the loop, of which there are tests of their own.
 RUN = 2**16
@@ -59,21 +62,21 @@ class Input:
 
     def __init__(self, of: random.Random, encodes: bool) -> None:
         self.of, self.encodes, self.letters = of, encodes, of.choice(ALPHABETS)
-        self.form = of.choice("LldwuzUZ" if encodes else TEXTS)
-        self.new_form = of.choice("uU" if encodes else "Llw")
-        self.option = of.choice([-1, -1, 5, 22, of.randrange(40)]) if encodes else of.randrange(2)
+        self.form, self.new_form = (of.choice(it) for it in FORMS[encodes])
+        # A width, or -1. To decode canonical strings it is -2.
+        self.option = of.choice([-1, -1 if encodes else -2, 5, 22, of.randrange(40)])
         self.offset, self.count, self.coerces = of.choice([0, of.randrange(20)]), of.randrange(20), of.random() < 0.5
         valid = [of.random() < 0.8 for _ in range(self.offset + self.count)]
         self.validity = buffer(bitmap(valid)) if of.random() < 0.7 else None
         self.values, self.characters = map(buffer, values_of(self.form, [self.row() for _ in valid]))
-        ends = (self.count + 1) * SIZES[self.new_form] if encodes else 0
+        ends = (self.count + 1) * SIZES[self.new_form] if self.new_form in TEXTS else 0
         length = self.most() * self.count + of.choice([0, 0, 0, 0, of.randrange(30)])
         self.new = [buffer(bytes(size)) for size in ((self.count + 7) // 8, ends, length)]
 
     def most(self) -> int:
         """The bytes that a row of the result may need."""
         if not self.encodes:
-            return SIZES[self.new_form]
+            return 36 if self.new_form in TEXTS else SIZES[self.new_form]
         return self.option if self.option >= 0 else 11 if self.form in "Ll" else 22
 
     def row(self) -> Any:
@@ -88,21 +91,26 @@ class Input:
             return number.to_bytes(16, "big")
         if not self.encodes:
             text = base62.encode(number >> of.choice([0, 64]), self.letters).encode()
-            return of.choice([text, text, text, bytes([self.letters[0]]) + text, text + b"-", b""])
+            padded = text.rjust(max(self.option, 0), self.letters[:1])
+            return of.choice([text, text, padded, padded, self.letters[:1] + text, text + b"-", b""])
         name = uuid.UUID(int=number)
         texts = [name.hex, str(name), name.urn, f"{{{name}}}", str(name)[1:], name.hex + "-"]
         sixteen = [name.bytes, name.bytes[1:], name.bytes + b"-"]
         return of.choice(sixteen if self.form in "zZ" else [it.encode() for it in texts])
 
     def damage(self) -> None:
-        """Makes a buffer too short, or an offset of its strings wrong, or a number negative or too great."""
+        """Makes a buffer too short, an offset of its strings wrong, a number negative or too great, or a type another."""
         of = self.of
-        place = of.choice(["option", "offset", "count", "validity", "values", "characters", "new", "ends", "ends"])
+        place = of.choice(
+            ["option", "offset", "count", "validity", "values", "characters", "new", "ends", "ends", "form", "new_form"])
         parts: Any = self.new if place == "new" else vars(self)
         key: Any = of.randrange(3) if place == "new" else place
         if place in ("option", "offset", "count"):
             other = of.choice([of.randrange(30), of.getrandbits(64) - 2**63])
             parts[key] = of.choice([-1, -2, -(2**63), 2**63 - 1, 2**62, 2**60, 2**32, other])
+        elif place in ("form", "new_form"):
+            # Modulo 256 the last one is the type.
+            parts[key] = of.choice([*"LldwuzUZ", "\0", chr(ord(parts[key]) + 256)])
         elif place != "ends":
             # A slice has no byte behind its end either.
             parts[key] = parts[key] and parts[key][: -of.choice([1, 1, 1, of.randint(1, 20)])]
@@ -114,13 +122,14 @@ class Input:
 
     def has_rows(self) -> bool:
         last = self.offset + self.count
-        if self.offset < 0 or self.count < 0 or last > 2**40:
-            return False
         return (
-            len(self.values) >= (last + (self.form in TEXTS)) * SIZES[self.form]
+            self.form in FORMS[self.encodes][0]
+            and self.new_form in FORMS[self.encodes][1]
+            and self.offset >= 0 and self.count >= 0 and last <= 2**40
+            and len(self.values) >= (last + (self.form in TEXTS)) * SIZES[self.form]
             and (self.validity is None or len(self.validity) * 8 >= last)
             and len(self.new[0]) * 8 >= self.count
-            and (not self.encodes or len(self.new[1]) >= (self.count + 1) * SIZES[self.new_form])
+            and (self.new_form not in TEXTS or len(self.new[1]) >= (self.count + 1) * SIZES[self.new_form])
             and len(self.new[2]) >= self.count * self.most()
         )
 
@@ -129,13 +138,10 @@ class Input:
         i = self.offset + row
         if self.validity is not None and not self.validity[i // 8] >> i % 8 & 1:
             return None
-        if self.form not in TEXTS:
-            size = SIZES[self.form]
-            given = self.values[i * size : i * size + size].tobytes()
-            if self.form == "w":
-                return int.from_bytes(given, "big")
-            return int.from_bytes(given, sys.byteorder, signed=self.form != "L")
         size = SIZES[self.form]
+        if self.form not in TEXTS:
+            given, order = self.values[i * size : i * size + size].tobytes(), "big" if self.form == "w" else sys.byteorder
+            return int.from_bytes(given, order, signed=self.form in "ld")
         ends = struct.unpack(f"=2{CODES[self.form]}", self.values[i * size : i * size + 2 * size].tobytes())
         if not 0 <= ends[0] <= ends[1] <= len(self.characters):
             raise LookupError
@@ -143,16 +149,15 @@ class Input:
         return text.decode() if self.encodes and self.form in "uU" else text
 
     def convert(self, value: Any) -> Any:
+        named: dict[str, Any] = {"alphabet": self.letters} | ({"width": self.option} if self.option >= 0 else {})
         if not self.encodes:
-            number = (base62.decode_canonical if self.option else base62.decode)(value, self.letters)
-            if number >> {"l": 63, "L": 64, "w": 128}[self.new_form]:
+            decode: Any = base62.decode_canonical if self.option == -2 else base62.decode
+            number = base62.decode_fixed(value, **named) if self.option >= 0 else decode(value, **named)
+            if number > GREATEST.get(self.new_form, number):
                 raise ValueError
-            return number
-        if self.form in TEXTS:
-            value = base62.decode(base62.encode_uuid(value))
-        if self.option < 0:
-            return base62.encode(value, self.letters).encode()
-        return base62.encode_fixed(value, self.option, self.letters).encode()
+            return str(uuid.UUID(int=number)).encode() if self.new_form in TEXTS else number
+        encode: Any = base62.encode_fixed if self.option >= 0 else base62.encode
+        return encode(base62.decode(base62.encode_uuid(value)) if self.form in TEXTS else value, **named).encode()
 
     def expected(self) -> list[Any] | None:
         """The rows of the result before the first invalid one, or None if the array is malformed."""
@@ -180,7 +185,7 @@ class Input:
     def result(self, row: int, used: int, nulls: int) -> list[Any]:
         valid = [bool(self.new[0][i // 8] >> i % 8 & 1) for i in range(row)]
         assert valid.count(False) == nulls, (valid, nulls)
-        if self.encodes:
+        if self.new_form in TEXTS:
             ends = memoryview(self.new[1])[: (row + 1) * SIZES[self.new_form]].cast(CODES[self.new_form])
             assert (ends[0], ends[row]) == (0, used), (ends, used)
             found: list[Any] = [self.new[2][ends[i] : ends[i + 1]].tobytes() for i in range(row)]
@@ -225,9 +230,9 @@ class Inputs(unittest.TestCase):
     def test_arguments(self) -> None:
         """No type of which the loop would take another size."""
         bytes_of = [bytearray(64) for _ in range(5)]
-        calls: list[Any] = [(_base62.encode_rows, "LldwuzUZ", "uU"), (_base62.decode_rows, TEXTS, "Llw")]
-        for call, types, new_types in calls:
-            for form in map(chr, range(128)):
+        calls: list[Any] = [(_base62.encode_rows, FORMS[True]), (_base62.decode_rows, FORMS[False])]
+        for call, (types, new_types) in calls:
+            for form in map(chr, range(512)):
                 for source, result in ((form, new_types[0]), (types[0], form)):
                     given: Any = ((source, 0, 1, None, *bytes_of[:2]), (result, *bytes_of[2:]), True)
                     if source in types and result in new_types:
@@ -259,9 +264,14 @@ class Runs(unittest.TestCase):
         values = bytearray(8 * len(rows))
         source = "u", 0, len(rows), new[0], new[1], new[2]
         result = "L", bytearray(len(new[0])), bytearray(), values
-        self.assertEqual(_base62.decode_rows(ALPHABETS[0], True, source, result, False), (len(rows), 0, nulls))
+        self.assertEqual(_base62.decode_rows(ALPHABETS[0], -2, source, result, False), (len(rows), 0, nulls))
         self.assertEqual(result[1], new[0])
         self.assertEqual(values, array("Q", [0 if row % 3 == 0 else it for row, it in enumerate(rows)]).tobytes())
+        result = "u", result[1], bytearray(len(new[1])), bytearray(36 * len(rows))
+        used = 36 * (len(rows) - nulls)
+        self.assertEqual(_base62.decode_rows(ALPHABETS[0], -1, source, result, False), (len(rows), used, nulls))
+        names = [str(uuid.UUID(int=number)) for row, number in enumerate(rows) if row % 3]
+        self.assertEqual(result[3][:used].decode(), "".join(names))
 
     def test_invalid(self) -> None:
         for bad in (RUN - 2, RUN, 2 * RUN + 5):
@@ -319,7 +329,7 @@ class Far(unittest.TestCase):
                 values[place : place + size] = bytes(size)
                 values[place + size : place + 2 * size] = (2).to_bytes(size, sys.byteorder)
                 call: Any = lambda valid: _base62.decode_rows(
-                    ALPHABETS[0], False, (form, offset, 2, valid, values, b"LZ"), ("L", *new), True
+                    ALPHABETS[0], -1, (form, offset, 2, valid, values, b"LZ"), ("L", *new), True
                 )
                 self.assertEqual(call(validity), (2, 0, 1))
                 self.assertEqual(memoryview(new[2]).cast("Q")[1], 1337)
@@ -349,13 +359,13 @@ class Far(unittest.TestCase):
         source = "U", 0, 1, None, struct.pack("=2q", first, first + 2), characters
         values = bytearray(8)
         result = "L", bytearray(1), bytearray(), values
-        self.assertEqual(_base62.decode_rows(ALPHABETS[0], False, source, result, False), (1, 0, 0))
+        self.assertEqual(_base62.decode_rows(ALPHABETS[0], -1, source, result, False), (1, 0, 0))
         self.assertEqual(int.from_bytes(values, sys.byteorder), 1337)
         # A string of more than 2^31 characters, of which nearly all are the zero of this alphabet.
         characters[first:] = b"\1\2"
         source = "U", 0, 1, None, struct.pack("=2q", first - 2**31, first + 2), characters
         letters = base62.Alphabet(bytes(range(62)))
-        self.assertEqual(_base62.decode_rows(letters, False, source, result, False), (1, 0, 0))
+        self.assertEqual(_base62.decode_rows(letters, -1, source, result, False), (1, 0, 0))
         self.assertEqual(int.from_bytes(values, sys.byteorder), 64)
 
 

@@ -2,8 +2,10 @@
 # Copyright (c) 2026 the maintainers of base62 for Rattle
 """Tests of each call by the values of tests/values.tsv at the top, whose head says what its rows are."""
 
+import itertools
 import sys
 import uuid
+from typing import Any
 from urllib.parse import unquote_to_bytes
 
 import base62
@@ -29,6 +31,7 @@ KINDS: dict[str, type[ValueError]] = {
     "byte": base62.InvalidByteError,
     "overflow": base62.TooLargeError,
     "zero": base62.NotCanonicalError,
+    "length": base62.WrongLengthError,
     "repeated": base62.AlphabetError,
 }
 DECODINGS: list[Call] = [base62.decode, base62.decode_canonical, base62.decode_uuid, base62.decode_uuid_canonical]
@@ -51,8 +54,7 @@ def forms_of_alphabet(name: str) -> list[str | bytes]:
 def numbers_of_bounds(prefix: str | bytes) -> tuple[int, int] | None:
     """The result of key_range, by key_bounds."""
     bounds = base62.key_bounds(prefix)
-    assert bounds is None or [*map(len, bounds)] == [22, 22]
-    return bounds and (base62.decode(bounds[0]), base62.decode(bounds[1]))
+    return bounds and (base62.decode_key(bounds[0]), base62.decode_key(bounds[1]))
 
 
 class Values(RaisesTestCase):
@@ -69,14 +71,10 @@ class Values(RaisesTestCase):
             self.assertEqual(base62.encode_key(named), base62.encode_key(number))
             for alphabet in forms_of_alphabet(name):
                 for text in texts:
-                    self.assertEqual(base62.decode(text, alphabet), number)
-                    self.assertEqual(base62.decode_canonical(text, alphabet), number)
-                    self.assertEqual(base62.decode_uuid(text, alphabet), named)
-                    self.assertEqual(base62.decode_uuid_canonical(text, alphabet), named)
+                    self.assertEqual([call(text, alphabet) for call in DECODINGS], [number, number, named, named])
                 if name in OF_ASCII:
-                    self.assertEqual(base62.encode(number, alphabet), texts[1])
-                    self.assertEqual(base62.encode(named, alphabet), texts[1])
-                    self.assertEqual(base62.encode_uuid(named, alphabet), texts[1])
+                    encoded = base62.encode(number, alphabet), base62.encode(named, alphabet), base62.encode_uuid(named, alphabet)
+                    self.assertEqual(encoded, (texts[1],) * 3)
             if name == "standard":
                 self.assertEqual(base62.encode(number), texts[1])
                 self.assertEqual((base62.decode(texts[1]), base62.decode_canonical(texts[1])), (number,) * 2)
@@ -105,6 +103,19 @@ class Values(RaisesTestCase):
                 self.assertEqual(base62.encode_fixed(named, int(width), alphabet), text)
             if (name, width) == ("standard", "22"):
                 self.assertEqual(base62.encode_key(int(number)), text)
+
+    def test_exact(self) -> None:
+        for name, width, escaped, *expected in rows("exact"):
+            given: Any = int(width), ALPHABETS[name]
+            calls: list[Call] = [lambda text: base62.decode_fixed(text, *given)]
+            calls.append(lambda text: base62.decode_uuid_fixed(text, *given).int)
+            if (name, width) == ("standard", "22"):
+                calls.append(base62.decode_key)
+            for call, text in itertools.product(calls, forms_of_text(escaped)):
+                if expected[0] == "number":
+                    self.assertEqual(call(text), int(expected[1]))
+                else:
+                    self.raises(expected, call, text)
 
     def test_narrow(self) -> None:
         for name, number, width in rows("narrow"):

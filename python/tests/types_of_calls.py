@@ -26,8 +26,11 @@ def right_texts(text: str | bytes | bytearray | memoryview, width: SupportsIndex
     """No buffer is taken for bytes: mypy runs without its promotions."""
     assert_type(base62.decode(text, custom), int)
     assert_type(base62.decode_canonical(text, custom), int)
+    assert_type(base62.decode_fixed(text, width, custom), int)
+    assert_type(base62.decode_key(text), int)
     assert_type(base62.decode_uuid(text, custom), UUID)
     assert_type(base62.decode_uuid_canonical(text, custom), UUID)
+    assert_type(base62.decode_uuid_fixed(text, width, custom), UUID)
     assert_type(base62.key_range(text), tuple[int, int] | None)
     assert_type(base62.key_bounds(text), tuple[str, str] | None)
     assert_type(base62.prefix_range(text, width, custom), tuple[int, int] | None)
@@ -49,6 +52,8 @@ def wrong(number: int, name: UUID, text: str, custom: Alphabet, view: memoryview
     base62.decode(text, None)  # type: ignore[arg-type]
     base62.decode_canonical(number)  # type: ignore[arg-type]
     base62.decode_canonical(text, None)  # type: ignore[arg-type]
+    base62.decode_fixed(text, text)  # type: ignore[arg-type]
+    base62.decode_key(number)  # type: ignore[arg-type]
     base62.digit_count(text)  # type: ignore[arg-type]
     base62.encode_fixed(text, number)  # type: ignore[arg-type]
     base62.encode_fixed(number, text)  # type: ignore[arg-type]

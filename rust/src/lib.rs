@@ -48,7 +48,8 @@
 //! | a number | [`decode`], or [`decode_canonical`] to accept one string for each number |
 //! | a UUID | [`decode_uuid`], or [`decode_uuid_canonical`] in the same way |
 //! | a string of a fixed width | [`encode_fixed`], [`encode_fixed_str`] |
-//! | the same with 22 characters, enough for each number | [`encode_key`], [`encode_key_str`] |
+//! | its number, to accept one string for each number | [`decode_fixed`] |
+//! | the same with 22 characters, enough for each number | [`encode_key`], [`encode_key_str`], [`decode_key`] |
 //! | the numbers whose strings of a fixed width share a prefix | [`prefix_range`], [`key_range`] |
 //!
 //! Names with `alternative` or `alt` use the alternative alphabet. For a key in another alphabet, call
@@ -106,12 +107,13 @@ pub use codec::{
     encode_bytes_with,
 };
 pub use count::{MAX_DIGITS, digit_count};
-pub use fault::{AlphabetError, CanonicalError, DecodeError, EncodeError};
+pub use fault::{AlphabetError, CanonicalError, DecodeError, EncodeError, FixedError};
 pub use fixed::{
-    encode_alternative_fixed, encode_fixed, encode_fixed_str, encode_fixed_str_with,
-    encode_fixed_with, prefix_range, prefix_range_with,
+    decode_alternative_fixed, decode_fixed, decode_fixed_with, encode_alternative_fixed,
+    encode_fixed, encode_fixed_str, encode_fixed_str_with, encode_fixed_with, prefix_range,
+    prefix_range_with,
 };
-pub use key::{encode_key, encode_key_str, key_range};
+pub use key::{decode_key, encode_key, encode_key_str, key_range};
 pub use show::{encode_fmt, encode_fmt_alt, encode_fmt_with};
 pub use support::traits::ParseAlphabetError;
 #[cfg(feature = "alloc")]

@@ -35,6 +35,7 @@ fn inputs() {
     // Standard input is not read.
     prints("base62 encode 0 61 62 007 <<<5", "0\nz\n10\n7\n");
     prints("base62 decode LZ 00LZ", "1337\n1337\n");
+    prints("base62 decode -xw4 00LZ 0000", "539\n0\n");
     prints("base62 range -w5 000L 000M", "1302 1363\n1364 1425\n");
     let all = format!("0 {0}\n{0} {0}\n", u128::MAX);
     prints("base62 range '' 7n42DGM5Tflk9n8mt7Fhc7", &all);
@@ -58,9 +59,10 @@ fn inputs() {
     prints(r"printf '1337\n\n\r\n61' | base62 encode -e", "LZ\n\n\nz\n");
     prints("base62 decode --keep-empty LZ '' z", "1337\n\n61\n");
     prints("base62 encode -euw22 ''", "\n");
-    // A valid input is one, even if there is a file of this name.
-    let line = "folder=$(mktemp -d); trap 'rm -r $folder' EXIT; cd $folder; touch LZ";
-    prints(&format!("{line}; base62 decode LZ"), "1337\n");
+    prints("base62 decode -euw22 ''", "\n");
+    // Without `--`, a line that begins with a hyphen is an option. It makes the command read the other lines.
+    let line = r#"printf '%s\n' LZ -c z | while read -r id; do base62 decode "$id"; done"#;
+    prints(line, "1337\n61\n");
 }
 
 /// Each count of decimal digits, with leading zeros and without.
@@ -109,14 +111,16 @@ fn invalid_inputs() {
         decode $'\xff' -> \xff: Encoded input contains the invalid byte b'\xff' at index 0
         decode -e <<<- -> line 1: -: Encoded input contains the invalid byte b'-' at index 0
         decode <<<'' -> line 1: '': Encoded input is an empty string
+        decode -w2 <<<'' -> line 1: '': Encoded input does not have the given width
+        decode -w18446744073709551617 0 -> 0: Encoded input does not have the given width
         range 'L ' -> L : Encoded input contains the invalid byte b' ' at index 1
         range $'\xff' -> \xff: Encoded input contains the invalid byte b'\xff' at index 0
-        encode - -> -: base62 reads standard input: base62 encode <FILE
-        decode - -> -: base62 reads standard input: base62 decode <FILE
-        range - -> -: base62 reads standard input: base62 range <FILE
-        encode -x /dev/null -> /dev/null: base62 reads standard input: base62 encode <FILE
-        encode / -> /: not a decimal number below 2^128
-        encode /nope -> /nope: not a decimal number below 2^128
+        encode -u - -> -: not a UUID: try base62 encode <FILE
+        decode - -> -: Encoded input contains the invalid byte b'-' at index 0: try base62 decode <FILE
+        decode -w2 - -> -: Encoded input does not have the given width: try base62 decode <FILE
+        range - -> -: Encoded input contains the invalid byte b'-' at index 0: try base62 range <FILE
+        encode -x /dev/null -> /dev/null: not 1 to 32 hexadecimal digits
+        decode /dev/null -> /dev/null: Encoded input contains the invalid byte b'/' at index 0
         encode <<<- -> line 1: -: not a decimal number below 2^128";
     for (arguments, error) in sides(table) {
         rejects(&format!("base62 {arguments}"), error);
@@ -160,6 +164,7 @@ fn options() {
         prints(&format!("base62 encode {option} 5"), "00000000005\n");
         prints(&format!("base62 encode 5 {option}"), "00000000005\n");
         prints(&format!("base62 {option} encode 5"), "00000000005\n");
+        prints(&format!("base62 decode {option} 00000000005"), "5\n");
     }
     for option in ["--alternative", "-A $letters -a"] {
         prints(&format!("base62 encode {option} 1337"), "lz\n");
@@ -228,7 +233,8 @@ fn wrong_arguments() {
         -a -> no subcommand is given
         -- -> no subcommand is given
         encode -c 5 -> encode has no option --canonical
-        decode -w 5 -> decode has no option --width
+        decode -c -w 5 -> decode takes --canonical or --width, not both
+        decode --width=5 --canonical -> decode takes --canonical or --width, not both
         range -c 5 -> range has no option --canonical
         range -aux 5 -> range has no option --uuid
         range -x 5 -> range has no option --hex
@@ -257,6 +263,7 @@ fn wrong_arguments() {
     for width in ["0", "00", "x", "-5", "+5", "=5", "5 5", "5.0"] {
         let error = format!("a width is an integer of 1 or more, not {width}");
         is_wrong(&format!("encode -w '{width}' 5"), &error);
+        is_wrong(&format!("decode -w '{width}' 5"), &error);
         is_wrong(&format!("range --width='{width}' 5"), &error);
     }
 }

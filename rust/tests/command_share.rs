@@ -35,7 +35,7 @@ fn are_completed(completed: impl Fn(&str) -> String) {
         -> --help --version -V -h decode encode help range
         help -> --help --version -V -h decode encode help range
         encode -> --alphabet --alternative --hex --keep-empty --uuid --width -A -a -e -u -w -x
-        decode -> --alphabet --alternative --canonical --hex --keep-empty --uuid -A -a -c -e -u -x
+        decode -> --alphabet --alternative --canonical --hex --keep-empty --uuid --width -A -a -c -e -u -w -x
         range -> --alphabet --alternative --width -A -a -w";
     for (arguments, words) in sides(table) {
         let output = completed(arguments);

@@ -71,9 +71,12 @@ fn fail_in_turn(arguments: &[&str], lines: [&str; 2], output: &str, status: i32)
 #[test]
 fn lines() {
     fail_in_turn(&[COMMAND, "encode"], ["1337\nx\n6", "1\n"], "LZ\n\nz\n", 1);
+    fail_in_turn(&[COMMAND, "encode", "-w2"], ["0\n", "1337"], "00\nLZ\n", 0);
     let zeros = "00000000-0000-0000-0000-000000000";
     let uuids = format!("{zeros}539\n{zeros}000\n");
     fail_in_turn(&[COMMAND, "decode", "-u"], ["LZ\n", "0"], &uuids, 0);
+    let lines = ["LZ\nz\n0", "z\n"];
+    fail_in_turn(&[COMMAND, "decode", "-w2"], lines, "1337\n\n61\n", 1);
 }
 
 #[test]

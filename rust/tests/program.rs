@@ -93,7 +93,10 @@ fn input_that_fails() {
 #[cfg(target_os = "linux")]
 #[test]
 fn output_that_fails() {
-    fails("base62_cli >/dev/full <<<'enc 5'", "write failed");
+    for option in ["", "--help", "--version"] {
+        let line = format!("base62_cli {option} >/dev/full <<<'enc 5'");
+        fails(&line, "write failed");
+    }
     // The file takes 1024 bytes, which end within a reply.
     let line = r#"trap "" XFSZ; ulimit -f 1; printf 'enc x\n%.0s' {1..100} | base62_cli >$file"#;
     let line = in_a_file(&format!("{line}; status=$?; cat $file; exit $status"));

@@ -5,7 +5,10 @@
 
 mod support;
 
-use base62::{Alphabet, AlphabetError, DecodeError, EncodeError, ParseAlphabetError};
+use base62::{
+    Alphabet, AlphabetError, CanonicalError, DecodeError, EncodeError, FixedError,
+    ParseAlphabetError,
+};
 use std::fmt::{Debug, Display};
 use std::hash::Hash;
 
@@ -39,6 +42,8 @@ fn types() {
     fn fault<T: Copy + Debug + Eq + Hash + Ord + std::error::Error + Send + Sync + Unpin>() {}
     fn alphabet<T: Copy + Debug + Default + Eq + Hash + Send + Sync + Unpin>() {}
     fault::<DecodeError>();
+    fault::<CanonicalError>();
+    fault::<FixedError>();
     fault::<EncodeError>();
     fault::<AlphabetError>();
     fault::<ParseAlphabetError>();
@@ -84,6 +89,8 @@ fn errors_ignore_formats_as_in_base62_2_2_6() {
     }
     ignores(DecodeError::InvalidBase62Byte(b'-', 2));
     ignores(DecodeError::EmptyInput);
+    ignores(CanonicalError::LeadingZero);
+    ignores(FixedError::WrongLength);
     ignores(EncodeError::BufferTooSmall);
     ignores(AlphabetError::Repeated(b'-', 2));
 }
@@ -100,6 +107,11 @@ fn variants() {
     let AlphabetError::Repeated(_, _) = AlphabetError::Repeated(0, 1);
     assert!(DecodeError::ArithmeticOverflow < DecodeError::EmptyInput);
     assert!(DecodeError::EmptyInput < DecodeError::InvalidBase62Byte(0, 0));
+    match base62::decode_key("").unwrap_err() {
+        FixedError::WrongLength => (),
+        FixedError::Decode(_) => (),
+    }
+    assert!(FixedError::WrongLength < DecodeError::ArithmeticOverflow.into());
     let shown = format!("{:?}", DecodeError::InvalidBase62Byte(45, 2));
     assert_eq!(shown, "InvalidBase62Byte(45, 2)");
 }

@@ -6,7 +6,8 @@
 mod support;
 
 use base62::{
-    Alphabet, AlphabetError, CanonicalError, DecodeError, EncodeError, ParseAlphabetError,
+    Alphabet, AlphabetError, CanonicalError, DecodeError, EncodeError, FixedError,
+    ParseAlphabetError,
 };
 use base62::{encode_fixed_str, encode_fixed_str_with, encode_key, encode_key_str};
 use base62::{prefix_range, prefix_range_with};
@@ -213,6 +214,26 @@ fn fixed_widths() {
 }
 
 #[test]
+fn decoding_at_a_width() {
+    each("exact", |alphabet, row| {
+        // Not each machine has each width.
+        let Ok(width) = row[0].parse() else { return };
+        let text = bytes(row[1]);
+        let expected = match row[2..] {
+            ["number", num] => Ok(number(num)),
+            ["length"] => Err(FixedError::WrongLength),
+            _ => Err(decode_error(&row[2..]).unwrap().into()),
+        };
+        calls!(alphabet:
+            decode_fixed decode_alternative_fixed decode_fixed_with(&text, width),
+            it => assert_eq!(it, expected));
+        if width == 22 && *alphabet == Alphabet::standard() {
+            assert_eq!(base62::decode_key(&text), expected);
+        }
+    });
+}
+
+#[test]
 fn ranges() {
     let alphabets = alphabets();
     for row in rows("range") {
@@ -239,6 +260,7 @@ fn messages() {
     let text_of = |error: DecodeError| {
         let text = error.to_string();
         assert_eq!(CanonicalError::Decode(error).to_string(), text);
+        assert_eq!(FixedError::Decode(error).to_string(), text);
         text
     };
     let overflow = text_of(DecodeError::ArithmeticOverflow);
@@ -247,7 +269,8 @@ fn messages() {
         let text = String::from_utf8(bytes(row[0])).unwrap();
         match row[1..] {
             // There is no such error, or its text is that of the crate `base62`.
-            ["none" | "overflow"] => (),
+            ["none" | "uuid" | "overflow"] => (),
+            ["length"] => assert_eq!(FixedError::WrongLength.to_string(), text),
             ["zero"] => assert_eq!(CanonicalError::LeadingZero.to_string(), text),
             ["narrow"] => assert_eq!(EncodeError::BufferTooSmall.to_string(), text),
             ["repeated", byte, index] => {

@@ -17,15 +17,14 @@ struct column {
     uint64_t *validity;
 };
 
-/* What tells functions apart that share code. Its address is the extra information of a function. */
-static char canonical_tag, last_tag, try_tag;
-
 /* One call of a function, for up to some thousand rows. */
 struct chunk {
     duckdb_function_info info;
-    const void *tag;
+    /* The extra information of the function. */
+    int flags;
     idx_t row, rows;
     idx_t argument_count;
+    bool has_nulls;
     struct column arguments[3], results;
     duckdb_vector output;
     /* The alphabet of an earlier row, since most queries have the same one in all rows. */
@@ -45,12 +44,15 @@ static struct column column_of(duckdb_vector vector) {
 
 static void begin(struct chunk *chunk, duckdb_function_info info, duckdb_data_chunk input, duckdb_vector output) {
     chunk->info = info;
-    chunk->tag = duckdb_scalar_function_get_extra_info(info);
+    chunk->flags = (int)(intptr_t)duckdb_scalar_function_get_extra_info(info);
     chunk->row = 0;
     chunk->rows = duckdb_data_chunk_get_size(input);
     chunk->argument_count = duckdb_data_chunk_get_column_count(input);
-    for (idx_t i = 0; i < chunk->argument_count; i++)
+    chunk->has_nulls = false;
+    for (idx_t i = 0; i < chunk->argument_count; i++) {
         chunk->arguments[i] = column_of(duckdb_data_chunk_get_vector(input, i));
+        chunk->has_nulls = chunk->has_nulls || chunk->arguments[i].validity != NULL;
+    }
     chunk->output = output;
     chunk->results = column_of(output);
     chunk->has_alphabet = false;
@@ -72,7 +74,7 @@ static bool is_null(const struct chunk *chunk) {
 
 /* Whether chunk->row is a row to compute. Rows with a null argument before it become null. */
 static bool skip_nulls(struct chunk *chunk) {
-    while (chunk->row < chunk->rows && is_null(chunk)) {
+    while (chunk->has_nulls && chunk->row < chunk->rows && is_null(chunk)) {
         set_null(chunk);
         chunk->row++;
     }
@@ -161,6 +163,14 @@ static bool alphabet_at(struct chunk *chunk, idx_t argument, const base62_alphab
     return true;
 }
 
+/* Reads what the flags say: a string alone, or a string and a width. */
+static inline bool encoded_at(struct chunk *chunk, encoded *given) {
+    bool fixed = chunk->flags & FIXED;
+    given->flags = chunk->flags;
+    given->text = text_at(chunk, 0, &given->length);
+    return (!fixed || width_at(chunk, &given->width)) && alphabet_at(chunk, fixed ? 2 : 1, &given->alphabet);
+}
+
 /* Results of a row */
 
 /* DuckDB stores a short string in its row, with zeros behind it, and copies a longer one. */
@@ -211,38 +221,28 @@ static inline bool encode_fixed(struct chunk *chunk) {
 }
 
 static inline bool decode(struct chunk *chunk) {
-    size_t length;
-    const base62_alphabet *alphabet;
-    const char *text = text_at(chunk, 0, &length);
-    bool canonical = chunk->tag == &canonical_tag, decoded;
+    encoded given;
     base62_number number;
-    call_error stored, *error = chunk->tag == &try_tag ? NULL : &stored;
-    if (!alphabet_at(chunk, 1, &alphabet))
+    bool decoded;
+    call_error error;
+    if (!encoded_at(chunk, &given))
         return false;
     if (chunk->results.type == DUCKDB_TYPE_BIGINT)
-        decoded = decode_int64(alphabet, text, length, canonical, "base62_decode_uhugeint",
-                               (int64_t *)chunk->results.data + chunk->row, error);
-    else {
-        decoded = decode_text(alphabet, text, length, canonical, &number, error);
-        if (decoded)
-            set_number(chunk, number);
-    }
-    if (!decoded && error != NULL)
-        return set_error(chunk, error);
-    if (!decoded)
+        decoded = decode_int64(&given, "base62_decode_uhugeint", (int64_t *)chunk->results.data + chunk->row, &error);
+    else if ((decoded = decode_text(&given, &number, &error)))
+        set_number(chunk, number);
+    if (!decoded && given.flags & TRY)
         set_null(chunk);
-    return true;
+    return decoded || given.flags & TRY || set_error(chunk, &error);
 }
 
 static inline bool is_valid(struct chunk *chunk) {
-    size_t length;
-    const base62_alphabet *alphabet;
-    const char *text = text_at(chunk, 0, &length);
+    encoded given;
     base62_number number;
-    if (!alphabet_at(chunk, 1, &alphabet))
+    call_error error;
+    if (!encoded_at(chunk, &given))
         return false;
-    ((bool *)chunk->results.data)[chunk->row] =
-        decode_text(alphabet, text, length, chunk->tag == &canonical_tag, &number, NULL);
+    ((bool *)chunk->results.data)[chunk->row] = decode_text(&given, &number, &error);
     return true;
 }
 
@@ -261,18 +261,18 @@ static bool range_at(struct chunk *chunk, size_t *width, bool *empty, base62_ran
     return true;
 }
 
-static inline bool prefix_bound(struct chunk *chunk) {
+static inline bool string_bound(struct chunk *chunk) {
     size_t width;
     bool empty;
     base62_range range;
     if (!range_at(chunk, &width, &empty, &range))
         return false;
-    return empty || set_fixed(chunk, NULL, chunk->tag == &last_tag ? range.greatest : range.least, width);
+    return empty || set_fixed(chunk, NULL, chunk->flags & LAST ? range.greatest : range.least, width);
 }
 
-static inline bool range_bound(struct chunk *chunk) {
+static inline bool number_bound(struct chunk *chunk) {
     size_t width;
-    bool empty, last = chunk->tag == &last_tag;
+    bool empty, last = chunk->flags & LAST;
     base62_range range;
     if (!range_at(chunk, &width, &empty, &range))
         return false;
@@ -303,8 +303,8 @@ OVER_ROWS(encode)
 OVER_ROWS(encode_fixed)
 OVER_ROWS(decode)
 OVER_ROWS(is_valid)
-OVER_ROWS(prefix_bound)
-OVER_ROWS(range_bound)
+OVER_ROWS(string_bound)
+OVER_ROWS(number_bound)
 OVER_ROWS(version)
 
 /* The extension */
@@ -327,32 +327,42 @@ static const struct function {
     idx_t min_arguments, max_arguments;
     const duckdb_type *first;
     duckdb_type rest[2], result;
-    void *tag;
+    int flags;
     duckdb_scalar_function_t call;
 } functions[] = {
-    {"base62_encode", 1, 2, numbers, {TEXT}, TEXT, NULL, encode_rows},
-    {"base62_encode_uuid", 1, 2, uuids, {TEXT}, TEXT, NULL, encode_rows},
-    {"base62_encode_key", 1, 1, numbers, {0}, TEXT, NULL, encode_fixed_rows},
-    {"base62_encode_key_uuid", 1, 1, uuids, {0}, TEXT, NULL, encode_fixed_rows},
-    {"base62_encode_fixed", 2, 3, numbers, {BIGINT, TEXT}, TEXT, NULL, encode_fixed_rows},
-    {"base62_encode_fixed_uuid", 2, 3, uuids, {BIGINT, TEXT}, TEXT, NULL, encode_fixed_rows},
-    {"base62_decode", 1, 2, texts, {TEXT}, BIGINT, NULL, decode_rows},
-    {"base62_decode_uhugeint", 1, 2, texts, {TEXT}, UHUGEINT, NULL, decode_rows},
-    {"base62_decode_uuid", 1, 2, texts, {TEXT}, UUID, NULL, decode_rows},
-    {"base62_decode_canonical", 1, 2, texts, {TEXT}, BIGINT, &canonical_tag, decode_rows},
-    {"base62_decode_uhugeint_canonical", 1, 2, texts, {TEXT}, UHUGEINT, &canonical_tag, decode_rows},
-    {"base62_decode_uuid_canonical", 1, 2, texts, {TEXT}, UUID, &canonical_tag, decode_rows},
-    {"base62_try_decode", 1, 2, texts, {TEXT}, BIGINT, &try_tag, decode_rows},
-    {"base62_try_decode_uuid", 1, 2, texts, {TEXT}, UUID, &try_tag, decode_rows},
-    {"base62_is_valid", 1, 2, texts, {TEXT}, BOOLEAN, NULL, is_valid_rows},
-    {"base62_is_canonical", 1, 2, texts, {TEXT}, BOOLEAN, &canonical_tag, is_valid_rows},
-    {"base62_prefix_first", 1, 2, texts, {BIGINT}, TEXT, NULL, prefix_bound_rows},
-    {"base62_prefix_last", 1, 2, texts, {BIGINT}, TEXT, &last_tag, prefix_bound_rows},
-    {"base62_range_first", 2, 3, texts, {BIGINT, TEXT}, BIGINT, NULL, range_bound_rows},
-    {"base62_range_last", 2, 3, texts, {BIGINT, TEXT}, BIGINT, &last_tag, range_bound_rows},
-    {"base62_range_first_uhugeint", 2, 3, texts, {BIGINT, TEXT}, UHUGEINT, NULL, range_bound_rows},
-    {"base62_range_last_uhugeint", 2, 3, texts, {BIGINT, TEXT}, UHUGEINT, &last_tag, range_bound_rows},
-    {"base62_version", 0, 0, nothing, {0}, TEXT, NULL, version_rows},
+    {"base62_encode", 1, 2, numbers, {TEXT}, TEXT, 0, encode_rows},
+    {"base62_encode_uuid", 1, 2, uuids, {TEXT}, TEXT, 0, encode_rows},
+    {"base62_encode_key", 1, 1, numbers, {0}, TEXT, 0, encode_fixed_rows},
+    {"base62_encode_uuid_key", 1, 1, uuids, {0}, TEXT, 0, encode_fixed_rows},
+    {"base62_encode_fixed", 2, 3, numbers, {BIGINT, TEXT}, TEXT, 0, encode_fixed_rows},
+    {"base62_encode_uuid_fixed", 2, 3, uuids, {BIGINT, TEXT}, TEXT, 0, encode_fixed_rows},
+    {"base62_decode", 1, 2, texts, {TEXT}, BIGINT, 0, decode_rows},
+    {"base62_decode_uhugeint", 1, 2, texts, {TEXT}, UHUGEINT, 0, decode_rows},
+    {"base62_decode_uuid", 1, 2, texts, {TEXT}, UUID, 0, decode_rows},
+    {"base62_decode_canonical", 1, 2, texts, {TEXT}, BIGINT, CANONICAL, decode_rows},
+    {"base62_decode_uhugeint_canonical", 1, 2, texts, {TEXT}, UHUGEINT, CANONICAL, decode_rows},
+    {"base62_decode_uuid_canonical", 1, 2, texts, {TEXT}, UUID, CANONICAL, decode_rows},
+    {"base62_decode_fixed", 2, 3, texts, {BIGINT, TEXT}, BIGINT, FIXED, decode_rows},
+    {"base62_decode_uhugeint_fixed", 2, 3, texts, {BIGINT, TEXT}, UHUGEINT, FIXED, decode_rows},
+    {"base62_decode_uuid_fixed", 2, 3, texts, {BIGINT, TEXT}, UUID, FIXED, decode_rows},
+    {"base62_try_decode", 1, 2, texts, {TEXT}, BIGINT, TRY, decode_rows},
+    {"base62_try_decode_uhugeint", 1, 2, texts, {TEXT}, UHUGEINT, TRY, decode_rows},
+    {"base62_try_decode_uuid", 1, 2, texts, {TEXT}, UUID, TRY, decode_rows},
+    {"base62_try_decode_canonical", 1, 2, texts, {TEXT}, BIGINT, CANONICAL | TRY, decode_rows},
+    {"base62_try_decode_uhugeint_canonical", 1, 2, texts, {TEXT}, UHUGEINT, CANONICAL | TRY, decode_rows},
+    {"base62_try_decode_uuid_canonical", 1, 2, texts, {TEXT}, UUID, CANONICAL | TRY, decode_rows},
+    {"base62_try_decode_fixed", 2, 3, texts, {BIGINT, TEXT}, BIGINT, FIXED | TRY, decode_rows},
+    {"base62_try_decode_uhugeint_fixed", 2, 3, texts, {BIGINT, TEXT}, UHUGEINT, FIXED | TRY, decode_rows},
+    {"base62_try_decode_uuid_fixed", 2, 3, texts, {BIGINT, TEXT}, UUID, FIXED | TRY, decode_rows},
+    {"base62_is_valid", 1, 2, texts, {TEXT}, BOOLEAN, TRY, is_valid_rows},
+    {"base62_is_canonical", 1, 2, texts, {TEXT}, BOOLEAN, CANONICAL | TRY, is_valid_rows},
+    {"base62_first_string", 1, 2, texts, {BIGINT}, TEXT, 0, string_bound_rows},
+    {"base62_last_string", 1, 2, texts, {BIGINT}, TEXT, LAST, string_bound_rows},
+    {"base62_first_number", 2, 3, texts, {BIGINT, TEXT}, BIGINT, 0, number_bound_rows},
+    {"base62_last_number", 2, 3, texts, {BIGINT, TEXT}, BIGINT, LAST, number_bound_rows},
+    {"base62_first_uhugeint", 2, 3, texts, {BIGINT, TEXT}, UHUGEINT, 0, number_bound_rows},
+    {"base62_last_uhugeint", 2, 3, texts, {BIGINT, TEXT}, UHUGEINT, LAST, number_bound_rows},
+    {"base62_version", 0, 0, nothing, {0}, TEXT, 0, version_rows},
 };
 
 static void set_type(duckdb_scalar_function function, duckdb_type type,
@@ -371,7 +381,7 @@ static bool add_overload(duckdb_scalar_function_set set, const struct function *
     for (idx_t i = 0; i < argument_count; i++)
         set_type(overload, i == 0 ? first : function->rest[i - 1], duckdb_scalar_function_add_parameter);
     set_type(overload, function->result, duckdb_scalar_function_set_return_type);
-    duckdb_scalar_function_set_extra_info(overload, function->tag, NULL);
+    duckdb_scalar_function_set_extra_info(overload, (void *)(intptr_t)function->flags, NULL);
     duckdb_scalar_function_set_function(overload, function->call);
     added = duckdb_add_scalar_function_to_set(set, overload) == DuckDBSuccess;
     duckdb_destroy_scalar_function(&overload);

@@ -27,91 +27,154 @@ CREATE FUNCTION base62_encode_numeric(number numeric, alphabet text) RETURNS tex
 COMMENT ON FUNCTION base62_encode_numeric(numeric, text) IS 'the shortest string of a numeric in a custom alphabet';
 
 CREATE FUNCTION base62_encode_key(number bigint) RETURNS base62_key
-    AS 'MODULE_PATHNAME', 'pg_base62_encode_key_int8' LANGUAGE c IMMUTABLE STRICT PARALLEL SAFE;
+    AS 'MODULE_PATHNAME', 'pg_base62_encode_int8_key' LANGUAGE c IMMUTABLE STRICT PARALLEL SAFE;
 COMMENT ON FUNCTION base62_encode_key(bigint) IS 'the base62 string of a number, 22 characters wide';
-CREATE FUNCTION base62_encode_key_uuid(id uuid) RETURNS base62_key
-    AS 'MODULE_PATHNAME', 'pg_base62_encode_key_uuid' LANGUAGE c IMMUTABLE STRICT PARALLEL SAFE;
-COMMENT ON FUNCTION base62_encode_key_uuid(uuid) IS 'the base62 string of a UUID, 22 characters wide';
+CREATE FUNCTION base62_encode_uuid_key(id uuid) RETURNS base62_key
+    AS 'MODULE_PATHNAME', 'pg_base62_encode_uuid_key' LANGUAGE c IMMUTABLE STRICT PARALLEL SAFE;
+COMMENT ON FUNCTION base62_encode_uuid_key(uuid) IS 'the base62 string of a UUID, 22 characters wide';
 -- The alphabet is of the domain, as a prefix is below: a result has the collation of its arguments.
 CREATE FUNCTION base62_encode_fixed(number bigint, width integer) RETURNS base62_key
-    AS 'MODULE_PATHNAME', 'pg_base62_encode_fixed_int8' LANGUAGE c IMMUTABLE STRICT PARALLEL SAFE;
+    AS 'MODULE_PATHNAME', 'pg_base62_encode_int8_fixed' LANGUAGE c IMMUTABLE STRICT PARALLEL SAFE;
 COMMENT ON FUNCTION base62_encode_fixed(bigint, integer) IS 'the base62 string of a number at a fixed width';
 CREATE FUNCTION base62_encode_fixed(number bigint, width integer, alphabet base62_key) RETURNS base62_key
-    AS 'MODULE_PATHNAME', 'pg_base62_encode_fixed_int8' LANGUAGE c IMMUTABLE STRICT PARALLEL SAFE;
+    AS 'MODULE_PATHNAME', 'pg_base62_encode_int8_fixed' LANGUAGE c IMMUTABLE STRICT PARALLEL SAFE;
 COMMENT ON FUNCTION base62_encode_fixed(bigint, integer, base62_key)
     IS 'the string of a number at a fixed width in a custom alphabet';
-CREATE FUNCTION base62_encode_fixed_uuid(id uuid, width integer) RETURNS base62_key
-    AS 'MODULE_PATHNAME', 'pg_base62_encode_fixed_uuid' LANGUAGE c IMMUTABLE STRICT PARALLEL SAFE;
-COMMENT ON FUNCTION base62_encode_fixed_uuid(uuid, integer) IS 'the base62 string of a UUID at a fixed width';
-CREATE FUNCTION base62_encode_fixed_uuid(id uuid, width integer, alphabet base62_key) RETURNS base62_key
-    AS 'MODULE_PATHNAME', 'pg_base62_encode_fixed_uuid' LANGUAGE c IMMUTABLE STRICT PARALLEL SAFE;
-COMMENT ON FUNCTION base62_encode_fixed_uuid(uuid, integer, base62_key)
+CREATE FUNCTION base62_encode_uuid_fixed(id uuid, width integer) RETURNS base62_key
+    AS 'MODULE_PATHNAME', 'pg_base62_encode_uuid_fixed' LANGUAGE c IMMUTABLE STRICT PARALLEL SAFE;
+COMMENT ON FUNCTION base62_encode_uuid_fixed(uuid, integer) IS 'the base62 string of a UUID at a fixed width';
+CREATE FUNCTION base62_encode_uuid_fixed(id uuid, width integer, alphabet base62_key) RETURNS base62_key
+    AS 'MODULE_PATHNAME', 'pg_base62_encode_uuid_fixed' LANGUAGE c IMMUTABLE STRICT PARALLEL SAFE;
+COMMENT ON FUNCTION base62_encode_uuid_fixed(uuid, integer, base62_key)
     IS 'the string of a UUID at a fixed width in a custom alphabet';
-CREATE FUNCTION base62_encode_fixed_numeric(number numeric, width integer) RETURNS base62_key
-    AS 'MODULE_PATHNAME', 'pg_base62_encode_fixed_numeric' LANGUAGE c IMMUTABLE STRICT PARALLEL SAFE;
-COMMENT ON FUNCTION base62_encode_fixed_numeric(numeric, integer) IS 'the base62 string of a numeric at a fixed width';
-CREATE FUNCTION base62_encode_fixed_numeric(number numeric, width integer, alphabet base62_key) RETURNS base62_key
-    AS 'MODULE_PATHNAME', 'pg_base62_encode_fixed_numeric' LANGUAGE c IMMUTABLE STRICT PARALLEL SAFE;
-COMMENT ON FUNCTION base62_encode_fixed_numeric(numeric, integer, base62_key)
+CREATE FUNCTION base62_encode_numeric_fixed(number numeric, width integer) RETURNS base62_key
+    AS 'MODULE_PATHNAME', 'pg_base62_encode_numeric_fixed' LANGUAGE c IMMUTABLE STRICT PARALLEL SAFE;
+COMMENT ON FUNCTION base62_encode_numeric_fixed(numeric, integer) IS 'the base62 string of a numeric at a fixed width';
+CREATE FUNCTION base62_encode_numeric_fixed(number numeric, width integer, alphabet base62_key) RETURNS base62_key
+    AS 'MODULE_PATHNAME', 'pg_base62_encode_numeric_fixed' LANGUAGE c IMMUTABLE STRICT PARALLEL SAFE;
+COMMENT ON FUNCTION base62_encode_numeric_fixed(numeric, integer, base62_key)
     IS 'the string of a numeric at a fixed width in a custom alphabet';
 
 CREATE FUNCTION base62_decode(encoded text) RETURNS bigint
     AS 'MODULE_PATHNAME', 'pg_base62_decode_int8' LANGUAGE c IMMUTABLE STRICT PARALLEL SAFE;
-COMMENT ON FUNCTION base62_decode(text) IS 'the number that a base62 string represents';
+COMMENT ON FUNCTION base62_decode(text) IS 'the number of a base62 string';
 CREATE FUNCTION base62_decode(encoded text, alphabet text) RETURNS bigint
     AS 'MODULE_PATHNAME', 'pg_base62_decode_int8' LANGUAGE c IMMUTABLE STRICT PARALLEL SAFE;
-COMMENT ON FUNCTION base62_decode(text, text) IS 'the number that a string in a custom alphabet represents';
+COMMENT ON FUNCTION base62_decode(text, text) IS 'the number of a string in a custom alphabet';
 CREATE FUNCTION base62_decode_uuid(encoded text) RETURNS uuid
     AS 'MODULE_PATHNAME', 'pg_base62_decode_uuid' LANGUAGE c IMMUTABLE STRICT PARALLEL SAFE;
-COMMENT ON FUNCTION base62_decode_uuid(text) IS 'the UUID that a base62 string represents';
+COMMENT ON FUNCTION base62_decode_uuid(text) IS 'the UUID of a base62 string';
 CREATE FUNCTION base62_decode_uuid(encoded text, alphabet text) RETURNS uuid
     AS 'MODULE_PATHNAME', 'pg_base62_decode_uuid' LANGUAGE c IMMUTABLE STRICT PARALLEL SAFE;
-COMMENT ON FUNCTION base62_decode_uuid(text, text) IS 'the UUID that a string in a custom alphabet represents';
+COMMENT ON FUNCTION base62_decode_uuid(text, text) IS 'the UUID of a string in a custom alphabet';
 CREATE FUNCTION base62_decode_numeric(encoded text) RETURNS numeric
     AS 'MODULE_PATHNAME', 'pg_base62_decode_numeric' LANGUAGE c IMMUTABLE STRICT PARALLEL SAFE;
-COMMENT ON FUNCTION base62_decode_numeric(text) IS 'the numeric that a base62 string represents';
+COMMENT ON FUNCTION base62_decode_numeric(text) IS 'the numeric of a base62 string';
 CREATE FUNCTION base62_decode_numeric(encoded text, alphabet text) RETURNS numeric
     AS 'MODULE_PATHNAME', 'pg_base62_decode_numeric' LANGUAGE c IMMUTABLE STRICT PARALLEL SAFE;
-COMMENT ON FUNCTION base62_decode_numeric(text, text) IS 'the numeric that a string in a custom alphabet represents';
+COMMENT ON FUNCTION base62_decode_numeric(text, text) IS 'the numeric of a string in a custom alphabet';
 CREATE FUNCTION base62_decode_canonical(encoded text) RETURNS bigint
     AS 'MODULE_PATHNAME', 'pg_base62_decode_int8_canonical' LANGUAGE c IMMUTABLE STRICT PARALLEL SAFE;
-COMMENT ON FUNCTION base62_decode_canonical(text) IS 'the number that a base62 string without leading zeros represents';
+COMMENT ON FUNCTION base62_decode_canonical(text) IS 'the number of a shortest base62 string';
 CREATE FUNCTION base62_decode_canonical(encoded text, alphabet text) RETURNS bigint
     AS 'MODULE_PATHNAME', 'pg_base62_decode_int8_canonical' LANGUAGE c IMMUTABLE STRICT PARALLEL SAFE;
-COMMENT ON FUNCTION base62_decode_canonical(text, text)
-    IS 'the number that a string without leading zeros in a custom alphabet represents';
+COMMENT ON FUNCTION base62_decode_canonical(text, text) IS 'the number of a shortest string in a custom alphabet';
 CREATE FUNCTION base62_decode_uuid_canonical(encoded text) RETURNS uuid
     AS 'MODULE_PATHNAME', 'pg_base62_decode_uuid_canonical' LANGUAGE c IMMUTABLE STRICT PARALLEL SAFE;
-COMMENT ON FUNCTION base62_decode_uuid_canonical(text)
-    IS 'the UUID that a base62 string without leading zeros represents';
+COMMENT ON FUNCTION base62_decode_uuid_canonical(text) IS 'the UUID of a shortest base62 string';
 CREATE FUNCTION base62_decode_uuid_canonical(encoded text, alphabet text) RETURNS uuid
     AS 'MODULE_PATHNAME', 'pg_base62_decode_uuid_canonical' LANGUAGE c IMMUTABLE STRICT PARALLEL SAFE;
-COMMENT ON FUNCTION base62_decode_uuid_canonical(text, text)
-    IS 'the UUID that a string without leading zeros in a custom alphabet represents';
+COMMENT ON FUNCTION base62_decode_uuid_canonical(text, text) IS 'the UUID of a shortest string in a custom alphabet';
 CREATE FUNCTION base62_decode_numeric_canonical(encoded text) RETURNS numeric
     AS 'MODULE_PATHNAME', 'pg_base62_decode_numeric_canonical' LANGUAGE c IMMUTABLE STRICT PARALLEL SAFE;
-COMMENT ON FUNCTION base62_decode_numeric_canonical(text)
-    IS 'the numeric that a base62 string without leading zeros represents';
+COMMENT ON FUNCTION base62_decode_numeric_canonical(text) IS 'the numeric of a shortest base62 string';
 CREATE FUNCTION base62_decode_numeric_canonical(encoded text, alphabet text) RETURNS numeric
     AS 'MODULE_PATHNAME', 'pg_base62_decode_numeric_canonical' LANGUAGE c IMMUTABLE STRICT PARALLEL SAFE;
 COMMENT ON FUNCTION base62_decode_numeric_canonical(text, text)
-    IS 'the numeric that a string without leading zeros in a custom alphabet represents';
+    IS 'the numeric of a shortest string in a custom alphabet';
+CREATE FUNCTION base62_decode_fixed(encoded text, width integer) RETURNS bigint
+    AS 'MODULE_PATHNAME', 'pg_base62_decode_int8_fixed' LANGUAGE c IMMUTABLE STRICT PARALLEL SAFE;
+COMMENT ON FUNCTION base62_decode_fixed(text, integer) IS 'the number of a base62 string of a width';
+CREATE FUNCTION base62_decode_fixed(encoded text, width integer, alphabet text) RETURNS bigint
+    AS 'MODULE_PATHNAME', 'pg_base62_decode_int8_fixed' LANGUAGE c IMMUTABLE STRICT PARALLEL SAFE;
+COMMENT ON FUNCTION base62_decode_fixed(text, integer, text)
+    IS 'the number of a string of a width in a custom alphabet';
+CREATE FUNCTION base62_decode_uuid_fixed(encoded text, width integer) RETURNS uuid
+    AS 'MODULE_PATHNAME', 'pg_base62_decode_uuid_fixed' LANGUAGE c IMMUTABLE STRICT PARALLEL SAFE;
+COMMENT ON FUNCTION base62_decode_uuid_fixed(text, integer) IS 'the UUID of a base62 string of a width';
+CREATE FUNCTION base62_decode_uuid_fixed(encoded text, width integer, alphabet text) RETURNS uuid
+    AS 'MODULE_PATHNAME', 'pg_base62_decode_uuid_fixed' LANGUAGE c IMMUTABLE STRICT PARALLEL SAFE;
+COMMENT ON FUNCTION base62_decode_uuid_fixed(text, integer, text)
+    IS 'the UUID of a string of a width in a custom alphabet';
+CREATE FUNCTION base62_decode_numeric_fixed(encoded text, width integer) RETURNS numeric
+    AS 'MODULE_PATHNAME', 'pg_base62_decode_numeric_fixed' LANGUAGE c IMMUTABLE STRICT PARALLEL SAFE;
+COMMENT ON FUNCTION base62_decode_numeric_fixed(text, integer) IS 'the numeric of a base62 string of a width';
+CREATE FUNCTION base62_decode_numeric_fixed(encoded text, width integer, alphabet text) RETURNS numeric
+    AS 'MODULE_PATHNAME', 'pg_base62_decode_numeric_fixed' LANGUAGE c IMMUTABLE STRICT PARALLEL SAFE;
+COMMENT ON FUNCTION base62_decode_numeric_fixed(text, integer, text)
+    IS 'the numeric of a string of a width in a custom alphabet';
+-- These return null for a string that the function without try rejects.
 CREATE FUNCTION base62_try_decode(encoded text) RETURNS bigint
     AS 'MODULE_PATHNAME', 'pg_base62_try_decode_int8' LANGUAGE c IMMUTABLE STRICT PARALLEL SAFE;
-COMMENT ON FUNCTION base62_try_decode(text)
-    IS 'the number that a base62 string represents, or null if it is invalid or too large';
+COMMENT ON FUNCTION base62_try_decode(text) IS 'the number of a base62 string, or null';
 CREATE FUNCTION base62_try_decode(encoded text, alphabet text) RETURNS bigint
     AS 'MODULE_PATHNAME', 'pg_base62_try_decode_int8' LANGUAGE c IMMUTABLE STRICT PARALLEL SAFE;
-COMMENT ON FUNCTION base62_try_decode(text, text)
-    IS 'the number that a string in a custom alphabet represents, or null if it is invalid or too large';
+COMMENT ON FUNCTION base62_try_decode(text, text) IS 'the number of a string in a custom alphabet, or null';
 CREATE FUNCTION base62_try_decode_uuid(encoded text) RETURNS uuid
     AS 'MODULE_PATHNAME', 'pg_base62_try_decode_uuid' LANGUAGE c IMMUTABLE STRICT PARALLEL SAFE;
-COMMENT ON FUNCTION base62_try_decode_uuid(text)
-    IS 'the UUID that a base62 string represents, or null if it is invalid or too large';
+COMMENT ON FUNCTION base62_try_decode_uuid(text) IS 'the UUID of a base62 string, or null';
 CREATE FUNCTION base62_try_decode_uuid(encoded text, alphabet text) RETURNS uuid
     AS 'MODULE_PATHNAME', 'pg_base62_try_decode_uuid' LANGUAGE c IMMUTABLE STRICT PARALLEL SAFE;
-COMMENT ON FUNCTION base62_try_decode_uuid(text, text)
-    IS 'the UUID that a string in a custom alphabet represents, or null if it is invalid or too large';
+COMMENT ON FUNCTION base62_try_decode_uuid(text, text) IS 'the UUID of a string in a custom alphabet, or null';
+CREATE FUNCTION base62_try_decode_numeric(encoded text) RETURNS numeric
+    AS 'MODULE_PATHNAME', 'pg_base62_try_decode_numeric' LANGUAGE c IMMUTABLE STRICT PARALLEL SAFE;
+COMMENT ON FUNCTION base62_try_decode_numeric(text) IS 'the numeric of a base62 string, or null';
+CREATE FUNCTION base62_try_decode_numeric(encoded text, alphabet text) RETURNS numeric
+    AS 'MODULE_PATHNAME', 'pg_base62_try_decode_numeric' LANGUAGE c IMMUTABLE STRICT PARALLEL SAFE;
+COMMENT ON FUNCTION base62_try_decode_numeric(text, text) IS 'the numeric of a string in a custom alphabet, or null';
+CREATE FUNCTION base62_try_decode_canonical(encoded text) RETURNS bigint
+    AS 'MODULE_PATHNAME', 'pg_base62_try_decode_int8_canonical' LANGUAGE c IMMUTABLE STRICT PARALLEL SAFE;
+COMMENT ON FUNCTION base62_try_decode_canonical(text) IS 'the number of a shortest base62 string, or null';
+CREATE FUNCTION base62_try_decode_canonical(encoded text, alphabet text) RETURNS bigint
+    AS 'MODULE_PATHNAME', 'pg_base62_try_decode_int8_canonical' LANGUAGE c IMMUTABLE STRICT PARALLEL SAFE;
+COMMENT ON FUNCTION base62_try_decode_canonical(text, text)
+    IS 'the number of a shortest string in a custom alphabet, or null';
+CREATE FUNCTION base62_try_decode_uuid_canonical(encoded text) RETURNS uuid
+    AS 'MODULE_PATHNAME', 'pg_base62_try_decode_uuid_canonical' LANGUAGE c IMMUTABLE STRICT PARALLEL SAFE;
+COMMENT ON FUNCTION base62_try_decode_uuid_canonical(text) IS 'the UUID of a shortest base62 string, or null';
+CREATE FUNCTION base62_try_decode_uuid_canonical(encoded text, alphabet text) RETURNS uuid
+    AS 'MODULE_PATHNAME', 'pg_base62_try_decode_uuid_canonical' LANGUAGE c IMMUTABLE STRICT PARALLEL SAFE;
+COMMENT ON FUNCTION base62_try_decode_uuid_canonical(text, text)
+    IS 'the UUID of a shortest string in a custom alphabet, or null';
+CREATE FUNCTION base62_try_decode_numeric_canonical(encoded text) RETURNS numeric
+    AS 'MODULE_PATHNAME', 'pg_base62_try_decode_numeric_canonical' LANGUAGE c IMMUTABLE STRICT PARALLEL SAFE;
+COMMENT ON FUNCTION base62_try_decode_numeric_canonical(text) IS 'the numeric of a shortest base62 string, or null';
+CREATE FUNCTION base62_try_decode_numeric_canonical(encoded text, alphabet text) RETURNS numeric
+    AS 'MODULE_PATHNAME', 'pg_base62_try_decode_numeric_canonical' LANGUAGE c IMMUTABLE STRICT PARALLEL SAFE;
+COMMENT ON FUNCTION base62_try_decode_numeric_canonical(text, text)
+    IS 'the numeric of a shortest string in a custom alphabet, or null';
+CREATE FUNCTION base62_try_decode_fixed(encoded text, width integer) RETURNS bigint
+    AS 'MODULE_PATHNAME', 'pg_base62_try_decode_int8_fixed' LANGUAGE c IMMUTABLE STRICT PARALLEL SAFE;
+COMMENT ON FUNCTION base62_try_decode_fixed(text, integer) IS 'the number of a base62 string of a width, or null';
+CREATE FUNCTION base62_try_decode_fixed(encoded text, width integer, alphabet text) RETURNS bigint
+    AS 'MODULE_PATHNAME', 'pg_base62_try_decode_int8_fixed' LANGUAGE c IMMUTABLE STRICT PARALLEL SAFE;
+COMMENT ON FUNCTION base62_try_decode_fixed(text, integer, text)
+    IS 'the number of a string of a width in a custom alphabet, or null';
+CREATE FUNCTION base62_try_decode_uuid_fixed(encoded text, width integer) RETURNS uuid
+    AS 'MODULE_PATHNAME', 'pg_base62_try_decode_uuid_fixed' LANGUAGE c IMMUTABLE STRICT PARALLEL SAFE;
+COMMENT ON FUNCTION base62_try_decode_uuid_fixed(text, integer) IS 'the UUID of a base62 string of a width, or null';
+CREATE FUNCTION base62_try_decode_uuid_fixed(encoded text, width integer, alphabet text) RETURNS uuid
+    AS 'MODULE_PATHNAME', 'pg_base62_try_decode_uuid_fixed' LANGUAGE c IMMUTABLE STRICT PARALLEL SAFE;
+COMMENT ON FUNCTION base62_try_decode_uuid_fixed(text, integer, text)
+    IS 'the UUID of a string of a width in a custom alphabet, or null';
+CREATE FUNCTION base62_try_decode_numeric_fixed(encoded text, width integer) RETURNS numeric
+    AS 'MODULE_PATHNAME', 'pg_base62_try_decode_numeric_fixed' LANGUAGE c IMMUTABLE STRICT PARALLEL SAFE;
+COMMENT ON FUNCTION base62_try_decode_numeric_fixed(text, integer)
+    IS 'the numeric of a base62 string of a width, or null';
+CREATE FUNCTION base62_try_decode_numeric_fixed(encoded text, width integer, alphabet text) RETURNS numeric
+    AS 'MODULE_PATHNAME', 'pg_base62_try_decode_numeric_fixed' LANGUAGE c IMMUTABLE STRICT PARALLEL SAFE;
+COMMENT ON FUNCTION base62_try_decode_numeric_fixed(text, integer, text)
+    IS 'the numeric of a string of a width in a custom alphabet, or null';
 CREATE FUNCTION base62_is_valid(encoded text) RETURNS boolean
     AS 'MODULE_PATHNAME', 'pg_base62_is_valid' LANGUAGE c IMMUTABLE STRICT PARALLEL SAFE;
 COMMENT ON FUNCTION base62_is_valid(text) IS 'whether base62_decode_uuid accepts a string';
@@ -120,61 +183,56 @@ CREATE FUNCTION base62_is_valid(encoded text, alphabet text) RETURNS boolean
 COMMENT ON FUNCTION base62_is_valid(text, text) IS 'whether base62_decode_uuid accepts a string in a custom alphabet';
 CREATE FUNCTION base62_is_canonical(encoded text) RETURNS boolean
     AS 'MODULE_PATHNAME', 'pg_base62_is_canonical' LANGUAGE c IMMUTABLE STRICT PARALLEL SAFE;
-COMMENT ON FUNCTION base62_is_canonical(text) IS 'whether base62_decode_uuid_canonical accepts a string';
+COMMENT ON FUNCTION base62_is_canonical(text) IS 'whether a base62 string is canonical';
 CREATE FUNCTION base62_is_canonical(encoded text, alphabet text) RETURNS boolean
     AS 'MODULE_PATHNAME', 'pg_base62_is_canonical' LANGUAGE c IMMUTABLE STRICT PARALLEL SAFE;
-COMMENT ON FUNCTION base62_is_canonical(text, text)
-    IS 'whether base62_decode_uuid_canonical accepts a string in a custom alphabet';
+COMMENT ON FUNCTION base62_is_canonical(text, text) IS 'whether a string in a custom alphabet is canonical';
 
 -- The strings with a prefix are those from the first to the last, and both are null if there is none. If a prefix were
 -- text, a column under the order of a language would silently be searched in that order.
-CREATE FUNCTION base62_prefix_first(prefix base62_key) RETURNS base62_key
-    AS 'MODULE_PATHNAME', 'pg_base62_prefix_first' LANGUAGE c IMMUTABLE STRICT PARALLEL SAFE;
-COMMENT ON FUNCTION base62_prefix_first(base62_key) IS 'the first string of 22 characters that begins with a prefix';
-CREATE FUNCTION base62_prefix_first(prefix base62_key, width integer) RETURNS base62_key
-    AS 'MODULE_PATHNAME', 'pg_base62_prefix_first' LANGUAGE c IMMUTABLE STRICT PARALLEL SAFE;
-COMMENT ON FUNCTION base62_prefix_first(base62_key, integer) IS 'the first string of a width that begins with a prefix';
-CREATE FUNCTION base62_prefix_last(prefix base62_key) RETURNS base62_key
-    AS 'MODULE_PATHNAME', 'pg_base62_prefix_last' LANGUAGE c IMMUTABLE STRICT PARALLEL SAFE;
-COMMENT ON FUNCTION base62_prefix_last(base62_key) IS 'the last string of 22 characters that begins with a prefix';
-CREATE FUNCTION base62_prefix_last(prefix base62_key, width integer) RETURNS base62_key
-    AS 'MODULE_PATHNAME', 'pg_base62_prefix_last' LANGUAGE c IMMUTABLE STRICT PARALLEL SAFE;
-COMMENT ON FUNCTION base62_prefix_last(base62_key, integer) IS 'the last string of a width that begins with a prefix';
+CREATE FUNCTION base62_first_string(prefix base62_key) RETURNS base62_key
+    AS 'MODULE_PATHNAME', 'pg_base62_first_string' LANGUAGE c IMMUTABLE STRICT PARALLEL SAFE;
+COMMENT ON FUNCTION base62_first_string(base62_key) IS 'the first string of 22 characters that begins with a prefix';
+CREATE FUNCTION base62_first_string(prefix base62_key, width integer) RETURNS base62_key
+    AS 'MODULE_PATHNAME', 'pg_base62_first_string' LANGUAGE c IMMUTABLE STRICT PARALLEL SAFE;
+COMMENT ON FUNCTION base62_first_string(base62_key, integer) IS 'the first string of a width that begins with a prefix';
+CREATE FUNCTION base62_last_string(prefix base62_key) RETURNS base62_key
+    AS 'MODULE_PATHNAME', 'pg_base62_last_string' LANGUAGE c IMMUTABLE STRICT PARALLEL SAFE;
+COMMENT ON FUNCTION base62_last_string(base62_key) IS 'the last string of 22 characters that begins with a prefix';
+CREATE FUNCTION base62_last_string(prefix base62_key, width integer) RETURNS base62_key
+    AS 'MODULE_PATHNAME', 'pg_base62_last_string' LANGUAGE c IMMUTABLE STRICT PARALLEL SAFE;
+COMMENT ON FUNCTION base62_last_string(base62_key, integer) IS 'the last string of a width that begins with a prefix';
 
 -- The numbers whose strings of a width begin with a prefix are those from the first to the last, and both are null if
 -- there is none. Those of bigint end at 2^63 - 1.
-CREATE FUNCTION base62_range_first(prefix text, width integer) RETURNS bigint
-    AS 'MODULE_PATHNAME', 'pg_base62_range_first_int8' LANGUAGE c IMMUTABLE STRICT PARALLEL SAFE;
-COMMENT ON FUNCTION base62_range_first(text, integer)
-    IS 'the first number below 2^63 whose base62 string of a width begins with a prefix';
-CREATE FUNCTION base62_range_first(prefix text, width integer, alphabet text) RETURNS bigint
-    AS 'MODULE_PATHNAME', 'pg_base62_range_first_int8' LANGUAGE c IMMUTABLE STRICT PARALLEL SAFE;
-COMMENT ON FUNCTION base62_range_first(text, integer, text)
-    IS 'the first number below 2^63 whose string of a width in a custom alphabet begins with a prefix';
-CREATE FUNCTION base62_range_last(prefix text, width integer) RETURNS bigint
-    AS 'MODULE_PATHNAME', 'pg_base62_range_last_int8' LANGUAGE c IMMUTABLE STRICT PARALLEL SAFE;
-COMMENT ON FUNCTION base62_range_last(text, integer)
-    IS 'the last number below 2^63 whose base62 string of a width begins with a prefix';
-CREATE FUNCTION base62_range_last(prefix text, width integer, alphabet text) RETURNS bigint
-    AS 'MODULE_PATHNAME', 'pg_base62_range_last_int8' LANGUAGE c IMMUTABLE STRICT PARALLEL SAFE;
-COMMENT ON FUNCTION base62_range_last(text, integer, text)
-    IS 'the last number below 2^63 whose string of a width in a custom alphabet begins with a prefix';
-CREATE FUNCTION base62_range_first_numeric(prefix text, width integer) RETURNS numeric
-    AS 'MODULE_PATHNAME', 'pg_base62_range_first_numeric' LANGUAGE c IMMUTABLE STRICT PARALLEL SAFE;
-COMMENT ON FUNCTION base62_range_first_numeric(text, integer)
-    IS 'the first number whose base62 string of a width begins with a prefix';
-CREATE FUNCTION base62_range_first_numeric(prefix text, width integer, alphabet text) RETURNS numeric
-    AS 'MODULE_PATHNAME', 'pg_base62_range_first_numeric' LANGUAGE c IMMUTABLE STRICT PARALLEL SAFE;
-COMMENT ON FUNCTION base62_range_first_numeric(text, integer, text)
-    IS 'the first number whose string of a width in a custom alphabet begins with a prefix';
-CREATE FUNCTION base62_range_last_numeric(prefix text, width integer) RETURNS numeric
-    AS 'MODULE_PATHNAME', 'pg_base62_range_last_numeric' LANGUAGE c IMMUTABLE STRICT PARALLEL SAFE;
-COMMENT ON FUNCTION base62_range_last_numeric(text, integer)
-    IS 'the last number whose base62 string of a width begins with a prefix';
-CREATE FUNCTION base62_range_last_numeric(prefix text, width integer, alphabet text) RETURNS numeric
-    AS 'MODULE_PATHNAME', 'pg_base62_range_last_numeric' LANGUAGE c IMMUTABLE STRICT PARALLEL SAFE;
-COMMENT ON FUNCTION base62_range_last_numeric(text, integer, text)
-    IS 'the last number whose string of a width in a custom alphabet begins with a prefix';
+CREATE FUNCTION base62_first_number(prefix text, width integer) RETURNS bigint
+    AS 'MODULE_PATHNAME', 'pg_base62_first_int8' LANGUAGE c IMMUTABLE STRICT PARALLEL SAFE;
+COMMENT ON FUNCTION base62_first_number(text, integer) IS 'the first bigint whose string of a width has a prefix';
+CREATE FUNCTION base62_first_number(prefix text, width integer, alphabet text) RETURNS bigint
+    AS 'MODULE_PATHNAME', 'pg_base62_first_int8' LANGUAGE c IMMUTABLE STRICT PARALLEL SAFE;
+COMMENT ON FUNCTION base62_first_number(text, integer, text)
+    IS 'the first bigint whose string of a width in a custom alphabet has a prefix';
+CREATE FUNCTION base62_last_number(prefix text, width integer) RETURNS bigint
+    AS 'MODULE_PATHNAME', 'pg_base62_last_int8' LANGUAGE c IMMUTABLE STRICT PARALLEL SAFE;
+COMMENT ON FUNCTION base62_last_number(text, integer) IS 'the last bigint whose string of a width has a prefix';
+CREATE FUNCTION base62_last_number(prefix text, width integer, alphabet text) RETURNS bigint
+    AS 'MODULE_PATHNAME', 'pg_base62_last_int8' LANGUAGE c IMMUTABLE STRICT PARALLEL SAFE;
+COMMENT ON FUNCTION base62_last_number(text, integer, text)
+    IS 'the last bigint whose string of a width in a custom alphabet has a prefix';
+CREATE FUNCTION base62_first_numeric(prefix text, width integer) RETURNS numeric
+    AS 'MODULE_PATHNAME', 'pg_base62_first_numeric' LANGUAGE c IMMUTABLE STRICT PARALLEL SAFE;
+COMMENT ON FUNCTION base62_first_numeric(text, integer) IS 'the first number whose string of a width has a prefix';
+CREATE FUNCTION base62_first_numeric(prefix text, width integer, alphabet text) RETURNS numeric
+    AS 'MODULE_PATHNAME', 'pg_base62_first_numeric' LANGUAGE c IMMUTABLE STRICT PARALLEL SAFE;
+COMMENT ON FUNCTION base62_first_numeric(text, integer, text)
+    IS 'the first number whose string of a width in a custom alphabet has a prefix';
+CREATE FUNCTION base62_last_numeric(prefix text, width integer) RETURNS numeric
+    AS 'MODULE_PATHNAME', 'pg_base62_last_numeric' LANGUAGE c IMMUTABLE STRICT PARALLEL SAFE;
+COMMENT ON FUNCTION base62_last_numeric(text, integer) IS 'the last number whose string of a width has a prefix';
+CREATE FUNCTION base62_last_numeric(prefix text, width integer, alphabet text) RETURNS numeric
+    AS 'MODULE_PATHNAME', 'pg_base62_last_numeric' LANGUAGE c IMMUTABLE STRICT PARALLEL SAFE;
+COMMENT ON FUNCTION base62_last_numeric(text, integer, text)
+    IS 'the last number whose string of a width in a custom alphabet has a prefix';
 
 CREATE FUNCTION base62_version() RETURNS text
     AS 'MODULE_PATHNAME', 'pg_base62_version' LANGUAGE c STABLE STRICT PARALLEL SAFE;

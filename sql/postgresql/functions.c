@@ -170,46 +170,55 @@ static Datum encode_fixed(FunctionCallInfo fcinfo, base62_number number) {
     return encode_with_width(number, width, get_alphabet(fcinfo, 2));
 }
 
-/* Decoding. A string that cannot be decoded is an error, or, if error is null, its result is null. */
+/* Decoding. The flags of a function say what its arguments are. */
 
-static Datum raise_or_null(FunctionCallInfo fcinfo, const call_error *error) {
-    if (error != NULL)
+static encoded get_encoded(FunctionCallInfo fcinfo, int flags) {
+    const text *value = PG_GETARG_TEXT_PP(0);
+    bool fixed = flags & FIXED;
+    size_t width = fixed ? get_width(fcinfo, 1) : 0;
+    encoded given = {flags, get_alphabet(fcinfo, fixed ? 2 : 1), VARDATA_ANY(value), text_length(value), width};
+    return given;
+}
+
+static Datum raise_or_null(FunctionCallInfo fcinfo, int flags, const call_error *error) {
+    if (!(flags & TRY))
         raise_error(error);
     PG_RETURN_NULL();
 }
 
-static bool try_decode(FunctionCallInfo fcinfo, bool canonical, base62_number *number, call_error *error) {
-    const text *given = PG_GETARG_TEXT_PP(0);
-    return decode_text(get_alphabet(fcinfo, 1), VARDATA_ANY(given), text_length(given), canonical, number, error);
-}
-
-static Datum decode_int8(FunctionCallInfo fcinfo, bool canonical, call_error *error) {
-    const text *given = PG_GETARG_TEXT_PP(0);
+static Datum decode_int8(FunctionCallInfo fcinfo, int flags) {
+    encoded given = get_encoded(fcinfo, flags);
     int64_t value;
-    if (decode_int64(get_alphabet(fcinfo, 1), VARDATA_ANY(given), text_length(given), canonical,
-                     "base62_decode_numeric", &value, error))
+    call_error error;
+    if (decode_int64(&given, "base62_decode_numeric", &value, &error))
         PG_RETURN_INT64(value);
-    return raise_or_null(fcinfo, error);
+    return raise_or_null(fcinfo, flags, &error);
 }
 
-static Datum decode_uuid(FunctionCallInfo fcinfo, bool canonical, call_error *error) {
+static Datum decode_uuid(FunctionCallInfo fcinfo, int flags) {
+    encoded given = get_encoded(fcinfo, flags);
     base62_number number;
     pg_uuid_t *result;
-    if (!try_decode(fcinfo, canonical, &number, error))
-        return raise_or_null(fcinfo, error);
+    call_error error;
+    if (!decode_text(&given, &number, &error))
+        return raise_or_null(fcinfo, flags, &error);
     result = palloc(sizeof *result);
     base62_to_uuid(number, result->data);
     PG_RETURN_UUID_P(result);
 }
 
-static Datum decode_numeric(FunctionCallInfo fcinfo, bool canonical, call_error *error) {
+static Datum decode_numeric(FunctionCallInfo fcinfo, int flags) {
+    encoded given = get_encoded(fcinfo, flags);
     base62_number number;
-    return try_decode(fcinfo, canonical, &number, error) ? numeric_of_number(number) : raise_or_null(fcinfo, error);
+    call_error error;
+    return decode_text(&given, &number, &error) ? numeric_of_number(number) : raise_or_null(fcinfo, flags, &error);
 }
 
-static Datum is_valid(FunctionCallInfo fcinfo, bool canonical) {
+static Datum is_valid(FunctionCallInfo fcinfo, int flags) {
+    encoded given = get_encoded(fcinfo, flags);
     base62_number number;
-    PG_RETURN_BOOL(try_decode(fcinfo, canonical, &number, NULL));
+    call_error error;
+    PG_RETURN_BOOL(decode_text(&given, &number, &error));
 }
 
 /* Ranges */
@@ -226,37 +235,35 @@ static bool get_range(FunctionCallInfo fcinfo, base62_range *range) {
     return !empty;
 }
 
-static Datum prefix_bound(FunctionCallInfo fcinfo, bool last) {
+static Datum string_bound(FunctionCallInfo fcinfo, int flags) {
     base62_range range;
     if (!get_range(fcinfo, &range))
         PG_RETURN_NULL();
-    return encode_with_width(last ? range.greatest : range.least, get_width(fcinfo, 1), NULL);
+    return encode_with_width(flags & LAST ? range.greatest : range.least, get_width(fcinfo, 1), NULL);
 }
 
-static Datum range_bound_int8(FunctionCallInfo fcinfo, bool last) {
+static Datum number_bound_int8(FunctionCallInfo fcinfo, int flags) {
     base62_range range;
     int64_t value;
-    if (!get_range(fcinfo, &range) || !int64_bound(range, last, &value))
+    if (!get_range(fcinfo, &range) || !int64_bound(range, flags & LAST, &value))
         PG_RETURN_NULL();
     PG_RETURN_INT64(value);
 }
 
-static Datum range_bound_numeric(FunctionCallInfo fcinfo, bool last) {
+static Datum number_bound_numeric(FunctionCallInfo fcinfo, int flags) {
     base62_range range;
     if (!get_range(fcinfo, &range))
         PG_RETURN_NULL();
-    return numeric_of_number(last ? range.greatest : range.least);
+    return numeric_of_number(flags & LAST ? range.greatest : range.least);
 }
 
-/* The functions that the SQL script names, each with its result, which may use error. Some functions of the library,
- * such as base62_encode, have the name of a function in SQL. So the names here begin with pg_. */
+/* The functions that the SQL script names, each with its result. Some functions of the library, such as base62_encode,
+ * have the name of a function in SQL. So the names here begin with pg_. */
 
 #define SQL_FUNCTION(name, result) \
     PG_FUNCTION_INFO_V1(name);     \
     Datum name(PG_FUNCTION_ARGS) { \
-        call_error error;          \
         (void)fcinfo;              \
-        (void)&error;              \
         return result;             \
     }
 
@@ -264,30 +271,39 @@ SQL_FUNCTION(pg_base62_encode_int8, encode(fcinfo, get_int8(fcinfo, 0)))
 SQL_FUNCTION(pg_base62_encode_uuid, encode(fcinfo, get_uuid(fcinfo, 0)))
 SQL_FUNCTION(pg_base62_encode_numeric, encode(fcinfo, get_numeric(fcinfo, 0)))
 
-SQL_FUNCTION(pg_base62_encode_key_int8, encode_fixed(fcinfo, get_int8(fcinfo, 0)))
-SQL_FUNCTION(pg_base62_encode_key_uuid, encode_fixed(fcinfo, get_uuid(fcinfo, 0)))
+SQL_FUNCTION(pg_base62_encode_int8_key, encode_fixed(fcinfo, get_int8(fcinfo, 0)))
+SQL_FUNCTION(pg_base62_encode_uuid_key, encode_fixed(fcinfo, get_uuid(fcinfo, 0)))
+SQL_FUNCTION(pg_base62_encode_int8_fixed, encode_fixed(fcinfo, get_int8(fcinfo, 0)))
+SQL_FUNCTION(pg_base62_encode_uuid_fixed, encode_fixed(fcinfo, get_uuid(fcinfo, 0)))
+SQL_FUNCTION(pg_base62_encode_numeric_fixed, encode_fixed(fcinfo, get_numeric(fcinfo, 0)))
 
-SQL_FUNCTION(pg_base62_encode_fixed_int8, encode_fixed(fcinfo, get_int8(fcinfo, 0)))
-SQL_FUNCTION(pg_base62_encode_fixed_uuid, encode_fixed(fcinfo, get_uuid(fcinfo, 0)))
-SQL_FUNCTION(pg_base62_encode_fixed_numeric, encode_fixed(fcinfo, get_numeric(fcinfo, 0)))
+SQL_FUNCTION(pg_base62_decode_int8, decode_int8(fcinfo, 0))
+SQL_FUNCTION(pg_base62_decode_uuid, decode_uuid(fcinfo, 0))
+SQL_FUNCTION(pg_base62_decode_numeric, decode_numeric(fcinfo, 0))
+SQL_FUNCTION(pg_base62_decode_int8_canonical, decode_int8(fcinfo, CANONICAL))
+SQL_FUNCTION(pg_base62_decode_uuid_canonical, decode_uuid(fcinfo, CANONICAL))
+SQL_FUNCTION(pg_base62_decode_numeric_canonical, decode_numeric(fcinfo, CANONICAL))
+SQL_FUNCTION(pg_base62_decode_int8_fixed, decode_int8(fcinfo, FIXED))
+SQL_FUNCTION(pg_base62_decode_uuid_fixed, decode_uuid(fcinfo, FIXED))
+SQL_FUNCTION(pg_base62_decode_numeric_fixed, decode_numeric(fcinfo, FIXED))
+SQL_FUNCTION(pg_base62_try_decode_int8, decode_int8(fcinfo, TRY))
+SQL_FUNCTION(pg_base62_try_decode_uuid, decode_uuid(fcinfo, TRY))
+SQL_FUNCTION(pg_base62_try_decode_numeric, decode_numeric(fcinfo, TRY))
+SQL_FUNCTION(pg_base62_try_decode_int8_canonical, decode_int8(fcinfo, CANONICAL | TRY))
+SQL_FUNCTION(pg_base62_try_decode_uuid_canonical, decode_uuid(fcinfo, CANONICAL | TRY))
+SQL_FUNCTION(pg_base62_try_decode_numeric_canonical, decode_numeric(fcinfo, CANONICAL | TRY))
+SQL_FUNCTION(pg_base62_try_decode_int8_fixed, decode_int8(fcinfo, FIXED | TRY))
+SQL_FUNCTION(pg_base62_try_decode_uuid_fixed, decode_uuid(fcinfo, FIXED | TRY))
+SQL_FUNCTION(pg_base62_try_decode_numeric_fixed, decode_numeric(fcinfo, FIXED | TRY))
 
-SQL_FUNCTION(pg_base62_decode_int8, decode_int8(fcinfo, false, &error))
-SQL_FUNCTION(pg_base62_decode_uuid, decode_uuid(fcinfo, false, &error))
-SQL_FUNCTION(pg_base62_decode_numeric, decode_numeric(fcinfo, false, &error))
-SQL_FUNCTION(pg_base62_decode_int8_canonical, decode_int8(fcinfo, true, &error))
-SQL_FUNCTION(pg_base62_decode_uuid_canonical, decode_uuid(fcinfo, true, &error))
-SQL_FUNCTION(pg_base62_decode_numeric_canonical, decode_numeric(fcinfo, true, &error))
-SQL_FUNCTION(pg_base62_try_decode_int8, decode_int8(fcinfo, false, NULL))
-SQL_FUNCTION(pg_base62_try_decode_uuid, decode_uuid(fcinfo, false, NULL))
+SQL_FUNCTION(pg_base62_is_valid, is_valid(fcinfo, TRY))
+SQL_FUNCTION(pg_base62_is_canonical, is_valid(fcinfo, CANONICAL | TRY))
 
-SQL_FUNCTION(pg_base62_is_valid, is_valid(fcinfo, false))
-SQL_FUNCTION(pg_base62_is_canonical, is_valid(fcinfo, true))
-
-SQL_FUNCTION(pg_base62_prefix_first, prefix_bound(fcinfo, false))
-SQL_FUNCTION(pg_base62_prefix_last, prefix_bound(fcinfo, true))
-SQL_FUNCTION(pg_base62_range_first_int8, range_bound_int8(fcinfo, false))
-SQL_FUNCTION(pg_base62_range_last_int8, range_bound_int8(fcinfo, true))
-SQL_FUNCTION(pg_base62_range_first_numeric, range_bound_numeric(fcinfo, false))
-SQL_FUNCTION(pg_base62_range_last_numeric, range_bound_numeric(fcinfo, true))
+SQL_FUNCTION(pg_base62_first_string, string_bound(fcinfo, 0))
+SQL_FUNCTION(pg_base62_last_string, string_bound(fcinfo, LAST))
+SQL_FUNCTION(pg_base62_first_int8, number_bound_int8(fcinfo, 0))
+SQL_FUNCTION(pg_base62_last_int8, number_bound_int8(fcinfo, LAST))
+SQL_FUNCTION(pg_base62_first_numeric, number_bound_numeric(fcinfo, 0))
+SQL_FUNCTION(pg_base62_last_numeric, number_bound_numeric(fcinfo, LAST))
 
 SQL_FUNCTION(pg_base62_version, CStringGetTextDatum(BASE62_VERSION))

@@ -8,11 +8,9 @@
 #include <sqlite3ext.h>
 SQLITE_EXTENSION_INIT1
 
-/* Functions that share code are told apart by their user data: NULL, or the address of one of these. */
-static char uuid_tag, canonical_tag, last_tag, try_tag;
-
-static bool has_tag(sqlite3_context *context, const char *tag) {
-    return sqlite3_user_data(context) == tag;
+/* The flags of the function, which are its user data. */
+static int flags_of(sqlite3_context *context) {
+    return (int)(intptr_t)sqlite3_user_data(context);
 }
 
 /* Errors. Each function sets the error of the context, and returns 0. */
@@ -53,46 +51,6 @@ static int any_null(int argc, sqlite3_value **argv) {
     return 0;
 }
 
-/* The value of a hexadecimal digit, or -1. */
-static int digit_value(char digit) {
-    char lowercase = (char)(digit | ('a' - 'A'));
-    if ('0' <= digit && digit <= '9')
-        return digit - '0';
-    return 'a' <= lowercase && lowercase <= 'f' ? lowercase - 'a' + 10 : -1;
-}
-
-/* The length of a string for a UUID, with hyphens. */
-#define UUID_LENGTH (2 * BASE62_UUID_LENGTH + 4)
-
-static bool has_hyphen_before(int byte) {
-    return byte == 4 || byte == 6 || byte == 8 || byte == 10;
-}
-
-/* Reads a string for a UUID: 32 hexadecimal digits with hyphens or without, which may be in braces or after urn:uuid:.
- * Returns whether it is one. */
-static bool parse_uuid(const char *text, size_t length, unsigned char uuid[BASE62_UUID_LENGTH]) {
-    static const char urn[] = "urn:uuid:";
-    bool has_hyphens;
-    if (length >= 2 && text[0] == '{' && text[length - 1] == '}') {
-        text++;
-        length -= 2;
-    } else if (length >= sizeof urn - 1 && sqlite3_strnicmp(text, urn, sizeof urn - 1) == 0) {
-        text += sizeof urn - 1;
-        length -= sizeof urn - 1;
-    }
-    has_hyphens = length == UUID_LENGTH;
-    if (!has_hyphens && length != 2 * BASE62_UUID_LENGTH)
-        return false;
-    for (int i = 0; i < BASE62_UUID_LENGTH; i++, text += 2) {
-        if (has_hyphens && has_hyphen_before(i) && *text++ != '-')
-            return false;
-        if (digit_value(text[0]) < 0 || digit_value(text[1]) < 0)
-            return false;
-        uuid[i] = (unsigned char)(digit_value(text[0]) << 4 | digit_value(text[1]));
-    }
-    return true;
-}
-
 /* A UUID is a blob of 16 bytes, or a string. */
 static int read_uuid(sqlite3_context *context, sqlite3_value *value, base62_number *number) {
     static const char wrong[] = "the UUID is not 32 hexadecimal digits or 16 bytes";
@@ -106,7 +64,7 @@ static int read_uuid(sqlite3_context *context, sqlite3_value *value, base62_numb
     length = (size_t)sqlite3_value_bytes(value);
     if (bytes == NULL && (type != SQLITE_BLOB || length != 0))
         return set_out_of_memory(context);
-    if (type == SQLITE_TEXT && parse_uuid(bytes, length, parsed))
+    if (type == SQLITE_TEXT && base62_uuid_from_string(bytes, length, parsed) == BASE62_OK)
         bytes = parsed;
     else if (type != SQLITE_BLOB || length != BASE62_UUID_LENGTH)
         return set_wrong_value(context, wrong, value);
@@ -117,7 +75,7 @@ static int read_uuid(sqlite3_context *context, sqlite3_value *value, base62_numb
 /* The number or the UUID that a function encodes. */
 static int read_number(sqlite3_context *context, sqlite3_value *value, base62_number *number) {
     call_error error;
-    if (has_tag(context, &uuid_tag))
+    if (flags_of(context) & OF_UUID)
         return read_uuid(context, value, number);
     if (sqlite3_value_type(value) != SQLITE_INTEGER)
         return set_wrong_value(context, "the number is not an integer", value);
@@ -211,82 +169,66 @@ static void encode_fixed(sqlite3_context *context, int argc, sqlite3_value **arg
         result_fixed(context, alphabet, number, width);
 }
 
-/* What a function that decodes has read. */
-typedef struct {
-    base62_alphabet copy;
-    const base62_alphabet *alphabet;
-    const char *text;
-    size_t length;
-} encoded;
-
-/* Returns 0 if the result is null or an error. */
-static int read_encoded(sqlite3_context *context, int argc, sqlite3_value **argv, encoded *given) {
-    return !any_null(argc, argv) && read_alphabet(context, 1, argc, argv, &given->copy, &given->alphabet) &&
-           !(sqlite3_value_type(argv[0]) != SQLITE_TEXT && has_tag(context, &try_tag)) &&
+/* Reads what the flags say: a string alone, or a string and a width. Returns 0 if the result is null or an error. */
+static int read_encoded(sqlite3_context *context, int argc, sqlite3_value **argv, base62_alphabet *copy,
+                        encoded *given) {
+    int flags = given->flags = flags_of(context);
+    return !any_null(argc, argv) && (!(flags & FIXED) || read_width(context, argc, argv, &given->width)) &&
+           read_alphabet(context, flags & FIXED ? 2 : 1, argc, argv, copy, &given->alphabet) &&
+           !(flags & TRY && sqlite3_value_type(argv[0]) != SQLITE_TEXT) &&
            read_text(context, "the string is not text", argv[0], &given->text, &given->length);
 }
 
 static void decode(sqlite3_context *context, int argc, sqlite3_value **argv) {
+    base62_alphabet copy;
     encoded given;
     int64_t value;
-    const void *tag = sqlite3_user_data(context);
-    call_error stored, *error = tag == &try_tag ? NULL : &stored;
-    if (!read_encoded(context, argc, argv, &given))
+    call_error error;
+    if (!read_encoded(context, argc, argv, &copy, &given))
         return;
-    if (decode_int64(given.alphabet, given.text, given.length, tag == &canonical_tag, "base62_decode_uuid", &value,
-                     error))
+    if (decode_int64(&given, "base62_decode_uuid", &value, &error))
         sqlite3_result_int64(context, value);
-    else if (error != NULL)
-        set_error(context, error);
+    else if (!(given.flags & TRY))
+        set_error(context, &error);
 }
 
-/* Decodes 16 bytes. Returns 0 if the result is null or an error. */
-static int decode_bytes(sqlite3_context *context, int argc, sqlite3_value **argv,
-                        unsigned char uuid[BASE62_UUID_LENGTH]) {
+/* Decodes a UUID, as a string with OF_UUID, or as a blob. */
+static void decode_bytes(sqlite3_context *context, int argc, sqlite3_value **argv) {
+    base62_alphabet copy;
     encoded given;
     base62_number number;
-    const void *tag = sqlite3_user_data(context);
-    call_error stored, *error = tag == &try_tag ? NULL : &stored;
-    if (!read_encoded(context, argc, argv, &given))
-        return 0;
-    if (!decode_text(given.alphabet, given.text, given.length, tag == &canonical_tag, &number, error))
-        return error == NULL ? 0 : set_error(context, error);
-    base62_to_uuid(number, uuid);
-    return 1;
-}
-
-static void decode_blob(sqlite3_context *context, int argc, sqlite3_value **argv) {
     unsigned char uuid[BASE62_UUID_LENGTH];
-    if (decode_bytes(context, argc, argv, uuid))
-        sqlite3_result_blob(context, uuid, sizeof uuid, SQLITE_TRANSIENT);
-}
-
-static void decode_uuid(sqlite3_context *context, int argc, sqlite3_value **argv) {
-    static const char digits[] = "0123456789abcdef";
-    unsigned char uuid[BASE62_UUID_LENGTH];
-    char text[UUID_LENGTH], *next = text;
-    if (!decode_bytes(context, argc, argv, uuid))
+    char string[BASE62_UUID_STRING_LENGTH];
+    call_error error;
+    if (!read_encoded(context, argc, argv, &copy, &given))
         return;
-    for (int i = 0; i < BASE62_UUID_LENGTH; i++) {
-        if (has_hyphen_before(i))
-            *next++ = '-';
-        *next++ = digits[uuid[i] >> 4];
-        *next++ = digits[uuid[i] & 15];
+    if (!decode_text(&given, &number, &error)) {
+        if (!(given.flags & TRY))
+            set_error(context, &error);
+        return;
     }
-    sqlite3_result_text(context, text, sizeof text, SQLITE_TRANSIENT);
+    base62_to_uuid(number, uuid);
+    if (!(given.flags & OF_UUID)) {
+        sqlite3_result_blob(context, uuid, sizeof uuid, SQLITE_TRANSIENT);
+        return;
+    }
+    base62_uuid_to_string(uuid, string);
+    sqlite3_result_text(context, string, sizeof string, SQLITE_TRANSIENT);
 }
 
 /* Whether the value is a text that the decoding functions accept. */
 static void is_valid(sqlite3_context *context, int argc, sqlite3_value **argv) {
+    base62_alphabet copy;
     encoded given;
     base62_number number;
-    bool canonical = has_tag(context, &canonical_tag);
-    if (any_null(argc, argv) || !read_alphabet(context, 1, argc, argv, &given.copy, &given.alphabet))
+    call_error error;
+    given.flags = flags_of(context);
+    if (any_null(argc, argv) || !read_alphabet(context, 1, argc, argv, &copy, &given.alphabet))
         return;
     if (sqlite3_value_type(argv[0]) != SQLITE_TEXT)
         sqlite3_result_int(context, 0);
     else if (read_text(context, "", argv[0], &given.text, &given.length))
-        sqlite3_result_int(context, decode_text(given.alphabet, given.text, given.length, canonical, &number, NULL));
+        sqlite3_result_int(context, decode_text(&given, &number, &error));
 }
 
 /* Finds the numbers whose strings of the width begin with the prefix. Returns 0 if the result is null or an error. */
@@ -306,18 +248,18 @@ static int read_range(sqlite3_context *context, int argc, sqlite3_value **argv, 
     return !empty;
 }
 
-static void prefix_bound(sqlite3_context *context, int argc, sqlite3_value **argv) {
+static void string_bound(sqlite3_context *context, int argc, sqlite3_value **argv) {
     size_t width;
     base62_range range;
     if (read_range(context, argc, argv, &width, &range))
-        result_fixed(context, NULL, has_tag(context, &last_tag) ? range.greatest : range.least, width);
+        result_fixed(context, NULL, flags_of(context) & LAST ? range.greatest : range.least, width);
 }
 
-static void range_bound(sqlite3_context *context, int argc, sqlite3_value **argv) {
+static void number_bound(sqlite3_context *context, int argc, sqlite3_value **argv) {
     size_t width;
     base62_range range;
     int64_t value;
-    if (read_range(context, argc, argv, &width, &range) && int64_bound(range, has_tag(context, &last_tag), &value))
+    if (read_range(context, argc, argv, &width, &range) && int64_bound(range, flags_of(context) & LAST, &value))
         sqlite3_result_int64(context, value);
 }
 
@@ -332,31 +274,40 @@ static void version(sqlite3_context *context, int argc, sqlite3_value **argv) {
 static int create_functions(sqlite3 *db) {
     static const struct {
         const char *name;
-        int min_arguments, max_arguments;
-        void *data;
+        int min_arguments, max_arguments, flags;
         void (*call)(sqlite3_context *, int, sqlite3_value **);
     } functions[] = {
-        {"base62_encode", 1, 2, NULL, encode},
-        {"base62_encode_uuid", 1, 2, &uuid_tag, encode},
-        {"base62_encode_key", 1, 1, NULL, encode_fixed},
-        {"base62_encode_key_uuid", 1, 1, &uuid_tag, encode_fixed},
-        {"base62_encode_fixed", 2, 3, NULL, encode_fixed},
-        {"base62_encode_fixed_uuid", 2, 3, &uuid_tag, encode_fixed},
-        {"base62_decode", 1, 2, NULL, decode},
-        {"base62_decode_uuid", 1, 2, NULL, decode_uuid},
-        {"base62_decode_blob", 1, 2, NULL, decode_blob},
-        {"base62_decode_canonical", 1, 2, &canonical_tag, decode},
-        {"base62_decode_uuid_canonical", 1, 2, &canonical_tag, decode_uuid},
-        {"base62_decode_blob_canonical", 1, 2, &canonical_tag, decode_blob},
-        {"base62_try_decode", 1, 2, &try_tag, decode},
-        {"base62_try_decode_uuid", 1, 2, &try_tag, decode_uuid},
-        {"base62_is_valid", 1, 2, NULL, is_valid},
-        {"base62_is_canonical", 1, 2, &canonical_tag, is_valid},
-        {"base62_prefix_first", 1, 2, NULL, prefix_bound},
-        {"base62_prefix_last", 1, 2, &last_tag, prefix_bound},
-        {"base62_range_first", 2, 3, NULL, range_bound},
-        {"base62_range_last", 2, 3, &last_tag, range_bound},
-        {"base62_version", 0, 0, NULL, version},
+        {"base62_encode", 1, 2, 0, encode},
+        {"base62_encode_uuid", 1, 2, OF_UUID, encode},
+        {"base62_encode_key", 1, 1, 0, encode_fixed},
+        {"base62_encode_uuid_key", 1, 1, OF_UUID, encode_fixed},
+        {"base62_encode_fixed", 2, 3, 0, encode_fixed},
+        {"base62_encode_uuid_fixed", 2, 3, OF_UUID, encode_fixed},
+        {"base62_decode", 1, 2, 0, decode},
+        {"base62_decode_uuid", 1, 2, OF_UUID, decode_bytes},
+        {"base62_decode_blob", 1, 2, 0, decode_bytes},
+        {"base62_decode_canonical", 1, 2, CANONICAL, decode},
+        {"base62_decode_uuid_canonical", 1, 2, OF_UUID | CANONICAL, decode_bytes},
+        {"base62_decode_blob_canonical", 1, 2, CANONICAL, decode_bytes},
+        {"base62_decode_fixed", 2, 3, FIXED, decode},
+        {"base62_decode_uuid_fixed", 2, 3, OF_UUID | FIXED, decode_bytes},
+        {"base62_decode_blob_fixed", 2, 3, FIXED, decode_bytes},
+        {"base62_try_decode", 1, 2, TRY, decode},
+        {"base62_try_decode_uuid", 1, 2, OF_UUID | TRY, decode_bytes},
+        {"base62_try_decode_blob", 1, 2, TRY, decode_bytes},
+        {"base62_try_decode_canonical", 1, 2, CANONICAL | TRY, decode},
+        {"base62_try_decode_uuid_canonical", 1, 2, OF_UUID | CANONICAL | TRY, decode_bytes},
+        {"base62_try_decode_blob_canonical", 1, 2, CANONICAL | TRY, decode_bytes},
+        {"base62_try_decode_fixed", 2, 3, FIXED | TRY, decode},
+        {"base62_try_decode_uuid_fixed", 2, 3, OF_UUID | FIXED | TRY, decode_bytes},
+        {"base62_try_decode_blob_fixed", 2, 3, FIXED | TRY, decode_bytes},
+        {"base62_is_valid", 1, 2, TRY, is_valid},
+        {"base62_is_canonical", 1, 2, CANONICAL | TRY, is_valid},
+        {"base62_first_string", 1, 2, 0, string_bound},
+        {"base62_last_string", 1, 2, LAST, string_bound},
+        {"base62_first_number", 2, 3, 0, number_bound},
+        {"base62_last_number", 2, 3, LAST, number_bound},
+        {"base62_version", 0, 0, 0, version},
     };
     int status = SQLITE_OK;
     for (size_t i = 0; i < sizeof functions / sizeof *functions; i++) {
@@ -364,7 +315,7 @@ static int create_functions(sqlite3 *db) {
         int deterministic = functions[i].call == version ? 0 : SQLITE_DETERMINISTIC;
         for (int n = functions[i].min_arguments; status == SQLITE_OK && n <= functions[i].max_arguments; n++)
             status = sqlite3_create_function(db, functions[i].name, n, SQLITE_UTF8 | SQLITE_INNOCUOUS | deterministic,
-                                             functions[i].data, functions[i].call, NULL, NULL);
+                                             (void *)(intptr_t)functions[i].flags, functions[i].call, NULL, NULL);
     }
     return status;
 }

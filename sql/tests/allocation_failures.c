@@ -71,13 +71,17 @@ static const struct {
     {"SELECT base62_encode_fixed(n, 1) FROM stored", NULL},
     {"SELECT length(base62_encode_fixed(n, 1000)) FROM stored", "1000"},
     {"SELECT base62_decode_canonical('0' || t) FROM stored", NULL},
+    {"SELECT base62_decode_fixed(t, 2) || base62_decode_uuid_fixed(t, 2) FROM stored", "1337" UUID},
+    {"SELECT hex(base62_decode_blob_fixed('zeQ', 3, own)) FROM stored", "00000000000000000000000000000539"},
+    {"SELECT base62_try_decode_fixed(t, 2) || base62_try_decode_uuid_canonical(t) FROM stored", "1337" UUID},
+    {"SELECT coalesce(base62_try_decode_fixed(t, 3), base62_try_decode_canonical('0' || t), '') FROM stored", ""},
     {"SELECT base62_is_valid(t) FROM stored", "1"},
     {"SELECT base62_is_valid('-', own) FROM stored", "0"},
     {"SELECT base62_encode(n, " CUSTOM ") || base62_encode(61, " CUSTOM ") FROM stored", "eQ0"},
     {"SELECT group_concat(base62_encode_fixed(n, 3, own)) FROM stored", "zeQ,0lz"},
-    {"SELECT base62_prefix_first(t, 3) FROM stored", "LZ0"},
-    {"SELECT base62_range_first(t, 3) FROM stored", "82894"},
-    {"SELECT base62_range_last('e', 3, own) FROM stored", "84567"},
+    {"SELECT base62_first_string(t, 3) FROM stored", "LZ0"},
+    {"SELECT base62_first_number(t, 3) FROM stored", "82894"},
+    {"SELECT base62_last_number('e', 3, own) FROM stored", "84567"},
 };
 
 /* Steps a statement, with one failure after so many allocations. Returns whether it was reached. */
@@ -163,7 +167,7 @@ int main(int argc, char **argv) {
                            "(SELECT 1 UNION ALL SELECT n + 1 FROM rows LIMIT 10000) SELECT n FROM rows",
                        NULL, NULL, NULL) == SQLITE_OK);
     check_rows(db, "SELECT count(base62_is_valid(n, " CUSTOM ")) FROM many");
-    check_rows(db, "SELECT count(base62_range_first('A', 5 + n % 2, " CUSTOM ")) FROM many");
+    check_rows(db, "SELECT count(base62_first_number('A', 5 + n % 2, " CUSTOM ")) FROM many");
     CHECK(sqlite3_close(db) == SQLITE_OK);
     CHECK(sqlite3_shutdown() == SQLITE_OK && sqlite3_memory_used() == 0);
     return 0;

@@ -21,6 +21,9 @@ from values import functions_of, is_large, message, narrow, of_ascii, text
 
 SHELL = [os.environ.get("DUCKDB", "duckdb"), "-init", os.devnull, "-unsigned", "-json"]
 LOAD = f"LOAD '{os.environ['BASE62_DUCKDB']}';\n"
+# The types that strings are decoded to, and the strings that are accepted, by the names of functions.
+KINDS = ("", "_uhugeint", "_uuid")
+FORMS = ("", "_canonical", "_fixed")
 # A condition on the rows whose number is a BIGINT.
 BELOW = f"CASE WHEN n::UHUGEINT <= {BIGINT} THEN {{}} ELSE true END"
 
@@ -91,34 +94,36 @@ class Values(Case):
         numbers = [f"base62_encode(TRY_CAST(n AS {it}), letters) = s OR TRY_CAST(n AS {it}) IS NULL" for it in types]
         calls = numbers + ["base62_encode_uuid(u, letters) = s", "base62_is_canonical(s, letters)"]
         for given in ("s", "s::BLOB"):
-            calls += self.decodings(given) + [
-                f"base62_decode_uhugeint_canonical({given}, letters) = n::UHUGEINT",
-                f"base62_decode_uuid_canonical({given}, letters) = u",
-                BELOW.format(f"base62_decode_canonical({given}, letters) = n::BIGINT"),
-            ]
+            calls += [f"base62_is_valid({given}, letters)"]
+            for form in FORMS:
+                calls += self.decodings(form, given)
         self.check_rows("letters, n, u, s", table, calls)
 
     def test_large(self) -> None:
         """BIGINT ends at 2^63 - 1."""
         large = [it for it in of_ascii("encode") if int(it[1]) > BIGINT and it[0] == STANDARD]
-        self.check_errors({f"base62_decode{it}({literal(s)})": is_large(s, f"decode_uhugeint{it}")
-                           for it, (_, _, s) in zip(itertools.cycle(("", "_canonical")), large)})
+        self.check_errors({f"base62_decode{it}({literal(s)}{f', {len(s)}' * (it == '_fixed')})": is_large(s, f"decode_uhugeint{it}")
+                           for it, (_, _, s) in zip(itertools.cycle(FORMS), large)})
 
     @staticmethod
-    def decodings(given: str) -> list[str]:
-        """What holds of each string s for n and u, also of one with leading zeros."""
+    def decodings(form: str, given: str = "s") -> list[str]:
+        """What the functions of a form return, if they accept the string s of the number n and the UUID u."""
+        call = f"{form}({given}{', strlen(s)' * (form == '_fixed')}, letters)"
         return [
-            f"base62_is_valid({given}, letters)",
-            f"base62_decode_uhugeint({given}, letters) = n::UHUGEINT",
-            f"base62_decode_uuid({given}, letters) = u",
-            BELOW.format(f"base62_decode({given}, letters) = n::BIGINT"),
-            f"base62_try_decode({given}, letters) IS NOT DISTINCT FROM TRY_CAST(n AS BIGINT)",
-            f"base62_try_decode_uuid({given}, letters) = u",
+            f"base62_decode_uhugeint{call} = n::UHUGEINT",
+            f"base62_decode_uuid{call} = u",
+            BELOW.format(f"base62_decode{call} = n::BIGINT"),
+            f"base62_try_decode_uhugeint{call} = n::UHUGEINT",
+            f"base62_try_decode_uuid{call} = u",
+            f"base62_try_decode{call} IS NOT DISTINCT FROM TRY_CAST(n AS BIGINT)",
         ]
 
     def test_zeros(self) -> None:
         table = [(letters, s, n, UUID(int=int(n))) for letters, s, n in of_ascii("zeros")]
-        self.check_rows("letters, s, n, u", table, [*self.decodings("s"), "NOT base62_is_canonical(s, letters)"])
+        calls = ["base62_is_valid(s, letters)", "NOT base62_is_canonical(s, letters)"]
+        calls += self.decodings("") + self.decodings("_fixed")
+        calls += [f"base62_try_decode{kind}_canonical(s, letters) IS NULL" for kind in KINDS]
+        self.check_rows("letters, s, n, u", table, calls)
         for name in ("decode_canonical", "decode_uhugeint_canonical", "decode_uuid_canonical"):
             self.check_errors({f"base62_{name}({literal(s)}, {literal(letters)})": message(["zero"], s.encode())
                                for letters, s, _, _ in table})
@@ -127,19 +132,33 @@ class Values(Case):
         """Strings that are not UTF-8, or contain a null byte, among them."""
         table = [(letters, unquote_to_bytes(field), error) for letters, field, *error in of_ascii("refused")]
         calls = ["NOT base62_is_valid(s, letters)", "NOT base62_is_canonical(s, letters)"]
-        calls += ["base62_try_decode(s, letters) IS NULL", "base62_try_decode_uuid(s, letters) IS NULL"]
+        calls += [f"base62_try_decode{kind}{form}(s, letters) IS NULL" for kind in KINDS for form in ("", "_canonical")]
         self.check_rows("letters, s", [it[:2] for it in table], calls)
         # The functions take turns, since each error takes DuckDB a millisecond.
-        names = itertools.cycle(f"decode{kind}{canonical}" for kind in ("", "_uhugeint", "_uuid") for canonical in ("", "_canonical"))
+        names = itertools.cycle(f"decode{kind}{form}" for kind in KINDS for form in ("", "_canonical"))
         last = {letters: "" if letters == STANDARD else ", " + literal(letters) for letters, _, _ in table}
         self.check_errors({f"base62_{name}({literal(s)}{last[letters]})": message(error, s)
                            for name, (letters, s, error) in zip(names, table)})
 
+    def test_strings_of_a_width(self) -> None:
+        table: list[tuple[Any, ...]] = []
+        errors: dict[str, str] = {}
+        for letters, width, field, kind, *found in (it for it in of_ascii("exact") if 0 < int(it[1]) <= WIDEST):
+            s, number = unquote_to_bytes(field), found[0] if kind == "number" else None
+            table.append((letters, int(width), s, number, number and UUID(int=int(number))))
+            if not number:
+                name = f"base62_decode{KINDS[len(errors) % 3]}_fixed"
+                errors[f"{name}({literal(s)}, {width}, {literal(letters)})"] = message([kind, *found], s)
+        given = zip(KINDS, ("TRY_CAST(n AS BIGINT)", "n::UHUGEINT", "u"))
+        calls = [f"base62_try_decode{kind}_fixed(s, width, letters) IS NOT DISTINCT FROM {it}" for kind, it in given]
+        self.check_rows("letters, width, s, n, u", table, calls)
+        self.check_errors(errors)
+
     def test_widths(self) -> None:
         fixed = [(letters, n, UUID(int=int(n)), int(width), s) for letters, n, width, s in of_ascii("fixed")]
         given = (("", "n::UHUGEINT"), ("_uuid", "u"))
-        calls = [f"base62_encode_fixed{kind}({it}, width, letters) = s" for kind, it in given]
-        keys = [f"width <> 22 OR letters <> '{STANDARD}' OR base62_encode_key{kind}({it}) = s" for kind, it in given]
+        calls = [f"base62_encode{kind}_fixed({it}, width, letters) = s" for kind, it in given]
+        keys = [f"width <> 22 OR letters <> '{STANDARD}' OR base62_encode{kind}_key({it}) = s" for kind, it in given]
         self.check_rows("letters, n, u, width, s", fixed, calls + keys)
         self.check_errors({f"base62_encode_fixed({n}, {width}, {literal(letters)})": WIDTH.format(0) if width == "0"
                            else narrow(int(n), int(width)) for letters, n, width in of_ascii("narrow")})
@@ -150,18 +169,18 @@ class Values(Case):
         for letters, width, field, kind, *found in (it for it in of_ascii("range") if 0 < int(it[1]) <= WIDEST):
             prefix = unquote_to_bytes(field)
             if kind == "byte":
-                bad |= {f"base62_range_{it}({literal(prefix)}, {width}, {literal(letters)})": message([kind, *found], prefix)
-                        for it in ("first", "last", "first_uhugeint", "last_uhugeint")}
+                bad |= {f"base62_{it}({literal(prefix)}, {width}, {literal(letters)})": message([kind, *found], prefix)
+                        for it in ("first_number", "last_number", "first_uhugeint", "last_uhugeint")}
             else:
                 table.append((letters, int(width), prefix, *(found or (None, None))))
         # Enough ranges are below 2^63, across it, and above it.
         places = Counter(sum(int(end) > BIGINT for end in ends) for *_, ends in ((*it[:3], it[3:]) for it in table) if ends[0])
         self.assertTrue(all(places[it] > 50 for it in range(3)), places)
         ends = (("first", "least"), ("last", "greatest"))
-        ranges = [f"base62_range_{it}_uhugeint(prefix, width, letters) IS NOT DISTINCT FROM {end}::UHUGEINT" for it, end in ends]
-        below = [f"base62_range_{it}(prefix, width, letters) IS NOT DISTINCT FROM CASE WHEN least::UHUGEINT <= {BIGINT} THEN "
+        ranges = [f"base62_{it}_uhugeint(prefix, width, letters) IS NOT DISTINCT FROM {end}::UHUGEINT" for it, end in ends]
+        below = [f"base62_{it}_number(prefix, width, letters) IS NOT DISTINCT FROM CASE WHEN least::UHUGEINT <= {BIGINT} THEN "
                  f"least({end}::UHUGEINT, {BIGINT}) END" for it, end in ends]
-        keys = [f"base62_prefix_{it}(prefix, width) IS NOT DISTINCT FROM base62_encode_fixed({end}::UHUGEINT, width)"
+        keys = [f"base62_{it}_string(prefix, width) IS NOT DISTINCT FROM base62_encode_fixed({end}::UHUGEINT, width)"
                 for it, end in ends]
         keys += [f"width <> 22 OR {it.replace('(prefix, width)', '(prefix)')}" for it in keys]
         self.check_rows("letters, width, prefix, least, greatest", table, ranges + below)
@@ -221,7 +240,7 @@ class Arguments(Case):
 
     def test_alphabets(self) -> None:
         """Also in a row after one with a valid alphabet, with which the whole alphabet is compared."""
-        calls = ("encode(1, {})", "decode('1', {})", "try_decode('1', {})", "is_valid('1', {})", "range_last('1', 1, {})",
+        calls = ("encode(1, {})", "decode('1', {})", "try_decode('1', {})", "is_valid('1', {})", "last_number('1', 1, {})",
                  f"encode(1, unnest(['{STANDARD}', {{}}]))")
         self.check_errors({f"base62_{call.format(literal(it))}": error
                            for call, (it, error) in itertools.product(calls, NO_ALPHABETS.items())})
@@ -230,13 +249,15 @@ class Arguments(Case):
     def test_order(self) -> None:
         """Of several errors, that of a number is raised, or else of a width, an alphabet, and a string."""
         calls = {"encode(-1, '01')": "number", "encode_fixed(-1, 0, '01')": "number", "encode_fixed(62, 0, '01')": "width",
+                 "decode_fixed('-', 0, '01')": "width", "try_decode_uuid_fixed('--', 1, '01')": "alphabet",
                  "encode_fixed(62, 1, '01')": "alphabet", "decode('-', '01')": "alphabet", "try_decode('-', '01')": "alphabet",
-                 "range_first('-', 0, '01')": "width", "range_first('-', 1, '01')": "alphabet", "prefix_last('-', 0)": "width"}
+                 "first_number('-', 0, '01')": "width", "first_number('-', 1, '01')": "alphabet", "last_string('-', 0)": "width"}
         found = [error.split()[2] for error in errors([f"base62_{it}" for it in calls])]
         self.assertEqual(found, [*calls.values()])
 
     def test_widths(self) -> None:
-        calls = ("base62_encode_fixed(1, {})", "base62_prefix_first('1', {})", "base62_range_last('1', {})")
+        calls = ("base62_encode_fixed(1, {})", "base62_first_string('1', {})", "base62_last_number('1', {})",
+                 "base62_decode_fixed('1', {})", "base62_try_decode_uuid_fixed('1', {})")
         self.check_errors({call.format(width): WIDTH.format(width) for call in calls for width in (0, -1, 1001, BIGINT)})
         self.assertEqual(results("SELECT base62_encode_fixed(1337, 1000);"), ["LZ".rjust(WIDEST, "0")])
 
@@ -267,7 +288,7 @@ class Queries(Case):
         bounds = f"'{string}', {len(string)}"
         made = f"CREATE TABLE strings AS SELECT '{string}' AS s;\n"
         for condition in (f"= base62_decode('{string}')", f"IN (base62_decode('{string}'), base62_decode('LZ'))",
-                          f"BETWEEN base62_range_first({bounds}) AND base62_range_last({bounds})",
+                          f"BETWEEN base62_first_number({bounds}) AND base62_last_number({bounds})",
                           "IN (SELECT base62_decode(s) FROM strings)"):
             for kind in ("BIGINT", "UBIGINT", "HUGEINT"):
                 table = f"CREATE TABLE ids AS SELECT unnest([{number - 1}, {number}])::{kind} AS id;\n"
@@ -280,17 +301,28 @@ class Queries(Case):
             found = row(f"SELECT id::VARCHAR AS id, sum(id)::VARCHAR AS sum FROM '{folder}/ids.parquet' GROUP BY id;", made)
         self.assertEqual(found, {"id": str(number), "sum": str(number)})
 
+    def test_joins(self) -> None:
+        """Which types README joins and sums as integers: a join that rounds finds each row twice."""
+        kinds = ("BIGINT", "UBIGINT", "HUGEINT", "DECIMAL(38, 0)", "UHUGEINT")
+        made = f"CREATE TABLE t AS SELECT unnest([{2**53}, {2**53 + 1}]) AS n;\n"
+        pairs = [*itertools.product(kinds[:4], repeat=2), ("UHUGEINT", "UBIGINT"), ("UHUGEINT", "HUGEINT")]
+        joins = ", ".join(f"(SELECT count(*) FROM t JOIN t u ON t.n::{one} = u.n::{other})" for one, other in pairs)
+        self.assertEqual(row(f"SELECT [{joins}] AS counts;", made)["counts"], [2] * (len(pairs) - 1) + [4])
+        sums = ", ".join(f"typeof(sum(n::{kind}))" for kind in kinds)
+        wanted = ["HUGEINT", "HUGEINT", "HUGEINT", "DECIMAL(38,0)", "DOUBLE"]
+        self.assertEqual(row(f"SELECT [{sums}] AS sums FROM t;", made)["sums"], wanted)
+
     def test_row_groups(self) -> None:
         """BETWEEN scans a table, and not all of its row groups."""
         plan = shell("CREATE TABLE link AS SELECT i AS id FROM range(1000000) r(i); EXPLAIN ANALYZE SELECT * FROM link "
-                     "WHERE id BETWEEN base62_range_first('LZ', 3) AND base62_range_last('LZ', 3);").stdout
+                     "WHERE id BETWEEN base62_first_number('LZ', 3) AND base62_last_number('LZ', 3);").stdout
         self.assertRegex(plan, r"(?s)Sequential Scan.*Row Groups Scanned: 1 / 9")
 
     def test_collations(self) -> None:
         """Comparisons are by the collation of a column, a prefix or the default."""
         made = "CREATE TABLE keys (key VARCHAR, nocase VARCHAR COLLATE NOCASE, prefix VARCHAR COLLATE NOCASE);\n" \
             "INSERT INTO keys SELECT unnest(['2aUyqjCzEIiEcYMKj7TZtw', '2au8000000000000000000']) AS key, key, '2aU';\n"
-        bounds = "BETWEEN base62_prefix_first({0}) AND base62_prefix_last({0})"
+        bounds = "BETWEEN base62_first_string({0}) AND base62_last_string({0})"
         found = {f"key {bounds.format(literal('2aU'))}": (1, 2), f"nocase {bounds.format(literal('2aU'))}": (2, 2),
                  f"key {bounds.format('prefix')}": (2, 2), "base62_encode(1337) = 'lz'": (0, 2)}
         query = "SELECT " + ", ".join(f"count(*) FILTER (WHERE {it}) AS \"{it}\"" for it in found) + " FROM keys;"
@@ -304,7 +336,7 @@ class Queries(Case):
             read = f"FROM read_csv('{file.name}', types = {{'id': 'UBIGINT'}})"
             query = f"SELECT base62_encode(id) {read} UNION ALL SELECT base62_encode(7.5::VARIANT);"
             self.assertEqual(results(query), ["8", "8"])
-        bounds = "BETWEEN base62_range_first('AzL8n0Y58m', 11) AND base62_range_last_uhugeint('AzL8n0Y58m', 11)"
+        bounds = "BETWEEN base62_first_number('AzL8n0Y58m', 11) AND base62_last_uhugeint('AzL8n0Y58m', 11)"
         counts = row(f"SELECT count(*) FILTER (WHERE id {bounds}) > 55 AS rounded "
                      "FROM (SELECT (9223372036854775807::UBIGINT + i::UBIGINT) AS id FROM range(3000) r(i));")
         self.assertEqual(counts, {"rounded": True})
@@ -313,8 +345,8 @@ class Queries(Case):
         """A query ends with the first error of a chunk. TRY and a function that tries make null of such rows alone."""
         made = "CREATE TABLE t AS SELECT CASE WHEN i >= 4990 THEN i || '-' ELSE base62_encode(i) END AS s FROM range(5000) r(i);\n"
         counts = row("SELECT count(*) AS n, count(TRY(base62_decode(s))) AS numbers, count(base62_try_decode(s)) AS tried, "
-                     "count(base62_try_decode_uuid(s)) AS uuids FROM t;", made)
-        self.assertEqual(counts, {"n": 5000, "numbers": 4990, "tried": 4990, "uuids": 4990})
+                     "count(base62_try_decode_uhugeint_fixed(s, strlen(s))) AS fixed FROM t;", made)
+        self.assertEqual(counts, {"n": 5000, "numbers": 4990, "tried": 4990, "fixed": 4990})
         ran = shell(made + "SELECT max(base62_decode(s)) FROM t;\nSELECT 1337 AS next;")
         self.assertIn(message(["byte", "45", "4"], b"4990-"), ran.stderr)
         self.assertIn("1337", ran.stdout)

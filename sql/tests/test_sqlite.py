@@ -13,8 +13,8 @@ from typing import Any
 from urllib.parse import unquote_to_bytes
 from uuid import UUID
 
-from values import ALPHABET, ALTERNATIVE, BIGINT, HEADER, NEGATIVE, NO_ALPHABETS, OWN, REPEATED, STANDARD, TEXTS, WIDEST
-from values import WIDTH, functions_of, is_large, message, narrow, of_ascii, rows, shown, text
+from values import ALPHABET, ALTERNATIVE, BIGINT, HEADER, NEGATIVE, NO_ALPHABETS, OWN, README, REPEATED, STANDARD, TEXTS
+from values import WIDEST, WIDTH, functions_of, is_large, message, narrow, of_ascii, rows, shown, text
 
 if not hasattr(sqlite3.Connection, "enable_load_extension"):
     sys.exit(f"{sys.executable} can't load extensions of SQLite. Set PYTHON to one that can, such as Debian's.")
@@ -87,7 +87,9 @@ class Values(Case):
                 self.assertEqual(self.result("encode_uuid", given), wanted)
             else:
                 self.assertEqual(self.result("decode_uuid", self.result("encode_uuid", given)), uuid)
-                self.assertEqual(self.result("encode_key_uuid", given), self.result("encode_key_uuid", UUID(uuid).bytes))
+                self.assertEqual(self.result("encode_uuid_key", given), self.result("encode_uuid_key", UUID(uuid).bytes))
+        for name in ("base62_decode_uuid", "base62_decode_blob"):
+            self.assertEqual(self.db.execute(f"SELECT {name}('1') < {name}('2')").fetchone(), (1,))
 
     def test_zeros(self) -> None:
         for letters, encoded, digits in of_ascii("zeros"):
@@ -95,43 +97,48 @@ class Values(Case):
 
     def check_decoding(self, letters: str, encoded: str, number: int, error: str | None = None) -> None:
         """The results for a text, and the error of canonical decoding."""
-        fits = number <= BIGINT
-        uuid = str(UUID(int=number))
-        wanted = {
-            "decode": number if fits else is_large(encoded, "decode_uuid"),
-            "decode_blob": blob(number),
-            "decode_uuid": uuid,
-            "decode_canonical": error or (number if fits else is_large(encoded, "decode_uuid_canonical")),
-            "decode_blob_canonical": error or blob(number),
-            "decode_uuid_canonical": error or uuid,
-            "try_decode": number if fits else None,
-            "try_decode_uuid": uuid,
-            "is_valid": 1,
-            "is_canonical": not error,
-        }
-        for name, result in wanted.items():
-            self.expect(result, name, encoded, letters)
+        self.check_form("", number, encoded, letters)
+        self.check_form("_canonical", error or number, encoded, letters)
+        self.check_form("_fixed", number, encoded, len(encoded), letters)
+        self.expect(1, "is_valid", encoded, letters)
+        self.expect(not error, "is_canonical", encoded, letters)
+
+    def check_form(self, form: str, found: int | str, given: str | Text, *others: Any) -> None:
+        """The results of the functions of a form, for a number or an error."""
+        for kind in ("", "_uuid", "_blob"):
+            wanted: Any = found
+            if isinstance(found, int):
+                integer = found if found <= BIGINT else is_large(given, "decode_uuid" + form)
+                wanted = {"": integer, "_uuid": str(UUID(int=found)), "_blob": blob(found)}[kind]
+            self.expect(wanted, f"decode{kind}{form}", given, *others)
+            self.expect(None if str(wanted).startswith("base62") else wanted, f"try_decode{kind}{form}", given, *others)
 
     def test_refused(self) -> None:
         """Strings that are not UTF-8, or contain a null byte, among them."""
         for letters, field, *error in of_ascii("refused"):
             given = Text(unquote_to_bytes(field))
-            for name in ("decode", "decode_blob", "decode_uuid"):
-                self.expect(message(error, given), name, given, letters)
-                self.expect(message(error, given), name + "_canonical", given, letters)
-            for name, wanted in (("is_valid", 0), ("is_canonical", 0), ("try_decode", None), ("try_decode_uuid", None)):
-                self.expect(wanted, name, given, letters)
+            for form in ("", "_canonical"):
+                self.check_form(form, message(error, given), given, letters)
+            for name in ("is_valid", "is_canonical"):
+                self.expect(0, name, given, letters)
+
+    def test_exact(self) -> None:
+        for letters, width, field, *found in of_ascii("exact"):
+            given = Text(unquote_to_bytes(field))
+            if 0 < int(width) <= WIDEST:
+                result = int(found[1]) if found[0] == "number" else message(found, given)
+                self.check_form("_fixed", result, given, int(width), letters)
 
     def test_widths(self) -> None:
         for letters, digits, width, encoded in of_ascii("fixed"):
             number = int(digits)
             for kind, given in [("_uuid", blob(number))] + [("", number)] * (number <= BIGINT):
-                self.expect(encoded, f"encode_fixed{kind}", given, int(width), letters)
+                self.expect(encoded, f"encode{kind}_fixed", given, int(width), letters)
                 if (letters, int(width)) == (STANDARD, KEY):
-                    self.assertEqual(self.result(f"encode_key{kind}", given), encoded)
+                    self.assertEqual(self.result(f"encode{kind}_key", given), encoded)
         for letters, digits, width in of_ascii("narrow"):
             wanted = WIDTH.format(0) if width == "0" else narrow(int(digits), int(width))
-            self.expect(wanted, "encode_fixed_uuid", blob(int(digits)), int(width), letters)
+            self.expect(wanted, "encode_uuid_fixed", blob(int(digits)), int(width), letters)
 
     def test_ranges(self) -> None:
         for letters, width, field, *found in of_ascii("range"):
@@ -143,18 +150,18 @@ class Values(Case):
         ends = [int(it) for it in found[1:]] if found[0] == "numbers" else []
         for end, number in itertools.zip_longest(("first", "last"), ends):
             integer = min(number, BIGINT) if ends and ends[0] <= BIGINT else error
-            self.expect(integer, f"range_{end}", prefix, width, letters)
+            self.expect(integer, f"{end}_number", prefix, width, letters)
             if letters == STANDARD:
-                string = self.result("encode_fixed_uuid", blob(number), width) if ends else error
-                self.assertEqual(self.result(f"prefix_{end}", prefix, width), string)
+                string = self.result("encode_uuid_fixed", blob(number), width) if ends else error
+                self.assertEqual(self.result(f"{end}_string", prefix, width), string)
                 if width == KEY:
-                    self.assertEqual(self.result(f"prefix_{end}", prefix), string)
+                    self.assertEqual(self.result(f"{end}_string", prefix), string)
 
 
 def sample(name: str, count: int) -> tuple[Any, ...]:
     """Arguments that a function accepts: a number or a string, then the width if it takes one, then the alphabet."""
-    first = {"encode": 1337, "encode_uuid": blob(1337)}.get(re.sub("_key|_fixed", "", name), "1")
-    width = [7] if re.search("fixed|prefix|range", name) else []
+    first = {"encode": 1337, "encode_uuid": blob(1337)}.get(re.sub("_key|_fixed", "", name), "1111111")
+    width = [7] if re.search("fixed|string|number", name) else []
     return (first, *width, OWN)[:count]
 
 
@@ -183,7 +190,7 @@ class Arguments(Case):
 
     def test_nulls(self) -> None:
         for name, given in CALLS:
-            self.assertIsNotNone(self.result(name, *given))
+            self.assertNotRegex(str(self.result(name, *given)), "^None|^base62")
             for place in range(len(given)):
                 # A null comes before an error of another argument.
                 for other in (given, (2.5,) * len(given)):
@@ -199,7 +206,7 @@ class Arguments(Case):
         for name, given in (call for call in CALLS if call[1]):
             said, values = rejected[type(given[0])]
             for value in values:
-                wanted: Any = "base62: " + said.format("prefix" if re.match("prefix|range", name) else "string") + literal(value)
+                wanted: Any = "base62: " + said.format("prefix" if re.match("first|last", name) else "string") + literal(value)
                 if re.match("is_|try_", name):
                     wanted = 0 if name.startswith("is_") else None
                 self.assertEqual(self.result(name, value, *given[1:]), wanted, (name, value))
@@ -231,7 +238,7 @@ class Arguments(Case):
                 self.assertEqual(self.result(name, given[0], value, *given[2:]), wanted)
         self.assertEqual(self.result("encode_fixed", 1337, WIDEST), "LZ".rjust(WIDEST, "0"))
         self.db.setlimit(sqlite3.SQLITE_LIMIT_LENGTH, 100)
-        for name, given in (("encode_fixed", (0, 101)), ("encode_fixed", (0, 101, OWN)), ("prefix_first", ("0", 101))):
+        for name, given in (("encode_fixed", (0, 101)), ("encode_fixed", (0, 101, OWN)), ("first_string", ("0", 101))):
             self.assertEqual(self.result(name, *given), TOO_BIG)
 
     def test_changing_letters(self) -> None:
@@ -242,7 +249,7 @@ class Arguments(Case):
         # SQLite caches by the argument, and here the second is constant.
         query = (
             "SELECT base62_encode(1337, letters), base62_encode(id, ?), base62_encode_fixed(1337, 2, letters),"
-            " base62_range_first('1', 1, letters) FROM chosen ORDER BY id"
+            " base62_first_number('1', 1, letters) FROM chosen ORDER BY id"
         )
         wanted = [
             (text(1337, letters), text(number, OWN), text(1337, letters), letters.index("1"))
@@ -256,11 +263,13 @@ class Arguments(Case):
         """Of several errors, that of a number or UUID is raised, or else of a width, or else of an alphabet."""
         for wanted, raising in {
             "the number is": [("encode", -1, "01"), ("encode_fixed", 1.5, 0, "01")],
-            "the UUID is": [("encode_uuid", "", "01"), ("encode_fixed_uuid", b"", 0, "01")],
-            "the width is": [("encode_fixed", 62, 0, "01"), ("prefix_last", 1, 0), ("range_first", 1, 0, "01")],
+            "the UUID is": [("encode_uuid", "", "01"), ("encode_uuid_fixed", b"", 0, "01")],
+            "the width is": [("encode_fixed", 62, 0, "01"), ("last_string", 1, 0), ("first_number", 1, 0, "01"),
+                             ("decode_fixed", 1, 0, "01"), ("try_decode_uuid_fixed", "-", 0, "01")],
             "the alphabet has": [
                 ("encode_fixed", 62, 1, "01"),
-                ("range_first", 1, 1, "01"),
+                ("first_number", 1, 1, "01"),
+                ("decode_blob_fixed", "--", 1, "01"),
                 *((name, it, "01") for name in ("decode", "decode_uuid", "try_decode", "is_valid") for it in (1, "-")),
             ],
         }.items():
@@ -270,21 +279,25 @@ class Arguments(Case):
 
 TABLES = """
 CREATE TABLE link (id INTEGER PRIMARY KEY, slug TEXT AS (base62_encode(id)) UNIQUE CHECK (base62_is_canonical(slug)));
-CREATE TABLE item (u BLOB PRIMARY KEY, key TEXT AS (base62_encode_key_uuid(u)) STORED,
-    code TEXT AS (base62_encode_fixed_uuid(u, 23)) CHECK (base62_is_valid(code) AND base62_decode_blob(code) = u));
+CREATE TABLE item (u BLOB PRIMARY KEY, key TEXT AS (base62_encode_uuid_key(u)) STORED,
+    code TEXT AS (base62_encode_uuid_fixed(u, 23)) CHECK (base62_is_valid(code) AND base62_decode_blob_fixed(code, 23) = u));
+CREATE TABLE page (id INTEGER PRIMARY KEY, slug TEXT AS (base62_encode(id)) STORED UNIQUE);
+INSERT INTO page VALUES (1337);
 CREATE INDEX item_key ON item (key);
 CREATE INDEX item_text ON item (base62_encode_uuid(u));
-CREATE INDEX item_prefix ON item (u) WHERE key <= base62_prefix_last('3');
+CREATE INDEX item_prefix ON item (u) WHERE key <= base62_last_string('3');
 """
 PLANS = [
     ("SELECT * FROM link WHERE slug = base62_encode(1337)", "SEARCH link USING INDEX sqlite_autoindex_link_1 (slug=?)"),
-    ("SELECT * FROM link WHERE id BETWEEN base62_range_first('A', 11) AND base62_range_last('A', 11)",
+    ("SELECT * FROM link WHERE id BETWEEN base62_first_number('A', 11) AND base62_last_number('A', 11)",
      "SEARCH link USING INTEGER PRIMARY KEY (rowid>? AND rowid<?)"),
-    ("SELECT * FROM link WHERE id = base62_try_decode('LZ')", "SEARCH link USING INTEGER PRIMARY KEY (rowid=?)"),
+    ("SELECT * FROM link WHERE id = base62_try_decode_canonical('LZ')", "SEARCH link USING INTEGER PRIMARY KEY (rowid=?)"),
+    ("SELECT * FROM link WHERE id > CASE WHEN base62_is_valid(?) THEN base62_first_number(?, 11) END",
+     "SEARCH link USING INTEGER PRIMARY KEY (rowid>?)", "L-", "L-"),
     ("SELECT u FROM item WHERE u = base62_decode_blob('LZ')",
      "SEARCH item USING COVERING INDEX sqlite_autoindex_item_1 (u=?)"),
     ("SELECT code FROM item WHERE base62_encode_uuid(u) = 'LZ'", "SEARCH item USING INDEX item_text (<expr>=?)"),
-    ("SELECT u FROM item WHERE key BETWEEN base62_prefix_first('2a') AND base62_prefix_last('2a')",
+    ("SELECT u FROM item WHERE key BETWEEN base62_first_string('2a') AND base62_last_string('2a')",
      "SEARCH item USING INDEX item_key (key>? AND key<?)"),
     ("SELECT u FROM item WHERE key GLOB '2a*'", "SEARCH item USING INDEX item_key (key>? AND key<?)"),
     ("SELECT u FROM item WHERE key GLOB ?", "SEARCH item USING INDEX item_key (key>? AND key<?)", "2a*"),
@@ -307,10 +320,20 @@ class Tables(Case):
             plan = self.db.execute("EXPLAIN QUERY PLAN " + query, given).fetchall()
             self.assertEqual([step[3] for step in plan], [wanted], query)
 
+    def test_prefixes(self) -> None:
+        """README's query finds the ids of the shortest strings with a prefix, each once, by the index."""
+        (query,) = re.findall(r"(?s)\n(WITH width .*?);", README.replace("'L'", "?1").replace(", target", ""))
+        plan = self.db.execute("EXPLAIN QUERY PLAN " + query, ("L",)).fetchall()
+        self.assertEqual(plan[-1][3], "SEARCH link USING INTEGER PRIMARY KEY (rowid>? AND rowid<?)")
+        strings = [it for n, it in TEXTS.items() if n <= BIGINT]
+        for prefix in {string[:length] for string in strings for length in (1, 2, 11)} | {"00", "01"}:
+            found = self.db.execute(query, (prefix,)).fetchall()
+            self.assertEqual(sorted(it for it, in found), sorted(it for it in strings if it.startswith(prefix)), prefix)
+
     def test_trigger(self) -> None:
         """A trigger before a row has an id computes its columns for -1."""
         for table, column in (("bare", "base62_encode(id)"), ("guarded", "CASE WHEN id >= 0 THEN base62_encode(id) END")):
-            self.db.executescript(f"CREATE TABLE {table} (id INTEGER PRIMARY KEY, slug TEXT AS ({column}) UNIQUE);"
+            self.db.executescript(f"CREATE TABLE {table} (id INTEGER PRIMARY KEY, slug TEXT AS ({column}) STORED UNIQUE);"
                                   f"CREATE TRIGGER before_{table} BEFORE INSERT ON {table} BEGIN SELECT 1; END;")
         with self.assertRaisesRegex(sqlite3.OperationalError, NEGATIVE.format(-1)):
             self.db.execute("INSERT INTO bare VALUES (NULL)")
@@ -352,6 +375,7 @@ class Tables(Case):
                     other.execute(query)
             read = other.execute("SELECT key FROM item ORDER BY key LIMIT 1").fetchone()
             self.assertEqual(read, ("0" * KEY,))
+            self.assertEqual(other.execute("SELECT * FROM page WHERE slug = 'LZ'").fetchall(), [(1337, "LZ")])
             other.close()
 
 

@@ -57,8 +57,9 @@ def message(error: list[str], value: bytes) -> str:
 
 
 # The errors that the file has no rows for.
-def is_large(value: str, wider: str) -> str:
-    return f"base62: the number is 2^63 or more; use base62_{wider}" + shown(value.encode())
+def is_large(value: str | bytes, wider: str) -> str:
+    given = value if isinstance(value, bytes) else value.encode()
+    return f"base62: the number is 2^63 or more; use base62_{wider}" + shown(given)
 
 
 def narrow(number: int, width: int) -> str:

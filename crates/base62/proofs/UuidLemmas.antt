@@ -44,10 +44,10 @@ sum_of_lowest (suc k) n =
     (sym (mod-mul n {m = 256} {c = 256 ^ k} (omega arith) some) ∙ ap (λ m. n % m) (omega arith))
 
 -- so all sixteen denote it, if it is below 2^128
-number_of_bytes : (n : ℕ) → n < 2 ^ 128 → uuid_number (to_be_bytes w128 n) ≡ n
+pub number_of_bytes : (n : ℕ) → n < 2 ^ 128 → uuid_number (to_be_bytes w128 n) ≡ n
 number_of_bytes n small = sum_of_lowest 16 n ∙ omega (arith, small)
 
-bytes_are_uuid : (n : ℕ) → IsUuid (to_be_bytes w128 n)
+pub bytes_are_uuid : (n : ℕ) → IsUuid (to_be_bytes w128 n)
 bytes_are_uuid n = record { size = length-bytes 16 n; bytes = bytes_small 16 n }
 
 -- two UUIDs of one number are one

@@ -12,6 +12,8 @@ use Rattle.base62.specs.declared.fault.DecodeError.{DecodeError}
 use Rattle.base62.specs.declared.fault.DecodeError.TheVariants.{ArithmeticOverflow, EmptyInput, InvalidBase62Byte}
 use Rattle.base62.specs.declared.fault.EncodeError.{EncodeError}
 use Rattle.base62.specs.declared.fault.EncodeError.TheVariants.{BufferTooSmall}
+use Rattle.base62.specs.declared.fault.FixedError.{FixedError}
+use Rattle.base62.specs.declared.fault.FixedError.TheVariants.{WrongLength, Decode as FixedDecode}
 
 -- A byte escaped as by `std::ascii::escape_default`. A tab, a line feed, a carriage return, a quote
 -- of either kind and a backslash become a backslash and one character. Any other byte from 32 to
@@ -43,6 +45,11 @@ unfoldable pub canonical_error_text : CanonicalError → List ℕ
 canonical_error_text LeadingZero = codes "Encoded input has a leading zero"
 canonical_error_text (Decode fault) = decode_error_text fault
 
+-- the message of an error of fixed decoding
+unfoldable pub fixed_error_text : FixedError → List ℕ
+fixed_error_text WrongLength = codes "Encoded input does not have the given width"
+fixed_error_text (FixedDecode fault) = decode_error_text fault
+
 -- the message of an error of encoding
 unfoldable pub encode_error_text : EncodeError → List ℕ
 encode_error_text BufferTooSmall = codes "Buffer too small to encode the number"
@@ -73,6 +80,13 @@ canonical_error_order LeadingZero LeadingZero = Equal
 canonical_error_order LeadingZero (Decode e) = Less
 canonical_error_order (Decode d) LeadingZero = Greater
 canonical_error_order (Decode d) (Decode e) = decode_error_order d e
+
+-- a wrong length is less than any error of decoding, and two of those compare as there
+abbrev pub fixed_error_order : FixedError → FixedError → Ordering
+fixed_error_order WrongLength WrongLength = Equal
+fixed_error_order WrongLength (FixedDecode e) = Less
+fixed_error_order (FixedDecode d) WrongLength = Greater
+fixed_error_order (FixedDecode d) (FixedDecode e) = decode_error_order d e
 
 -- the order of errors of alphabets
 abbrev pub alphabet_error_order : AlphabetError → AlphabetError → Ordering

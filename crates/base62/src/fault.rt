@@ -6,8 +6,9 @@ ghost use Rattle.std.specs.Str.{IsAscii};
 ghost use Rattle.std.specs.Fmt.{WritesOnOk, WritesStyledOnOk};
 ghost use Rattle.std.specs.Fmt.InlineText.{inline_text};
 ghost use Rattle.base62.specs.declared.fault.CanonicalError.TheVariants.{Decode};
+ghost use Rattle.base62.specs.declared.fault.FixedError.TheVariants.{Decode as FixedDecode};
 ghost use Rattle.base62.specs.declared.fault.TheConstants.{MAX_FAULT_TEXT};
-ghost use Rattle.base62.specs.Fault.{alphabet_error_text, byte_at_index, canonical_error_text, decode_error_text, encode_error_text, escaped};
+ghost use Rattle.base62.specs.Fault.{alphabet_error_text, byte_at_index, canonical_error_text, decode_error_text, encode_error_text, escaped, fixed_error_text};
 
 use std::fmt::InlineText;
 use std::{error, fmt, str};
@@ -32,6 +33,15 @@ pub enum CanonicalError {
     /// The string decodes to a number, but begins with a zero that other characters follow.
     LeadingZero,
     /// The string does not decode to a number.
+    Decode(DecodeError),
+}
+
+/// An error that can be returned when decoding a string of a fixed width.
+#[derive(Clone, Copy, Debug, PartialEq, Eq, PartialOrd, Ord, Hash)]
+pub enum FixedError {
+    /// The length of the string is not the width.
+    WrongLength,
+    /// The string has this length, but does not decode to a number.
     Decode(DecodeError),
 }
 
@@ -140,6 +150,51 @@ impl fmt::Display for CanonicalError {
 }
 
 impl error::Error for CanonicalError {}
+
+impl From<DecodeError> for FixedError {
+    ghost from_gives = { λ fault error. error ≡ FixedDecode fault };
+
+    fn from(error: DecodeError) -> FixedError {
+        FixedError::Decode(error)
+    }
+}
+
+impl FixedError {
+    /// Returns the error's message, at most 77 ASCII characters: of an error of decoding its own.
+    ///
+    /// Never fails, and does not allocate.
+    ///
+    /// ```rust
+    /// let error = base62::decode_fixed(b"0LZ", 5).unwrap_err();
+    /// let text = "Encoded input does not have the given width";
+    /// assert_eq!(rt; error.text().as_str(), text);
+    /// ```
+    #[tactic(auto, unfolding(crate::specs::Fault::fixed_error_text))]
+    pub fn text(&self) -> InlineText<MAX_FAULT_TEXT>
+        ensures { inline_text result ≡ fixed_error_text self.now }
+    {
+        match *self {
+            FixedError::WrongLength => append(
+                InlineText::new(),
+                "Encoded input does not have the given width",
+            ),
+            FixedError::Decode(error) => error.text(),
+        }
+    }
+}
+
+/// Writes the error's message, and ignores the formatter's options.
+impl fmt::Display for FixedError {
+    ghost output = { λ e. Some (fixed_error_text e) };
+
+    ghost styled_output = { λ e _. Some (fixed_error_text e) };
+
+    fn fmt<W: fmt::Write>(&self, f: &mut fmt::Formatter<W>) -> fmt::Result {
+        write_unpadded(self.text(), f)
+    }
+}
+
+impl error::Error for FixedError {}
 
 impl EncodeError {
     /// Returns the error's message, 37 ASCII characters. Never fails, and does not allocate.

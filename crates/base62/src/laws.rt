@@ -11,12 +11,15 @@ pub use alphabets::{
     letters_of_a_kind,
 };
 pub use errors::{
-    clones_of_errors, order_of_alphabet_errors, order_of_decode_errors, order_of_encode_errors,
+    clones_of_errors, order_of_alphabet_errors, order_of_canonical_errors, order_of_decode_errors,
+    order_of_encode_errors, order_of_fixed_errors,
 };
 pub use order::{fronts, order_of_parts, order_of_texts, order_of_two, scan_of_front};
 pub use texts::{
     accepted_and_refused, answer_for, concatenation, concatenation_of_two, decoded_numbers,
     exchange_of_case, exchange_of_text, numbers_of_uuids, one_text, round_trip, sums_over_places,
-    text_of_number, texts_of_two, uuids_of_two, zero_in_front,
+    text_of_number, texts_of_two, uuid_of_number, uuids_of_two, zero_in_front,
 };
-pub use widths::{fixed_widths, of_number, of_text, texts_of_ascii};
+pub use widths::{
+    fixed_round_trip, fixed_texts_of_two, fixed_widths, of_number, of_text, texts_of_ascii,
+};

@@ -6,6 +6,8 @@ use Rattle.base62.specs.declared.fault.CanonicalError.TheVariants.{LeadingZero, 
 use Rattle.base62.specs.declared.fault.DecodeError.{DecodeError}
 use Rattle.base62.specs.declared.fault.DecodeError.TheVariants.{ArithmeticOverflow, EmptyInput, InvalidBase62Byte}
 use Rattle.base62.specs.declared.fault.EncodeError.TheVariants.{BufferTooSmall}
+use Rattle.base62.specs.declared.fault.FixedError.{FixedError}
+use Rattle.base62.specs.declared.fault.FixedError.TheVariants.{WrongLength, Decode as FixedDecode}
 use Rattle.base62.specs.Encoding.{EncodesInto, FillsPlaces}
 use Rattle.base62_c.specs.declared.answer.BadByte.{BadByte}
 use Rattle.base62_c.specs.declared.answer.Range.{Range}
@@ -54,6 +56,16 @@ TellsCanonical (Ok n) status number number' bad bad' =
 TellsCanonical (Err LeadingZero) status number number' bad bad' =
     (status ≡ 7) × (number' ≡ number) × (bad' ≡ bad)
 TellsCanonical (Err (Decode fault)) status number number' bad bad' =
+    TellsNumber (Err fault) status number number' bad bad'
+
+-- the same for fixed decoding; a wrong length has a status of its own
+abbrev pub TellsFixed :
+    Result ℕ FixedError → ℕ → Number → Number → BadByte → BadByte → Type 0
+TellsFixed (Ok n) status number number' bad bad' =
+    TellsNumber (Ok n) status number number' bad bad'
+TellsFixed (Err WrongLength) status number number' bad bad' =
+    (status ≡ 8) × (number' ≡ number) × (bad' ≡ bad)
+TellsFixed (Err (FixedDecode fault)) status number number' bad bad' =
     TellsNumber (Err fault) status number number' bad bad'
 
 -- two ends, the lesser first

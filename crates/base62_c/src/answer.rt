@@ -2,10 +2,10 @@
 
 ghost use Rattle.std.specs.Prelude.{◌≡◌, OnOk, OnErr};
 ghost use Rattle.base62.specs.declared.fault.AlphabetError.TheVariants.{Repeated};
-ghost use Rattle.base62_c.specs.Answer.{TellsFault, TellsNumber, TellsCanonical, TellsEnds, WritesText};
+ghost use Rattle.base62_c.specs.Answer.{TellsFault, TellsNumber, TellsCanonical, TellsFixed, TellsEnds, WritesText};
 
 use crate::number::{Number, halves};
-use base62::{AlphabetError, CanonicalError, DecodeError, EncodeError};
+use base62::{AlphabetError, CanonicalError, DecodeError, EncodeError, FixedError};
 
 pub(crate) const OK: u32 = 0;
 
@@ -22,6 +22,10 @@ pub(crate) const NO_MATCH: u32 = 5;
 pub(crate) const REPEATED_CHARACTER: u32 = 6;
 
 pub(crate) const NOT_CANONICAL: u32 = 7;
+
+pub(crate) const WRONG_LENGTH: u32 = 8;
+
+pub(crate) const INVALID_UUID: u32 = 9;
 
 /// The numbers from `least` to `greatest`.
 #[repr(C)]
@@ -80,6 +84,23 @@ pub(crate) fn store_canonical(
         }
         Err(CanonicalError::LeadingZero) => NOT_CANONICAL,
         Err(CanonicalError::Decode(fault)) => store_error(fault, bad),
+    }
+}
+
+pub(crate) fn store_fixed(
+    answer: Result<u128, FixedError>,
+    number: &mut Number,
+    bad: &mut BadByte,
+) -> u32
+    ensures { TellsFixed answer result number.old number.new bad.old bad.new }
+{
+    match answer {
+        Ok(n) => {
+            *number = halves(n);
+            OK
+        }
+        Err(FixedError::WrongLength) => WRONG_LENGTH,
+        Err(FixedError::Decode(fault)) => store_error(fault, bad),
     }
 }
 

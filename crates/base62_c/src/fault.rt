@@ -6,10 +6,10 @@ ghost use Rattle.base62.specs.declared.fault.TheConstants.{MAX_FAULT_TEXT};
 ghost use Rattle.base62_c.specs.Fault.{status_text};
 
 use crate::answer::{
-    BUFFER_TOO_SMALL, BadByte, EMPTY_INPUT, INVALID_BYTE, NO_MATCH, NOT_CANONICAL, OVERFLOW,
-    REPEATED_CHARACTER,
+    BUFFER_TOO_SMALL, BadByte, EMPTY_INPUT, INVALID_BYTE, INVALID_UUID, NO_MATCH, NOT_CANONICAL,
+    OVERFLOW, REPEATED_CHARACTER, WRONG_LENGTH,
 };
-use base62::{AlphabetError, CanonicalError, DecodeError, EncodeError, MAX_FAULT_TEXT};
+use base62::{AlphabetError, CanonicalError, DecodeError, EncodeError, FixedError, MAX_FAULT_TEXT};
 use std::fmt::InlineText;
 
 #[tactic(auto, unfolding(crate::specs::Fault::status_text))]
@@ -24,6 +24,8 @@ pub(crate) fn text_of(status: u32, bad: BadByte) -> InlineText<MAX_FAULT_TEXT>
         NO_MATCH => fixed_text("No string of this width begins with the prefix"),
         REPEATED_CHARACTER => AlphabetError::Repeated(bad.byte, bad.index).text(),
         NOT_CANONICAL => CanonicalError::LeadingZero.text(),
+        WRONG_LENGTH => FixedError::WrongLength.text(),
+        INVALID_UUID => fixed_text("Not a UUID"),
         _ => InlineText::new(),
     }
 }

@@ -2,13 +2,15 @@
 
 ghost use Rattle.std.specs.Prelude.{◌≡◌, ◌≢◌, ◌<◌, ◌^◌, ℕ, List, take, Option, Result};
 ghost use Rattle.base62.specs.Alphabet.{IsAlphabet, RepeatsFirst};
-ghost use Rattle.base62.specs.Fault.{alphabet_error_text, canonical_error_text, decode_error_text, encode_error_text};
+ghost use Rattle.base62.specs.Fault.{alphabet_error_text, canonical_error_text, decode_error_text, encode_error_text, fixed_error_text};
 ghost use Rattle.base62.specs.declared.fault.AlphabetError.TheVariants.{Repeated};
 ghost use Rattle.base62.specs.declared.fault.CanonicalError.{CanonicalError};
 ghost use Rattle.base62.specs.declared.fault.CanonicalError.TheVariants.{LeadingZero};
 ghost use Rattle.base62.specs.declared.fault.DecodeError.{DecodeError};
 ghost use Rattle.base62.specs.declared.fault.EncodeError.TheVariants.{BufferTooSmall};
-ghost use Rattle.base62_c.specs.Answer.{Encodes, Fills, TellsFault, TellsNumber, TellsCanonical, TellsEnds, WritesText};
+ghost use Rattle.base62.specs.declared.fault.FixedError.{FixedError};
+ghost use Rattle.base62.specs.declared.fault.FixedError.TheVariants.{WrongLength};
+ghost use Rattle.base62_c.specs.Answer.{Encodes, Fills, TellsFault, TellsNumber, TellsCanonical, TellsFixed, TellsEnds, WritesText};
 ghost use Rattle.base62_c.specs.Fault.{status_text};
 ghost use Rattle.base62_c.specs.Number.{AreHalves, number_of};
 ghost use Rattle.base62_c.specs.declared.answer.BadByte.{BadByte};
@@ -38,6 +40,10 @@ pub fn one_answer()
         (number m number' : Number) (bad other bad' : BadByte)
         → TellsCanonical a status number number' bad bad'
         → TellsCanonical b status m number' other bad' → a ≡ b }
+    ensures fixed { (a b : Result ℕ FixedError) (status : ℕ)
+        (number m number' : Number) (bad other bad' : BadByte)
+        → TellsFixed a status number number' bad bad'
+        → TellsFixed b status m number' other bad' → a ≡ b }
     ensures ranges { (a b : Result (Option (ℕ × ℕ)) DecodeError) (status : ℕ)
         (range r range' : Range) (bad other bad' : BadByte)
         → TellsEnds a status range range' bad bad' → TellsEnds b status r range' other bad'
@@ -64,6 +70,10 @@ pub fn one_telling()
         (bad a b : BadByte) → AreHalves m → AreHalves n
         → TellsCanonical answer s number m bad a → TellsCanonical answer t number n bad b
         → (s ≡ t) × (m ≡ n) × (a ≡ b) }
+    ensures fixed { (answer : Result ℕ FixedError) (s t : ℕ) (number m n : Number)
+        (bad a b : BadByte) → AreHalves m → AreHalves n
+        → TellsFixed answer s number m bad a → TellsFixed answer t number n bad b
+        → (s ≡ t) × (m ≡ n) × (a ≡ b) }
     ensures ranges { (answer : Result (Option (ℕ × ℕ)) DecodeError) (s t : ℕ) (range m n : Range)
         (bad a b : BadByte)
         → AreHalves m.least → AreHalves m.greatest → AreHalves n.least → AreHalves n.greatest
@@ -84,8 +94,9 @@ pub fn one_telling()
 }
 
 /// The status of an error of decoding, with the stored byte and index, has the message of that
-/// error, except that the one of an overflow does not name a type of Rust. Status 1 has the message of a buffer that is too small, status 6 that of a repeated letter,
-/// and status 7 that of a leading zero.
+/// error, except that the one of an overflow does not name a type of Rust. Status 1 has the message
+/// of a buffer that is too small, status 6 that of a repeated letter, status 7 that of a leading
+/// zero, and status 8 that of a wrong length.
 #[tactic(auto, unfolding(crate::specs::Fault::status_text))]
 pub fn text_of_told_fault()
     ensures decoding { (fault : DecodeError) (status : ℕ) (bad bad' : BadByte)
@@ -93,6 +104,8 @@ pub fn text_of_told_fault()
         → status_text status bad'.byte bad'.index ≡ decode_error_text fault }
     ensures canonical { (byte index : ℕ)
         → status_text 7 byte index ≡ canonical_error_text LeadingZero }
+    ensures fixed { (byte index : ℕ)
+        → status_text 8 byte index ≡ fixed_error_text WrongLength }
     ensures encoding { (byte index : ℕ)
         → status_text 1 byte index ≡ encode_error_text BufferTooSmall }
     ensures alphabets { (byte index : ℕ)

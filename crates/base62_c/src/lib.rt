@@ -4,17 +4,20 @@
 //! a value.
 #![tactic(auto)]
 
-ghost use Rattle.std.specs.Prelude.{◌≡◌, ◌≢◌, ◌≤◌, length};
+ghost use Rattle.std.specs.Prelude.{◌≡◌, ◌≢◌, ◌≤◌, ℕ, List, length};
 ghost use Rattle.base62.specs.Alphabet.{IsAlphabet, RepeatsFirst, standard, alternative};
 ghost use Rattle.base62.specs.Canonical.{DigitCount};
 ghost use Rattle.base62.specs.Decoding.{decoding, canonical_decoding};
+ghost use Rattle.base62.specs.Fixed.{fixed_decoding};
 ghost use Rattle.base62.specs.Key.{IsKey};
 ghost use Rattle.base62.specs.Range.{range_of};
 ghost use Rattle.base62.specs.Uuid.{uuid_number};
 ghost use Rattle.base62.specs.declared.fault.TheConstants.{MAX_FAULT_TEXT};
-ghost use Rattle.base62_c.specs.Answer.{Encodes, Fills, TellsNumber, TellsCanonical, TellsEnds, WritesText};
+ghost use Rattle.uuid.specs.Text.{hyphenated_text, lower};
+ghost use Rattle.base62_c.specs.Answer.{Encodes, Fills, TellsNumber, TellsCanonical, TellsFixed, TellsEnds, WritesText};
 ghost use Rattle.base62_c.specs.Fault.{status_text};
 ghost use Rattle.base62_c.specs.Number.{number_of};
+ghost use Rattle.base62_c.specs.UuidString.{IsUuidString};
 ghost use Rattle.base62_c.specs.declared.TheConstants.{VERSION_NUMBER};
 
 mod answer;
@@ -22,14 +25,16 @@ mod fault;
 pub mod laws;
 pub mod model;
 mod number;
+mod uuid_string;
 
 use answer::{
-    BadByte, OK, Range, copy_text, count_filled, store_canonical, store_number, store_range,
-    store_repeat,
+    BadByte, INVALID_UUID, OK, Range, copy_text, count_filled, store_canonical, store_fixed,
+    store_number, store_range, store_repeat,
 };
 use base62::Alphabet;
 use fault::text_of;
 use number::{Number, halves, joined};
+use uuid_string::{parse_uuid, text_of_uuid};
 
 /// The version: major times 10000, plus minor times 100, plus patch.
 const VERSION_NUMBER: u32 = 40000;
@@ -173,6 +178,58 @@ pub extern "C" fn base62_decode_canonical_with(
 }
 
 #[unsafe(no_mangle)]
+pub extern "C" fn base62_decode_fixed(
+    text: &[u8],
+    width: usize,
+    number: &mut Number,
+    bad: &mut BadByte,
+) -> u32
+    ensures { TellsFixed (fixed_decoding standard width text.now) result number.old number.new
+        bad.old bad.new }
+{
+    store_fixed(base62::decode_fixed(text, width), number, bad)
+}
+
+#[unsafe(no_mangle)]
+pub extern "C" fn base62_decode_alternative_fixed(
+    text: &[u8],
+    width: usize,
+    number: &mut Number,
+    bad: &mut BadByte,
+) -> u32
+    ensures { TellsFixed (fixed_decoding alternative width text.now) result number.old number.new
+        bad.old bad.new }
+{
+    store_fixed(base62::decode_alternative_fixed(text, width), number, bad)
+}
+
+#[unsafe(no_mangle)]
+pub extern "C" fn base62_decode_fixed_with(
+    alphabet: &Alphabet,
+    text: &[u8],
+    width: usize,
+    number: &mut Number,
+    bad: &mut BadByte,
+) -> u32
+    ensures { TellsFixed (fixed_decoding alphabet.now width text.now) result number.old number.new
+        bad.old bad.new }
+{
+    store_fixed(
+        base62::decode_fixed_with(alphabet, text, width),
+        number,
+        bad,
+    )
+}
+
+#[unsafe(no_mangle)]
+pub extern "C" fn base62_decode_key(text: &[u8], number: &mut Number, bad: &mut BadByte) -> u32
+    ensures { TellsFixed (fixed_decoding standard 22 text.now) result number.old number.new
+        bad.old bad.new }
+{
+    store_fixed(base62::decode_key(text), number, bad)
+}
+
+#[unsafe(no_mangle)]
 pub extern "C" fn base62_key_range(prefix: &[u8], range: &mut Range, bad: &mut BadByte) -> u32
     ensures { TellsEnds (range_of standard 22 prefix.now) result range.old range.new
         bad.old bad.new }
@@ -246,6 +303,30 @@ pub extern "C" fn base62_to_uuid(number: Number, uuid: &mut [u8; 16])
     ensures { uuid_number uuid.new ≡ number_of number }
 {
     *uuid = joined(number).to_be_bytes();
+}
+
+#[unsafe(no_mangle)]
+pub extern "C" fn base62_uuid_from_string(string: &[u8], uuid: &mut [u8; 16]) -> u32
+    ensures accepted { (value : List ℕ) → IsUuidString string.now value
+        → (result ≡ 0) × (uuid.new ≡ value) }
+    ensures stored { result ≡ 0 → IsUuidString string.now uuid.new }
+    ensures refused { result ≢ 0 → (result ≡ 9) × (uuid.new ≡ uuid.old) }
+{
+    match parse_uuid(string) {
+        Some(bytes) => {
+            *uuid = bytes;
+            OK
+        }
+        None => INVALID_UUID,
+    }
+}
+
+#[unsafe(no_mangle)]
+pub extern "C" fn base62_uuid_to_string(uuid: &[u8; 16], string: &mut [u8; 36])
+    ensures written { string.new ≡ hyphenated_text lower uuid.now }
+    ensures back { IsUuidString string.new uuid.now }
+{
+    *string = text_of_uuid(*uuid);
 }
 
 #[unsafe(no_mangle)]

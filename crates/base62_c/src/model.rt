@@ -2,12 +2,14 @@
 //! nothing at run time.
 #![tactic(auto)]
 
-ghost use Rattle.std.specs.Prelude.{◌≡◌, ◌+◌, ◌-◌, ◌^◌, ℕ, List, [], codes, Ok, Err, Some, None};
+ghost use Rattle.std.specs.Prelude.{◌≡◌, ◌+◌, ◌-◌, ◌^◌, ℕ, List, [], codes, replicate, Ok, Err, Some, None};
 ghost use Rattle.base62.specs.declared.fault.CanonicalError.TheVariants.{LeadingZero, Decode};
 ghost use Rattle.base62.specs.declared.fault.DecodeError.TheVariants.{ArithmeticOverflow, EmptyInput, InvalidBase62Byte};
-ghost use Rattle.base62_c.specs.Answer.{Encodes, Fills, TellsFault, TellsNumber, TellsCanonical, TellsEnds, WritesText, bad_byte, ends};
+ghost use Rattle.base62.specs.declared.fault.FixedError.TheVariants.{WrongLength, Decode as FixedDecode};
+ghost use Rattle.base62_c.specs.Answer.{Encodes, Fills, TellsFault, TellsNumber, TellsCanonical, TellsFixed, TellsEnds, WritesText, bad_byte, ends};
 ghost use Rattle.base62_c.specs.Fault.{status_text};
 ghost use Rattle.base62_c.specs.Number.{number_of, pair};
+ghost use Rattle.base62_c.specs.UuidString.{IsUuidString};
 ghost use Rattle.base62_c.specs.declared.answer.BadByte.{BadByte};
 ghost use Rattle.base62_c.specs.declared.answer.Range.{Range};
 ghost use Rattle.base62_c.specs.declared.number.Number.{Number};
@@ -97,6 +99,25 @@ pub fn canonical_by_example()
         → TellsCanonical (Err (Decode EmptyInput)) 2 (pair 3 4) (pair 3 0) bad bad → ⊥ }
 {}
 
+/// How results of fixed decoding are returned.
+pub fn fixed_by_example()
+    ensures number { (n : Number) (bad : BadByte) → TellsFixed (Ok 5) 0 n (pair 0 5) bad bad }
+    ensures number_by_another_status { (n : Number) (bad : BadByte)
+        → TellsFixed (Ok 5) 8 n (pair 0 5) bad bad → ⊥ }
+    ensures number_left { (bad : BadByte)
+        → TellsFixed (Ok 5) 0 (pair 3 4) (pair 3 4) bad bad → ⊥ }
+    ensures wrong_length { (n : Number) (bad : BadByte) → TellsFixed (Err WrongLength) 8 n n bad bad }
+    ensures wrong_length_with_a_number { (bad : BadByte)
+        → TellsFixed (Err WrongLength) 8 (pair 3 4) (pair 0 5) bad bad → ⊥ }
+    ensures wrong_length_with_an_index { (n : Number)
+        → TellsFixed (Err WrongLength) 8 n n (bad_byte 7 8) (bad_byte 7 0) → ⊥ }
+    ensures wrong_length_by_another_status { (n : Number) (bad : BadByte)
+        → TellsFixed (Err WrongLength) 0 n n bad bad → ⊥ }
+    ensures fault { (n : Number) (bad : BadByte) → TellsFixed (Err (FixedDecode EmptyInput)) 2 n n bad bad }
+    ensures fault_with_a_half { (bad : BadByte)
+        → TellsFixed (Err (FixedDecode EmptyInput)) 2 (pair 3 4) (pair 3 0) bad bad → ⊥ }
+{}
+
 /// How ranges are returned, whatever was stored before, or if the halves of an end were 3 and 4.
 pub fn ranges_by_example()
     ensures both { (r : Range) (bad : BadByte)
@@ -145,12 +166,45 @@ pub fn texts_by_example()
     ensures refused_with_a_length { WritesText (codes "LZ") (codes ".") (codes ".") 2 → ⊥ }
 {}
 
+/// Strings for the UUID of 16 times the byte 171, in each form, and strings for none.
+pub fn uuid_strings_by_example()
+    ensures digits { IsUuidString (codes "abababababababababababababababab") (replicate 16 171) }
+    ensures hyphens { IsUuidString (codes "ABABABAB-abab-ABAB-abab-ABABABABABAB") (replicate 16 171) }
+    ensures braces { IsUuidString (codes "{abababab-abab-abab-abab-abababababab}")
+        (replicate 16 171) }
+    ensures plain_braces { IsUuidString (codes "{abababababababababababababababab}")
+        (replicate 16 171) }
+    ensures urn { IsUuidString (codes "urn:uuid:abababab-abab-abab-abab-abababababab")
+        (replicate 16 171) }
+    ensures plain_urn { IsUuidString (codes "URN:Uuid:abababababababababababababababab")
+        (replicate 16 171) }
+    ensures other_uuid { IsUuidString (codes "abababababababababababababababab") (replicate 16 172)
+        → ⊥ }
+    ensures digit_less { (uuid : List ℕ) → IsUuidString (codes "abababababababababababababababa") uuid
+        → ⊥ }
+    ensures no_digit { (uuid : List ℕ) → IsUuidString (codes "abababababababababababababababag") uuid
+        → ⊥ }
+    ensures one_hyphen { (uuid : List ℕ) → IsUuidString (codes "abababab-abababababababababababab") uuid
+        → ⊥ }
+    ensures hyphen_moved { (uuid : List ℕ)
+        → IsUuidString (codes "abababa-babab-abab-abab-abababababab") uuid → ⊥ }
+    ensures open_brace { (uuid : List ℕ)
+        → IsUuidString (codes "{abababab-abab-abab-abab-abababababab") uuid → ⊥ }
+    ensures two_braces { (uuid : List ℕ)
+        → IsUuidString (codes "{{abababab-abab-abab-abab-abababababab}}") uuid → ⊥ }
+    ensures braces_after_urn { (uuid : List ℕ)
+        → IsUuidString (codes "urn:uuid:{abababababababababababababababab}") uuid → ⊥ }
+    ensures no_urn { (uuid : List ℕ)
+        → IsUuidString (codes "urn-uuid:abababababababababababababababab") uuid → ⊥ }
+    ensures none { (uuid : List ℕ) → IsUuidString [] uuid → ⊥ }
+{}
+
 /// The messages of statuses, with byte 33, which is `!`, and index 5.
 #[tactic(auto, using(std::proofs::lemmas::Fmt::decimal_digit), unfolding(
 // the text of a status
 crate::specs::Fault::status_text,
 // what each fault says
-base62::specs::Fault::decode_error_text, base62::specs::Fault::canonical_error_text, base62::specs::Fault::encode_error_text, base62::specs::Fault::alphabet_error_text,
+base62::specs::Fault::decode_error_text, base62::specs::Fault::canonical_error_text, base62::specs::Fault::fixed_error_text, base62::specs::Fault::encode_error_text, base62::specs::Fault::alphabet_error_text,
 // a byte and its index
 base62::specs::Fault::byte_at_index, base62::specs::Fault::escaped))]
 pub fn status_texts_by_example()
@@ -164,5 +218,7 @@ pub fn status_texts_by_example()
     ensures repeated_character { status_text 6 33 5
         ≡ codes "Alphabet repeats the byte b'!' at index 5" }
     ensures not_canonical { status_text 7 33 5 ≡ codes "Encoded input has a leading zero" }
-    ensures no_status { status_text 8 33 5 ≡ [] }
+    ensures wrong_length { status_text 8 33 5 ≡ codes "Encoded input does not have the given width" }
+    ensures invalid_uuid { status_text 9 33 5 ≡ codes "Not a UUID" }
+    ensures no_status { status_text 10 33 5 ≡ [] }
 {}

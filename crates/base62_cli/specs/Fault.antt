@@ -5,6 +5,6 @@ use Rattle.base62_cli.specs.declared.fault.ToolFault.TheVariants.{Read, Write, M
 
 -- the message of an error
 unfoldable pub tool_fault_text : ToolFault → List ℕ
-tool_fault_text Read = codes "read failed"
-tool_fault_text Write = codes "write failed"
-tool_fault_text Memory = codes "out of memory"
+tool_fault_text Read = codes "base62_cli: read failed"
+tool_fault_text Write = codes "base62_cli: write failed"
+tool_fault_text Memory = codes "base62_cli: out of memory"

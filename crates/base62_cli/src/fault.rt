@@ -22,14 +22,14 @@ impl ToolFault {
         ensures { result.now ≡ tool_fault_text self }
     {
         match self {
-            ToolFault::Read => "read failed",
-            ToolFault::Write => "write failed",
-            ToolFault::Memory => "out of memory",
+            ToolFault::Read => "base62_cli: read failed",
+            ToolFault::Write => "base62_cli: write failed",
+            ToolFault::Memory => "base62_cli: out of memory",
         }
     }
 }
 
-/// Writes what failed. Width, precision, fill and alignment are ignored.
+/// Writes the program's name and what failed. Width, precision, fill and alignment are ignored.
 impl fmt::Display for ToolFault {
     ghost output = { λ fault. Some (tool_fault_text fault) };
 

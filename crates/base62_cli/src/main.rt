@@ -23,6 +23,6 @@ fn main(rt: HostRuntime) -> ExitCode {
 
 // If standard error cannot be written, only the exit status reports the error.
 fn fail(rt: &impl Eprint, fault: ToolFault) -> ExitCode {
-    let _ = eprintln!(rt; "base62_cli: {fault}");
+    let _ = eprintln!(rt; "{fault}");
     ExitCode::FAILURE
 }

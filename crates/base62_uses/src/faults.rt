@@ -8,12 +8,14 @@ ghost use Rattle.std.specs.HashSet.{contains as hash_contains};
 ghost use Rattle.std.specs.Fmt.InlineText.{inline_text};
 ghost use Rattle.base62.specs.Alphabet.{standard};
 ghost use Rattle.base62.specs.Decoding.{decoding};
-ghost use Rattle.base62.specs.Fault.{decode_error_text, decode_error_order, alphabet_error_order};
+ghost use Rattle.base62.specs.Fault.{decode_error_text, decode_error_order, canonical_error_order, fixed_error_order, alphabet_error_order};
 ghost use Rattle.base62.specs.declared.fault.AlphabetError.{AlphabetError};
+ghost use Rattle.base62.specs.declared.fault.CanonicalError.{CanonicalError};
 ghost use Rattle.base62.specs.declared.fault.EncodeError.{EncodeError};
 ghost use Rattle.base62.specs.declared.fault.DecodeError.{DecodeError};
+ghost use Rattle.base62.specs.declared.fault.FixedError.{FixedError};
 
-use base62::{AlphabetError, DecodeError, EncodeError, MAX_FAULT_TEXT};
+use base62::{AlphabetError, CanonicalError, DecodeError, EncodeError, FixedError, MAX_FAULT_TEXT};
 use std::alloc::AllocError;
 use std::collections::{BTreeMap, BTreeSet, HashSet};
 use std::fmt::InlineText;
@@ -68,6 +70,22 @@ pub fn is_worse(a: DecodeError, b: DecodeError) -> bool
     a > b
 }
 
+/// Like [`is_worse`], but for codes.
+pub fn is_worse_code(a: CanonicalError, b: CanonicalError) -> bool
+    ensures { IsTrue result ↔ (canonical_error_order b a ≡ Less) }
+{
+    base62::laws::order_of_canonical_errors();
+    a > b
+}
+
+/// Like [`is_worse`], but for vouchers.
+pub fn is_worse_voucher(a: FixedError, b: FixedError) -> bool
+    ensures { IsTrue result ↔ (fixed_error_order b a ≡ Less) }
+{
+    base62::laws::order_of_fixed_errors();
+    a > b
+}
+
 /// Returns whether an error of letters comes after another in a report, which is sorted by byte and
 /// then by index.
 pub fn is_later_repeat(a: AlphabetError, b: AlphabetError) -> bool
@@ -92,6 +110,14 @@ pub fn record_rejection(
 
 /// Sets each result of a batch to one error.
 pub fn fill_results(results: &mut [DecodeError], fault: DecodeError)
+    ensures { results.new ≡ replicate (length results.old) fault }
+{
+    base62::laws::clones_of_errors();
+    results.fill(fault);
+}
+
+/// Sets each result of a batch of vouchers to one error.
+pub fn fill_vouchers(results: &mut [FixedError], fault: FixedError)
     ensures { results.new ≡ replicate (length results.old) fault }
 {
     base62::laws::clones_of_errors();

@@ -1,13 +1,15 @@
 //! Codes that users type.
 
-ghost use Rattle.std.specs.Prelude.{◌≡◌, ◌<◌, ◌^◌, ◌↔◌, ℕ, slice_index, Some, Ok, Err, IsTrue, IsOk};
+ghost use Rattle.std.specs.Prelude.{◌≡◌, ◌≢◌, ◌<◌, ◌^◌, ◌↔◌, ℕ, length, slice_index, Some, None, Ok, Err, IsTrue, IsOk};
 ghost use Rattle.base62.specs.Alphabet.{standard, zero_letter};
 ghost use Rattle.base62.specs.Canonical.{IsCanonical};
 ghost use Rattle.base62.specs.Decoding.{decoding, IsFirstInvalid};
+ghost use Rattle.base62.specs.Fixed.{IsFixed};
 ghost use Rattle.base62.specs.declared.fault.CanonicalError.{CanonicalError};
 ghost use Rattle.base62.specs.declared.fault.DecodeError.{DecodeError};
+ghost use Rattle.base62.specs.declared.fault.FixedError.{FixedError};
 
-use base62::CanonicalError;
+use base62::{CanonicalError, FixedError};
 
 /// Whether a code with leading zeros is accepted.
 #[derive(Clone, Copy)]
@@ -52,4 +54,32 @@ pub fn id_of_code(code: &[u8]) -> Option<u64>
 {
     let number = base62::decode_canonical(code).ok()?;
     u64::try_from(number).ok()
+}
+
+/// Decodes a voucher, which has this many characters, or any number if its width is not known.
+pub fn voucher_number(voucher: &[u8], width: Option<usize>) -> Result<u128, FixedError>
+    ensures any { (n : ℕ) → width ≡ None
+        → (result ≡ Ok n ↔ (decoding standard voucher.now ≡ Ok n)) }
+    ensures own { (w n : ℕ) → width ≡ Some w → n < 2 ^ 128 → IsFixed standard w voucher.now n
+        → result ≡ Ok n }
+    ensures fixed { (w n : ℕ) → width ≡ Some w → result ≡ Ok n → IsFixed standard w voucher.now n }
+    ensures decoded { (w n : ℕ) → width ≡ Some w → length voucher.now ≡ w
+        → decoding standard voucher.now ≡ Ok n → result ≡ Ok n }
+    ensures back { (n : ℕ) → result ≡ Ok n → decoding standard voucher.now ≡ Ok n }
+    ensures other { (w : ℕ) → width ≡ Some w → length voucher.now ≢ w
+        → result ≡ Err FixedError.WrongLength }
+    ensures wrong { (w : ℕ) → width ≡ Some w → result ≡ Err FixedError.WrongLength
+        → length voucher.now ≢ w }
+    ensures refused { (w : ℕ) (fault : DecodeError) → width ≡ Some w → length voucher.now ≡ w
+        → decoding standard voucher.now ≡ Err fault → result ≡ Err (FixedError.Decode fault) }
+    ensures fault { (fault : DecodeError) → result ≡ Err (FixedError.Decode fault)
+        → decoding standard voucher.now ≡ Err fault }
+    ensures place { (byte index : ℕ)
+        → result ≡ Err (FixedError.Decode (DecodeError.InvalidBase62Byte byte index))
+        → IsFirstInvalid standard voucher.now byte index }
+{
+    match width {
+        Some(width) => base62::decode_fixed(voucher, width),
+        None => Ok(base62::decode(voucher)?),
+    }
 }

@@ -2,9 +2,9 @@
 
 ghost use Rattle.std.specs.Prelude.{◌≡◌, ◌++◌, codes, IfOk};
 ghost use Rattle.std.specs.String.{string_bytes};
-ghost use Rattle.base62.specs.Fault.{alphabet_error_text, decode_error_text, encode_error_text};
+ghost use Rattle.base62.specs.Fault.{alphabet_error_text, canonical_error_text, decode_error_text, encode_error_text, fixed_error_text};
 
-use base62::{AlphabetError, DecodeError, EncodeError};
+use base62::{AlphabetError, CanonicalError, DecodeError, EncodeError, FixedError};
 use std::alloc::{AllocError, Global};
 
 /// Returns the line of a log for a link that denotes no number. `Err` means that an allocation
@@ -22,6 +22,22 @@ pub fn link_cells(alloc: Global, fault: DecodeError) -> Result<String, AllocErro
         ≡ decode_error_text fault ++ (codes "|" ++ (decode_error_text fault ++ codes "|"))) }
 {
     format!(in alloc; "{fault:>100}|{fault:.3}|")
+}
+
+/// Like [`link_cells`], but for an error of a code.
+pub fn code_cells(alloc: Global, fault: CanonicalError) -> Result<String, AllocError>
+    ensures { IfOk result (λ cells. string_bytes cells
+        ≡ canonical_error_text fault ++ (codes "|" ++ (canonical_error_text fault ++ codes "|"))) }
+{
+    format!(in alloc; "{fault:>100}|{fault}|")
+}
+
+/// Like [`link_cells`], but for an error of a voucher.
+pub fn voucher_cells(alloc: Global, fault: FixedError) -> Result<String, AllocError>
+    ensures { IfOk result (λ cells. string_bytes cells
+        ≡ fixed_error_text fault ++ (codes "|" ++ (fixed_error_text fault ++ codes "|"))) }
+{
+    format!(in alloc; "{fault:>100}|{fault}|")
 }
 
 /// Returns the line of a log for an id that does not fit its row. `Err` means that an allocation

@@ -1,10 +1,11 @@
 //! Tokens: texts over the alternative alphabet.
 
-ghost use Rattle.std.specs.Prelude.{◌≡◌, ◌↔◌, ℕ, Ok, Some, IfOk};
+ghost use Rattle.std.specs.Prelude.{◌≡◌, ◌<◌, ◌^◌, ◌↔◌, ℕ, Ok, Some, IfOk};
 ghost use Rattle.base62.specs.Alphabet.{alternative, standard};
 ghost use Rattle.base62.specs.Canonical.{IsCanonical};
 ghost use Rattle.base62.specs.Case.{exchange_case, other_case};
 ghost use Rattle.base62.specs.Decoding.{decoding};
+ghost use Rattle.base62.specs.Fixed.{IsFixed};
 
 use std::alloc::{AllocError, Global};
 
@@ -21,6 +22,14 @@ pub fn token_number(text: &[u8]) -> Option<u128>
     ensures { (n : ℕ) → (result ≡ Some n) ↔ (decoding alternative text.now ≡ Ok n) }
 {
     base62::decode_alternative(text).ok()
+}
+
+/// Decodes a token of 16 letters, or returns `None` for any other text.
+pub fn number_of_long_token(text: &[u8]) -> Option<u128>
+    ensures own { (n : ℕ) → n < 2 ^ 128 → IsFixed alternative 16 text.now n → result ≡ Some n }
+    ensures token { (n : ℕ) → result ≡ Some n → IsFixed alternative 16 text.now n }
+{
+    base62::decode_alternative_fixed(text, 16).ok()
 }
 
 // Returns the byte with its case exchanged.

@@ -4,6 +4,7 @@ ghost use Rattle.std.specs.Prelude.{◌≡◌, ◌≢◌, ◌↔◌, ℕ, List, 
 ghost use Rattle.base62.specs.Alphabet.{standard};
 ghost use Rattle.base62.specs.Canonical.{IsCanonical};
 ghost use Rattle.base62.specs.Decoding.{IsFirstInvalid};
+ghost use Rattle.base62.specs.Key.{IsKey};
 ghost use Rattle.base62.specs.Uuid.{IsUuid, uuid_number};
 
 use base62::{Alphabet, DecodeError, Number};
@@ -69,6 +70,26 @@ pub fn uuid_of_own_short(uuid: &[u8; 16]) -> Option<[u8; 16]>
 {
     let mut buf = [0u8; 22];
     uuid_of_short(short_uuid(*uuid, &mut buf))
+}
+
+/// Decodes a key to its UUID, or returns `None` if the text is not the key of one. No two texts
+/// decode to the same UUID.
+pub fn uuid_of_key(key: &[u8]) -> Option<[u8; 16]>
+    ensures key { (uuid : List ℕ) → result ≡ Some uuid → IsKey standard key.now (uuid_number uuid) }
+    ensures own { (uuid : List ℕ) → IsUuid uuid → IsKey standard key.now (uuid_number uuid)
+        → result ≡ Some uuid }
+{
+    base62::laws::numbers_of_uuids();
+    let number = base62::decode_key(key).ok()?;
+    base62::laws::uuid_of_number(number);
+    Some(number.to_be_bytes())
+}
+
+/// Encodes a UUID as a key, and decodes the key: the result is the UUID.
+pub fn uuid_of_own_key(uuid: &[u8; 16]) -> Option<[u8; 16]>
+    ensures { result ≡ Some uuid.now }
+{
+    uuid_of_key(&base62::encode_key(*uuid))
 }
 
 /// Returns whether two UUIDs have different short forms: no two UUIDs share one.

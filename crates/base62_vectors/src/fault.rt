@@ -1,9 +1,9 @@
 //! Tests of the messages of errors, and of their order.
 
 use base62::AlphabetError::Repeated;
-use base62::DecodeError;
 use base62::DecodeError::{ArithmeticOverflow, EmptyInput, InvalidBase62Byte};
 use base62::EncodeError::BufferTooSmall;
+use base62::{CanonicalError, DecodeError, FixedError};
 use std::alloc::{AllocError, Global};
 use std::error::Error;
 use std::process::Abort;
@@ -57,6 +57,17 @@ fn texts(rt: HostRuntime) -> Result<(), Fail> {
         &BufferTooSmall,
         "Buffer too small to encode the number",
     )?;
+    let leading_zero = CanonicalError::LeadingZero;
+    assert_prints(&rt, &leading_zero, "Encoded input has a leading zero")?;
+    let wrong_length = FixedError::WrongLength;
+    assert_prints(
+        &rt,
+        &wrong_length,
+        "Encoded input does not have the given width",
+    )?;
+    let empty = "Encoded input is an empty string";
+    assert_prints(&rt, &CanonicalError::Decode(EmptyInput), empty)?;
+    assert_prints(&rt, &FixedError::Decode(EmptyInput), empty)?;
     let repeated = Repeated(b'0', 61);
     assert_prints(&rt, &repeated, "Alphabet repeats the byte b'0' at index 61")
 }

@@ -1,7 +1,11 @@
-//! Tests of keys, which sort as their numbers, and of the ranges of prefixes.
+//! Tests of keys, which sort as their numbers, of strings of other widths, and of the ranges of prefixes.
 
-use base62::DecodeError::InvalidBase62Byte;
-use base62::{encode_key, key_range};
+use crate::support::alphabets::symbols;
+use base62::DecodeError::{ArithmeticOverflow, InvalidBase62Byte};
+use base62::FixedError::{Decode, WrongLength};
+use base62::{
+    decode_alternative_fixed, decode_fixed, decode_fixed_with, decode_key, encode_key, key_range,
+};
 use std::process::Abort;
 
 #[test]
@@ -17,6 +21,43 @@ fn keys_of_numbers(rt: HostRuntime) {
         && after == *b"0000000000000000000010"
         && before < after;
     assert!(rt; are_sorted, "the keys of 61 and 62");
+}
+
+#[test]
+fn numbers_of_keys(rt: HostRuntime) {
+    let are_numbers = decode_key(b"00000000000000000000LZ") == Ok(1337)
+        && decode_key(b"7n42DGM5Tflk9n8mt7Fhc7") == Ok(u128::MAX)
+        && decode_key(b"7n42DGM5Tflk9n8mt7Fhc8") == Err(Decode(ArithmeticOverflow))
+        && decode_key(b"0000000000000000000LZ") == Err(WrongLength)
+        && decode_key(b"000000000000000000000LZ") == Err(WrongLength);
+    assert!(rt; are_numbers, "the numbers of keys, and of other strings");
+}
+
+#[test]
+fn keys_of_uuids(rt: HostRuntime) {
+    let uuid = *b"\x55\x0e\x84\x00\xe2\x9b\x41\xd4\xa7\x16\x44\x66\x55\x44\x00\x00";
+    let key = encode_key(uuid);
+    assert!(rt; key == *b"2aUyqjCzEIiEcYMKj7TZtw", "the key of a UUID");
+    let number = decode_key(&key);
+    assert!(rt;
+        number == Ok(113059749145936325402354257176981405696),
+        "the number of the key"
+    );
+    assert!(rt;
+        number.unwrap_or(0).to_be_bytes() == uuid,
+        "the UUID of the key"
+    );
+}
+
+#[test]
+fn numbers_of_widths(rt: HostRuntime) {
+    let are_numbers = decode_fixed(b"000LZ", 5) == Ok(1337)
+        && decode_alternative_fixed(b"000lz", 5) == Ok(1337)
+        && decode_fixed_with(&symbols(), b"!!!6D", 5) == Ok(1337)
+        && decode_fixed(b"LZ", 5) == Err(WrongLength)
+        && decode_fixed(b"!LZ", 5) == Err(WrongLength)
+        && decode_fixed(b"00!LZ", 5) == Err(Decode(InvalidBase62Byte(b'!', 2)));
+    assert!(rt; are_numbers, "the numbers of strings of five characters");
 }
 
 #[test]

@@ -1,12 +1,15 @@
 //! Tests of the calls that allocate if an allocation fails, and of some that do not allocate.
 
 use crate::support::alphabets::{ALL, Letters};
-use base62::{decode, encode_bytes, encode_key, key_range};
+use base62::{decode, decode_key, encode_bytes, encode_key, key_range};
+use std::alloc::AllocError;
 use std::process::Abort;
 use std::test::Fail;
 
 // The calls that return a string, by their alphabets.
 const TEXT_CALLS: [&str; 3] = ["encode", "encode_alternative", "encode_with"];
+
+const UUID_CALLS: [&str; 3] = ["encode_uuid", "encode_alternative_uuid", "encode_uuid_with"];
 
 // Numbers with their texts over each alphabet.
 const TEXTS: [(u128, [&str; 3]); 2] = [
@@ -25,17 +28,17 @@ const BASE62: &str = "Base62: Base62";
 
 // Returns whether the allocation fails. It is one, for exactly the text: to shrink a string would be another.
 fn text_allocation_fails(
-    rt: &(impl Abort + AllocGlobal),
-    alphabet: Letters,
-    number: u128,
+    rt: &impl Abort,
+    call: &str,
+    made: Result<String, AllocError>,
     wanted: &str,
 ) -> bool {
-    let Ok(text) = alphabet.text(rt.alloc(), number) else {
+    let Ok(text) = made else {
         return true;
     };
     assert!(rt;
         text.as_str() == wanted && text.capacity() == wanted.len(),
-        "{alphabet:?}"
+        "{call}"
     );
     false
 }
@@ -91,6 +94,7 @@ fn are_buffers_filled() -> bool {
 
 fn are_texts_decoded() -> bool {
     decode(b"1LY7VK") == Ok(1234567890)
+        && decode_key(b"00000000000000000000LZ") == Ok(1337)
         && key_range(b"7n") == Ok(Some((340236514539200045093703517809706795008, u128::MAX)))
 }
 
@@ -114,8 +118,14 @@ fn refused_memory(rt: HostRuntime) -> Result<(), Fail> {
     );
     for (number, texts) in TEXTS {
         for place in 0..3_usize {
-            if text_allocation_fails(&rt, ALL[place], number, texts[place]) {
+            let (alphabet, uuid) = (ALL[place], number.to_be_bytes());
+            let made = alphabet.text(rt.alloc(), number);
+            if text_allocation_fails(&rt, TEXT_CALLS[place], made, texts[place]) {
                 println!(rt; "refused: {}", TEXT_CALLS[place])?;
+            }
+            let made = alphabet.uuid_text(rt.alloc(), uuid);
+            if text_allocation_fails(&rt, UUID_CALLS[place], made, texts[place]) {
+                println!(rt; "refused: {}", UUID_CALLS[place])?;
             }
         }
     }

@@ -1,13 +1,13 @@
 //! Each caller in `base62_uses` that allocates or writes succeeds if allocations and writes succeed. Its clauses state
 //! its result then. The clauses of other callers state theirs for every input.
 
-use base62::{Alphabet, AlphabetError, DecodeError, EncodeError};
+use base62::{Alphabet, AlphabetError, CanonicalError, DecodeError, EncodeError, FixedError};
 use base62_uses::{
     append_exactly, append_mark, append_number, append_or_mark, append_pair, centred_text,
-    column_text, count_fault, leader_line, letters_cells, letters_report, link_address, link_cells,
-    link_report, order_heading, own_heading, own_text, record_rejection, record_repeat, row_cells,
-    row_report, shelf_mark, text_of_token, token_column, token_heading, token_of_number,
-    token_of_text, widened, write_line,
+    code_cells, column_text, count_fault, leader_line, letters_cells, letters_report, link_address,
+    link_cells, link_report, order_heading, own_heading, own_text, record_rejection, record_repeat,
+    row_cells, row_report, shelf_mark, text_of_token, token_column, token_heading, token_of_number,
+    token_of_text, voucher_cells, widened, write_line,
 };
 use std::alloc::{AllocError, Global};
 use std::collections::{BTreeMap, BTreeSet, HashSet};
@@ -18,6 +18,8 @@ fn texts_of_faults(rt: HostRuntime) -> Result<(), AllocError> {
     let bad_byte = DecodeError::InvalidBase62Byte(b'?', 2);
     link_report(rt.alloc(), bad_byte)?;
     link_cells(rt.alloc(), bad_byte)?;
+    code_cells(rt.alloc(), CanonicalError::LeadingZero)?;
+    voucher_cells(rt.alloc(), FixedError::WrongLength)?;
     row_report(rt.alloc(), EncodeError::BufferTooSmall)?;
     row_cells(rt.alloc(), EncodeError::BufferTooSmall)?;
     letters_report(rt.alloc(), AlphabetError::Repeated(b'A', 61))?;

@@ -1,6 +1,6 @@
 //! The calls of a library for C, with the names and types of this crate.
 
-use proved::{AlphabetError, CanonicalError, DecodeError, EncodeError};
+use proved::{AlphabetError, CanonicalError, DecodeError, EncodeError, FixedError};
 use std::ops::RangeInclusive;
 
 #[repr(C)]
@@ -31,7 +31,7 @@ struct BadByte {
 #[repr(C)]
 pub struct Alphabet([u8; 318]);
 
-// .ci/compare tells the linker where it is.
+// scripts/check-compare tells the linker where it is.
 #[link(name = "base62_c", kind = "static")]
 extern "C" {
     fn base62_encode_key(number: Number, key: &mut [u8; 22]);
@@ -111,6 +111,15 @@ decoders! {
 }
 
 decoders! {
+    Result<u128, FixedError>: Number,
+    |status, number: Number| found(status, 8, number.value()).ok_or(FixedError::WrongLength);
+    decode_fixed base62_decode_fixed (width),
+    decode_alternative_fixed base62_decode_alternative_fixed (width),
+    decode_fixed_with base62_decode_fixed_with own (width),
+    decode_key base62_decode_key,
+}
+
+decoders! {
     Result<Option<RangeInclusive<u128>>, DecodeError>: [Number; 2],
     |status, [least, greatest]: [Number; 2]| Ok(found(status, 5, least.value()..=greatest.value()));
     key_range base62_key_range,
@@ -161,12 +170,19 @@ impl Alphabet {
 
 /// What a fault says.
 pub fn text_of(fault: DecodeError) -> String {
-    let (status, byte, index) = match fault {
-        DecodeError::EmptyInput => (2, 0, 0),
-        DecodeError::InvalidBase62Byte(byte, index) => (3, byte, index),
-        DecodeError::ArithmeticOverflow => (4, 0, 0),
-    };
-    let (bad, mut text) = (BadByte { index, byte }, [0; 77]);
+    match fault {
+        DecodeError::EmptyInput => message(2, BadByte::default()),
+        DecodeError::InvalidBase62Byte(byte, index) => message(3, BadByte { index, byte }),
+        DecodeError::ArithmeticOverflow => message(4, BadByte::default()),
+    }
+}
+
+pub fn wrong_length() -> String {
+    message(8, BadByte::default())
+}
+
+fn message(status: u32, bad: BadByte) -> String {
+    let mut text = [0; 77];
     // SAFETY: the buffer is here.
     let length = unsafe { base62_error_message(status, bad, text.as_mut_ptr(), text.len()) };
     String::from_utf8(text[..length].to_vec()).unwrap()

@@ -1,7 +1,10 @@
-//! Compares this crate with a library for C: `comparison CALLS SEED`. Both get the same calls.
+//! Compares this crate with a library for C: `comparison CALLS SEED`. Both get the same calls. With the feature
+//! `original`, the crate `base62` 2.2.6 gets those that it has too.
 
 mod input;
 mod library;
+#[cfg(feature = "original")]
+mod original;
 
 use input::{Input, Random};
 use std::fmt::Debug;
@@ -16,6 +19,10 @@ mod here {
             DecodeError::ArithmeticOverflow => "Decoded number is 2^128 or more".to_string(),
             _ => fault.to_string(),
         }
+    }
+
+    pub fn wrong_length() -> String {
+        FixedError::WrongLength.to_string()
     }
 
     pub fn number_of(uuid: [u8; 16]) -> u128 {
@@ -64,6 +71,8 @@ fn round(input: &Input) -> usize {
         encode_key(number),
         digit_count(number),
         number_of(number.to_be_bytes()),
+        decode_key(&encode_key(number)),
+        wrong_length(),
     };
     let of_text = |text: &[u8]| {
         same! { input, own = ours, theirs;
@@ -73,6 +82,12 @@ fn round(input: &Input) -> usize {
             decode_canonical(text),
             decode_alternative_canonical(text),
             decode_canonical_with(own, text),
+            decode_fixed(text, width),
+            decode_fixed(text, text.len()),
+            decode_alternative_fixed(text, text.len()),
+            decode_fixed_with(own, text, width),
+            decode_fixed_with(own, text, text.len()),
+            decode_key(text),
             decode_uuid(text),
             key_range(text),
             prefix_range(text, width),
@@ -81,6 +96,8 @@ fn round(input: &Input) -> usize {
             decode_with(own, text).err().map(text_of),
         }
     };
+    #[cfg(feature = "original")]
+    let of_number = of_number + original::round(input);
     of_number + of_text(text) + of_text(&buf[..length])
 }
 
@@ -94,5 +111,5 @@ fn main() {
     while calls < wanted as usize {
         calls += round(&Input::new(&mut random));
     }
-    println!("{calls} calls of both by the seed {seed}, and none differed.");
+    println!("{calls} calls compared by the seed {seed}, and none differed.");
 }

@@ -13,7 +13,8 @@ use crate::fault::{CanonicalError, DecodeError};
 /// Decodes `input` in the standard alphabet if it is canonical, and returns the number.
 ///
 /// The result is a number, 0 to 2^128 - 1, exactly for the string that [`encode_bytes`] writes for
-/// it, so only one string decodes to it. Does not allocate.
+/// it, so only one string decodes to it. For the strings of [`encode_fixed`] and [`encode_key`], call
+/// [`decode_fixed`] and [`decode_key`]. Does not allocate.
 ///
 /// ```rust
 /// use base62::CanonicalError;
@@ -23,7 +24,11 @@ use crate::fault::{CanonicalError, DecodeError};
 /// ```
 ///
 /// [`decode`]: crate::decode
+/// [`decode_fixed`]: crate::decode_fixed
+/// [`decode_key`]: crate::decode_key
 /// [`encode_bytes`]: crate::encode_bytes
+/// [`encode_fixed`]: crate::encode_fixed
+/// [`encode_key`]: crate::encode_key
 ///
 /// # Errors
 ///

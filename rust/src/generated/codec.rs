@@ -89,7 +89,8 @@ pub fn encode_bytes_with<T: Into<u128>>(
 /// 7. Otherwise: the number that `input` represents.
 ///
 /// Any number of leading zeros is accepted. They change nothing but the index in an error. Zeros
-/// alone decode to 0. Does not allocate.
+/// alone decode to 0. To accept exactly what [`encode_bytes`], [`encode_fixed`] or [`encode_key`]
+/// writes, call [`decode_canonical`], [`decode_fixed`] or [`decode_key`]. Does not allocate.
 ///
 /// ```rust
 /// assert_eq!(base62::decode(b"rustlang"), Ok(189876682536016));
@@ -98,6 +99,12 @@ pub fn encode_bytes_with<T: Into<u128>>(
 /// let error = base62::DecodeError::InvalidBase62Byte(b'-', 4);
 /// assert_eq!(base62::decode(b"00LZ-"), Err(error));
 /// ```
+///
+/// [`decode_canonical`]: crate::decode_canonical
+/// [`decode_fixed`]: crate::decode_fixed
+/// [`decode_key`]: crate::decode_key
+/// [`encode_fixed`]: crate::encode_fixed
+/// [`encode_key`]: crate::encode_key
 ///
 /// # Errors
 ///

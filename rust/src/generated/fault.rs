@@ -32,6 +32,15 @@ pub enum CanonicalError {
     Decode(DecodeError),
 }
 
+/// An error that can be returned when decoding a string of a fixed width.
+#[derive(Clone, Copy, Debug, PartialEq, Eq, PartialOrd, Ord, Hash)]
+pub enum FixedError {
+    /// The length of the string is not the width.
+    WrongLength,
+    /// The string has this length, but does not decode to a number.
+    Decode(DecodeError),
+}
+
 /// An error that can be returned when encoding to a buffer.
 #[derive(Clone, Copy, Debug, PartialEq, Eq, PartialOrd, Ord, Hash)]
 pub enum EncodeError {
@@ -110,6 +119,36 @@ impl fmt::Display for CanonicalError {
 }
 
 impl error::Error for CanonicalError {}
+
+impl From<DecodeError> for FixedError {
+    fn from(error: DecodeError) -> FixedError {
+        FixedError::Decode(error)
+    }
+}
+
+impl FixedError {
+    /// Returns the error's message, at most 77 ASCII characters: of an error of decoding its own.
+    ///
+    /// Never fails, and does not allocate.
+    pub(crate) fn text(&self) -> InlineText<MAX_FAULT_TEXT> {
+        match *self {
+            FixedError::WrongLength => append(
+                InlineText::new(),
+                "Encoded input does not have the given width",
+            ),
+            FixedError::Decode(error) => error.text(),
+        }
+    }
+}
+
+/// Writes the error's message, and ignores the formatter's options.
+impl fmt::Display for FixedError {
+    fn fmt(&self, f: &mut fmt::Formatter<'_>) -> fmt::Result {
+        write_unpadded(self.text(), f)
+    }
+}
+
+impl error::Error for FixedError {}
 
 impl EncodeError {
     /// Returns the error's message, 37 ASCII characters. Never fails, and does not allocate.

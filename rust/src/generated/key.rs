@@ -8,8 +8,8 @@
 
 use crate::alphabet::standard_tables;
 use crate::count::{MAX_DIGITS, digit_count};
-use crate::fault::DecodeError;
-use crate::fixed::{prefix_range, write_padded};
+use crate::fault::{DecodeError, FixedError};
+use crate::fixed::{decode_fixed, prefix_range, write_padded};
 use core::str;
 
 // The length of a key is that of the longest text.
@@ -17,8 +17,8 @@ const KEY_LEN: usize = MAX_DIGITS;
 
 /// Encodes `num` as a key: exactly 22 characters of the standard alphabet, with leading zeros.
 ///
-/// The lexicographic order of keys is the order of their numbers. [`decode`] decodes them. Never
-/// fails, and does not allocate.
+/// The lexicographic order of keys is the order of their numbers. [`decode_key`] accepts exactly
+/// these strings, and [`decode`] also longer and shorter ones. Never fails, and does not allocate.
 ///
 /// ```rust
 /// assert_eq!(&base62::encode_key(1337_u64), b"00000000000000000000LZ");
@@ -44,6 +44,25 @@ pub fn encode_key_str<T: Into<u128>>(num: T, key: &mut [u8; 22]) -> &str {
     *key = encode_key(num);
     // SAFETY: the letters are ASCII.
     proved!(str::from_utf8(key))
+}
+
+/// Decodes `input` if it is a key, and returns the number.
+///
+/// Like [`decode_fixed`] with the width 22. The result is a number, 0 to 2^128 - 1, exactly for the
+/// string that [`encode_key`] returns for it. Does not allocate.
+///
+/// ```rust
+/// use base62::FixedError;
+///
+/// assert_eq!(base62::decode_key(b"00000000000000000000LZ"), Ok(1337));
+/// assert_eq!(base62::decode_key(b"LZ"), Err(FixedError::WrongLength));
+/// ```
+///
+/// # Errors
+///
+/// Returns the errors of [`decode_fixed`].
+pub fn decode_key<T: AsRef<[u8]>>(input: T) -> Result<u128, FixedError> {
+    decode_fixed(input.as_ref(), KEY_LEN)
 }
 
 /// Returns the least and the greatest number below 2^128 whose key begins with `prefix`.

@@ -4,11 +4,12 @@ ghost use Rattle.std.specs.Prelude.{◌≡◌, ◌<◌, ◌↔◌, true};
 ghost use Rattle.std.specs.declared.cmp.Ordering.TheVariants.{Equal};
 ghost use Rattle.base62.specs.Value.{value};
 ghost use Rattle.base62.specs.Decoding.{decoding};
-ghost use Rattle.base62.specs.Fault.{alphabet_error_order, canonical_error_order, decode_error_order};
+ghost use Rattle.base62.specs.Fault.{alphabet_error_order, canonical_error_order, decode_error_order, fixed_error_order};
 ghost use Rattle.base62.specs.declared.fault.AlphabetError.{AlphabetError};
 ghost use Rattle.base62.specs.declared.fault.CanonicalError.{CanonicalError};
 ghost use Rattle.base62.specs.declared.fault.DecodeError.{DecodeError};
 ghost use Rattle.base62.specs.declared.fault.EncodeError.{EncodeError};
+ghost use Rattle.base62.specs.declared.fault.FixedError.{FixedError};
 
 use crate::fault;
 use std::hash::Hash;
@@ -45,6 +46,22 @@ pub fn order_of_canonical_errors()
         ≡ ⟦<fault::CanonicalError as Hash>⟧.hash_input e }
 {}
 
+/// The order of errors of fixed decoding: a wrong length is least, then come the errors of decoding
+/// in their order. Two errors are equal, and compare as equal, exactly if they are the same value.
+/// Equal errors have equal hashes.
+pub fn order_of_fixed_errors()
+    ensures order { (d e : FixedError)
+        → ⟦<fault::FixedError as Ord>⟧.cmp d e ≡ fixed_error_order d e }
+    ensures equal { (d e : FixedError)
+        → (⟦<fault::FixedError as PartialEq>⟧.eq d e ≡ true) ↔ (d ≡ e) }
+    ensures compare_equal { (d e : FixedError)
+        → (⟦<fault::FixedError as Ord>⟧.cmp d e ≡ Equal) ↔ (d ≡ e) }
+    ensures hashed_alike { (d e : FixedError)
+        → ⟦<fault::FixedError as PartialEq>⟧.eq d e ≡ true
+        → ⟦<fault::FixedError as Hash>⟧.hash_input d
+        ≡ ⟦<fault::FixedError as Hash>⟧.hash_input e }
+{}
+
 /// There is one error of encoding. It is equal to itself, compares as equal and has one hash.
 pub fn order_of_encode_errors()
     ensures equal { (d e : EncodeError) → ⟦<fault::EncodeError as PartialEq>⟧.eq d e ≡ true }
@@ -79,6 +96,10 @@ pub fn clones_of_errors()
         → ⟦<fault::CanonicalError as Clone>⟧.is_clone d e → e ≡ d }
     ensures canonical_error_always { (d : CanonicalError)
         → ⟦<fault::CanonicalError as Clone>⟧.is_infallible d }
+    ensures fixed_error { (d e : FixedError) → ⟦<fault::FixedError as Clone>⟧.is_clone d e
+        → e ≡ d }
+    ensures fixed_error_always { (d : FixedError)
+        → ⟦<fault::FixedError as Clone>⟧.is_infallible d }
     ensures encode_error { (d e : EncodeError) → ⟦<fault::EncodeError as Clone>⟧.is_clone d e
         → e ≡ d }
     ensures encode_error_always { (d : EncodeError)

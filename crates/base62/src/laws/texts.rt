@@ -1,6 +1,7 @@
 //! The laws on texts and their numbers.
 
 ghost use Rattle.std.specs.Prelude.{◌≡◌, ◌+◌, ◌*◌, ◌<◌, ◌≤◌, ◌^◌, [], ◌∷◌, ◌++◌, ℕ, List, length, Ok};
+ghost use Rattle.std.specs.Int.{w128, to_be_bytes};
 ghost use Rattle.base62.specs.Alphabet.{IsAlphabet, zero_letter, standard, alternative};
 ghost use Rattle.base62.specs.Places.{sum_over_places};
 ghost use Rattle.base62.specs.Uuid.{IsUuid, uuid_number};
@@ -160,4 +161,11 @@ pub fn numbers_of_uuids()
 /// Two UUIDs are the same if their numbers are.
 pub fn uuids_of_two(a: [u8; 16], b: [u8; 16])
     ensures { uuid_number a ≡ uuid_number b → a ≡ b }
+{}
+
+/// The big-endian bytes of a number are the only UUID of the number.
+pub fn uuid_of_number(number: u128)
+    ensures number { uuid_number (to_be_bytes w128 number) ≡ number }
+    ensures only { (uuid : List ℕ) → IsUuid uuid → uuid_number uuid ≡ number
+        → to_be_bytes w128 number ≡ uuid }
 {}

@@ -1,13 +1,17 @@
 //! The laws on texts of one width, and on padding.
 
-ghost use Rattle.std.specs.Prelude.{◌≡◌, ◌+◌, ◌-◌, ◌<◌, ◌≤◌, ◌^◌, ◌↔◌, ◌++◌, ℕ, List, length, replicate, Ok, Some};
+ghost use Rattle.std.specs.Prelude.{◌≡◌, ◌+◌, ◌-◌, ◌<◌, ◌≤◌, ◌^◌, ◌↔◌, ◌++◌, ℕ, List, length, replicate, Result, Ok, Some, IsOk};
 ghost use Rattle.std.specs.Str.{IsAscii};
 ghost use Rattle.std.specs.declared.fmt.Alignment.TheVariants.{Right};
 ghost use Rattle.base62.specs.Alphabet.{IsAlphabet, AreLetters, zero_letter, standard, alternative};
 ghost use Rattle.base62.specs.Canonical.{Denotes, IsCanonical, DigitCount};
 ghost use Rattle.base62.specs.Decoding.{decoding};
-ghost use Rattle.base62.specs.Fixed.{IsFixed};
+ghost use Rattle.base62.specs.Encoding.{FillsPlaces};
+ghost use Rattle.base62.specs.Fixed.{IsFixed, DecodesFixed};
+ghost use Rattle.base62.specs.Key.{IsKey, DecodesKey};
 ghost use Rattle.base62.specs.Padding.{padded_to};
+ghost use Rattle.base62.specs.declared.fault.EncodeError.{EncodeError};
+ghost use Rattle.base62.specs.declared.fault.FixedError.{FixedError};
 
 use crate::alphabet::Alphabet;
 use crate::laws::alphabets::letters_are_distinct;
@@ -51,6 +55,43 @@ pub fn of_text(alphabet: &Alphabet, width: usize, text: &[u8])
     ensures filled_up { (n : ℕ) → Denotes alphabet.now text.now n → length text.now ≤ width
         → IsFixed alphabet.now width
         (replicate (width - length text.now) (zero_letter alphabet.now) ++ text.now) n }
+{
+    letters_are_distinct(alphabet);
+}
+
+/// Over any alphabet, fixed decoding of a text returns `Ok` of a number exactly if encoding the
+/// number into as many bytes succeeds and writes this text. A key decodes to a number exactly if it
+/// is the number's key. All of this follows from the contracts of the calls alone.
+pub fn fixed_round_trip()
+    ensures back { (B : List ℕ) → IsAlphabet B → (n : ℕ) → n < 2 ^ 128 → (old text : List ℕ)
+        → (written : Result (Unit {0}) EncodeError) → FillsPlaces B n old text written → IsOk written
+        → (decoded : Result ℕ FixedError) → DecodesFixed B (length old) text decoded
+        → decoded ≡ Ok n }
+    ensures written { (B : List ℕ) → IsAlphabet B → (n : ℕ) (old new text : List ℕ)
+        → (decoded : Result ℕ FixedError) → DecodesFixed B (length old) text decoded
+        → decoded ≡ Ok n
+        → (written : Result (Unit {0}) EncodeError) → FillsPlaces B n old new written
+        → IsOk written × (new ≡ text) }
+    ensures key_back { (B : List ℕ) (n : ℕ) → n < 2 ^ 128 → (key : List ℕ) → IsKey B key n
+        → (decoded : Result ℕ FixedError) → DecodesKey B key decoded → decoded ≡ Ok n }
+    ensures key_written { (B : List ℕ) → IsAlphabet B → (n : ℕ) (key text : List ℕ)
+        → (decoded : Result ℕ FixedError) → DecodesKey B text decoded → decoded ≡ Ok n
+        → IsKey B key n → key ≡ text }
+{}
+
+/// Two texts of `width` letters are the same exactly if their numbers are.
+pub fn fixed_texts_of_two(
+    alphabet: &Alphabet,
+    width: usize,
+    first: &[u8],
+    second: &[u8],
+    m: u128,
+    n: u128,
+)
+    ensures texts { IsFixed alphabet.now width first.now m → IsFixed alphabet.now width second.now n
+        → m ≡ n → first.now ≡ second.now }
+    ensures numbers { IsFixed alphabet.now width first.now m
+        → IsFixed alphabet.now width second.now n → first.now ≡ second.now → m ≡ n }
 {
     letters_are_distinct(alphabet);
 }

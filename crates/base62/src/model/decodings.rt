@@ -5,9 +5,11 @@ ghost use Rattle.std.specs.Prelude.{◌≡◌, ◌^◌, ◌-◌, [], ◌∷◌, 
 ghost use Rattle.std.specs.List.{range_with_len};
 ghost use Rattle.base62.specs.Alphabet.{standard, alternative};
 ghost use Rattle.base62.specs.Decoding.{decoding, IsFirstInvalid, NamesFirst, RefusesLarge, Decodes, DecodesCanonical};
+ghost use Rattle.base62.specs.Fixed.{DecodesFixed};
 ghost use Rattle.base62.specs.Steps.{decoding_steps, DecodesCounted};
 ghost use Rattle.base62.specs.declared.fault.CanonicalError.TheVariants.{LeadingZero, Decode};
 ghost use Rattle.base62.specs.declared.fault.DecodeError.TheVariants.{ArithmeticOverflow, EmptyInput, InvalidBase62Byte};
+ghost use Rattle.base62.specs.declared.fault.FixedError.TheVariants.{WrongLength, Decode as FixedDecode};
 
 /// The results of decoding some texts; 33 is `!`, which is no letter.
 pub fn decodings_by_example()
@@ -107,6 +109,24 @@ pub fn decodes_canonical_of_any_result()
         → decoding B text ≡ Ok n }
     ensures accepted { (B text : List ℕ) → DecodesCanonical B text (Err LeadingZero)
         → IsOk (decoding B text) }
+{}
+
+/// Results of fixed decoding for some widths and texts, and others; 33 is `!`, which is no letter.
+pub fn decodes_fixed_by_example()
+    ensures number { DecodesFixed standard 5 (codes "000LZ") (Ok 1337) }
+    ensures shorter { DecodesFixed standard 5 (codes "LZ") (Err WrongLength) }
+    ensures longer { DecodesFixed standard 5 (codes "0000LZ") (Err WrongLength) }
+    ensures bad_byte { DecodesFixed standard 2 (codes "0!")
+        (Err (FixedDecode (InvalidBase62Byte 33 1))) }
+    ensures bad_shorter { DecodesFixed standard 3 (codes "0!") (Err WrongLength) }
+    ensures no_width { DecodesFixed standard 0 [] (Err (FixedDecode EmptyInput)) }
+    ensures accepted_shorter { DecodesFixed standard 5 (codes "LZ") (Ok 1337) → ⊥ }
+    ensures accepted_longer { DecodesFixed standard 5 (codes "0000LZ") (Ok 1337) → ⊥ }
+    ensures refused_number { DecodesFixed standard 5 (codes "000LZ") (Err WrongLength) → ⊥ }
+    ensures other_alphabet { DecodesFixed alternative 5 (codes "000LZ") (Ok 1337) → ⊥ }
+    ensures bad_byte_of_shorter { DecodesFixed standard 3 (codes "0!")
+        (Err (FixedDecode (InvalidBase62Byte 33 1))) → ⊥ }
+    ensures length_of_empty { DecodesFixed standard 0 [] (Err WrongLength) → ⊥ }
 {}
 
 /// Results for some texts that `Decodes` allows, and others. Over the numbers below 1000, which are

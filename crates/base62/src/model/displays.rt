@@ -5,8 +5,10 @@ ghost use Rattle.std.specs.Prelude.{◌≡◌, ◌++◌, [], ◌∷◌, replicat
 ghost use Rattle.std.specs.declared.fmt.Alignment.TheVariants.{Left, Right, Center};
 ghost use Rattle.base62.specs.Padding.{padded_to, displayed};
 ghost use Rattle.base62.specs.declared.fault.AlphabetError.TheVariants.{Repeated};
+ghost use Rattle.base62.specs.declared.fault.CanonicalError.TheVariants.{LeadingZero};
 ghost use Rattle.base62.specs.declared.fault.DecodeError.TheVariants.{ArithmeticOverflow, EmptyInput, InvalidBase62Byte};
 ghost use Rattle.base62.specs.declared.fault.EncodeError.TheVariants.{BufferTooSmall};
+ghost use Rattle.base62.specs.declared.fault.FixedError.TheVariants.{WrongLength};
 
 use crate::{fault, show};
 use std::fmt;
@@ -54,6 +56,12 @@ pub fn faults_by_example()
     ensures bad_byte { (options : _)
         → ⟦<fault::DecodeError as fmt::Display>⟧.styled_output (InvalidBase62Byte 33 7) options
         ≡ Some (codes "Encoded input contains the invalid byte b'!' at index 7") }
+    ensures leading_zero { (options : _)
+        → ⟦<fault::CanonicalError as fmt::Display>⟧.styled_output LeadingZero options
+        ≡ Some (codes "Encoded input has a leading zero") }
+    ensures wrong_length { (options : _)
+        → ⟦<fault::FixedError as fmt::Display>⟧.styled_output WrongLength options
+        ≡ Some (codes "Encoded input does not have the given width") }
     ensures small_buffer { (options : _)
         → ⟦<fault::EncodeError as fmt::Display>⟧.styled_output BufferTooSmall options
         ≡ Some (codes "Buffer too small to encode the number") }

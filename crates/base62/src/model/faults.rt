@@ -3,11 +3,12 @@
 
 ghost use Rattle.std.specs.Prelude.{◌≡◌, ◌^◌, ◌-◌, codes};
 ghost use Rattle.std.specs.declared.cmp.Ordering.TheVariants.{Less, Equal, Greater};
-ghost use Rattle.base62.specs.Fault.{escaped, decode_error_text, canonical_error_text, encode_error_text, alphabet_error_text, decode_error_order, canonical_error_order, alphabet_error_order};
+ghost use Rattle.base62.specs.Fault.{escaped, decode_error_text, canonical_error_text, fixed_error_text, encode_error_text, alphabet_error_text, decode_error_order, canonical_error_order, fixed_error_order, alphabet_error_order};
 ghost use Rattle.base62.specs.declared.fault.AlphabetError.TheVariants.{Repeated};
 ghost use Rattle.base62.specs.declared.fault.CanonicalError.TheVariants.{LeadingZero, Decode};
 ghost use Rattle.base62.specs.declared.fault.DecodeError.TheVariants.{ArithmeticOverflow, EmptyInput, InvalidBase62Byte};
 ghost use Rattle.base62.specs.declared.fault.EncodeError.TheVariants.{BufferTooSmall};
+ghost use Rattle.base62.specs.declared.fault.FixedError.TheVariants.{WrongLength, Decode as FixedDecode};
 
 /// The bytes with an escape of a backslash and a character.
 pub fn escapes_by_example()
@@ -62,6 +63,10 @@ pub fn texts_by_example()
         ≡ codes "Encoded input has a leading zero" }
     ensures canonical_empty { canonical_error_text (Decode EmptyInput)
         ≡ codes "Encoded input is an empty string" }
+    ensures wrong_length { fixed_error_text WrongLength
+        ≡ codes "Encoded input does not have the given width" }
+    ensures fixed_empty { fixed_error_text (FixedDecode EmptyInput)
+        ≡ codes "Encoded input is an empty string" }
     ensures small_buffer { encode_error_text BufferTooSmall
         ≡ codes "Buffer too small to encode the number" }
     ensures repeated { alphabet_error_text (Repeated 33 7)
@@ -99,6 +104,15 @@ pub fn canonical_orders_by_example()
     ensures zero_first { canonical_error_order LeadingZero (Decode ArithmeticOverflow) ≡ Less }
     ensures zero_after { canonical_error_order (Decode ArithmeticOverflow) LeadingZero ≡ Greater }
     ensures as_decoding { canonical_error_order (Decode ArithmeticOverflow) (Decode EmptyInput)
+        ≡ Less }
+{}
+
+/// The order of errors of fixed decoding.
+pub fn fixed_orders_by_example()
+    ensures same { fixed_error_order WrongLength WrongLength ≡ Equal }
+    ensures length_first { fixed_error_order WrongLength (FixedDecode ArithmeticOverflow) ≡ Less }
+    ensures length_after { fixed_error_order (FixedDecode ArithmeticOverflow) WrongLength ≡ Greater }
+    ensures as_decoding { fixed_error_order (FixedDecode ArithmeticOverflow) (FixedDecode EmptyInput)
         ≡ Less }
 {}
 

@@ -30,16 +30,20 @@ fn is_shown(
 #[test]
 fn fault_texts(rt: HostRuntime) -> Result<(), Fail> {
     let cases = [
-        (ToolFault::Read, "read failed", "read failed|read failed|"),
+        (
+            ToolFault::Read,
+            "base62_cli: read failed",
+            "base62_cli: read failed|base62_cli: read failed|",
+        ),
         (
             ToolFault::Write,
-            "write failed",
-            "write failed|write failed|",
+            "base62_cli: write failed",
+            "base62_cli: write failed|base62_cli: write failed|",
         ),
         (
             ToolFault::Memory,
-            "out of memory",
-            "out of memory|out of memory|",
+            "base62_cli: out of memory",
+            "base62_cli: out of memory|base62_cli: out of memory|",
         ),
     ];
     for (fault, text, in_cells) in cases {

@@ -138,13 +138,17 @@ fn settings_of(subcommand: &Subcommand, given: &[Given]) -> Result<Settings, Str
             Effect::Help | Effect::Version => {}
         }
     }
+    if settings.is_canonical && settings.width.is_some() {
+        let name = subcommand.name;
+        return Err(format!("{name} takes --canonical or --width, not both"));
+    }
     Ok(settings)
 }
 
 pub(crate) fn parse_width(value: &[u8]) -> Result<usize, String> {
     if value.iter().all(u8::is_ascii_digit) && value.iter().any(|digit| *digit != b'0') {
-        // A width above `usize::MAX` becomes `usize::MAX`. With either, `encode` runs out of memory, and `range` prints
-        // the same numbers.
+        // A width above `usize::MAX` becomes `usize::MAX`. With either, `encode` runs out of memory, `decode` rejects each
+        // string, and `range` prints the same numbers.
         let width = parse_decimal(value).and_then(|it| it.try_into().ok());
         return Ok(width.unwrap_or(usize::MAX));
     }

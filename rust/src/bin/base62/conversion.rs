@@ -3,16 +3,16 @@
 
 //! The result of a subcommand for one input.
 
-use crate::fault::ToolFault;
+use crate::failure::Failure;
 use crate::memory::Bytes;
 use crate::numbers::{
     append, append_decimal, parse_decimal, parse_hex, parse_uuid, trim_blanks, uuid_of,
 };
-use base62::{Alphabet, CanonicalError, DecodeError, MAX_DIGITS};
+use base62::{Alphabet, CanonicalError, DecodeError, FixedError, MAX_DIGITS};
 use std::fmt::{self, Display, Formatter};
 use std::io::Write;
 
-use ConversionError::{Decode, Failure, Invalid};
+use ConversionError::{Decode, Invalid, WrongLength};
 use Notation::{Hexadecimal, Uuid};
 
 /// Appends the result for an input. If the input is invalid, it appends nothing.
@@ -20,14 +20,15 @@ pub(crate) type Converter = fn(&Settings, &[u8], &mut Bytes) -> Result<(), Conve
 
 /// Why an input has no result: a failure of the program, or what is wrong with the input.
 pub(crate) enum ConversionError {
-    Failure(ToolFault),
+    Failure(Failure),
     Decode(CanonicalError),
+    WrongLength,
     Invalid(&'static str),
 }
 
-impl From<ToolFault> for ConversionError {
-    fn from(fault: ToolFault) -> Self {
-        Failure(fault)
+impl From<Failure> for ConversionError {
+    fn from(failure: Failure) -> Self {
+        ConversionError::Failure(failure)
     }
 }
 
@@ -37,14 +38,24 @@ impl From<CanonicalError> for ConversionError {
     }
 }
 
+impl From<FixedError> for ConversionError {
+    fn from(error: FixedError) -> Self {
+        match error {
+            FixedError::Decode(error) => Decode(error.into()),
+            FixedError::WrongLength => WrongLength,
+        }
+    }
+}
+
 impl Display for ConversionError {
     fn fmt(&self, f: &mut Formatter) -> fmt::Result {
         match self {
-            Failure(fault) => fault.fmt(f),
+            ConversionError::Failure(failure) => failure.fmt(f),
             Decode(CanonicalError::Decode(DecodeError::ArithmeticOverflow)) => {
                 f.write_str("Decoded number is 2^128 or more")
             }
             Decode(error) => error.fmt(f),
+            WrongLength => FixedError::WrongLength.fmt(f),
             Invalid(error) => error.fmt(f),
         }
     }
@@ -75,28 +86,29 @@ impl Settings {
             Some(Hexadecimal) => parse_hex(digits).ok_or(Invalid("not 1 to 32 hexadecimal digits")),
             Some(Uuid) => parse_uuid(digits).ok_or(Invalid("not a UUID")),
         }?;
-        let mut buffer = [0; MAX_DIGITS];
-        let length = base62::encode_bytes_with(&self.alphabet, number, &mut buffer);
-        let string = &buffer[..length.unwrap_or_default()];
-        if let Some(width) = self.width {
-            let zeros = width.checked_sub(string.len());
-            let zeros = zeros.ok_or(Invalid("the number needs more characters than the width"))?;
-            let zero = self.alphabet.characters()[0];
-            out.reserve(zeros).or(Err(ToolFault::Memory))?;
-            out.0.resize(out.0.len() + zeros, zero);
-        }
-        Ok(append(string, out)?)
+        let (start, room) = (out.0.len(), self.width.unwrap_or(MAX_DIGITS));
+        out.reserve(room).or(Err(Failure::Memory))?;
+        out.0.resize(start + room, 0);
+        let places = &mut out.0[start..];
+        let length = match self.width {
+            Some(_) => base62::encode_fixed_with(&self.alphabet, number, places).map(|()| room),
+            None => base62::encode_bytes_with(&self.alphabet, number, places),
+        };
+        out.0.truncate(start + length.unwrap_or_default());
+        let error = Invalid("the number needs more characters than the width");
+        length.map(|_| ()).or(Err(error))
     }
 
     pub(crate) fn decode(&self, string: &[u8], out: &mut Bytes) -> Result<(), ConversionError> {
-        let number = if self.is_canonical {
-            base62::decode_canonical_with(&self.alphabet, string)?
-        } else {
-            base62::decode_with(&self.alphabet, string).map_err(CanonicalError::from)?
+        let alphabet = &self.alphabet;
+        let number = match self.width {
+            Some(width) => base62::decode_fixed_with(alphabet, string, width)?,
+            None if self.is_canonical => base62::decode_canonical_with(alphabet, string)?,
+            None => base62::decode_with(alphabet, string).map_err(CanonicalError::from)?,
         };
         match self.notation {
             None => append_decimal(number, out),
-            Some(Hexadecimal) => write!(out, "{number:x}").or(Err(ToolFault::Memory)),
+            Some(Hexadecimal) => write!(out, "{number:x}").or(Err(Failure::Memory)),
             Some(Uuid) => append(&uuid_of(number), out),
         }?;
         Ok(())

@@ -54,11 +54,13 @@ around a number are ignored. An invalid number gives an empty line.",
         name: "decode",
         operand: "STRING",
         purpose: "print the number that each string represents",
-        options: b"aAcuxe",
+        options: b"aAwcuxe",
         convert: Settings::decode,
         description: "\
-Decodes each string, or each line of standard input. An invalid string gives an
-empty line.",
+Decodes each string, or each line of standard input. An operand is a string, not
+the name of a file. An invalid string gives an empty line. With -c, it accepts
+exactly what encode prints, and with -w N exactly what encode -w N prints;
+otherwise, strings with any number of leading zeros.",
         example: ["$ base62 decode LZ", "1337"],
     },
     Subcommand {

@@ -3,14 +3,14 @@
 
 //! Numbers as they are read and printed: in decimal, in hexadecimal and as UUIDs.
 
-use crate::fault::ToolFault;
+use crate::failure::Failure;
 use crate::memory::Bytes;
 use std::io::Write;
 
 /// Appends bytes.
 #[inline]
-pub(crate) fn append(bytes: &[u8], out: &mut Bytes) -> Result<(), ToolFault> {
-    out.write_all(bytes).map_err(|_| ToolFault::Memory)
+pub(crate) fn append(bytes: &[u8], out: &mut Bytes) -> Result<(), Failure> {
+    out.write_all(bytes).map_err(|_| Failure::Memory)
 }
 
 /// The decimal digits of each number below 100.
@@ -24,9 +24,9 @@ const TWO_DIGITS: [[u8; 2]; 100] = {
 };
 
 /// Appends a number in decimal. Of a `u128`, each division takes longer.
-pub(crate) fn append_decimal(number: u128, out: &mut Bytes) -> Result<(), ToolFault> {
+pub(crate) fn append_decimal(number: u128, out: &mut Bytes) -> Result<(), Failure> {
     let Ok(mut left) = u64::try_from(number) else {
-        return write!(out, "{number}").or(Err(ToolFault::Memory));
+        return write!(out, "{number}").or(Err(Failure::Memory));
     };
     // The last digits come first. A `u64` has at most twenty.
     let (mut digits, mut start) = ([0; 20], 20);

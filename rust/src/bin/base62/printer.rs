@@ -6,20 +6,19 @@
 use crate::arguments::Task;
 use crate::conversion::ConversionError;
 use crate::escape::Escaped;
-use crate::fault::ToolFault;
+use crate::failure::Failure;
 use crate::line_end::line_end;
 use crate::memory::Bytes;
 use crate::numbers::append;
 use crate::streams::{print, read_uninterrupted, report};
 use std::io::{self, IsTerminal};
 use std::process::ExitCode;
-use std::{fs, str};
 
 /// How many bytes are read at a time, and collected before they are written.
 const CHUNK_LEN: usize = 32768;
 
 /// Prints the result for each operand, or for each line if there is no operand.
-pub(crate) fn print_all(task: &Task) -> Result<ExitCode, ToolFault> {
+pub(crate) fn print_all(task: &Task) -> Result<ExitCode, Failure> {
     let is_terminal = io::stdout().is_terminal();
     let mut printer = Printer {
         task,
@@ -37,12 +36,6 @@ pub(crate) fn print_all(task: &Task) -> Result<ExitCode, ToolFault> {
     Ok(printer.status)
 }
 
-/// Whether an operand is `-` or the name of a file.
-fn is_file(operand: &[u8]) -> bool {
-    let name = str::from_utf8(operand).unwrap_or_default();
-    name == "-" || fs::metadata(name).is_ok_and(|it| !it.is_dir())
-}
-
 struct Printer<'a> {
     task: &'a Task,
     /// The results that are not yet written.
@@ -55,7 +48,7 @@ struct Printer<'a> {
 impl Printer<'_> {
     /// Prints the result for an operand, or for the line of this number. If the input is invalid, first prints the
     /// results so far and reports the error. Then the line of output is empty.
-    fn print(&mut self, input: &[u8], line: Option<u64>) -> Result<(), ToolFault> {
+    fn print(&mut self, input: &[u8], line: Option<u64>) -> Result<(), Failure> {
         let settings = &self.task.settings;
         let result = if input.is_empty() && settings.keeps_empty {
             Ok(())
@@ -63,8 +56,8 @@ impl Printer<'_> {
             (self.task.subcommand.convert)(settings, input, &mut self.buffer)
         };
         if let Err(error) = result {
-            if let ConversionError::Failure(fault) = error {
-                return Err(fault);
+            if let ConversionError::Failure(failure) = error {
+                return Err(failure);
             }
             self.flush()?;
             self.report(input, line, &error);
@@ -81,26 +74,26 @@ impl Printer<'_> {
         let (name, shown) = (self.task.subcommand.name, Escaped(input));
         match line {
             Some(number) => report(format_args!("line {number}: {shown}: {error}")),
-            None if is_file(input) => report(format_args!(
-                "{shown}: base62 reads standard input: base62 {name} <FILE"
-            )),
+            None if input == b"-" => {
+                report(format_args!("{shown}: {error}: try base62 {name} <FILE"))
+            }
             None => report(format_args!("{shown}: {error}")),
         }
     }
 
-    fn flush(&mut self) -> Result<(), ToolFault> {
-        print(self.buffer.as_slice())?;
+    fn flush(&mut self) -> Result<(), Failure> {
+        print(self.buffer.as_slice()).or(Err(Failure::Write))?;
         self.buffer.clear();
         Ok(())
     }
 
     /// Prints the result for each line of standard input. Writes the results so far before a read, which may block.
-    fn print_lines(&mut self) -> Result<(), ToolFault> {
+    fn print_lines(&mut self) -> Result<(), Failure> {
         let (mut chunk, mut start, mut number) = ([0; CHUNK_LEN], Bytes::new(), 0);
         loop {
             self.flush()?;
             let Ok(count) = read_uninterrupted(&mut io::stdin(), &mut chunk) else {
-                return Err(ToolFault::Read);
+                return Err(Failure::Read);
             };
             if count == 0 {
                 // The last line needs no line feed.

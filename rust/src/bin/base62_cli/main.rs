@@ -24,10 +24,11 @@ mod shared {
 use generated::*;
 use shared::*;
 
+use fault::ToolFault;
 use hint::HintingInput;
 use std::process::ExitCode;
 use std::{env, ffi::OsString, io};
-use streams::{Output, print, report, status_of};
+use streams::{Output, print, print_error, report};
 
 const HELP: &str = "\
 Usage: base62_cli [OPTION]
@@ -57,12 +58,18 @@ fn main() -> ExitCode {
     let argument = env::args_os().nth(1).map(OsString::into_encoded_bytes);
     let outcome = match argument.as_deref() {
         None => tool::run(&mut HintingInput::new(), &mut Output(io::stdout())),
-        Some(b"-h" | b"--help") => print(HELP.as_bytes()),
-        Some(b"-V" | b"--version") => print(VERSION.as_bytes()),
+        Some(b"-h" | b"--help") => print(HELP.as_bytes()).or(Err(ToolFault::Write)),
+        Some(b"-V" | b"--version") => print(VERSION.as_bytes()).or(Err(ToolFault::Write)),
         Some(_) => {
             report("it reads standard input, and has no operands: try base62_cli --help");
             return ExitCode::from(2);
         }
     };
-    status_of(outcome.map(|()| ExitCode::SUCCESS))
+    match outcome {
+        Ok(()) => ExitCode::SUCCESS,
+        Err(fault) => {
+            print_error(fault);
+            ExitCode::FAILURE
+        }
+    }
 }

@@ -22,14 +22,14 @@ pub enum ToolFault {
 impl ToolFault {
     fn text(self) -> &'static str {
         match self {
-            ToolFault::Read => "read failed",
-            ToolFault::Write => "write failed",
-            ToolFault::Memory => "out of memory",
+            ToolFault::Read => "base62_cli: read failed",
+            ToolFault::Write => "base62_cli: write failed",
+            ToolFault::Memory => "base62_cli: out of memory",
         }
     }
 }
 
-/// Writes what failed. Width, precision, fill and alignment are ignored.
+/// Writes the program's name and what failed. Width, precision, fill and alignment are ignored.
 impl fmt::Display for ToolFault {
     fn fmt(&self, f: &mut fmt::Formatter<'_>) -> fmt::Result {
         f.write_str(self.text())

@@ -3,11 +3,10 @@
 
 //! Standard input, output and error.
 
-use crate::fault::ToolFault;
 use crate::memory::Bytes;
 use std::fmt::Display;
 use std::io::{self, ErrorKind, Read, Stdout, Write};
-use std::process::{self, ExitCode};
+use std::process;
 
 /// Reads, and does it again if a signal has interrupted it.
 pub(crate) fn read_uninterrupted(input: &mut impl Read, buf: &mut [u8]) -> io::Result<usize> {
@@ -41,23 +40,19 @@ impl Write for Output {
 }
 
 /// Writes all bytes to standard output.
-pub(crate) fn print(bytes: &[u8]) -> Result<(), ToolFault> {
-    let mut output = Output(io::stdout());
-    output.write_all(bytes).or(Err(ToolFault::Write))
+pub(crate) fn print(bytes: &[u8]) -> io::Result<()> {
+    Output(io::stdout()).write_all(bytes)
+}
+
+/// Writes one line to standard error, after the program's name.
+pub(crate) fn report(message: impl Display) {
+    print_error(format_args!("{}: {message}", env!("CARGO_BIN_NAME")));
 }
 
 /// Writes one line to standard error. If this fails, only the exit status reports the error.
-pub(crate) fn report(message: impl Display) {
+pub(crate) fn print_error(message: impl Display) {
     let mut line = Bytes::new();
-    if writeln!(line, "{}: {message}", env!("CARGO_BIN_NAME")).is_ok() {
+    if writeln!(line, "{message}").is_ok() {
         let _ = io::stderr().write_all(line.as_slice());
     }
-}
-
-/// The exit status of a run, whose failure it reports.
-pub(crate) fn status_of(outcome: Result<ExitCode, ToolFault>) -> ExitCode {
-    outcome.unwrap_or_else(|fault| {
-        report(fault);
-        ExitCode::FAILURE
-    })
 }

@@ -15,7 +15,7 @@ SET SESSION AUTHORIZATION regress_base62;
 CREATE EXTENSION base62;
 SELECT 'a' < 'B' language, 'a' < 'B' COLLATE "C" bytes;
 
-CREATE TABLE item (u uuid PRIMARY KEY, key base62_key GENERATED ALWAYS AS (base62_encode_key_uuid(u)) STORED UNIQUE);
+CREATE TABLE item (u uuid PRIMARY KEY, key base62_key GENERATED ALWAYS AS (base62_encode_uuid_key(u)) STORED UNIQUE);
 CREATE TABLE plain (u uuid, key text PRIMARY KEY, declared text COLLATE "en-x-icu", bytes text COLLATE "C" UNIQUE);
 INSERT INTO item SELECT md5(i::text)::uuid FROM generate_series(1, 20000) i;
 INSERT INTO item SELECT lpad(to_hex(i), 32, '0')::uuid FROM generate_series(0, 100) i;
@@ -25,7 +25,7 @@ ANALYZE item, plain;
 \echo The collations of results
 \set own '\'zyxwvutsrqponmlkjihgfedcbaZYXWVUTSRQPONMLKJIHGFEDCBA9876543210\''
 SELECT pg_collation_for(base62_encode_key(1)) key, pg_collation_for(base62_encode_fixed(1, 5, :own::text)) fixed,
-    pg_collation_for(base62_prefix_first('1'::text)) first, pg_collation_for(base62_prefix_last('1'::text, 4)) last,
+    pg_collation_for(base62_first_string('1'::text)) first, pg_collation_for(base62_last_string('1'::text, 4)) last,
     pg_collation_for(base62_encode(1)) encoded;
 
 \echo Keys sort in numeric order
@@ -33,9 +33,9 @@ SELECT count(*) FROM (SELECT u, lag(u) OVER (ORDER BY key) p FROM item) i WHERE 
 
 \echo Prefixes that no row has, or for which BETWEEN, LIKE or UUIDs find other rows
 SELECT p FROM item, unnest(ARRAY['2', '7n', '1a', '0000000', '']) p, starts_with(key, p) has GROUP BY p
-    HAVING NOT bool_or(has) OR bool_or(has <> (key BETWEEN base62_prefix_first(p) AND base62_prefix_last(p)))
+    HAVING NOT bool_or(has) OR bool_or(has <> (key BETWEEN base62_first_string(p) AND base62_last_string(p)))
         OR bool_or(has <> (key LIKE p || '%')) OR bool_or(has <>
-            (u BETWEEN base62_decode_uuid(base62_prefix_first(p)) AND base62_decode_uuid(base62_prefix_last(p))));
+            (u BETWEEN base62_decode_uuid(base62_first_string(p)) AND base62_decode_uuid(base62_last_string(p))));
 
 \echo Variables and results of functions with a text parameter, and with a parameter of the type
 CREATE FUNCTION of_text(p text, OUT bare boolean, OUT declared boolean) LANGUAGE plpgsql AS $$
@@ -51,14 +51,14 @@ SELECT *, of_key('x'), pg_collation_for(key_of_text('x')), pg_collation_for(key_
 
 \echo In text columns: the functions, an index, and a declared collation
 SELECT count(*) FILTER (WHERE starts_with(key, '2a')) - count(*) FILTER
-    (WHERE key BETWEEN base62_prefix_first('2a') AND base62_prefix_last('2a'::text)) "between" FROM plain;
+    (WHERE key BETWEEN base62_first_string('2a') AND base62_last_string('2a'::text)) "between" FROM plain;
 SET enable_bitmapscan = off;
-EXPLAIN (COSTS off) SELECT * FROM plain WHERE key BETWEEN base62_prefix_first('2a') AND base62_prefix_last('2a');
-EXPLAIN (COSTS off) SELECT * FROM plain WHERE bytes BETWEEN base62_prefix_first('2a') AND base62_prefix_last('2a');
+EXPLAIN (COSTS off) SELECT * FROM plain WHERE key BETWEEN base62_first_string('2a') AND base62_last_string('2a');
+EXPLAIN (COSTS off) SELECT * FROM plain WHERE bytes BETWEEN base62_first_string('2a') AND base62_last_string('2a');
 CREATE INDEX plain_key ON plain (key COLLATE "C");
-EXPLAIN (COSTS off) SELECT * FROM plain WHERE key BETWEEN base62_prefix_first('2a') AND base62_prefix_last('2a');
+EXPLAIN (COSTS off) SELECT * FROM plain WHERE key BETWEEN base62_first_string('2a') AND base62_last_string('2a');
 \set VERBOSITY sqlstate
-SELECT count(*) FROM plain WHERE declared BETWEEN base62_prefix_first('2a') AND base62_prefix_last('2a');
+SELECT count(*) FROM plain WHERE declared BETWEEN base62_first_string('2a') AND base62_last_string('2a');
 \set VERBOSITY default
 SELECT count(*) FILTER (WHERE starts_with(key, '2a')) - count(*) FILTER
-    (WHERE declared COLLATE "C" BETWEEN base62_prefix_first('2a') AND base62_prefix_last('2a')) declared FROM plain;
+    (WHERE declared COLLATE "C" BETWEEN base62_first_string('2a') AND base62_last_string('2a')) declared FROM plain;

@@ -14,15 +14,18 @@ SELECT call, n, result_of(format(call, n)) FROM unnest(ARRAY[-1, -92233720368547
 SELECT call, v, result_of(format(call, v)) FROM unnest(ARRAY[-1, -0.5, 1337.5,
         340282366920938463463374607431768211455.01, 340282366920938463463374607431768211456,
         3402823669209384634633746074317682114550, 1e131071, 1e-16383, 'NaN', 'Infinity', '-Infinity']) v,
-    unnest(ARRAY['encode_numeric(%L)', 'encode_numeric(%L, own())', 'encode_fixed_numeric(%L, 1000)']) call
+    unnest(ARRAY['encode_numeric(%L)', 'encode_numeric(%L, own())', 'encode_numeric_fixed(%L, 1000)']) call
     WHERE result_of(format(call, v)) IS DISTINCT FROM '22003 the number is not an integer from 0 to 2^128 - 1: '
         || left(v::text, 40) || CASE WHEN length(v::text) > 40 THEN '...' ELSE '' END;
 
 \echo Widths
 SELECT call, w, result_of(format(call, w)) FROM unnest(ARRAY[-1, 0, 1001, 2147483647]) w,
-    unnest(ARRAY['encode_fixed(62, %s)', 'encode_fixed_uuid(gen_random_uuid(), %s, own())',
-        'encode_fixed_numeric(62, %s)', $$prefix_first('', %s)$$, $$prefix_last('', %s)$$, $$range_first('', %s)$$,
-        $$range_last('', %s, own())$$, $$range_first_numeric('', %s)$$, $$range_last_numeric('', %s, own())$$]) call
+    unnest(ARRAY['encode_fixed(62, %s)', 'encode_uuid_fixed(gen_random_uuid(), %s, own())',
+        'encode_numeric_fixed(62, %s)', $$decode_fixed('1', %s)$$, $$decode_uuid_fixed('1', %s, own())$$,
+        $$decode_numeric_fixed('1', %s)$$, $$try_decode_fixed('1', %s)$$, $$try_decode_uuid_fixed('1', %s)$$,
+        $$try_decode_numeric_fixed('1', %s, own())$$, $$first_string('', %s)$$, $$last_string('', %s)$$,
+        $$first_number('', %s)$$, $$last_number('', %s, own())$$, $$first_numeric('', %s)$$,
+        $$last_numeric('', %s, own())$$]) call
     WHERE result_of(format(call, w)) IS DISTINCT FROM '22023 the width is not from 1 to 1000: ' || w;
 
 \echo Alphabets, also in a row after a row with a valid one
@@ -36,22 +39,24 @@ SELECT call, a, result_of(format(call, a)) FROM (VALUES
         (repeat('0', 62), error('repeated', '48', '1'))) alphabets (a, error),
     unnest(ARRAY['encode(1, %L)', 'encode_uuid(gen_random_uuid(), %L)', 'encode_numeric(1, %L)',
         'encode_fixed(62, 1, %L)', $$decode('-', %L)$$, $$decode_uuid_canonical('-', %L)$$, $$try_decode('-', %L)$$,
-        $$try_decode_uuid('-', %L)$$, $$is_valid('-', %L)$$, $$range_first('-', 1, %L)$$,
-        $$range_last_numeric('-', 1, %L)$$, 'encode(1, a) FROM unnest(ARRAY[own(), %L]) a OFFSET 1']) call
+        $$try_decode_uuid('-', %L)$$, $$decode_fixed('--', 1, %L)$$, $$try_decode_numeric_fixed('-', 1, %L)$$,
+        $$try_decode_canonical('-', %L)$$, $$is_valid('-', %L)$$, $$first_number('-', 1, %L)$$,
+        $$last_numeric('-', 1, %L)$$, 'encode(1, a) FROM unnest(ARRAY[own(), %L]) a OFFSET 1']) call
     WHERE result_of(format(call, a)) IS DISTINCT FROM error || shown(a);
 SELECT base62_encode(61, a) FROM unnest(ARRAY[own(), left(own(), 61) || '-']) a;
 
 \echo A number before a width, a width before an alphabet, and all before a string
 SELECT call, result_of(call) FROM (VALUES
         ('number', ARRAY[$$encode(-1, '01')$$, $$encode_fixed(-1, 0, '01')$$, $$encode_numeric(-0.5, '01')$$,
-            $$encode_fixed_numeric('-Infinity', 0)$$]),
-        ('width', ARRAY[$$encode_fixed(62, 0, '01')$$, $$range_first('-', 0, '01')$$, $$range_last('-', 1001)$$,
-            $$range_first_numeric('-', -1)$$, $$prefix_last('-', 0)$$])) raised (error, calls),
+            $$encode_numeric_fixed('-Infinity', 0)$$]),
+        ('width', ARRAY[$$encode_fixed(62, 0, '01')$$, $$decode_fixed('-', 0, '01')$$, $$first_number('-', 0, '01')$$,
+            $$try_decode_fixed('-', 0, '01')$$, $$last_number('-', 1001)$$, $$first_numeric('-', -1)$$,
+            $$last_string('-', 0)$$])) raised (error, calls),
     unnest(calls) call
     WHERE (result_of(call) LIKE '_____ the ' || error || ' is %') IS NOT TRUE;
 
 \echo Bytes of UTF-8, and arguments of other types
-SELECT name, result(name, '0é', '1') FROM unnest(ARRAY['prefix_last', 'range_first_numeric']) name
+SELECT name, result(name, '0é', '1') FROM unnest(ARRAY['last_string', 'first_numeric']) name
     WHERE result(name, '0é', '1') IS DISTINCT FROM error('byte', '195', '1') || shown('0é');
 SELECT call, result_of(call) FROM unnest(ARRAY['encode(1.5)', $$encode('LZ'::text)$$]) call
     WHERE (result_of(call) LIKE '42883 %') IS NOT TRUE;

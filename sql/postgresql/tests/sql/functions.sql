@@ -25,13 +25,14 @@ SELECT oid::regprocedure FROM functions WHERE prorettype = 'base62_key'::regtype
 SELECT base62_encode('1337'), base62_encode(1337::smallint), base62_encode(number => 1337),
     base62_decode(encoded => 'LZ'), base62_encode_uuid('00000000-0000-0000-0000-000000000539') uuid;
 SELECT base62_encode_fixed('1337', '3') fixed,
-    base62_encode_fixed_uuid('00000000-0000-0000-0000-000000000539', '3') fixed_uuid,
-    base62_is_valid(alphabet => :own, encoded => 'eQ'), base62_prefix_first(prefix => 'L', width => 3) first,
-    base62_range_last(prefix => 'e', width => 3, alphabet => :own) last;
+    base62_encode_uuid_fixed('00000000-0000-0000-0000-000000000539', '3') fixed_uuid,
+    base62_is_valid(alphabet => :own, encoded => 'eQ'), base62_first_string(prefix => 'L', width => 3) first,
+    base62_last_number(prefix => 'e', width => 3, alphabet => :own) last;
 PREPARE untyped AS SELECT base62_encode($1) t, base62_encode_uuid($2) u, base62_encode_fixed($3, $4) f,
-    base62_encode_fixed_uuid($5, $6) fu, base62_prefix_last($7, $8) l, base62_is_valid($9) i,
-    base62_decode_uuid_canonical($9) d, base62_range_last($10, $11) n, base62_encode_numeric($12) v,
-    base62_decode_numeric($13) w, base62_try_decode($9) y, base62_try_decode_uuid($9) z;
+    base62_encode_uuid_fixed($5, $6) fu, base62_last_string($7, $8) l, base62_is_valid($9) i,
+    base62_decode_uuid_canonical($9) d, base62_last_number($10, $11) n, base62_encode_numeric($12) v,
+    base62_decode_numeric($13) w, base62_try_decode($9) y, base62_try_decode_uuid($9) z, base62_decode_fixed($9, $8) e,
+    base62_try_decode_uuid_fixed($9, $4) n;
 EXECUTE untyped (1337, '00000000-0000-0000-0000-000000000539', 1337, 3, '00000000-0000-0000-0000-000000000539', 4, 'L',
     2, 'LZ', 'L', 3, 1337, 'LZ');
 -- Divided by 10^9 it is 2^64, of which 64 bits are zero.
@@ -41,7 +42,7 @@ SELECT base62_version() ~ '^[0-9]+\.[0-9]+\.[0-9]+$' version;
 \echo A compressed text
 CREATE TABLE long (t text);
 INSERT INTO long VALUES (repeat('0', 1000000) || 'LZ');
-SELECT pg_column_size(t) < 100000 compressed, base62_decode(t), base62_decode_uuid(t), base62_prefix_first(t),
+SELECT pg_column_size(t) < 100000 compressed, base62_decode(t), base62_decode_uuid(t), base62_first_string(t),
     base62_is_valid(t) FROM long;
 
 \echo Alphabets that change from call to call, and after an error
@@ -77,7 +78,7 @@ WITH taken AS MATERIALIZED (SELECT base62_encode(n, CASE n % 2 WHEN 0 THEN :own 
 \echo In a schema of its own
 CREATE SCHEMA tools;
 ALTER EXTENSION base62 SET SCHEMA tools;
-SELECT tools.base62_encode(1337), tools.base62_prefix_first('L', 3), tools.base62_is_valid('LZ');
+SELECT tools.base62_encode(1337), tools.base62_first_string('L', 3), tools.base62_is_valid('LZ');
 \set VERBOSITY sqlstate
 SELECT base62_decode('LZ');
 ALTER EXTENSION base62 SET SCHEMA public;

@@ -6,12 +6,13 @@
 \pset tuples_only on
 CREATE TABLE link (id bigint PRIMARY KEY, slug text GENERATED ALWAYS AS (base62_encode(id)) STORED UNIQUE
     CHECK (base62_is_canonical(slug)));
-CREATE TABLE item (u uuid PRIMARY KEY, key base62_key GENERATED ALWAYS AS (base62_encode_key_uuid(u)) STORED UNIQUE,
-    CHECK (base62_is_valid(key) AND length(key) = 22 AND base62_decode_uuid(key) = u));
-CREATE TABLE code (id bigint PRIMARY KEY, code base62_key GENERATED ALWAYS AS (base62_encode_fixed(id, 11)) STORED);
+CREATE TABLE item (u uuid PRIMARY KEY, key base62_key GENERATED ALWAYS AS (base62_encode_uuid_key(u)) STORED UNIQUE,
+    CHECK (base62_try_decode_uuid_fixed(key, 22) IS NOT NULL AND base62_decode_uuid_fixed(key, 22) = u));
+CREATE TABLE code (id bigint PRIMARY KEY, code base62_key GENERATED ALWAYS AS (base62_encode_fixed(id, 11)) STORED
+    CHECK (base62_try_decode_fixed(code, 11) IS NOT NULL));
 CREATE TABLE wide (id numeric(39) PRIMARY KEY);
 CREATE UNIQUE INDEX item_text ON item (base62_encode_uuid(u));
-CREATE INDEX item_prefix ON item (u) WHERE key < base62_prefix_last('3');
+CREATE INDEX item_prefix ON item (u) WHERE key < base62_last_string('3');
 CREATE INDEX code_code ON code (code);
 INSERT INTO link SELECT i * 461168601842738 FROM generate_series(0, 20000) i;
 INSERT INTO code SELECT id FROM link;
@@ -21,17 +22,34 @@ INSERT INTO wide SELECT i * 17014118346046923173168730371588410 FROM generate_se
 ANALYZE link, item, code, wide;
 SET enable_bitmapscan = off;
 EXPLAIN (COSTS off) SELECT * FROM link WHERE slug = base62_encode(1337);
-EXPLAIN (COSTS off) SELECT * FROM link WHERE id = base62_decode('LZ');
+EXPLAIN (COSTS off) SELECT * FROM link WHERE id = base62_try_decode_canonical('LZ');
+EXPLAIN (COSTS off) SELECT * FROM link WHERE id = 9223372036854775808;
 EXPLAIN (COSTS off) SELECT * FROM item WHERE base62_encode_uuid(u) = 'LZ';
 EXPLAIN (COSTS off) SELECT * FROM item WHERE key LIKE '2aU%';
 EXPLAIN (COSTS off) SELECT * FROM item WHERE key ^@ '2aU';
 EXPLAIN (COSTS off) SELECT * FROM item
-    WHERE key BETWEEN base62_prefix_first('2aU') AND base62_prefix_last('2aU') ORDER BY key;
+    WHERE key BETWEEN base62_first_string('2aU') AND base62_last_string('2aU') ORDER BY key;
 EXPLAIN (COSTS off) SELECT * FROM item
-    WHERE u BETWEEN base62_decode_uuid(base62_prefix_first('2aU')) AND base62_decode_uuid(base62_prefix_last('2aU'));
-EXPLAIN (COSTS off) SELECT * FROM link WHERE id BETWEEN base62_range_first('Az', 11) AND base62_range_last('Az', 11);
+    WHERE u BETWEEN base62_decode_uuid(base62_first_string('2aU')) AND base62_decode_uuid(base62_last_string('2aU'));
+EXPLAIN (COSTS off) SELECT * FROM link WHERE id BETWEEN base62_first_number('Az', 11) AND base62_last_number('Az', 11);
 EXPLAIN (COSTS off) SELECT * FROM wide
-    WHERE id BETWEEN base62_range_first_numeric('7n4', 22) AND base62_range_last_numeric('7n4', 22);
+    WHERE id BETWEEN base62_first_numeric('7n4', 22) AND base62_last_numeric('7n4', 22);
+PREPARE from_outside (text) AS
+    SELECT * FROM link WHERE id > CASE WHEN base62_is_valid($1) THEN base62_first_number($1, 11) END;
+SET plan_cache_mode = force_generic_plan;
+EXPLAIN (COSTS off) EXECUTE from_outside ('L-');
+EXECUTE from_outside ('L-');
+RESET plan_cache_mode;
+\echo Prefixes of shortest strings, by one range for each length, and those for which it finds other rows
+CREATE FUNCTION with_prefix(p text) RETURNS SETOF text STABLE LANGUAGE sql AS $$
+    WITH width (w) AS (VALUES (1), (2), (3), (4), (5), (6), (7), (8), (9), (10), (11))
+    SELECT slug FROM width JOIN link ON id BETWEEN base62_first_number(p, w) AND base62_last_number(p, w)
+    WHERE w = 1 OR p NOT LIKE '0%'
+$$;
+EXPLAIN (COSTS off) SELECT * FROM with_prefix('L');
+SELECT p FROM unnest(ARRAY['0', '00', '2', 'A', 'Az', 'z']) p WHERE ARRAY(SELECT * FROM with_prefix(p) s ORDER BY s)
+    <> ARRAY(SELECT slug FROM link WHERE starts_with(slug, p) ORDER BY slug);
+SELECT pg_typeof(sum(id)) FROM link;
 
 \echo Partitions without such keys are pruned
 CREATE TABLE part (key base62_key PRIMARY KEY) PARTITION BY RANGE (key);
@@ -39,7 +57,7 @@ CREATE TABLE part_0 PARTITION OF part FOR VALUES FROM (MINVALUE) TO ('2');
 CREATE TABLE part_2 PARTITION OF part FOR VALUES FROM ('2') TO (MAXVALUE);
 SET enable_indexscan = off;
 EXPLAIN (COSTS off) SELECT * FROM part WHERE key LIKE '2a%';
-EXPLAIN (COSTS off) SELECT * FROM part WHERE key BETWEEN base62_prefix_first('2a') AND base62_prefix_last('2a');
+EXPLAIN (COSTS off) SELECT * FROM part WHERE key BETWEEN base62_first_string('2a') AND base62_last_string('2a');
 RESET enable_indexscan;
 RESET enable_bitmapscan;
 \set VERBOSITY terse
@@ -51,6 +69,6 @@ SET parallel_tuple_cost = 0;
 SET min_parallel_table_scan_size = 0;
 SET parallel_leader_participation = off;
 EXPLAIN (COSTS off) SELECT count(*) FROM item WHERE base62_decode_uuid(base62_encode_uuid(u)) = u
-    AND base62_encode_key_uuid(u) BETWEEN base62_prefix_first(left(key, 3)) AND base62_prefix_last(left(key, 3));
+    AND base62_encode_uuid_key(u) BETWEEN base62_first_string(left(key, 3)) AND base62_last_string(left(key, 3));
 SELECT count(*) FROM item WHERE base62_decode_uuid(base62_encode_uuid(u)) = u
-    AND base62_encode_key_uuid(u) BETWEEN base62_prefix_first(left(key, 3)) AND base62_prefix_last(left(key, 3));
+    AND base62_encode_uuid_key(u) BETWEEN base62_first_string(left(key, 3)) AND base62_last_string(left(key, 3));

@@ -100,7 +100,10 @@ SELECT * FROM wrong('encoded',
     $$result('decode_numeric_canonical', t, letters) = coalesce(zero, v::text)$$,
     $$result('decode_canonical', t, letters) = coalesce(zero, n::text, replace(large, '%s', '_canonical'))$$,
     'base62_try_decode(t, letters) IS NOT DISTINCT FROM n',
-    'base62_try_decode_uuid(t, letters) = u',
+    'base62_try_decode_uuid(t, letters) = u AND base62_try_decode_numeric(t, letters) = v',
+    'base62_try_decode_canonical(t, letters) IS NOT DISTINCT FROM CASE WHEN zero IS NULL THEN n END',
+    'base62_try_decode_uuid_canonical(t, letters) IS NOT DISTINCT FROM CASE WHEN zero IS NULL THEN u END',
+    'base62_try_decode_numeric_canonical(t, letters) IS NOT DISTINCT FROM CASE WHEN zero IS NULL THEN v END',
     'base62_is_valid(t, letters)',
     'base62_is_canonical(t, letters) = (zero IS NULL)');
 SELECT * FROM wrong('(SELECT * FROM encoded WHERE zero IS NULL) canonical',
@@ -118,6 +121,8 @@ SELECT wrong.* FROM unnest(ARRAY['', '_uuid', '_numeric', '_canonical', '_uuid_c
     wrong('invalid', format($$result('decode%s', t, letters) = error$$, kind));
 SELECT * FROM wrong('invalid',
     'num_nulls(base62_try_decode(t, letters), base62_try_decode_uuid(t, letters)) = 2',
+    'num_nulls(base62_try_decode_canonical(t, letters), base62_try_decode_uuid_canonical(t, letters)) = 2',
+    'num_nulls(base62_try_decode_numeric(t, letters), base62_try_decode_numeric_canonical(t, letters)) = 2',
     'NOT base62_is_valid(t, letters) AND NOT base62_is_canonical(t, letters)');
 
 \echo Texts of a width, and numbers that have none
@@ -128,11 +133,28 @@ CREATE TABLE fixed AS
     FROM line JOIN alphabet ON name = f[2] JOIN (SELECT DISTINCT v, t FROM encoded
         WHERE name = 'standard' AND zero IS NULL) canonical ON v = f[3]::numeric WHERE f[1] IN ('fixed', 'narrow');
 SELECT * FROM wrong('fixed',
-    $$result('encode_fixed_uuid', u::text, w, letters) = t$$,
-    $$result('encode_fixed_numeric', v::text, w, letters) = t$$,
+    $$result('encode_uuid_fixed', u::text, w, letters) = t$$,
+    $$result('encode_numeric_fixed', v::text, w, letters) = t$$,
     $$n IS NULL OR result('encode_fixed', n::text, w, letters) = t$$,
-    $$w <> '22' OR name <> 'standard' OR base62_encode_key_uuid(u) = t$$,
+    $$w <> '22' OR name <> 'standard' OR base62_encode_uuid_key(u) = t$$,
     $$w <> '22' OR name <> 'standard' OR n IS NULL OR base62_encode_key(n) = t$$);
+
+\echo Texts of exactly a width, and others
+CREATE TABLE exact AS
+    SELECT name, letters, f[3] w, text_of(f[4]) t, v, bigint_of(v) n, uuid_of(v) u,
+        CASE WHEN v IS NULL THEN error(VARIADIC f[5:])
+            WHEN bigint_of(v) IS NULL THEN '22003 the number is 2^63 or more; use base62_decode_numeric_fixed' END
+            || shown(text_of(f[4])) error
+    FROM line JOIN alphabet ON name = f[2], LATERAL (SELECT CASE f[5] WHEN 'number' THEN f[6]::numeric END) number (v)
+    WHERE f[1] = 'exact' AND f[3]::numeric BETWEEN 1 AND 1000 AND text_of(f[4]) IS NOT NULL;
+SELECT count(error) > 300, count(n) > 100, count(v) - count(n) > 100 FROM exact;
+SELECT * FROM wrong('exact',
+    $$result('decode_fixed', t, w, letters) = coalesce(error, n::text)$$,
+    $$result('decode_uuid_fixed', t, w, letters) = coalesce(u::text, error)$$,
+    $$result('decode_numeric_fixed', t, w, letters) = coalesce(v::text, error)$$,
+    'base62_try_decode_fixed(t, w::integer, letters) IS NOT DISTINCT FROM n',
+    'base62_try_decode_uuid_fixed(t, w::integer, letters) IS NOT DISTINCT FROM u',
+    'base62_try_decode_numeric_fixed(t, w::integer, letters) IS NOT DISTINCT FROM v');
 
 \echo The first and the last number and text of a prefix, and whether enough ranges are below 2^63, across it and above it
 CREATE TABLE span AS
@@ -145,11 +167,11 @@ SELECT count(*) FILTER (WHERE bigint_of(high) IS NOT NULL) > 50 below,
     count(*) FILTER (WHERE bigint_of(low) IS NULL AND low IS NOT NULL) > 50 above,
     count(*) FILTER (WHERE error IS NOT NULL) > 50 invalid FROM span;
 SELECT wrong.* FROM (VALUES ('first', 'low'), ('last', 'high')) bound (name, number), wrong('span',
-    format($$result('range_%s', p, w, letters) IS NOT DISTINCT FROM coalesce(error,
+    format($$result('%s_number', p, w, letters) IS NOT DISTINCT FROM coalesce(error,
         CASE WHEN bigint_of(low) IS NOT NULL THEN least(%s, 9223372036854775807)::text END)$$, bound.name, number),
-    format($$result('range_%s_numeric', p, w, letters) IS NOT DISTINCT FROM coalesce(error, %s::text)$$,
+    format($$result('%s_numeric', p, w, letters) IS NOT DISTINCT FROM coalesce(error, %s::text)$$,
         bound.name, number),
-    format($$name <> 'standard' OR result('prefix_%s', p, w) IS NOT DISTINCT FROM coalesce(error,
-        result('encode_fixed_numeric', %s::text, w))$$, bound.name, number),
-    format($$name <> 'standard' OR w <> '22' OR result('prefix_%s', p) IS NOT DISTINCT FROM coalesce(error,
-        result('encode_fixed_numeric', %s::text, w))$$, bound.name, number));
+    format($$name <> 'standard' OR result('%s_string', p, w) IS NOT DISTINCT FROM coalesce(error,
+        result('encode_numeric_fixed', %s::text, w))$$, bound.name, number),
+    format($$name <> 'standard' OR w <> '22' OR result('%s_string', p) IS NOT DISTINCT FROM coalesce(error,
+        result('encode_numeric_fixed', %s::text, w))$$, bound.name, number));

@@ -261,7 +261,7 @@ size_t encode(OVER, form how, base62_number number, char *buffer, size_t size) {
 #define VALUE value{Pre}(letters, BYTES(text), length)
 #define SHOWN (length - ZEROS == 22 && shifted(value{Pre}(letters, BYTES(text), ZEROS + 10), 12) >= ACSL_2_128)
 
-/* The table of errors in DEFINITIONS, row by row. All letters are accepted or overflow by their value alone. */
+/* The conditions of DECODING, one by one. All letters are accepted or overflow by their value alone. */
 /*@ requires ALPHABET && TEXT_VALID(text, length) && \valid(number) && \valid(bad);
     requires \separated(number, bad, text + (0 .. length - 1)) && APART(number) && APART(bad);
     assigns *number, *bad;

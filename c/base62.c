@@ -805,6 +805,9 @@ static const uint8_t B62_URN_TEXT[] = "urn:uuid:";
 static const uint8_t B62_PAIR_INDEXES[BASE62_UUID_LENGTH] = {
     0, 2, 4, 6, 9, 11, 14, 16, 19, 21, 24, 26, 28, 30, 32, 34,
 };
+static const uint8_t B62_HEX_DIGITS[16] = {
+    '0', '1', '2', '3', '4', '5', '6', '7', '8', '9', 'a', 'b', 'c', 'd', 'e', 'f',
+};
 /* The values of hexadecimal digits, from '0' to 'f', and 16 for the other bytes between them. */
 static const uint8_t B62_HEX_VALUES[55] = {
     0, 1, 2, 3, 4, 5, 6, 7, 8, 9, 16, 16, 16, 16, 16, 16, 16, 10, 11, 12, 13, 14, 15, 16, 16, 16, 16, 16,
@@ -814,7 +817,7 @@ static const uint8_t B62_HEX_VALUES[55] = {
 /* Returns the character of a hexadecimal digit. */
 static uint8_t hex_digit(uint32_t digit) {
     //@ assert requires: digit < 16;
-    return (uint8_t)(digit < 10 ? '0' + digit : 'a' + (digit - 10));
+    return B62_HEX_DIGITS[digit];
 }
 
 /* Returns an uppercase character of ASCII in lowercase, and any other byte as it is. */

@@ -30,6 +30,7 @@ OPERATORS = [
 TABLES = [
     ("B62_GREATEST", NUMBER, "greatest"),
     ("B62_GREATEST_NARROW", "(?!^)" + NUMBER, "greatest_narrow"),  # No number has no letters.
+    ("B62_HEX_VALUES", NUMBER, "hex_value"), ("B62_PAIR_INDEXES", NUMBER, "pair_index"),
     ("B62_STANDARD", "'A'", "standard_letter"), ("B62_STANDARD", r"\b10\b", "standard_byte"),
     ("B62_ALTERNATIVE", "'A'", "alternative_letter"), ("B62_ALTERNATIVE", r"\b10\b", "alternative_byte"),
 ]

@@ -34,7 +34,8 @@ LAWS = {
     "logic integer decoding": "is_decoded decode decode_fixed uninitialized",
     "logic integer least_of": "is_in_range find_range is_beyond range_is_exact uninitialized",
     "/*@ requires \\valid_read(characters": "makes", "logic integer uuid_value": "number_back_again",
-    "static const unsigned char urn_text": wp.LEMMAS + " begins_with_urn one_kind read_uuid write_uuid one_uuid escape",
+    "static const unsigned char urn_text": wp.LEMMAS + " begins_with_urn compute_braces one_kind read_uuid write_uuid"
+    " one_text_of_uuid one_uuid escape",
     "number_of(\\result) == value": "of_half half version", "logic integer escape_length": "escape",
     "logic integer without_decimals": "compute_decimals index_again",
     "logic integer byte_at_index_length": "texts_by_example index_again",
@@ -66,7 +67,8 @@ POINTER = re.compile("letters|text|prefix|buffer|places|bad|range|BYTES|[A-Z]+_L
 # Changes after which base62.acsl says no less, by their lines.
 SAME = {
     # It contradicts itself where it says something else: entries tell equal letters apart, 62 letters are not distinct
-    # if one is repeated, 64 bits hold no 2^64, no number is 2^128, and two texts at one place are one.
+    # if one is repeated, 64 bits hold no 2^64, no number is 2^128, no byte is 256, and two texts at one place are one.
+    r"&& \forall integer k; 0 <= k < 16 ==> hexadecimal_value(text[start + pair_index(k, places)]) <= 16",
     r"\forall integer i, j; 0 <= i < j < n ==> \true;",
     r"&& \exists integer i; 0 < i < index && letters[i] == letters[index];",
     "predicate is_alphabet{L}(unsigned char *letters) = are_distinct(letters, (62 - 1));",

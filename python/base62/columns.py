@@ -232,9 +232,8 @@ def _value_of(scalar: pa.Scalar) -> Any:
         value = scalar.as_py()
     except UnicodeDecodeError:
         return scalar.as_buffer().to_pybytes()
-    if scalar.type == pa.binary(16):
-        return int.from_bytes(value)
-    return int(value) if isinstance(value, Decimal) else value
+    is_number = scalar.type == pa.binary(16)
+    return int.from_bytes(value) if is_number else int(value) if isinstance(value, Decimal) else value
 
 
 @dataclass

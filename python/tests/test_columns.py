@@ -201,8 +201,8 @@ class Arrays(ColumnsTestCase):
                 self.check(columns.decode, column, expected, pa.int64())
             else:
                 error = self.raised(base62.InvalidByteError, columns.decode, column)
-                self.assertEqual(error.__notes__, [f"Row {error.row} of the column is {column[bad + 1].as_py()!r}"])
-                self.assertEqual(error.row, bad + 1)
+                notes = [f"Row {bad + 1} of the column is {column[bad + 1].as_py()!r}"]
+                self.assertEqual((error.row, error.__notes__), (bad + 1, notes))
 
     def test_empty(self) -> None:
         """Columns with no row, and with missing ones only."""

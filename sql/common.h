@@ -114,7 +114,7 @@ static inline bool check_width(int64_t width, call_error *error) {
     return valid || fail_with(error, INVALID_PARAMETER, "the width is not from 1 to 1000: %lld", (long long)width);
 }
 
-/* What tells functions apart that share code. Those with CANONICAL or FIXED decode only canonical strings or those of
+/* What distinguishes functions that share code. Those with CANONICAL or FIXED decode only canonical strings or those of
  * a width. Those with TRY store no error of a string. */
 enum { CANONICAL = 1, FIXED = 2, TRY = 4, OF_UUID = 8, LAST = 16 };
 

@@ -213,6 +213,8 @@ class Arrays(ColumnsTestCase):
                 self.check(call, column, [], of_result)
             for column in ([None], [nan], [pd.NA], pd.Series([None]), pd.Series([nan]), np.array([nan])):
                 self.check(call, column, [None], of_result)
+        # Arrow lets such an array have no offset.
+        self.check(columns.decode, pa.Array.from_buffers(pa.string(), 0, [None, *[pa.py_buffer(b"")] * 2]), [])
 
     def test_two_gibibytes(self) -> None:
         """The last string of a column is decoded again."""
@@ -252,7 +254,7 @@ class Objects(ColumnsTestCase):
             pd.Series(numbers, dtype="Int64", index=[5, 5, 5, 5]),
             *(pd.Series(numbers, dtype=it) for it in ("uint64[pyarrow]", object)),
             # As those of pandas 3.
-            type("Series", (pd.Series,), {"__arrow_c_stream__": None})(numbers, dtype=object),
+            type("Series", (pd.Series,), {"__arrow_c_stream__": None})(numbers, dtype="Int64"),
             *(pd.Series(pd.array(numbers, "Int64")).astype("category"), pd.array(numbers, "UInt64")),
             pd.DataFrame({"id": pd.array(numbers, "Int64")}, index=[5, 4, 3, 2]),
         ):

@@ -64,7 +64,7 @@ class Input:
         self.of, self.encodes, self.letters = of, encodes, of.choice(ALPHABETS)
         self.form, self.new_form = (of.choice(it) for it in FORMS[encodes])
         # A width, or -1. To decode canonical strings it is -2.
-        self.option = of.choice([-1, -1 if encodes else -2, 5, 22, of.randrange(40)])
+        self.option = of.choice([-1, -1 if encodes else -2, 0, 5, 22, of.randrange(40)])
         self.offset, self.count, self.coerces = of.choice([0, of.randrange(20)]), of.randrange(20), of.random() < 0.5
         valid = [of.random() < 0.8 for _ in range(self.offset + self.count)]
         self.validity = buffer(bitmap(valid)) if of.random() < 0.7 else None

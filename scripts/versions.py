@@ -8,7 +8,7 @@ from pathlib import Path
 HEAD = """\
 # Tested versions
 
-`make check` passed with these, as it printed. `scripts/versions.py` writes this page.
+The checks of `make check` passed with these, as they printed. `scripts/versions.py` writes this page.
 """
 
 found: dict[str, dict[str, list[str]]] = {}

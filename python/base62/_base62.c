@@ -127,7 +127,11 @@ int number_or_raise(struct state *state, PyObject *argument, base62_number *numb
 
 /* A width above PY_SSIZE_T_MAX becomes PY_SSIZE_T_MAX: no string is so long, so no call has another result. */
 static int width_or_raise(PyObject *argument, size_t *width) {
-    Py_ssize_t found = PyNumber_AsSsize_t(argument, NULL);
+    int overflow = 0;
+    long long found = PyLong_CheckExact(argument) ? PyLong_AsLongLongAndOverflow(argument, &overflow)
+                                                  : PyNumber_AsSsize_t(argument, NULL);
+    if (overflow > 0 || found > PY_SSIZE_T_MAX)
+        found = PY_SSIZE_T_MAX;
     *width = (size_t)found;
     if (found < 0 && PyErr_Occurred() == NULL)
         PyErr_SetString(PyExc_ValueError, "the width is negative");

@@ -172,7 +172,7 @@ def _readable(column: Any, kind: _Kind) -> Any:
         column = column.to_numpy()  # An iterator of pandas is slow.
     if not hasattr(column, "__iter__") or hasattr(column, "__arrow_c_array__") or hasattr(column, "__arrow_c_stream__"):
         return column
-    may_be_read_once = not hasattr(column, "__getitem__") or iter(column) is column
+    may_be_read_once = not hasattr(column, "__getitem__") or hasattr(column, "__next__")
     return list(column) if may_be_read_once else column
 
 

@@ -233,8 +233,9 @@ class Arrays(ColumnsTestCase):
 
     def test_shared_strings(self) -> None:
         """Strings of 2^31 bytes and more, which share those of a view. Only LZ is valid."""
-        views = pa.concat_arrays([pa.array(["-" * 2**27, "LZ"], pa.string_view())] * 17)
-        self.check(lambda it: columns.decode(it, errors="coerce"), views, [None, 1337] * 17)
+        for of_type in (pa.string_view(), pa.binary_view()):
+            views = pa.concat_arrays([pa.array(["-" * 2**27, "LZ"], of_type)] * 17)
+            self.check(lambda it: columns.decode(it, errors="coerce"), views, [None, 1337] * 17)
 
 
 class Objects(ColumnsTestCase):

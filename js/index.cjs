@@ -191,22 +191,17 @@ function createArguments({ library, bytes, words, halves, enter, leave }) {
   }
 
   function writeUuid(uuid) {
-    if (typeof uuid === 'string') writeUuidString(uuid);
-    else writeUuidBytes(uuid);
+    if (typeof uuid === 'string') {
+      const size = writeText(uuid);
+      enter();
+      if (leave(base62_uuid_from_string(TEXT, size, UUID)) !== OK) throw invalidUuid();
+    } else {
+      if (!isUint8Array(uuid)) throw wrongType('a UUID is a string or a Uint8Array', uuid);
+      if (lengthOf.call(uuid) !== UUID_LENGTH) throw invalidUuid();
+      setBytes.call(bytes, uuid, UUID);
+    }
     enter();
     leave(base62_from_uuid(NUMBER, UUID));
-  }
-
-  function writeUuidString(string) {
-    const size = writeText(string);
-    enter();
-    if (leave(base62_uuid_from_string(TEXT, size, UUID)) !== OK) throw invalidUuid();
-  }
-
-  function writeUuidBytes(uuid) {
-    if (!isUint8Array(uuid)) throw wrongType('a UUID is a string or a Uint8Array', uuid);
-    if (lengthOf.call(uuid) !== UUID_LENGTH) throw invalidUuid();
-    setBytes.call(bytes, uuid, UUID);
   }
 
   // Writes the first piece of a text. Returns its length. If it is less than PIECE_LENGTH, nothing follows. Nearly all

@@ -116,8 +116,6 @@ function callsOf(copy) {
     [() => keyRange('5')[0], 5n * 62n ** 21n],
     [() => encodeFixed(1337, 30, alphabet), 'Pd'.padStart(30, '2')],
     [() => encodeUuid('550e8400-e29b-41d4-a716-446655440000'), '2aUyqjCzEIiEcYMKj7TZtw'],
-    [() => encodeUuid('{550e8400e29b41d4a716446655440000}'), '2aUyqjCzEIiEcYMKj7TZtw'],
-    [() => encodeUuid('URN:UUID:550e8400-e29b-41d4-a716-446655440000'), '2aUyqjCzEIiEcYMKj7TZtw'],
     [() => decodeUuid('2aUyqjCzEIiEcYMKj7TZtw'), '550e8400-e29b-41d4-a716-446655440000'],
   ];
 }
@@ -251,12 +249,6 @@ test('a script of the package defines no name, and runs twice', () => {
     const { encode } = context.module.exports.load?.(compiled()) ?? context.module.exports;
     assert.equal(encode(1337), 'LZ');
   }
-});
-
-test('a context needs to have atob alone', () => {
-  const { decode, encode } = exportsIn(createContext({ atob }), 'base62-proved');
-  assert.equal(decode(encode(1337)), 1337n);
-  assert.throws(() => exportsIn(createContext(), 'base62-proved'), /^ReferenceError: atob is not defined$/);
 });
 
 test('no descriptor inherits what Object.prototype has', () => {

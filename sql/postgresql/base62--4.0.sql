@@ -27,10 +27,10 @@ CREATE FUNCTION base62_encode_numeric(number numeric, alphabet text) RETURNS tex
 COMMENT ON FUNCTION base62_encode_numeric(numeric, text) IS 'the shortest string of a numeric in a custom alphabet';
 
 CREATE FUNCTION base62_encode_key(number bigint) RETURNS base62_key
-    AS 'MODULE_PATHNAME', 'pg_base62_encode_int8_key' LANGUAGE c IMMUTABLE STRICT PARALLEL SAFE;
+    AS 'MODULE_PATHNAME', 'pg_base62_encode_int8_fixed' LANGUAGE c IMMUTABLE STRICT PARALLEL SAFE;
 COMMENT ON FUNCTION base62_encode_key(bigint) IS 'the base62 string of a number, 22 characters wide';
 CREATE FUNCTION base62_encode_uuid_key(id uuid) RETURNS base62_key
-    AS 'MODULE_PATHNAME', 'pg_base62_encode_uuid_key' LANGUAGE c IMMUTABLE STRICT PARALLEL SAFE;
+    AS 'MODULE_PATHNAME', 'pg_base62_encode_uuid_fixed' LANGUAGE c IMMUTABLE STRICT PARALLEL SAFE;
 COMMENT ON FUNCTION base62_encode_uuid_key(uuid) IS 'the base62 string of a UUID, 22 characters wide';
 -- The alphabet is of the domain, as a prefix is below: a result has the collation of its arguments.
 CREATE FUNCTION base62_encode_fixed(number bigint, width integer) RETURNS base62_key

@@ -271,8 +271,6 @@ SQL_FUNCTION(pg_base62_encode_int8, encode(fcinfo, get_int8(fcinfo, 0)))
 SQL_FUNCTION(pg_base62_encode_uuid, encode(fcinfo, get_uuid(fcinfo, 0)))
 SQL_FUNCTION(pg_base62_encode_numeric, encode(fcinfo, get_numeric(fcinfo, 0)))
 
-SQL_FUNCTION(pg_base62_encode_int8_key, encode_fixed(fcinfo, get_int8(fcinfo, 0)))
-SQL_FUNCTION(pg_base62_encode_uuid_key, encode_fixed(fcinfo, get_uuid(fcinfo, 0)))
 SQL_FUNCTION(pg_base62_encode_int8_fixed, encode_fixed(fcinfo, get_int8(fcinfo, 0)))
 SQL_FUNCTION(pg_base62_encode_uuid_fixed, encode_fixed(fcinfo, get_uuid(fcinfo, 0)))
 SQL_FUNCTION(pg_base62_encode_numeric_fixed, encode_fixed(fcinfo, get_numeric(fcinfo, 0)))

@@ -33,14 +33,8 @@ static void *reallocate(void *memory, int size) {
 
 static const char *current = "setup";
 
-static void check(int holds, const char *condition) {
-    if (holds)
-        return;
-    fprintf(stderr, "allocation_failures: %s: %s\n", current, condition);
-    exit(1);
-}
-
-#define CHECK(condition) check(condition, #condition)
+#define CHECK(condition)                                                                                               \
+    ((condition) ? (void)0 : (fprintf(stderr, "allocation_failures: %s: %s\n", current, #condition), exit(1)))
 
 #define CUSTOM "'zyxwvutsrqponmlkjihgfedcbaZYXWVUTSRQPONMLKJIHGFEDCBA9876543210'"
 #define UUID "00000000-0000-0000-0000-000000000539"

@@ -2,6 +2,7 @@
 # Copyright (c) 2026 the maintainers of base62 for Rattle
 """Tests of SQLite's functions, in the module that BASE62_SQLITE names, by the values of all packages."""
 
+import contextlib
 import itertools
 import json
 import os
@@ -158,15 +159,10 @@ def sample(name: str, count: int) -> tuple[Any, ...]:
     return (first, *width, OWN)[:count]
 
 
-def calls() -> list[tuple[str, tuple[Any, ...]]]:
-    """Each function, without the prefix of its name, with such arguments."""
-    db = opened()
+# Each function, without the prefix of its name, with such arguments.
+with contextlib.closing(opened()) as db:
     listed = db.execute("SELECT substr(name, 8), narg FROM pragma_function_list WHERE name LIKE 'base62%'").fetchall()
-    db.close()
-    return [(name, sample(name, count)) for name, count in listed]
-
-
-CALLS = calls()
+CALLS = [(name, sample(name, count)) for name, count in listed]
 
 
 class Arguments(Case):

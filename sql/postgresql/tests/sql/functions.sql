@@ -1,7 +1,7 @@
+\set ECHO none
 -- SPDX-License-Identifier: MIT
 -- Copyright (c) 2026 the maintainers of base62 for Rattle
 -- Functions, their attributes and arguments, and custom alphabets that change.
-\set ECHO none
 \pset format unaligned
 \pset tuples_only on
 CREATE VIEW functions AS SELECT p.*

@@ -1,7 +1,7 @@
+\set ECHO none
 -- SPDX-License-Identifier: MIT
 -- Copyright (c) 2026 the maintainers of base62 for Rattle
 -- The results for the values that all packages are tested with. Of these only the rows that differ are printed.
-\set ECHO none
 \pset format unaligned
 \pset tuples_only on
 CREATE EXTENSION base62;

@@ -62,8 +62,10 @@ const isUnsignedSafeInteger = (number) => Number.isSafeInteger(number) && number
 // Names the type of a value, of which no code is run.
 const nameOfType = (value) => (value === null ? 'null' : typeOf.call(value) ?? typeof value);
 
+const wrongType = (wanted, given, hint = '') => new TypeError(`${wanted}, not ${nameOfType(given)}${hint}`);
+
 function checkWidth(width) {
-  if (typeof width !== 'number') throw new TypeError(`a width is a Number, not ${nameOfType(width)}`);
+  if (typeof width !== 'number') throw wrongType('a width is a Number', width);
   if (!isUnsignedSafeInteger(width)) throw new Base62Error('a width is an integer from 0 to 2**53 - 1', 'OUT_OF_RANGE');
 }
 
@@ -72,20 +74,7 @@ const outOfRange = () =>
 
 function notANumber(given) {
   const hint = typeof given === 'string' ? ": give BigInt('1337')" : '';
-  return new TypeError(`a number is a Number or a BigInt, not ${nameOfType(given)}${hint}`);
-}
-
-function notAText(given) {
-  return new TypeError(`an encoded string or a prefix is a string or a Uint8Array, not ${nameOfType(given)}`);
-}
-
-function notAUuid(given) {
-  return new TypeError(`a UUID is a string or a Uint8Array, not ${nameOfType(given)}`);
-}
-
-function notAValue(given) {
-  const wanted = 'a value is a Number, a BigInt, or a UUID as a string or a Uint8Array';
-  return new TypeError(`${wanted}, not ${nameOfType(given)}`);
+  return wrongType('a number is a Number or a BigInt', given, hint);
 }
 
 function invalidUuid() {
@@ -169,22 +158,17 @@ function createArguments({ library, bytes, words, halves, enter, leave }) {
   }
 
   function writeUuid(uuid) {
-    if (typeof uuid === 'string') writeUuidString(uuid);
-    else writeUuidBytes(uuid);
+    if (typeof uuid === 'string') {
+      const size = writeText(uuid);
+      enter();
+      if (leave(base62_uuid_from_string(TEXT, size, UUID)) !== OK) throw invalidUuid();
+    } else {
+      if (!isUint8Array(uuid)) throw wrongType('a UUID is a string or a Uint8Array', uuid);
+      if (lengthOf.call(uuid) !== UUID_LENGTH) throw invalidUuid();
+      setBytes.call(bytes, uuid, UUID);
+    }
     enter();
     leave(base62_from_uuid(NUMBER, UUID));
-  }
-
-  function writeUuidString(string) {
-    const size = writeText(string);
-    enter();
-    if (leave(base62_uuid_from_string(TEXT, size, UUID)) !== OK) throw invalidUuid();
-  }
-
-  function writeUuidBytes(uuid) {
-    if (!isUint8Array(uuid)) throw notAUuid(uuid);
-    if (lengthOf.call(uuid) !== UUID_LENGTH) throw invalidUuid();
-    setBytes.call(bytes, uuid, UUID);
   }
 
   // Writes the first piece of a text. Returns its length. If it is less than PIECE_LENGTH, nothing follows. Nearly all
@@ -207,7 +191,7 @@ function createArguments({ library, bytes, words, halves, enter, leave }) {
   const writePiece = (text, start) => (typeof text === 'string' ? writeUtf8(text, start) : writeBytes(text, start));
 
   function writeBytes(text, start) {
-    if (!isUint8Array(text)) throw notAText(text);
+    if (!isUint8Array(text)) throw wrongType('an encoded string or a prefix is a string or a Uint8Array', text);
     const length = lengthOf.call(text);
     const size = Math.min(length - start, PIECE_LENGTH);
     setBytes.call(bytes, size === length ? text : partOf(text, start, size), TEXT);
@@ -370,7 +354,7 @@ export function load(module) {
     checkWidth(width);
     if (typeof value === 'number' || typeof value === 'bigint') writeNumber(value);
     else if (typeof value === 'string' || isUint8Array(value)) writeUuid(value);
-    else throw notAValue(value);
+    else throw wrongType('a value is a Number, a BigInt, or a UUID as a string or a Uint8Array', value);
     writeAlphabet(alphabet);
     const length = leave(enter().base62_encode_fixed_with(ALPHABET, NUMBER, TEXT, Math.min(width, MAX_DIGITS)));
     if (length === 0) throw new Base62Error('the number needs more characters than the width', 'OUT_OF_RANGE');
@@ -483,11 +467,7 @@ export function load(module) {
   }
 
   const keyRange = (prefix) => prefixRange(prefix, KEY_LENGTH);
-
-  function keyBounds(prefix) {
-    const range = keyRange(prefix);
-    return range && [encodeKey(range[0]), encodeKey(range[1])];
-  }
+  const keyBounds = (prefix) => keyRange(prefix)?.map(encodeKey) ?? null;
 
   return {
     Alphabet, Base62Error, decode, decodeCanonical, decodeFixed, decodeKey, decodeNumber, decodeNumberCanonical,

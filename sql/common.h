@@ -115,7 +115,7 @@ static inline bool check_width(int64_t width, call_error *error) {
 }
 
 /* What distinguishes functions that share code. Those with CANONICAL or FIXED decode only canonical strings or those of
- * a width. Those with TRY store no error of a string. */
+ * a width, and those with FIXED encode at a width. Those with TRY store no error of a string. */
 enum { CANONICAL = 1, FIXED = 2, TRY = 4, OF_UUID = 8, LAST = 16 };
 
 /* A string to decode. Only FIXED has a width. */

@@ -1,15 +1,8 @@
 # SPDX-License-Identifier: MIT
 # Copyright (c) 2026 the maintainers of base62 for Rattle
 
-# What the modules of SQLite and DuckDB share. Each Makefile says how its module is built and tested.
-#
-#     make                 builds it
-#     make install         installs it in $(folder), and its licence in $(DESTDIR)$(docdir)
-#     make check           tests it as it was built, and make installcheck as it was installed
-#     make uninstall
-#     make clean
-#
-# PYTHON runs the tests.
+# What the modules of SQLite and DuckDB share. Each Makefile says how its module is built and tested. The targets are those
+# of ../Makefile and `make check`, which tests the module as it was built. PYTHON runs the tests.
 prefix = /usr/local
 libdir = $(prefix)/lib
 CFLAGS = -O2

@@ -23,24 +23,12 @@ const fields = {
   },
 };
 
-// An error that the page itself finds, with the index of a character or -1.
-class InputError extends Error {
-  constructor(message, index = -1) {
-    super(message);
-    this.index = index;
-  }
-}
-
 function digitsOf(typed, prefix, digits) {
-  if (typed === '') throw new InputError('Nothing is typed');
+  if (typed === '') throw new Error('Nothing is typed');
   const index = [...typed].findIndex((it) => !digits.includes(it));
-  if (index >= 0) throw new InputError(`The character at index ${index} is not a digit`, index);
+  if (index >= 0) throw Object.assign(new Error(`The character at index ${index} is not a digit`), { index });
   const number = BigInt(prefix + typed);
-  try {
-    base62.encode(number);
-  } catch {
-    throw new InputError('The number is 2^128 or more');
-  }
+  if (number >> 128n) throw new Error('The number is 2^128 or more');
   return number;
 }
 

@@ -2,11 +2,7 @@
 
 function readRows(file) {
   const rows = {};
-  for (const line of file.split('\n')) {
-    if (line === '' || line.startsWith('#')) continue;
-    const [kind, ...fields] = line.split('\t');
-    (rows[kind] ??= []).push(fields);
-  }
+  for (const [, kind, fields] of file.matchAll(/^(\w+)\t(.*)/gm)) (rows[kind] ??= []).push(fields.split('\t'));
   return rows;
 }
 
@@ -28,11 +24,9 @@ function same(actual, wanted) {
 }
 
 function sameRange(actual, wanted) {
-  same(actual === null, wanted === null);
-  if (wanted === null) return;
+  if (wanted === null) return same(actual, null);
   same(Array.isArray(actual) && actual.length, 2);
-  same(actual[0], BigInt(wanted[0]));
-  same(actual[1], BigInt(wanted[1]));
+  wanted.forEach((end, i) => same(actual[i], BigInt(end)));
 }
 
 function faultOf(call) {
@@ -109,7 +103,6 @@ function contextOf(base62, rows) {
   const letters = Object.fromEntries(rows.alphabet.map(([name, field]) => [name, textOf(field)]));
   const names = Object.keys(letters).filter((it) => isAscii(letters[it]));
   const alphabets = Object.fromEntries(names.map((it) => [it, new Alphabet(letters[it])]));
-  const { standard, alternative, readable: custom } = letters;
   const refused = (call, ...wanted) => refuses(base62, call, ...wanted);
   // Runs a check over two alphabets with strings and arrays of many lengths.
   const forEachLength = (check) => {
@@ -122,8 +115,7 @@ function contextOf(base62, rows) {
   };
   // The rows of a kind whose alphabet is one here.
   const rowsOf = (kind) => rows[kind].filter(([name]) => name in alphabets);
-  const ofAlphabets = { letters, Alphabet, alphabets, alphabet: alphabets.readable, standard, alternative, custom };
-  return { base62, rows, rowsOf, ...ofAlphabets, refused, forEachLength };
+  return { base62, rows, rowsOf, letters, Alphabet, alphabets, alphabet: alphabets.readable, refused, forEachLength };
 }
 
 const faults = {
@@ -157,19 +149,14 @@ function wantedOf([kind, ...numbers], message) {
 // A Number has the text of its BigInt, or is not safe.
 function sameNumber(base62, bigint, text, alphabet, refused) {
   const number = Number(bigint);
-  if (Number.isSafeInteger(number)) {
-    same(base62.encode(number, alphabet), text);
-    same(base62.digitCount(number), text.length);
-    same(base62.decodeNumber(text, alphabet), number);
-    same(base62.decodeNumberCanonical(text, alphabet), number);
-    same(base62.decodeNumberFixed(text, text.length, alphabet), number);
-  } else {
-    const said = 'the number is above 2**53 - 1: use';
-    refused(() => base62.encode(number, alphabet), 'OUT_OF_RANGE');
-    refused(() => base62.decodeNumber(text, alphabet), 'UNSAFE_INTEGER', `${said} decode`);
-    refused(() => base62.decodeNumberCanonical(text, alphabet), 'UNSAFE_INTEGER', `${said} decodeCanonical`);
-    const ofFixed = () => base62.decodeNumberFixed(text, text.length, alphabet);
-    refused(ofFixed, 'UNSAFE_INTEGER', `${said} decodeFixed`);
+  const isSafe = Number.isSafeInteger(number);
+  if (isSafe) same(base62.encode(number, alphabet), text);
+  else refused(() => base62.encode(number, alphabet), 'OUT_OF_RANGE');
+  if (isSafe) same(base62.digitCount(number), text.length);
+  for (const [form, ...width] of [[''], ['Canonical'], ['Fixed', text.length]]) {
+    const call = () => base62[`decodeNumber${form}`](text, ...width, alphabet);
+    if (isSafe) same(call(), number);
+    else refused(call, 'UNSAFE_INTEGER', `the number is above 2**53 - 1: use decode${form}`);
   }
 }
 
@@ -356,7 +343,7 @@ const tests = {
     }
   },
 
-  'arguments of wrong types are rejected'({ base62, alphabet, Alphabet, standard }) {
+  'arguments of wrong types are rejected'({ base62, letters, alphabet, Alphabet }) {
     const others = [undefined, null, 5, 5n, true, [], ['LZ'], {}, Symbol('LZ'), Object('LZ'), convertible, trap];
     const arrays = [new Uint8ClampedArray(2), new Int8Array(2), new ArrayBuffer(2), new DataView(new ArrayBuffer(2))];
     const { decodeKey, encodeUuid, keyRange, keyBounds } = base62;
@@ -367,7 +354,7 @@ const tests = {
       if (other !== undefined) refusesType(() => base62.encode(5, other));
     }
     const likenesses = [Object.create(Alphabet.prototype), Object.create(alphabet), new Proxy(alphabet, {})];
-    for (const other of [standard, ...likenesses]) {
+    for (const other of [letters.standard, ...likenesses]) {
       for (const call of decoders) refusesType(() => call('LZ', other));
       refusesType(() => base62.prefixRange('LZ', 7, other));
       refusesType(() => base62.encodeFixed(5, 7, other));
@@ -392,19 +379,12 @@ const tests = {
     }
   },
 
-  'the error names what was passed as an alphabet'({ base62, custom }) {
-    const index = 'an alphabet is an Alphabet, not 0: give map a function such as (n) => encode(n)';
-    const letters = 'an alphabet is an Alphabet, not a string: create one with new Alphabet(..)';
-    const other = 'an alphabet is an Alphabet of this copy of base62-proved';
-    const calls = [
-      [() => [1, 2, 3].map(base62.encode), index],
-      [() => ['LZ'].map(base62.decode), index],
-      [() => base62.encode(1337, custom), letters],
-      [() => base62.encode(1337, null), other],
-      [() => base62.encodeFixed(1337, 7, custom), letters],
-      [() => base62.prefixRange('Pd', 7, custom), letters],
-    ];
-    for (const [call, said] of calls) same(faultOf(call) instanceof TypeError && faultOf(call).message, said);
+  'the error names what was passed as an alphabet'({ base62, letters }) {
+    for (const [call, said] of [
+      [() => [1, 2, 3].map(base62.encode), ', not 0: give map a function such as (n) => encode(n)'],
+      [() => base62.encode(1337, letters.readable), ', not a string: create one with new Alphabet(..)'],
+      [() => base62.encode(1337, null), ' of this copy of base62-proved'],
+    ]) same(faultOf(call).message, `an alphabet is an Alphabet${said}`);
   },
 
   'valid and invalid UUIDs'({ base62, rows, refused }) {
@@ -418,16 +398,12 @@ const tests = {
     for (const length of [0, 15, 17]) {
       for (const call of calls) refused(() => call(new Uint8Array(length)), 'INVALID_UUID');
     }
-    for (const [first, last] of ['{x', 'x}', '}{']) {
-      const wrong = `${first}550e8400e29b41d4a716446655440000${last}`;
-      for (const call of calls) refused(() => call(wrong), 'INVALID_UUID');
-    }
     const forms = 'with hyphens or without, in braces or after urn:uuid:, or 16 bytes';
     refused(() => base62.encodeUuid(''), 'INVALID_UUID', `a UUID is 32 hexadecimal digits, ${forms}`);
   },
 
-  'an alphabet has its characters'({ base62, rows, letters, alphabets, refused, Alphabet, ...strings }) {
-    const { standard, alternative, custom } = strings;
+  'an alphabet has its characters'({ base62, rows, letters, alphabets, refused, Alphabet }) {
+    const { standard, alternative, readable: custom } = letters;
     same(Alphabet.standard.characters, standard);
     same(Alphabet.alternative.characters, alternative);
     for (const [name, it] of Object.entries(letters)) {
@@ -514,8 +490,8 @@ const tests = {
     });
   },
 
-  'random numbers give the texts of a plain loop'({ base62, standard }) {
-    const plain = (number) => (number < 62n ? '' : plain(number / 62n)) + standard[Number(number % 62n)];
+  'random numbers give the texts of a plain loop'({ base62, letters }) {
+    const plain = (number) => (number < 62n ? '' : plain(number / 62n)) + letters.standard[Number(number % 62n)];
     // Numbers by a product of 128 bits, of each length.
     let drawn = 1n;
     for (let i = 0; i < 100_000; i++) {

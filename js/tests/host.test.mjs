@@ -93,14 +93,13 @@ const long = new Uint8Array(Buffer.from('LZ'.padStart(70_000, '0')));
 
 // Calls of a copy that use all of it, and what each returns.
 function callsOf(copy) {
-  const { Alphabet, decode, decodeFixed, decodeKey, decodeUuid, encode, encodeFixed, encodeUuid, keyRange } = copy;
+  const { Alphabet, decode, decodeFixed, decodeUuid, encode, encodeFixed, encodeUuid, keyRange } = copy;
   const alphabet = new Alphabet(custom);
   return [
     [() => decode(long), 1337n],
     [() => encode(1337), 'LZ'],
     [() => encode(2n ** 127n), '3tX16dB2jpss4tZORYcqo4'],
     [() => encode(1337, alphabet), 'Pd'],
-    [() => encode(1337, Alphabet.alternative), 'lz'],
     [() => encode(1337, new Alphabet(custom)), 'Pd'],
     [() => decode('7n42DGM5Tflk9n8mt7Fhc7'), 2n ** 128n - 1n],
     [() => decode('Pd'.padStart(20_000, '2'), alphabet), 1337n],
@@ -110,14 +109,10 @@ function callsOf(copy) {
     [() => decodeFixed('LZ', 3), 'Encoded input does not have the given width'],
     [() => decodeFixed('LZ\u20ac', 5), "Encoded input contains the invalid byte b'\\xe2' at index 2"],
     [() => decodeFixed(long, 70_000), 1337n],
-    [() => decodeKey('7n42DGM5Tflk9n8mt7Fhc7'), 2n ** 128n - 1n],
     [() => copy.decodeNumberFixed('00LZ', 4), 1337],
-    [() => copy.decodeUuidFixed('2aUyqjCzEIiEcYMKj7TZtw', 22), '550e8400-e29b-41d4-a716-446655440000'],
     [() => keyRange('5')[0], 5n * 62n ** 21n],
     [() => encodeFixed(1337, 30, alphabet), 'Pd'.padStart(30, '2')],
     [() => encodeUuid('550e8400-e29b-41d4-a716-446655440000'), '2aUyqjCzEIiEcYMKj7TZtw'],
-    [() => encodeUuid('{550e8400e29b41d4a716446655440000}'), '2aUyqjCzEIiEcYMKj7TZtw'],
-    [() => encodeUuid('URN:UUID:550e8400-e29b-41d4-a716-446655440000'), '2aUyqjCzEIiEcYMKj7TZtw'],
     [() => decodeUuid('2aUyqjCzEIiEcYMKj7TZtw'), '550e8400-e29b-41d4-a716-446655440000'],
   ];
 }
@@ -251,12 +246,6 @@ test('a script of the package defines no name, and runs twice', () => {
     const { encode } = context.module.exports.load?.(compiled()) ?? context.module.exports;
     assert.equal(encode(1337), 'LZ');
   }
-});
-
-test('a context needs to have atob alone', () => {
-  const { decode, encode } = exportsIn(createContext({ atob }), 'base62-proved');
-  assert.equal(decode(encode(1337)), 1337n);
-  assert.throws(() => exportsIn(createContext(), 'base62-proved'), /^ReferenceError: atob is not defined$/);
 });
 
 test('no descriptor inherits what Object.prototype has', () => {

@@ -203,21 +203,18 @@ static bool set_fixed(struct chunk *chunk, const base62_alphabet *alphabet, base
 /* Functions. Each computes one row, and returns false after an error. */
 
 static inline bool encode(struct chunk *chunk) {
-    base62_number number;
-    const base62_alphabet *alphabet;
-    char text[BASE62_MAX_DIGITS];
-    if (!number_at(chunk, &number) || !alphabet_at(chunk, 1, &alphabet))
-        return false;
-    set_text(chunk, text, encode_shortest(alphabet, number, text));
-    return true;
-}
-
-static inline bool encode_fixed(struct chunk *chunk) {
+    bool fixed = chunk->flags & FIXED;
     base62_number number;
     size_t width;
     const base62_alphabet *alphabet;
-    return number_at(chunk, &number) && width_at(chunk, &width) && alphabet_at(chunk, 2, &alphabet) &&
-           set_fixed(chunk, alphabet, number, width);
+    char text[BASE62_MAX_DIGITS];
+    if (!number_at(chunk, &number) || (fixed && !width_at(chunk, &width)) ||
+        !alphabet_at(chunk, fixed ? 2 : 1, &alphabet))
+        return false;
+    if (fixed)
+        return set_fixed(chunk, alphabet, number, width);
+    set_text(chunk, text, encode_shortest(alphabet, number, text));
+    return true;
 }
 
 static inline bool decode(struct chunk *chunk) {
@@ -300,7 +297,6 @@ static inline bool version(struct chunk *chunk) {
     }
 
 OVER_ROWS(encode)
-OVER_ROWS(encode_fixed)
 OVER_ROWS(decode)
 OVER_ROWS(is_valid)
 OVER_ROWS(string_bound)
@@ -332,10 +328,10 @@ static const struct function {
 } functions[] = {
     {"base62_encode", 1, 2, numbers, {TEXT}, TEXT, 0, encode_rows},
     {"base62_encode_uuid", 1, 2, uuids, {TEXT}, TEXT, 0, encode_rows},
-    {"base62_encode_key", 1, 1, numbers, {0}, TEXT, 0, encode_fixed_rows},
-    {"base62_encode_uuid_key", 1, 1, uuids, {0}, TEXT, 0, encode_fixed_rows},
-    {"base62_encode_fixed", 2, 3, numbers, {BIGINT, TEXT}, TEXT, 0, encode_fixed_rows},
-    {"base62_encode_uuid_fixed", 2, 3, uuids, {BIGINT, TEXT}, TEXT, 0, encode_fixed_rows},
+    {"base62_encode_key", 1, 1, numbers, {0}, TEXT, FIXED, encode_rows},
+    {"base62_encode_uuid_key", 1, 1, uuids, {0}, TEXT, FIXED, encode_rows},
+    {"base62_encode_fixed", 2, 3, numbers, {BIGINT, TEXT}, TEXT, FIXED, encode_rows},
+    {"base62_encode_uuid_fixed", 2, 3, uuids, {BIGINT, TEXT}, TEXT, FIXED, encode_rows},
     {"base62_decode", 1, 2, texts, {TEXT}, BIGINT, 0, decode_rows},
     {"base62_decode_uhugeint", 1, 2, texts, {TEXT}, UHUGEINT, 0, decode_rows},
     {"base62_decode_uuid", 1, 2, texts, {TEXT}, UUID, 0, decode_rows},

@@ -27,10 +27,10 @@ CREATE FUNCTION base62_encode_numeric(number numeric, alphabet text) RETURNS tex
 COMMENT ON FUNCTION base62_encode_numeric(numeric, text) IS 'the shortest string of a numeric in a custom alphabet';
 
 CREATE FUNCTION base62_encode_key(number bigint) RETURNS base62_key
-    AS 'MODULE_PATHNAME', 'pg_base62_encode_int8_key' LANGUAGE c IMMUTABLE STRICT PARALLEL SAFE;
+    AS 'MODULE_PATHNAME', 'pg_base62_encode_int8_fixed' LANGUAGE c IMMUTABLE STRICT PARALLEL SAFE;
 COMMENT ON FUNCTION base62_encode_key(bigint) IS 'the base62 string of a number, 22 characters wide';
 CREATE FUNCTION base62_encode_uuid_key(id uuid) RETURNS base62_key
-    AS 'MODULE_PATHNAME', 'pg_base62_encode_uuid_key' LANGUAGE c IMMUTABLE STRICT PARALLEL SAFE;
+    AS 'MODULE_PATHNAME', 'pg_base62_encode_uuid_fixed' LANGUAGE c IMMUTABLE STRICT PARALLEL SAFE;
 COMMENT ON FUNCTION base62_encode_uuid_key(uuid) IS 'the base62 string of a UUID, 22 characters wide';
 -- The alphabet is of the domain, as a prefix is below: a result has the collation of its arguments.
 CREATE FUNCTION base62_encode_fixed(number bigint, width integer) RETURNS base62_key
@@ -188,8 +188,7 @@ CREATE FUNCTION base62_is_canonical(encoded text, alphabet text) RETURNS boolean
     AS 'MODULE_PATHNAME', 'pg_base62_is_canonical' LANGUAGE c IMMUTABLE STRICT PARALLEL SAFE;
 COMMENT ON FUNCTION base62_is_canonical(text, text) IS 'whether a string in a custom alphabet is canonical';
 
--- The strings with a prefix are those from the first to the last, and both are null if there is none. If a prefix were
--- text, a column under the order of a language would silently be searched in that order.
+-- If a prefix were text, a column under the order of a language would silently be searched in that order.
 CREATE FUNCTION base62_first_string(prefix base62_key) RETURNS base62_key
     AS 'MODULE_PATHNAME', 'pg_base62_first_string' LANGUAGE c IMMUTABLE STRICT PARALLEL SAFE;
 COMMENT ON FUNCTION base62_first_string(base62_key) IS 'the first string of 22 characters that begins with a prefix';
@@ -203,8 +202,6 @@ CREATE FUNCTION base62_last_string(prefix base62_key, width integer) RETURNS bas
     AS 'MODULE_PATHNAME', 'pg_base62_last_string' LANGUAGE c IMMUTABLE STRICT PARALLEL SAFE;
 COMMENT ON FUNCTION base62_last_string(base62_key, integer) IS 'the last string of a width that begins with a prefix';
 
--- The numbers whose strings of a width begin with a prefix are those from the first to the last, and both are null if
--- there is none. Those of bigint end at 2^63 - 1.
 CREATE FUNCTION base62_first_number(prefix text, width integer) RETURNS bigint
     AS 'MODULE_PATHNAME', 'pg_base62_first_int8' LANGUAGE c IMMUTABLE STRICT PARALLEL SAFE;
 COMMENT ON FUNCTION base62_first_number(text, integer) IS 'the first bigint whose string of a width has a prefix';

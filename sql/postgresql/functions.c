@@ -267,34 +267,20 @@ static Datum number_bound_numeric(FunctionCallInfo fcinfo, int flags) {
         return result;             \
     }
 
-SQL_FUNCTION(pg_base62_encode_int8, encode(fcinfo, get_int8(fcinfo, 0)))
-SQL_FUNCTION(pg_base62_encode_uuid, encode(fcinfo, get_uuid(fcinfo, 0)))
-SQL_FUNCTION(pg_base62_encode_numeric, encode(fcinfo, get_numeric(fcinfo, 0)))
+/* Those that encode and decode a type. */
+#define FUNCTIONS_OF(type)                                                                          \
+    SQL_FUNCTION(pg_base62_encode_##type, encode(fcinfo, get_##type(fcinfo, 0)))                    \
+    SQL_FUNCTION(pg_base62_encode_##type##_fixed, encode_fixed(fcinfo, get_##type(fcinfo, 0)))      \
+    SQL_FUNCTION(pg_base62_decode_##type, decode_##type(fcinfo, 0))                                 \
+    SQL_FUNCTION(pg_base62_decode_##type##_canonical, decode_##type(fcinfo, CANONICAL))             \
+    SQL_FUNCTION(pg_base62_decode_##type##_fixed, decode_##type(fcinfo, FIXED))                     \
+    SQL_FUNCTION(pg_base62_try_decode_##type, decode_##type(fcinfo, TRY))                           \
+    SQL_FUNCTION(pg_base62_try_decode_##type##_canonical, decode_##type(fcinfo, CANONICAL | TRY))   \
+    SQL_FUNCTION(pg_base62_try_decode_##type##_fixed, decode_##type(fcinfo, FIXED | TRY))
 
-SQL_FUNCTION(pg_base62_encode_int8_key, encode_fixed(fcinfo, get_int8(fcinfo, 0)))
-SQL_FUNCTION(pg_base62_encode_uuid_key, encode_fixed(fcinfo, get_uuid(fcinfo, 0)))
-SQL_FUNCTION(pg_base62_encode_int8_fixed, encode_fixed(fcinfo, get_int8(fcinfo, 0)))
-SQL_FUNCTION(pg_base62_encode_uuid_fixed, encode_fixed(fcinfo, get_uuid(fcinfo, 0)))
-SQL_FUNCTION(pg_base62_encode_numeric_fixed, encode_fixed(fcinfo, get_numeric(fcinfo, 0)))
-
-SQL_FUNCTION(pg_base62_decode_int8, decode_int8(fcinfo, 0))
-SQL_FUNCTION(pg_base62_decode_uuid, decode_uuid(fcinfo, 0))
-SQL_FUNCTION(pg_base62_decode_numeric, decode_numeric(fcinfo, 0))
-SQL_FUNCTION(pg_base62_decode_int8_canonical, decode_int8(fcinfo, CANONICAL))
-SQL_FUNCTION(pg_base62_decode_uuid_canonical, decode_uuid(fcinfo, CANONICAL))
-SQL_FUNCTION(pg_base62_decode_numeric_canonical, decode_numeric(fcinfo, CANONICAL))
-SQL_FUNCTION(pg_base62_decode_int8_fixed, decode_int8(fcinfo, FIXED))
-SQL_FUNCTION(pg_base62_decode_uuid_fixed, decode_uuid(fcinfo, FIXED))
-SQL_FUNCTION(pg_base62_decode_numeric_fixed, decode_numeric(fcinfo, FIXED))
-SQL_FUNCTION(pg_base62_try_decode_int8, decode_int8(fcinfo, TRY))
-SQL_FUNCTION(pg_base62_try_decode_uuid, decode_uuid(fcinfo, TRY))
-SQL_FUNCTION(pg_base62_try_decode_numeric, decode_numeric(fcinfo, TRY))
-SQL_FUNCTION(pg_base62_try_decode_int8_canonical, decode_int8(fcinfo, CANONICAL | TRY))
-SQL_FUNCTION(pg_base62_try_decode_uuid_canonical, decode_uuid(fcinfo, CANONICAL | TRY))
-SQL_FUNCTION(pg_base62_try_decode_numeric_canonical, decode_numeric(fcinfo, CANONICAL | TRY))
-SQL_FUNCTION(pg_base62_try_decode_int8_fixed, decode_int8(fcinfo, FIXED | TRY))
-SQL_FUNCTION(pg_base62_try_decode_uuid_fixed, decode_uuid(fcinfo, FIXED | TRY))
-SQL_FUNCTION(pg_base62_try_decode_numeric_fixed, decode_numeric(fcinfo, FIXED | TRY))
+FUNCTIONS_OF(int8)
+FUNCTIONS_OF(uuid)
+FUNCTIONS_OF(numeric)
 
 SQL_FUNCTION(pg_base62_is_valid, is_valid(fcinfo, TRY))
 SQL_FUNCTION(pg_base62_is_canonical, is_valid(fcinfo, CANONICAL | TRY))

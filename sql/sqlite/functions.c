@@ -27,22 +27,28 @@ static int set_out_of_memory(sqlite3_context *context) {
     return 0;
 }
 
-/* The message, such as "the width is not from 1 to 1000", and the value. A conversion of the value before would make its
- * type unspecified. */
-static int set_wrong_value(sqlite3_context *context, const char *message, sqlite3_value *value) {
-    int type = sqlite3_value_type(value);
-    const char *opening = type == SQLITE_TEXT ? "'" : type == SQLITE_BLOB ? "x'" : "";
-    const void *bytes = type == SQLITE_BLOB ? sqlite3_value_blob(value) : sqlite3_value_text(value);
-    size_t length = (size_t)sqlite3_value_bytes(value);
-    call_error error;
-    if (bytes == NULL && (type != SQLITE_BLOB || length != 0))
-        return set_out_of_memory(context);
-    fail_with(&error, INVALID_PARAMETER, "%s", message);
-    show(&error, opening, bytes, length);
-    return set_error(context, &error);
+/* Arguments. Each function that reads one returns 1, or sets the error of the context and returns 0. */
+
+/* Reads a blob, or a value of another type as text. */
+static int read_bytes(sqlite3_context *context, sqlite3_value *value, int type, const char **bytes, size_t *length) {
+    *bytes = type == SQLITE_BLOB ? sqlite3_value_blob(value) : (const char *)sqlite3_value_text(value);
+    *length = (size_t)sqlite3_value_bytes(value);
+    return *bytes != NULL || (type == SQLITE_BLOB && *length == 0) || set_out_of_memory(context);
 }
 
-/* Arguments. Each function that reads one returns 1, or sets the error of the context and returns 0. */
+/* The message, such as "the width is not from 1 to 1000", and the value. A conversion of the value before would make its
+ * type unspecified. Returns 0. */
+static int set_wrong_value(sqlite3_context *context, const char *message, sqlite3_value *value) {
+    int type = sqlite3_value_type(value);
+    const char *bytes;
+    size_t length;
+    call_error error;
+    if (!read_bytes(context, value, type, &bytes, &length))
+        return 0;
+    fail_with(&error, INVALID_PARAMETER, "%s", message);
+    show(&error, type == SQLITE_TEXT ? "'" : type == SQLITE_BLOB ? "x'" : "", bytes, length);
+    return set_error(context, &error);
+}
 
 static int any_null(int argc, sqlite3_value **argv) {
     for (int i = 0; i < argc; i++)
@@ -53,22 +59,17 @@ static int any_null(int argc, sqlite3_value **argv) {
 
 /* A UUID is a blob of 16 bytes, or a string. */
 static int read_uuid(sqlite3_context *context, sqlite3_value *value, base62_number *number) {
-    static const char wrong[] = "the UUID is not 32 hexadecimal digits or 16 bytes";
     int type = sqlite3_value_type(value);
-    unsigned char parsed[BASE62_UUID_LENGTH];
-    const void *bytes;
+    unsigned char uuid[BASE62_UUID_LENGTH];
+    const char *bytes;
     size_t length;
-    if (type != SQLITE_TEXT && type != SQLITE_BLOB)
-        return set_wrong_value(context, wrong, value);
-    bytes = type == SQLITE_BLOB ? sqlite3_value_blob(value) : sqlite3_value_text(value);
-    length = (size_t)sqlite3_value_bytes(value);
-    if (bytes == NULL && (type != SQLITE_BLOB || length != 0))
-        return set_out_of_memory(context);
-    if (type == SQLITE_TEXT && base62_uuid_from_string(bytes, length, parsed) == BASE62_OK)
-        bytes = parsed;
-    else if (type != SQLITE_BLOB || length != BASE62_UUID_LENGTH)
-        return set_wrong_value(context, wrong, value);
-    *number = base62_from_uuid(bytes);
+    if ((type == SQLITE_TEXT || type == SQLITE_BLOB) && !read_bytes(context, value, type, &bytes, &length))
+        return 0;
+    if (type == SQLITE_BLOB && length == sizeof uuid)
+        memcpy(uuid, bytes, sizeof uuid);
+    else if (type != SQLITE_TEXT || base62_uuid_from_string(bytes, length, uuid) != BASE62_OK)
+        return set_wrong_value(context, "the UUID is not 32 hexadecimal digits or 16 bytes", value);
+    *number = base62_from_uuid(uuid);
     return 1;
 }
 
@@ -88,11 +89,7 @@ static int read_text(sqlite3_context *context, const char *message, sqlite3_valu
                      size_t *length) {
     if (sqlite3_value_type(value) != SQLITE_TEXT)
         return set_wrong_value(context, message, value);
-    *text = (const char *)sqlite3_value_text(value);
-    if (*text == NULL)
-        return set_out_of_memory(context);
-    *length = (size_t)sqlite3_value_bytes(value);
-    return 1;
+    return read_bytes(context, value, SQLITE_TEXT, text, length);
 }
 
 /* Points *alphabet to the alphabet of an argument, or to NULL if there is no such argument. If the argument is
@@ -150,23 +147,20 @@ static void result_fixed(sqlite3_context *context, const base62_alphabet *alphab
 }
 
 static void encode(sqlite3_context *context, int argc, sqlite3_value **argv) {
-    base62_number number;
-    base62_alphabet copy;
-    const base62_alphabet *alphabet;
-    char text[BASE62_MAX_DIGITS];
-    if (!any_null(argc, argv) && read_number(context, argv[0], &number) &&
-        read_alphabet(context, 1, argc, argv, &copy, &alphabet))
-        sqlite3_result_text(context, text, (int)encode_shortest(alphabet, number, text), SQLITE_TRANSIENT);
-}
-
-static void encode_fixed(sqlite3_context *context, int argc, sqlite3_value **argv) {
+    int fixed = flags_of(context) & FIXED;
     base62_number number;
     size_t width;
     base62_alphabet copy;
     const base62_alphabet *alphabet;
-    if (!any_null(argc, argv) && read_number(context, argv[0], &number) && read_width(context, argc, argv, &width) &&
-        read_alphabet(context, 2, argc, argv, &copy, &alphabet))
+    char text[BASE62_MAX_DIGITS];
+    if (any_null(argc, argv) || !read_number(context, argv[0], &number) ||
+        (fixed && !read_width(context, argc, argv, &width)) ||
+        !read_alphabet(context, fixed ? 2 : 1, argc, argv, &copy, &alphabet))
+        return;
+    if (fixed)
         result_fixed(context, alphabet, number, width);
+    else
+        sqlite3_result_text(context, text, (int)encode_shortest(alphabet, number, text), SQLITE_TRANSIENT);
 }
 
 /* Reads what the flags say: a string alone, or a string and a width. Returns 0 if the result is null or an error. */
@@ -208,12 +202,11 @@ static void decode_bytes(sqlite3_context *context, int argc, sqlite3_value **arg
         return;
     }
     base62_to_uuid(number, uuid);
-    if (!(given.flags & OF_UUID)) {
+    if (given.flags & OF_UUID) {
+        base62_uuid_to_string(uuid, string);
+        sqlite3_result_text(context, string, sizeof string, SQLITE_TRANSIENT);
+    } else
         sqlite3_result_blob(context, uuid, sizeof uuid, SQLITE_TRANSIENT);
-        return;
-    }
-    base62_uuid_to_string(uuid, string);
-    sqlite3_result_text(context, string, sizeof string, SQLITE_TRANSIENT);
 }
 
 /* Whether the value is a text that the decoding functions accept. */
@@ -279,10 +272,10 @@ static int create_functions(sqlite3 *db) {
     } functions[] = {
         {"base62_encode", 1, 2, 0, encode},
         {"base62_encode_uuid", 1, 2, OF_UUID, encode},
-        {"base62_encode_key", 1, 1, 0, encode_fixed},
-        {"base62_encode_uuid_key", 1, 1, OF_UUID, encode_fixed},
-        {"base62_encode_fixed", 2, 3, 0, encode_fixed},
-        {"base62_encode_uuid_fixed", 2, 3, OF_UUID, encode_fixed},
+        {"base62_encode_key", 1, 1, FIXED, encode},
+        {"base62_encode_uuid_key", 1, 1, OF_UUID | FIXED, encode},
+        {"base62_encode_fixed", 2, 3, FIXED, encode},
+        {"base62_encode_uuid_fixed", 2, 3, OF_UUID | FIXED, encode},
         {"base62_decode", 1, 2, 0, decode},
         {"base62_decode_uuid", 1, 2, OF_UUID, decode_bytes},
         {"base62_decode_blob", 1, 2, 0, decode_bytes},

@@ -33,14 +33,8 @@ static void *reallocate(void *memory, int size) {
 
 static const char *current = "setup";
 
-static void check(int holds, const char *condition) {
-    if (holds)
-        return;
-    fprintf(stderr, "allocation_failures: %s: %s\n", current, condition);
-    exit(1);
-}
-
-#define CHECK(condition) check(condition, #condition)
+#define CHECK(condition)                                                                                               \
+    ((condition) ? (void)0 : (fprintf(stderr, "allocation_failures: %s: %s\n", current, #condition), exit(1)))
 
 #define CUSTOM "'zyxwvutsrqponmlkjihgfedcbaZYXWVUTSRQPONMLKJIHGFEDCBA9876543210'"
 #define UUID "00000000-0000-0000-0000-000000000539"
@@ -60,7 +54,6 @@ static const struct {
     {"SELECT base62_encode_uuid(t) FROM stored", NULL},
     {"SELECT base62_encode(n, own) FROM stored", "eQ"},
     {"SELECT base62_decode(t) FROM stored", "1337"},
-    {"SELECT base62_decode('eQ', own) FROM stored", "1337"},
     {"SELECT hex(base62_decode_blob(t)) FROM stored", "00000000000000000000000000000539"},
     {"SELECT base62_decode_uuid(t) FROM stored", UUID},
     {"SELECT base62_try_decode(t) || base62_try_decode_uuid(t) FROM stored", "1337" UUID},
@@ -69,12 +62,8 @@ static const struct {
     {"SELECT base62_encode_key(n) FROM stored", "00000000000000000000LZ"},
     {"SELECT base62_encode_fixed(n, 3, own) FROM stored", "zeQ"},
     {"SELECT base62_encode_fixed(n, 1) FROM stored", NULL},
-    {"SELECT length(base62_encode_fixed(n, 1000)) FROM stored", "1000"},
     {"SELECT base62_decode_canonical('0' || t) FROM stored", NULL},
-    {"SELECT base62_decode_fixed(t, 2) || base62_decode_uuid_fixed(t, 2) FROM stored", "1337" UUID},
     {"SELECT hex(base62_decode_blob_fixed('zeQ', 3, own)) FROM stored", "00000000000000000000000000000539"},
-    {"SELECT base62_try_decode_fixed(t, 2) || base62_try_decode_uuid_canonical(t) FROM stored", "1337" UUID},
-    {"SELECT coalesce(base62_try_decode_fixed(t, 3), base62_try_decode_canonical('0' || t), '') FROM stored", ""},
     {"SELECT base62_is_valid(t) FROM stored", "1"},
     {"SELECT base62_is_valid('-', own) FROM stored", "0"},
     {"SELECT base62_encode(n, " CUSTOM ") || base62_encode(61, " CUSTOM ") FROM stored", "eQ0"},

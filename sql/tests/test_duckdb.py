@@ -16,8 +16,8 @@ from typing import Any
 from urllib.parse import unquote_to_bytes
 from uuid import UUID
 
-from values import ALTERNATIVE, BIGINT, HEADER, NEGATIVE, NO_ALPHABETS, OWN, README, STANDARD, TEXTS, WIDEST, WIDTH
-from values import functions_of, is_large, message, narrow, of_ascii, text
+from values import BIGINT, HEADER, NEGATIVE, NO_ALPHABETS, ORDER, OWN, README, STANDARD, TEXTS, WIDEST, WIDTH, functions_of
+from values import is_large, message, narrow, of_ascii, of_widths
 
 SHELL = [os.environ.get("DUCKDB", "duckdb"), "-init", os.devnull, "-unsigned", "-json"]
 LOAD = f"LOAD '{os.environ['BASE62_DUCKDB']}';\n"
@@ -143,9 +143,9 @@ class Values(Case):
     def test_strings_of_a_width(self) -> None:
         table: list[tuple[Any, ...]] = []
         errors: dict[str, str] = {}
-        for letters, width, field, kind, *found in (it for it in of_ascii("exact") if 0 < int(it[1]) <= WIDEST):
-            s, number = unquote_to_bytes(field), found[0] if kind == "number" else None
-            table.append((letters, int(width), s, number, number and UUID(int=int(number))))
+        for letters, width, s, kind, *found in of_widths("exact"):
+            number = found[0] if kind == "number" else None
+            table.append((letters, width, s, number, number and UUID(int=int(number))))
             if not number:
                 name = f"base62_decode{KINDS[len(errors) % 3]}_fixed"
                 errors[f"{name}({literal(s)}, {width}, {literal(letters)})"] = message([kind, *found], s)
@@ -166,13 +166,12 @@ class Values(Case):
     def test_ranges(self) -> None:
         table: list[tuple[Any, ...]] = []
         bad: dict[str, str] = {}
-        for letters, width, field, kind, *found in (it for it in of_ascii("range") if 0 < int(it[1]) <= WIDEST):
-            prefix = unquote_to_bytes(field)
+        for letters, width, prefix, kind, *found in of_widths("range"):
             if kind == "byte":
                 bad |= {f"base62_{it}({literal(prefix)}, {width}, {literal(letters)})": message([kind, *found], prefix)
                         for it in ("first_number", "last_number", "first_uhugeint", "last_uhugeint")}
             else:
-                table.append((letters, int(width), prefix, *(found or (None, None))))
+                table.append((letters, width, prefix, *(found or (None, None))))
         # Enough ranges are below 2^63, across it, and above it.
         places = Counter(sum(int(end) > BIGINT for end in ends) for *_, ends in ((*it[:3], it[3:]) for it in table) if ends[0])
         self.assertTrue(all(places[it] > 50 for it in range(3)), places)
@@ -248,26 +247,14 @@ class Arguments(Case):
 
     def test_order(self) -> None:
         """Of several errors, that of a number is raised, or else of a width, an alphabet, and a string."""
-        calls = {"encode(-1, '01')": "number", "encode_fixed(-1, 0, '01')": "number", "encode_fixed(62, 0, '01')": "width",
-                 "decode_fixed('-', 0, '01')": "width", "try_decode_uuid_fixed('--', 1, '01')": "alphabet",
-                 "encode_fixed(62, 1, '01')": "alphabet", "decode('-', '01')": "alphabet", "try_decode('-', '01')": "alphabet",
-                 "first_number('-', 0, '01')": "width", "first_number('-', 1, '01')": "alphabet", "last_string('-', 0)": "width"}
-        found = [error.split()[2] for error in errors([f"base62_{it}" for it in calls])]
-        self.assertEqual(found, [*calls.values()])
+        found = [error.split()[2] for error in errors([f"base62_{it}" for it in ORDER])]
+        self.assertEqual(found, [*ORDER.values()])
 
     def test_widths(self) -> None:
         calls = ("base62_encode_fixed(1, {})", "base62_first_string('1', {})", "base62_last_number('1', {})",
                  "base62_decode_fixed('1', {})", "base62_try_decode_uuid_fixed('1', {})")
         self.check_errors({call.format(width): WIDTH.format(width) for call in calls for width in (0, -1, 1001, BIGINT)})
         self.assertEqual(results("SELECT base62_encode_fixed(1337, 1000);"), ["LZ".rjust(WIDEST, "0")])
-
-    def test_changing_letters(self) -> None:
-        """Letters that change from row to row, also where they are the third argument."""
-        chosen = [OWN, ALTERNATIVE, None, OWN, STANDARD, STANDARD]
-        values = ", ".join(f"({i}, {literal(letters)})" for i, letters in enumerate(chosen))
-        for call, padded in (("base62_encode(1337, letters)", 0), ("base62_encode_fixed(1337, 5, letters)", 5)):
-            wanted = [letters and text(1337, letters).rjust(padded, letters[0]) for letters in chosen]
-            self.assertEqual(results(f"SELECT {call} FROM (VALUES {values}) t(i, letters) ORDER BY i;"), wanted)
 
 
 class Queries(Case):
@@ -350,14 +337,6 @@ class Queries(Case):
         ran = shell(made + "SELECT max(base62_decode(s)) FROM t;\nSELECT 1337 AS next;")
         self.assertIn(message(["byte", "45", "4"], b"4990-"), ran.stderr)
         self.assertIn("1337", ran.stdout)
-
-    def test_memory(self) -> None:
-        """What does not fit is an error of DuckDB, after which the connection goes on."""
-        ran = shell("SET memory_limit = '30MB'; SET temp_directory = '';\n"
-                    "CREATE TABLE t AS SELECT base62_encode_fixed(i, 1000) AS s FROM range(300000) r(i);\n"
-                    "SELECT base62_encode(1337) AS next;")
-        self.assertIn("Out of Memory Error", ran.stderr)
-        self.assertIn('"LZ"', ran.stdout)
 
 
 if __name__ == "__main__":

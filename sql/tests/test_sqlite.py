@@ -2,7 +2,9 @@
 # Copyright (c) 2026 the maintainers of base62 for Rattle
 """Tests of SQLite's functions, in the module that BASE62_SQLITE names, by the values of all packages."""
 
+import contextlib
 import itertools
+import json
 import os
 import re
 import sqlite3
@@ -13,8 +15,8 @@ from typing import Any
 from urllib.parse import unquote_to_bytes
 from uuid import UUID
 
-from values import ALPHABET, ALTERNATIVE, BIGINT, HEADER, NEGATIVE, NO_ALPHABETS, OWN, README, REPEATED, STANDARD, TEXTS
-from values import WIDEST, WIDTH, functions_of, is_large, message, narrow, of_ascii, rows, shown, text
+from values import ALPHABET, ALTERNATIVE, BIGINT, HEADER, NEGATIVE, NO_ALPHABETS, ORDER, OWN, README, STANDARD, TEXTS
+from values import WIDEST, WIDTH, functions_of, is_large, message, narrow, of_ascii, of_widths, rows, shown, text
 
 if not hasattr(sqlite3.Connection, "enable_load_extension"):
     sys.exit(f"{sys.executable} can't load extensions of SQLite. Set PYTHON to one that can, such as Debian's.")
@@ -79,8 +81,7 @@ class Values(Case):
 
     def test_uuids(self) -> None:
         """Strings for UUIDs, and others, in which a null byte may be."""
-        others = [["{" + "1" * 33, "none"], ["1" * 33 + "}", "none"], ["%ff" * 41, "none"]]
-        for field, uuid in rows("form") + others:
+        for field, uuid in rows("form"):
             given = Text(unquote_to_bytes(field))
             if uuid == "none":
                 wanted = "base62: the UUID is not 32 hexadecimal digits or 16 bytes" + shown(given)
@@ -88,8 +89,6 @@ class Values(Case):
             else:
                 self.assertEqual(self.result("decode_uuid", self.result("encode_uuid", given)), uuid)
                 self.assertEqual(self.result("encode_uuid_key", given), self.result("encode_uuid_key", UUID(uuid).bytes))
-        for name in ("base62_decode_uuid", "base62_decode_blob"):
-            self.assertEqual(self.db.execute(f"SELECT {name}('1') < {name}('2')").fetchone(), (1,))
 
     def test_zeros(self) -> None:
         for letters, encoded, digits in of_ascii("zeros"):
@@ -123,11 +122,9 @@ class Values(Case):
                 self.expect(0, name, given, letters)
 
     def test_exact(self) -> None:
-        for letters, width, field, *found in of_ascii("exact"):
-            given = Text(unquote_to_bytes(field))
-            if 0 < int(width) <= WIDEST:
-                result = int(found[1]) if found[0] == "number" else message(found, given)
-                self.check_form("_fixed", result, given, int(width), letters)
+        for letters, width, string, *found in of_widths("exact"):
+            result = int(found[1]) if found[0] == "number" else message(found, string)
+            self.check_form("_fixed", result, Text(string), width, letters)
 
     def test_widths(self) -> None:
         for letters, digits, width, encoded in of_ascii("fixed"):
@@ -141,21 +138,18 @@ class Values(Case):
             self.expect(wanted, "encode_uuid_fixed", blob(int(digits)), int(width), letters)
 
     def test_ranges(self) -> None:
-        for letters, width, field, *found in of_ascii("range"):
-            if 0 < int(width) <= WIDEST:
-                self.check_range(letters, int(width), Text(unquote_to_bytes(field)), found)
-
-    def check_range(self, letters: str, width: int, prefix: Text, found: list[str]) -> None:
-        error = message(found, prefix) if found[0] == "byte" else None
-        ends = [int(it) for it in found[1:]] if found[0] == "numbers" else []
-        for end, number in itertools.zip_longest(("first", "last"), ends):
-            integer = min(number, BIGINT) if ends and ends[0] <= BIGINT else error
-            self.expect(integer, f"{end}_number", prefix, width, letters)
-            if letters == STANDARD:
-                string = self.result("encode_uuid_fixed", blob(number), width) if ends else error
-                self.assertEqual(self.result(f"{end}_string", prefix, width), string)
-                if width == KEY:
-                    self.assertEqual(self.result(f"{end}_string", prefix), string)
+        for letters, width, prefix, *found in of_widths("range"):
+            given = Text(prefix)
+            error = message(found, prefix) if found[0] == "byte" else None
+            ends = [int(it) for it in found[1:]] if found[0] == "numbers" else []
+            for end, number in itertools.zip_longest(("first", "last"), ends):
+                integer = min(number, BIGINT) if ends and ends[0] <= BIGINT else error
+                self.expect(integer, f"{end}_number", given, width, letters)
+                if letters == STANDARD:
+                    string = self.result("encode_uuid_fixed", blob(number), width) if ends else error
+                    self.assertEqual(self.result(f"{end}_string", given, width), string)
+                    if width == KEY:
+                        self.assertEqual(self.result(f"{end}_string", given), string)
 
 
 def sample(name: str, count: int) -> tuple[Any, ...]:
@@ -165,15 +159,10 @@ def sample(name: str, count: int) -> tuple[Any, ...]:
     return (first, *width, OWN)[:count]
 
 
-def calls() -> list[tuple[str, tuple[Any, ...]]]:
-    """Each function, without the prefix of its name, with such arguments."""
-    db = opened()
+# Each function, without the prefix of its name, with such arguments.
+with contextlib.closing(opened()) as db:
     listed = db.execute("SELECT substr(name, 8), narg FROM pragma_function_list WHERE name LIKE 'base62%'").fetchall()
-    db.close()
-    return [(name, sample(name, count)) for name, count in listed]
-
-
-CALLS = calls()
+CALLS = [(name, sample(name, count)) for name, count in listed]
 
 
 class Arguments(Case):
@@ -242,39 +231,26 @@ class Arguments(Case):
             self.assertEqual(self.result(name, *given), TOO_BIG)
 
     def test_changing_letters(self) -> None:
-        """Letters that change from row to row, from run to run of a statement, and after an error."""
-        self.db.execute("CREATE TABLE chosen (id INTEGER PRIMARY KEY, letters TEXT)")
+        """Letters that change from row to row. Those of the second call are constant, and SQLite caches them."""
         chosen = OWN, ALTERNATIVE, OWN, STANDARD
-        self.db.executemany("INSERT INTO chosen (letters) VALUES (?)", [(letters,) for letters in chosen])
-        # SQLite caches by the argument, and here the second is constant.
         query = (
-            "SELECT base62_encode(1337, letters), base62_encode(id, ?), base62_encode_fixed(1337, 2, letters),"
-            " base62_first_number('1', 1, letters) FROM chosen ORDER BY id"
+            "SELECT base62_encode(1337, value), base62_encode(key, ?), base62_encode_fixed(1337, 2, value),"
+            " base62_first_number('1', 1, value) FROM json_each(?)"
         )
         wanted = [
             (text(1337, letters), text(number, OWN), text(1337, letters), letters.index("1"))
-            for number, letters in enumerate(chosen, 1)
+            for number, letters in enumerate(chosen)
         ]
-        self.assertEqual(self.db.execute(query, (OWN,)).fetchall(), wanted)
-        for letters in (*chosen, REPEATED, *chosen, STANDARD[:61], OWN):
-            self.assertEqual(self.result("encode", 1337, letters), NO_ALPHABETS.get(letters) or text(1337, letters))
+        self.assertEqual(self.db.execute(query, (OWN, json.dumps(chosen))).fetchall(), wanted)
 
     def test_order(self) -> None:
-        """Of several errors, that of a number or UUID is raised, or else of a width, or else of an alphabet."""
-        for wanted, raising in {
-            "the number is": [("encode", -1, "01"), ("encode_fixed", 1.5, 0, "01")],
-            "the UUID is": [("encode_uuid", "", "01"), ("encode_uuid_fixed", b"", 0, "01")],
-            "the width is": [("encode_fixed", 62, 0, "01"), ("last_string", 1, 0), ("first_number", 1, 0, "01"),
-                             ("decode_fixed", 1, 0, "01"), ("try_decode_uuid_fixed", "-", 0, "01")],
-            "the alphabet has": [
-                ("encode_fixed", 62, 1, "01"),
-                ("first_number", 1, 1, "01"),
-                ("decode_blob_fixed", "--", 1, "01"),
-                *((name, it, "01") for name in ("decode", "decode_uuid", "try_decode", "is_valid") for it in (1, "-")),
-            ],
-        }.items():
-            for name, *given in raising:
-                self.assertTrue(str(self.result(name, *given)).startswith("base62: " + wanted), (name, given))
+        """Of several errors, also of arguments of other types."""
+        others = {"encode_fixed(1.5, 0, '01')": "number", "encode_uuid('', '01')": "UUID",
+                  "encode_uuid_fixed(x'', 0, '01')": "UUID", "last_string(1, 0)": "width", "decode_fixed(1, 0, '01')": "width",
+                  "first_number(1, 1, '01')": "alphabet", "decode_blob(1, '01')": "alphabet", "is_valid(1, '01')": "alphabet"}
+        for call, wanted in {**ORDER, **others}.items():
+            with self.assertRaisesRegex(sqlite3.OperationalError, f"^base62: the {wanted} "):
+                self.db.execute(f"SELECT base62_{call}")
 
 
 TABLES = """

@@ -4,6 +4,7 @@
 
 import re
 from pathlib import Path
+from typing import Any
 from urllib.parse import unquote_to_bytes
 
 # The file of values is in the repository's tests, and beside this one in an archive of the functions.
@@ -24,6 +25,12 @@ def of_ascii(kind: str) -> list[list[str]]:
     return found
 
 
+def of_widths(kind: str) -> list[tuple[Any, ...]]:
+    """Such rows with a width that SQL has. Their string or prefix is bytes."""
+    found = [(letters, int(width), unquote_to_bytes(field), *result) for letters, width, field, *result in of_ascii(kind)]
+    return [row for row in found if 0 < row[1] <= WIDEST]
+
+
 # Alphabets of ASCII characters other than a null byte.
 ALPHABETS = {
     name: unquote_to_bytes(letters).decode()
@@ -31,7 +38,6 @@ ALPHABETS = {
     if ascii == "1" and "%00" not in letters
 }
 STANDARD, ALTERNATIVE, OWN = (ALPHABETS[name] for name in ("standard", "alternative", "reversed"))
-REPEATED = "a" * 62
 BIGINT = 2**63 - 1
 WIDEST = 1000
 # The message of each error and of each byte. The index follows.
@@ -66,6 +72,15 @@ def narrow(number: int, width: int) -> str:
     return f"base62: the number needs {len(TEXTS[number])} characters, and the width is {width}"
 
 
+# Calls with several errors, and what the error is about that is raised.
+ORDER = {
+    "encode(-1, '01')": "number", "encode_fixed(-1, 0, '01')": "number", "encode_fixed(62, 0, '01')": "width",
+    "decode_fixed('-', 0, '01')": "width", "try_decode_uuid_fixed('--', 0, '01')": "width",
+    "first_number('-', 0, '01')": "width", "last_string('-', 0)": "width", "encode_fixed(62, 1, '01')": "alphabet",
+    "decode('-', '01')": "alphabet", "decode_uuid('-', '01')": "alphabet", "try_decode('-', '01')": "alphabet",
+    "try_decode_uuid_fixed('--', 1, '01')": "alphabet", "is_valid('-', '01')": "alphabet",
+    "first_number('-', 1, '01')": "alphabet",
+}
 NEGATIVE = "base62: the number is negative: {}"
 WIDTH = "base62: the width is not from 1 to 1000: {}"
 ALPHABET = "base62: the alphabet has "

@@ -1,7 +1,7 @@
+\set ECHO none
 -- SPDX-License-Identifier: MIT
 -- Copyright (c) 2026 the maintainers of base62 for Rattle
 -- A dump is restored, with the generated columns.
-\set ECHO none
 \pset format unaligned
 \pset tuples_only on
 SET client_min_messages = warning;

@@ -1,59 +1,45 @@
+\set ECHO none
 -- SPDX-License-Identifier: MIT
 -- Copyright (c) 2026 the maintainers of base62 for Rattle
 -- Errors beside those of values.sql, whose functions it calls. Of these only the calls that differ are printed.
-\set ECHO none
 \pset format unaligned
 \pset tuples_only on
 CREATE FUNCTION own() RETURNS text LANGUAGE sql AS $$ SELECT letters FROM alphabet WHERE name = 'reversed' $$;
 
-\echo Numbers
-SELECT call, n, result_of(format(call, n)) FROM unnest(ARRAY[-1, -9223372036854775808]) n,
-    unnest(ARRAY['encode(%s)', 'encode(%s, own())', 'encode_key(%s)', 'encode_fixed(%s, 22)',
-        'encode_fixed(%s, 22, own())']) call
-    WHERE result_of(format(call, n)) IS DISTINCT FROM '22003 the number is negative: ' || n;
-SELECT call, v, result_of(format(call, v)) FROM unnest(ARRAY[-1, -0.5, 1337.5,
-        340282366920938463463374607431768211455.01, 340282366920938463463374607431768211456,
-        3402823669209384634633746074317682114550, 1e131071, 1e-16383, 'NaN', 'Infinity', '-Infinity']) v,
-    unnest(ARRAY['encode_numeric(%L)', 'encode_numeric(%L, own())', 'encode_numeric_fixed(%L, 1000)']) call
-    WHERE result_of(format(call, v)) IS DISTINCT FROM '22003 the number is not an integer from 0 to 2^128 - 1: '
-        || left(v::text, 40) || CASE WHEN length(v::text) > 40 THEN '...' ELSE '' END;
+-- A call of each function with this value of one of its arguments. Errors of numbers come before those of widths, of
+-- alphabets and of strings: what comes before it is valid, and what comes behind it is invalid.
+CREATE FUNCTION calls_with(argument text, value text, type regtype) RETURNS SETOF text LANGUAGE sql AS $$
+    SELECT substr(proname, 8) || '(' || string_agg(quote_literal(CASE WHEN given = argument THEN value
+            WHEN given = 'number' THEN '62' WHEN given = 'id' THEN '00000000-0000-0000-0000-000000000539'
+            WHEN given = 'width' THEN CASE argument WHEN 'number' THEN '0' ELSE '1' END
+            WHEN given = 'alphabet' THEN '01' ELSE '-' END), ', ' ORDER BY i) || ')'
+    FROM functions, unnest(proargnames) WITH ORDINALITY names (given, i)
+    WHERE argument = ANY (proargnames) AND coalesce(type = proargtypes[0], true) GROUP BY oid, proname
+$$;
 
-\echo Widths
-SELECT call, w, result_of(format(call, w)) FROM unnest(ARRAY[-1, 0, 1001, 2147483647]) w,
-    unnest(ARRAY['encode_fixed(62, %s)', 'encode_uuid_fixed(gen_random_uuid(), %s, own())',
-        'encode_numeric_fixed(62, %s)', $$decode_fixed('1', %s)$$, $$decode_uuid_fixed('1', %s, own())$$,
-        $$decode_numeric_fixed('1', %s)$$, $$try_decode_fixed('1', %s)$$, $$try_decode_uuid_fixed('1', %s)$$,
-        $$try_decode_numeric_fixed('1', %s, own())$$, $$first_string('', %s)$$, $$last_string('', %s)$$,
-        $$first_number('', %s)$$, $$last_number('', %s, own())$$, $$first_numeric('', %s)$$,
-        $$last_numeric('', %s, own())$$]) call
-    WHERE result_of(format(call, w)) IS DISTINCT FROM '22023 the width is not from 1 to 1000: ' || w;
-
-\echo Alphabets, also in a row after a row with a valid one
-SELECT call, a, result_of(format(call, a)) FROM (VALUES
+\echo Numbers, widths and alphabets
+CREATE TABLE rejected AS SELECT call, error, result_of(call) result FROM (
+    SELECT 'number' argument, n value, 'bigint' type, '22003 the number is negative: ' || n error
+        FROM unnest(ARRAY['-1', '-9223372036854775808']) n
+    UNION ALL SELECT 'number', v, 'numeric', '22003 the number is not an integer from 0 to 2^128 - 1: ' || left(v, 40)
+            || CASE WHEN length(v) > 40 THEN '...' ELSE '' END
+        FROM unnest(ARRAY[-1, -0.5, 1337.5, 340282366920938463463374607431768211455.01,
+            340282366920938463463374607431768211456, 3402823669209384634633746074317682114550, 1e131071, 1e-16383, 'NaN',
+            'Infinity', '-Infinity']::text[]) v
+    UNION ALL SELECT 'width', w, NULL, '22023 the width is not from 1 to 1000: ' || w
+        FROM unnest(ARRAY['-1', '0', '1001', '2147483647']) w
+    UNION ALL SELECT 'alphabet', a, NULL, said || shown(a) FROM (VALUES
         ('', '22023 the alphabet has 0 characters, not 62'),
-        ('zyx', '22023 the alphabet has 3 characters, not 62'),
         (left(own(), 61), '22023 the alphabet has 61 characters, not 62'),
         (own() || 'z', '22023 the alphabet has 63 characters, not 62'),
         ('é' || left(own(), 60), '22023 the alphabet has a non-ASCII character'),
         (repeat('é', 31), '22023 the alphabet has a non-ASCII character'),
-        (repeat('0', 62), error('repeated', '48', '1'))) alphabets (a, error),
-    unnest(ARRAY['encode(1, %L)', 'encode_uuid(gen_random_uuid(), %L)', 'encode_numeric(1, %L)',
-        'encode_fixed(62, 1, %L)', $$decode('-', %L)$$, $$decode_uuid_canonical('-', %L)$$, $$try_decode('-', %L)$$,
-        $$try_decode_uuid('-', %L)$$, $$decode_fixed('--', 1, %L)$$, $$try_decode_numeric_fixed('-', 1, %L)$$,
-        $$try_decode_canonical('-', %L)$$, $$is_valid('-', %L)$$, $$first_number('-', 1, %L)$$,
-        $$last_numeric('-', 1, %L)$$, 'encode(1, a) FROM unnest(ARRAY[own(), %L]) a OFFSET 1']) call
-    WHERE result_of(format(call, a)) IS DISTINCT FROM error || shown(a);
+        (repeat('0', 62), error('repeated', '48', '1'))) alphabets (a, said)) given,
+    calls_with(argument, value, type::regtype) call;
+SELECT count(*), count(DISTINCT substring(call FROM '\w+')) FROM rejected;
+SELECT * FROM rejected WHERE result IS DISTINCT FROM error;
+\echo Alphabets are compared as a whole
 SELECT base62_encode(61, a) FROM unnest(ARRAY[own(), left(own(), 61) || '-']) a;
-
-\echo A number before a width, a width before an alphabet, and all before a string
-SELECT call, result_of(call) FROM (VALUES
-        ('number', ARRAY[$$encode(-1, '01')$$, $$encode_fixed(-1, 0, '01')$$, $$encode_numeric(-0.5, '01')$$,
-            $$encode_numeric_fixed('-Infinity', 0)$$]),
-        ('width', ARRAY[$$encode_fixed(62, 0, '01')$$, $$decode_fixed('-', 0, '01')$$, $$first_number('-', 0, '01')$$,
-            $$try_decode_fixed('-', 0, '01')$$, $$last_number('-', 1001)$$, $$first_numeric('-', -1)$$,
-            $$last_string('-', 0)$$])) raised (error, calls),
-    unnest(calls) call
-    WHERE (result_of(call) LIKE '_____ the ' || error || ' is %') IS NOT TRUE;
 
 \echo Bytes of UTF-8, and arguments of other types
 SELECT name, result(name, '0é', '1') FROM unnest(ARRAY['last_string', 'first_numeric']) name

@@ -1,7 +1,7 @@
+\set ECHO none
 -- SPDX-License-Identifier: MIT
 -- Copyright (c) 2026 the maintainers of base62 for Rattle
 -- Functions, their attributes and arguments, and custom alphabets that change.
-\set ECHO none
 \pset format unaligned
 \pset tuples_only on
 CREATE VIEW functions AS SELECT p.*
@@ -19,22 +19,12 @@ SELECT string_agg(DISTINCT proargnames::text, ' ') FROM functions;
 -- A key has the collation of no argument that is a text.
 SELECT oid::regprocedure FROM functions WHERE prorettype = 'base62_key'::regtype AND 'text'::regtype = ANY (proargtypes);
 
-\echo Arguments of no type
+\echo Arguments of no type, of a smaller one, and by their names
 \set own '\'zyxwvutsrqponmlkjihgfedcbaZYXWVUTSRQPONMLKJIHGFEDCBA9876543210\''
 \set alternative '\'0123456789abcdefghijklmnopqrstuvwxyzABCDEFGHIJKLMNOPQRSTUVWXYZ\''
-SELECT base62_encode('1337'), base62_encode(1337::smallint), base62_encode(number => 1337),
-    base62_decode(encoded => 'LZ'), base62_encode_uuid('00000000-0000-0000-0000-000000000539') uuid;
-SELECT base62_encode_fixed('1337', '3') fixed,
-    base62_encode_uuid_fixed('00000000-0000-0000-0000-000000000539', '3') fixed_uuid,
-    base62_is_valid(alphabet => :own, encoded => 'eQ'), base62_first_string(prefix => 'L', width => 3) first,
-    base62_last_number(prefix => 'e', width => 3, alphabet => :own) last;
-PREPARE untyped AS SELECT base62_encode($1) t, base62_encode_uuid($2) u, base62_encode_fixed($3, $4) f,
-    base62_encode_uuid_fixed($5, $6) fu, base62_last_string($7, $8) l, base62_is_valid($9) i,
-    base62_decode_uuid_canonical($9) d, base62_last_number($10, $11) n, base62_encode_numeric($12) v,
-    base62_decode_numeric($13) w, base62_try_decode($9) y, base62_try_decode_uuid($9) z, base62_decode_fixed($9, $8) e,
-    base62_try_decode_uuid_fixed($9, $4) n;
-EXECUTE untyped (1337, '00000000-0000-0000-0000-000000000539', 1337, 3, '00000000-0000-0000-0000-000000000539', 4, 'L',
-    2, 'LZ', 'L', 3, 1337, 'LZ');
+PREPARE untyped AS SELECT base62_encode_fixed('1337', $1), base62_encode(1337::smallint),
+    base62_last_number(width => $1, alphabet => :own, prefix => $2);
+EXECUTE untyped (3, 'e');
 -- Divided by 10^9 it is 2^64, of which 64 bits are zero.
 SELECT base62_decode_numeric(base62_encode_numeric(18446744073709551616000000000));
 SELECT base62_version() ~ '^[0-9]+\.[0-9]+\.[0-9]+$' version;

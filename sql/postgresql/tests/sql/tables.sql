@@ -1,7 +1,7 @@
+\set ECHO none
 -- SPDX-License-Identifier: MIT
 -- Copyright (c) 2026 the maintainers of base62 for Rattle
 -- Generated columns, constraints and indexes, and the plans that use them.
-\set ECHO none
 \pset format unaligned
 \pset tuples_only on
 CREATE TABLE link (id bigint PRIMARY KEY, slug text GENERATED ALWAYS AS (base62_encode(id)) STORED UNIQUE

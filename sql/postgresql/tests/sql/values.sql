@@ -1,7 +1,7 @@
+\set ECHO none
 -- SPDX-License-Identifier: MIT
 -- Copyright (c) 2026 the maintainers of base62 for Rattle
 -- The results for the values that all packages are tested with. Of these only the rows that differ are printed.
-\set ECHO none
 \pset format unaligned
 \pset tuples_only on
 CREATE EXTENSION base62;
@@ -77,6 +77,10 @@ CREATE TABLE alphabet AS SELECT f[2] name, text_of(f[3]) letters FROM line
     WHERE f[1] = 'alphabet' AND f[4] = '1' AND text_of(f[3]) IS NOT NULL;
 SELECT string_agg(name, ' ' ORDER BY name) FROM alphabet;
 
+-- Parts of names of functions: of a type, with the column of its numbers, and of canonical decoding, with that of its error.
+CREATE VIEW kinds (kind, number) AS VALUES ('', 'n'), ('_uuid', 'u'), ('_numeric', 'v');
+CREATE VIEW forms (form, zero) AS VALUES ('', 'NULL'), ('_canonical', 'zero');
+
 \echo UUIDs, and repeated letters
 SELECT f FROM line WHERE f[1] = 'uuid'
     AND (uuid_of(f[2]::numeric), base62_encode_uuid(f[3]::uuid), base62_decode_uuid(f[4]))
@@ -92,20 +96,11 @@ CREATE TABLE encoded AS
     FROM (SELECT f[1] kind, f[2] name, f[3]::numeric v, text_of(f[4]) t FROM line WHERE f[1] = 'encode'
         UNION ALL SELECT f[1], f[2], f[4]::numeric, text_of(f[3]) FROM line WHERE f[1] = 'zeros') of
     JOIN alphabet USING (name);
-SELECT * FROM wrong('encoded',
-    'base62_decode_uuid(t, letters) = u',
-    'base62_decode_numeric(t, letters) = v',
-    $$result('decode', t, letters) = coalesce(n::text, replace(large, '%s', ''))$$,
-    $$result('decode_uuid_canonical', t, letters) = coalesce(zero, u::text)$$,
-    $$result('decode_numeric_canonical', t, letters) = coalesce(zero, v::text)$$,
-    $$result('decode_canonical', t, letters) = coalesce(zero, n::text, replace(large, '%s', '_canonical'))$$,
-    'base62_try_decode(t, letters) IS NOT DISTINCT FROM n',
-    'base62_try_decode_uuid(t, letters) = u AND base62_try_decode_numeric(t, letters) = v',
-    'base62_try_decode_canonical(t, letters) IS NOT DISTINCT FROM CASE WHEN zero IS NULL THEN n END',
-    'base62_try_decode_uuid_canonical(t, letters) IS NOT DISTINCT FROM CASE WHEN zero IS NULL THEN u END',
-    'base62_try_decode_numeric_canonical(t, letters) IS NOT DISTINCT FROM CASE WHEN zero IS NULL THEN v END',
-    'base62_is_valid(t, letters)',
-    'base62_is_canonical(t, letters) = (zero IS NULL)');
+SELECT wrong.* FROM kinds, forms, wrong('encoded',
+    format($$result('decode%s%s', t, letters) = coalesce(%s, %s::text, format(large, '%2$s'))$$, kind, form, zero, number),
+    format('base62_try_decode%s%s(t, letters) IS NOT DISTINCT FROM CASE WHEN %s IS NULL THEN %s END',
+        kind, form, zero, number));
+SELECT * FROM wrong('encoded', 'base62_is_valid(t, letters)', 'base62_is_canonical(t, letters) = (zero IS NULL)');
 SELECT * FROM wrong('(SELECT * FROM encoded WHERE zero IS NULL) canonical',
     'base62_encode_uuid(u, letters) = t',
     'base62_encode_numeric(v, letters) = t',
@@ -117,13 +112,10 @@ CREATE TABLE invalid AS
     SELECT name, letters, text_of(f[3]) t, error(VARIADIC f[4:]) || shown(text_of(f[3])) error FROM line JOIN alphabet ON name = f[2]
     WHERE f[1] = 'refused' AND text_of(f[3]) IS NOT NULL;
 SELECT count(*) > 300 FROM invalid;
-SELECT wrong.* FROM unnest(ARRAY['', '_uuid', '_numeric', '_canonical', '_uuid_canonical', '_numeric_canonical']) kind,
-    wrong('invalid', format($$result('decode%s', t, letters) = error$$, kind));
-SELECT * FROM wrong('invalid',
-    'num_nulls(base62_try_decode(t, letters), base62_try_decode_uuid(t, letters)) = 2',
-    'num_nulls(base62_try_decode_canonical(t, letters), base62_try_decode_uuid_canonical(t, letters)) = 2',
-    'num_nulls(base62_try_decode_numeric(t, letters), base62_try_decode_numeric_canonical(t, letters)) = 2',
-    'NOT base62_is_valid(t, letters) AND NOT base62_is_canonical(t, letters)');
+SELECT wrong.* FROM kinds, forms, wrong('invalid',
+    format($$result('decode%s%s', t, letters) = error$$, kind, form),
+    format('base62_try_decode%s%s(t, letters) IS NULL', kind, form));
+SELECT * FROM wrong('invalid', 'NOT base62_is_valid(t, letters) AND NOT base62_is_canonical(t, letters)');
 
 \echo Texts of a width, and numbers that have none
 CREATE TABLE fixed AS
@@ -132,10 +124,9 @@ CREATE TABLE fixed AS
             ELSE format('22003 the number needs %s characters, and the width is %s', length(t), f[4]) END t
     FROM line JOIN alphabet ON name = f[2] JOIN (SELECT DISTINCT v, t FROM encoded
         WHERE name = 'standard' AND zero IS NULL) canonical ON v = f[3]::numeric WHERE f[1] IN ('fixed', 'narrow');
+SELECT wrong.* FROM kinds, wrong('fixed',
+    format($$%2$s IS NULL OR result('encode%1$s_fixed', %2$s::text, w, letters) = t$$, kind, number));
 SELECT * FROM wrong('fixed',
-    $$result('encode_uuid_fixed', u::text, w, letters) = t$$,
-    $$result('encode_numeric_fixed', v::text, w, letters) = t$$,
-    $$n IS NULL OR result('encode_fixed', n::text, w, letters) = t$$,
     $$w <> '22' OR name <> 'standard' OR base62_encode_uuid_key(u) = t$$,
     $$w <> '22' OR name <> 'standard' OR n IS NULL OR base62_encode_key(n) = t$$);
 
@@ -148,13 +139,9 @@ CREATE TABLE exact AS
     FROM line JOIN alphabet ON name = f[2], LATERAL (SELECT CASE f[5] WHEN 'number' THEN f[6]::numeric END) number (v)
     WHERE f[1] = 'exact' AND f[3]::numeric BETWEEN 1 AND 1000 AND text_of(f[4]) IS NOT NULL;
 SELECT count(error) > 300, count(n) > 100, count(v) - count(n) > 100 FROM exact;
-SELECT * FROM wrong('exact',
-    $$result('decode_fixed', t, w, letters) = coalesce(error, n::text)$$,
-    $$result('decode_uuid_fixed', t, w, letters) = coalesce(u::text, error)$$,
-    $$result('decode_numeric_fixed', t, w, letters) = coalesce(v::text, error)$$,
-    'base62_try_decode_fixed(t, w::integer, letters) IS NOT DISTINCT FROM n',
-    'base62_try_decode_uuid_fixed(t, w::integer, letters) IS NOT DISTINCT FROM u',
-    'base62_try_decode_numeric_fixed(t, w::integer, letters) IS NOT DISTINCT FROM v');
+SELECT wrong.* FROM kinds, wrong('exact',
+    format($$result('decode%s_fixed', t, w, letters) = coalesce(%s::text, error)$$, kind, number),
+    format('base62_try_decode%s_fixed(t, w::integer, letters) IS NOT DISTINCT FROM %s', kind, number));
 
 \echo The first and the last number and text of a prefix, and whether enough ranges are below 2^63, across it and above it
 CREATE TABLE span AS

@@ -467,7 +467,11 @@ export function load(module) {
   }
 
   const keyRange = (prefix) => prefixRange(prefix, KEY_LENGTH);
-  const keyBounds = (prefix) => keyRange(prefix)?.map(encodeKey) ?? null;
+
+  function keyBounds(prefix) {
+    const range = keyRange(prefix);
+    return range && [encodeKey(range[0]), encodeKey(range[1])];
+  }
 
   return {
     Alphabet, Base62Error, decode, decodeCanonical, decodeFixed, decodeKey, decodeNumber, decodeNumberCanonical,

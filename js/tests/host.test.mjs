@@ -248,6 +248,12 @@ test('a script of the package defines no name, and runs twice', () => {
   }
 });
 
+test('a context needs to have atob alone', () => {
+  const { decode, encode } = exportsIn(createContext({ atob }), 'base62-proved');
+  assert.equal(decode(encode(1337)), 1337n);
+  assert.throws(() => exportsIn(createContext(), 'base62-proved'), /^ReferenceError: atob is not defined$/);
+});
+
 test('no descriptor inherits what Object.prototype has', () => {
   const wanted = { value: 2, writable: false, enumerable: true, configurable: false };
   for (const name of ['configurable', 'get', 'set', 'writable']) {

@@ -111,6 +111,11 @@ fn errors(rows: &[Row], error: impl Fn(&Row) -> String) -> Vec<Line> {
 fn values_of_texts() {
     each("encode", None, |options, rows| {
         check(&format!("encode {options}"), pairs(rows, 1, 2));
+        let with_zeros = pairs(rows, 1, 2).into_iter().map(|(mut number, text)| {
+            number.splice(..0, *b"000000000000000000000");
+            (number, text)
+        });
+        check(&format!("encode {options}"), with_zeros);
         check(&format!("decode {options}"), pairs(rows, 2, 1));
         check(&format!("decode --canonical {options}"), pairs(rows, 2, 1));
     });

@@ -8,29 +8,14 @@ mod support;
 
 use base62::DecodeError;
 use std::collections::BTreeMap;
-use std::io::Write;
-use std::process::{Command, Output, Stdio};
-use std::thread;
-use support::{bytes, decode_error, rows};
+use std::{fs, thread};
+use support::{bytes, decode_error, rows, shell::run};
 
 /// A row of values, without its kind.
 type Row = Vec<&'static str>;
 
 /// A line of input, and its line of output or the end of the message about it.
 type Line = (Vec<u8>, Result<Vec<u8>, String>);
-
-/// Runs the command with arguments that blanks separate.
-fn run(arguments: &str, input: Vec<u8>) -> Output {
-    let mut command = Command::new(env!("CARGO_BIN_EXE_base62"));
-    command.args(arguments.split_whitespace());
-    command.stdin(Stdio::piped()).stdout(Stdio::piped());
-    let mut child = command.stderr(Stdio::piped()).spawn().unwrap();
-    let mut stdin = child.stdin.take().unwrap();
-    let writer = thread::spawn(move || stdin.write_all(&input));
-    let ended = child.wait_with_output().unwrap();
-    writer.join().unwrap().unwrap();
-    ended
-}
 
 /// Compares the status, the output and the messages of a run over lines.
 #[track_caller]
@@ -46,15 +31,18 @@ fn check(arguments: &str, lines: impl IntoIterator<Item = Line>) {
         }
         output.push(b'\n');
     }
-    let ended = run(arguments, input);
-    let reported = String::from_utf8(ended.stderr).unwrap();
+    // Tests run at the same time, each in a thread.
+    let (folder, id) = (env!("CARGO_TARGET_TMPDIR"), thread::current().id());
+    let file = format!("{folder}/{id:?}");
+    fs::write(&file, input).unwrap();
+    let (status, printed, reported) = run(&format!("base62 {arguments} <'{file}'"));
     assert_eq!(reported.lines().count(), errors.len(), "{reported}");
     for (line, (start, end)) in reported.lines().zip(&errors) {
         let is_expected = line.starts_with(start) && line.ends_with(end);
         assert!(is_expected, "{line}, not {start}..{end}");
     }
-    assert_eq!(ended.stdout, output, "{arguments}");
-    assert_eq!(ended.status.code(), Some(i32::from(!errors.is_empty())));
+    assert_eq!(printed.as_bytes(), output, "{arguments}");
+    assert_eq!(status, Some(i32::from(!errors.is_empty())));
 }
 
 /// The message of an error of decoding. That of an overflow is not the one of the library, which names a type of Rust.
@@ -85,7 +73,7 @@ fn each(kind: &str, width: Option<usize>, test: impl Fn(&str, &[Row])) {
         }
         for (width, rows) in found {
             let width = width.map_or(String::new(), |it| format!("-w {it} "));
-            test(&format!("{width}-A {}", alphabet[1]), &rows);
+            test(&format!("{width}-A '{}'", alphabet[1]), &rows);
             match alphabet[0] {
                 "standard" => test(&width, &rows),
                 "alternative" => test(&format!("{width}-a"), &rows),

@@ -165,11 +165,6 @@ fn uuids() {
     let uuids = rows("uuid");
     check("encode -u", pairs(&uuids, 1, 2));
     check("decode -u", pairs(&uuids, 2, 1));
-    let keys = uuids.iter().map(|row| (row[1], format!("{:0>22}", row[2])));
-    let encoded = |(uuid, key): (&str, String)| (bytes(uuid), Ok(key.into()));
-    check("encode -u -w 22", keys.clone().map(encoded));
-    let decoded = |(uuid, key): (&str, String)| (key.into(), Ok(bytes(uuid)));
-    check("decode -u -w 22", keys.map(decoded));
     let number = |uuid: &str| u128::from_str_radix(&uuid.replace('-', ""), 16).unwrap();
     let line = |row: &Row| match row[1] {
         "none" => (bytes(row[0]), Err("not a UUID".into())),
@@ -184,17 +179,15 @@ fn uuids() {
 #[test]
 fn values_of_hexadecimal() {
     each("encode", None, |options, rows| {
-        let pair = |row: &Row| (row[1].parse::<u128>().unwrap(), bytes(row[2]));
-        let pairs = rows.iter().map(pair);
-        let lines = pairs
-            .clone()
-            .map(|(num, text)| (format!("{num:x}").into(), Ok(text)));
-        check(&format!("encode -x {options}"), lines);
-        let lines = pairs
-            .clone()
-            .map(|(num, text)| (text, Ok(format!("{num:x}").into())));
-        check(&format!("decode -x {options}"), lines);
-        let lines = pairs.map(|(num, text)| (format!("0X{num:032X}").into(), Ok(text)));
-        check(&format!("encode --hex {options}"), lines);
+        let mut lines: [Vec<Line>; 3] = Default::default();
+        for row in rows {
+            let (num, text) = (row[1].parse::<u128>().unwrap(), bytes(row[2]));
+            lines[0].push((format!("{num:x}").into(), Ok(text.clone())));
+            lines[1].push((text.clone(), Ok(format!("{num:x}").into())));
+            lines[2].push((format!("0X{num:032X}").into(), Ok(text)));
+        }
+        for (call, lines) in ["encode -x", "decode -x", "encode --hex"].iter().zip(lines) {
+            check(&format!("{call} {options}"), lines);
+        }
     });
 }

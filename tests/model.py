@@ -10,6 +10,7 @@ values that are known from outside. A result is a word and its numbers, as in th
 """
 
 import hashlib
+import itertools
 import sys
 import uuid
 from collections.abc import Iterator
@@ -179,6 +180,12 @@ def forms() -> Iterator[tuple[str, str | None]]:
             for string in (digits, digits.upper()):
                 yield from ((front + string + ("}" if front == "{" else ""), name) for front in fronts)
     yield from ((string, None) for string in KNOWN_NO_UUIDS)
+    # One character has another bit 32, by which uppercase and lowercase letters differ, or another bit 64.
+    for string in ("uRN:uUID:01234567-89ab-CDEF-aBcD-Ef0123456789", "{0123456789abcdefABCDEF9876543210}"):
+        for place, bit in itertools.product(range(len(string)), (32, 64)):
+            other = chr(ord(string[place]) ^ bit)
+            if other.lower() != string[place].lower():
+                yield string[:place] + other + string[place + 1 :], None
 
 
 # Values from outside: those that the documentation of the Rust crate base62 2.2.6 states, RFC 4122 and RFC 9562, and
@@ -340,6 +347,8 @@ KNOWN_NO_UUIDS = """
     12345678_1234_5678_1234_567812345678 12345678-1234-5678-1234_567812345678 {12345678-12345678-12345678-12345678}
     {12345678123456781234567812345678 12345678123456781234567812345678} }12345678123456781234567812345678{
     {12345678-1234-5678-1234-567812345678 12345678-1234-5678-1234-567812345678} {1234567812345678123456781234567}
+    {123456781234567812345678123456781 112345678123456781234567812345678} [12345678-1234-5678-1234-567812345678}
+    {12345678-1234-5678-1234-567812345678- -12345678-1234-5678-1234-567812345678} {12345678-1234-5678-1234-567812345678]
     {{12345678-1234-5678-1234-567812345678}} (12345678-1234-5678-1234-567812345678) {123456781234567812345678123456780}
     {urn:uuid:12345678-1234-5678-1234-567812345678} urn:uuid:{12345678-1234-5678-1234-567812345678}
     urn:uuid:12345678-1234-5678-1234-567812345678} {urn:uuid:12345678-1234-5678-1234-567812345678

@@ -95,10 +95,15 @@ class Coverage(unittest.TestCase):
         self.has([str(2**32 - 1), str(2**64 - 1)], [index for *_, index in of_bytes])
 
     def test_forms(self) -> None:
-        """Strings for a UUID, and for none, begin in each way."""
+        """Strings for a UUID, and for none, begin in each way. Some of these have one brace, or a control character."""
         for front in ("{", "urn:uuid:", "1"):
             self.assertEqual({name == "none" for it, name in rows("form") if it.startswith(front)}, {False, True}, front)
         self.assertTrue(any(it.startswith("URN:UUID:") for it, name in rows("form") if name != "none"))
+        others = [unquote_to_bytes(it) for it, name in rows("form") if name == "none"]
+        braces = {(len(it), it.startswith(b"{"), it.endswith(b"}")) for it in others}
+        self.has([(length, first, not first) for length in (34, 38) for first in (True, False)], braces)
+        # Digits, the hyphen and the colon without bit 32, letters without bit 64, and the brackets beside the braces.
+        self.has([*range(0x10, 0x1B), 0x0D, *(ord(it) ^ 64 for it in "URNIDABCEF"), *b"[]"], b"".join(others))
 
 
 if __name__ == "__main__":

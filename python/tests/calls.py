@@ -24,7 +24,6 @@ NAME = uuid.UUID("550e8400-e29b-41d4-a716-446655440000")
 ERRORS = [base62.AlphabetError, base62.OutOfRangeError, *base62.DecodeError.__subclasses__()]
 
 Call = Callable[..., Any]
-Invocation = tuple[Call, tuple[Any, ...], dict[str, Any]]
 # Calls that take an alphabet.
 OF_ALPHABETS: list[Call] = [base62.Alphabet, partial(base62.encode, 1), partial(base62.encode_uuid, NAME)]
 OF_ALPHABETS += [partial(base62.encode_fixed, 1, 5), partial(base62.prefix_range, "9", 5)]
@@ -59,55 +58,51 @@ class RaisesTestCase(unittest.TestCase):
         return caught.exception
 
 
-def invocation(call: Call, *given: Any, **named: Any) -> Invocation:
-    return call, given, named
-
-
-def valid_calls() -> Iterator[Invocation]:
+def valid_calls() -> Iterator[partial[Any]]:
     of_numbers: list[Call] = [base62.encode, base62.digit_count, base62.encode_key, partial(base62.encode_fixed, width=22)]
     for number in (1337, WIDE, uuid.UUID(int=WIDE), True):
-        yield from (invocation(call, number) for call in of_numbers)
+        yield from (partial(call, number) for call in of_numbers)
     for letters in (base62.Alphabet.ALTERNATIVE, LETTERS, CUSTOM, CUSTOM.encode()):
-        yield invocation(base62.encode, WIDE, letters)
-        yield invocation(base62.decode, "LZ", letters)
-        yield invocation(base62.decode_canonical, "LZ", letters)
-        yield invocation(base62.decode_fixed, "LZ", 2, letters)
-        yield invocation(base62.encode_fixed, WIDE, 65, letters)
-        yield invocation(base62.prefix_range, "0", 40, letters)
+        yield partial(base62.encode, WIDE, letters)
+        yield partial(base62.decode, "LZ", letters)
+        yield partial(base62.decode_canonical, "LZ", letters)
+        yield partial(base62.decode_fixed, "LZ", 2, letters)
+        yield partial(base62.encode_fixed, WIDE, 65, letters)
+        yield partial(base62.prefix_range, "0", 40, letters)
     texts: list[Any] = ["LZ", TEXT, TEXT.encode(), bytearray(TEXT, "ascii"), memoryview(b"0L0Z")[::2]]
     for text in texts:
-        yield invocation(base62.decode, text)
-        yield invocation(base62.decode_canonical, text[-1:])
-        yield invocation(base62.decode_fixed, text, Indexed(len(text)))
-        yield invocation(base62.key_range, text[:2])
-        yield invocation(base62.prefix_range, text[:2], 22)
+        yield partial(base62.decode, text)
+        yield partial(base62.decode_canonical, text[-1:])
+        yield partial(base62.decode_fixed, text, Indexed(len(text)))
+        yield partial(base62.key_range, text[:2])
+        yield partial(base62.prefix_range, text[:2], 22)
     for shown in (LETTERS, base62.Alphabet.STANDARD):
-        yield invocation(repr, shown)
-        yield invocation(base62.Alphabet, shown)
-        yield invocation(shown.__reduce__)
-    yield invocation(base62.decode_uuid_canonical, TEXT)
-    yield invocation(base62.decode_uuid_fixed, TEXT, width=22)
-    yield invocation(base62.decode_key, TEXT)
-    yield invocation(base62.prefix_range, prefix="0", width=40, alphabet=CUSTOM)
-    yield invocation(base62.encode, number=WIDE, alphabet=LETTERS)
-    yield invocation(base62.Alphabet, CUSTOM)
-    yield from (invocation(base62.key_bounds, prefix) for prefix in ("8", "7n"))
+        yield partial(repr, shown)
+        yield partial(base62.Alphabet, shown)
+        yield partial(shown.__reduce__)
+    yield partial(base62.decode_uuid_canonical, TEXT)
+    yield partial(base62.decode_uuid_fixed, TEXT, width=22)
+    yield partial(base62.decode_key, TEXT)
+    yield partial(base62.prefix_range, prefix="0", width=40, alphabet=CUSTOM)
+    yield partial(base62.encode, number=WIDE, alphabet=LETTERS)
+    yield partial(base62.Alphabet, CUSTOM)
+    yield from (partial(base62.key_bounds, prefix) for prefix in ("8", "7n"))
     for value in (uuid.UUID(int=WIDE), OtherUUID(int=WIDE), str(uuid.UUID(int=WIDE)), bytes(16)):
-        yield invocation(base62.encode_uuid, value)
+        yield partial(base62.encode_uuid, value)
     for text in ("LZ", TEXT, bytearray(TEXT, "ascii")):
-        yield invocation(base62.decode_uuid, text)
-        yield invocation(base62.decode_uuid, text[-2:], LETTERS)
+        yield partial(base62.decode_uuid, text)
+        yield partial(base62.decode_uuid, text[-2:], LETTERS)
     yield rows_of(_base62.encode_rows, "w", 2, "U")
     yield rows_of(_base62.decode_rows, "u", 2, "L")
 
 
-def rows_of(call: Call, form: str, count: int, new_form: str, option: int = 1, values: bytes = bytes(32)) -> Invocation:
+def rows_of(call: Call, form: str, count: int, new_form: str, option: int = 1, values: bytes = bytes(32)) -> partial[Any]:
     """A call of the loops for columns, with buffers for two rows."""
     new = bytearray(1), bytearray(32), bytearray(44)
-    return invocation(call, LETTERS, option, (form, 0, count, b"\3", values, b"LZ"), (new_form, *new), True)
+    return partial(call, LETTERS, option, (form, 0, count, b"\3", values, b"LZ"), (new_form, *new), True)
 
 
-def invalid_calls() -> Iterator[Invocation]:
+def invalid_calls() -> Iterator[partial[Any]]:
     # Texts of each type, and invalid alphabets.
     texts: list[object] = ["1", b"1", "é"]
     none: list[object] = [None, REPEATED, REPEATED.encode()]
@@ -134,13 +129,13 @@ def invalid_calls() -> Iterator[Invocation]:
         (base62.Alphabet, [(REPEATED,), (REPEATED.encode(),), (b"short",), (5,), ()]),
     ]
     for call, given in rows:
-        for one in given:
-            yield invocation(call, *one)
-    yield invocation(base62.encode, 1, other=1)
+        yield from (partial(call, *one) for one in given)
+    yield partial(base62.encode, 1, other=1)
     # Too few rows, negative offsets, a wrong type, a wrong argument behind the buffers, and one before them.
     yield rows_of(_base62.encode_rows, "w", 3, "U")
     yield rows_of(_base62.decode_rows, "u", 2, "L", values=b"\xff" * 32)
     yield rows_of(_base62.decode_rows, "L", 2, "L")
-    call, (*given, new, coerces), _ = rows_of(_base62.encode_rows, "w", 2, "U")
-    yield invocation(call, *given, (*new[:3], b"read-only"), coerces)
-    yield invocation(call, "letters", *given[1:], new, coerces)
+    valid = rows_of(_base62.encode_rows, "w", 2, "U")
+    *given, new, coerces = valid.args
+    yield partial(valid.func, *given, (*new[:3], b"read-only"), coerces)
+    yield partial(valid.func, "letters", *given[1:], new, coerces)

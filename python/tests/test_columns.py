@@ -120,20 +120,6 @@ class Values(ColumnsTestCase):
         texts = [unquote_to_bytes(text) for name, text, *_ in rows("refused") if name == "standard"]
         self.check(lambda it: columns.decode_uuid(it, errors="coerce"), texts, [None] * len(texts))
 
-    def test_fixed(self) -> None:
-        for name, number, width, text in rows("fixed"):
-            if name in OF_ASCII:
-                call = lambda it: columns.encode_fixed(it, int(width), ALPHABETS[name])
-                self.check(call, [None, int(number)], [None, unquote_to_bytes(text).decode()], pa.string())
-
-    def test_exact(self) -> None:
-        for name, width, text, kind, *digits in rows("exact"):
-            for good in forms_of_text(text) if kind == "number" else []:
-                given, number = (int(width), ALPHABETS[name]), int(digits[0])
-                self.check(lambda it: columns.decode_uuid_fixed(it, *given), [good, None], [uuid.UUID(int=number), None])
-                narrow = number if number < 2**63 else None
-                self.check(lambda it: columns.decode_fixed(it, *given, errors="coerce"), pa.array([good]), [narrow])
-
 
 class Arrays(ColumnsTestCase):
     """Arrays of each type in each form equal the functions for one value."""

@@ -109,13 +109,13 @@ class AllocationFailures(AllocationTestCase):
         self.assertGreater(self.failures, 50)
 
     def test_calls(self) -> None:
-        for call, given, named in calls.valid_calls():
-            self.check_no_leak(call, *given, **named)
+        for it in calls.valid_calls():
+            self.check_no_leak(it.func, *it.args, **it.keywords)
 
     def test_invalid_calls(self) -> None:
-        for call, given, named in calls.invalid_calls():
-            self.assertRaises((TypeError, ValueError), call, *given, **named)
-            self.check_no_leak(call, *given, **named)
+        for it in calls.invalid_calls():
+            self.assertRaises((TypeError, ValueError), it)
+            self.check_no_leak(it.func, *it.args, **it.keywords)
 
     def test_loading(self) -> None:
         """A module that fails to load releases what it has imported."""

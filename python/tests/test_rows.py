@@ -324,19 +324,17 @@ class Far(unittest.TestCase):
             place = (offset + 1) * size
             number: dict[str, Any] = {"w": (15 * b"\0" + b"\7"), "d": (7).to_bytes(16, sys.byteorder)}
             values[place : place + size] = number.get(form, (7).to_bytes(size, sys.byteorder))
+            is_text = form in TEXTS
+            loop: Any = _base62.decode_rows if is_text else _base62.encode_rows
+            result, characters = ("L" if is_text else "u", *new), b"LZ" if is_text else None
+            call = lambda valid: loop(ALPHABETS[0], -1, (form, offset, 2, valid, values, characters), result, True)
             # The strings are of 7 characters before the row, and of 7 fewer in it.
-            if form in TEXTS:
+            if is_text:
                 values[place : place + size] = bytes(size)
                 values[place + size : place + 2 * size] = (2).to_bytes(size, sys.byteorder)
-                call: Any = lambda valid: _base62.decode_rows(
-                    ALPHABETS[0], -1, (form, offset, 2, valid, values, b"LZ"), ("L", *new), True
-                )
                 self.assertEqual(call(validity), (2, 0, 1))
                 self.assertEqual(memoryview(new[2]).cast("Q")[1], 1337)
             else:
-                call = lambda valid: _base62.encode_rows(
-                    ALPHABETS[0], -1, (form, offset, 2, valid, values, None), ("u", *new), True
-                )
                 self.assertEqual(call(None), (2, 2, 0))
                 self.assertEqual(new[2][:2], b"07")
                 self.assertEqual(call(validity), (2, 1, 1))

@@ -65,19 +65,6 @@ fn inputs() {
     prints(line, "1337\n61\n");
 }
 
-/// Each count of decimal digits, with leading zeros and without.
-#[test]
-fn decimal_numbers() {
-    let powers = (0..39).map(|count| 10_u128.pow(count));
-    let numbers = powers.flat_map(|power| [power - 1, power, power + 1]);
-    let lines: String = numbers.map(|number| format!("{number}\n")).collect();
-    for zeros in ["", "0", "000000000000000000000"] {
-        let with_zeros = format!("printf '{lines}' | sed 's/^/{zeros}/'");
-        let line = format!("{with_zeros} | base62 encode | base62 decode");
-        prints(&line, &lines);
-    }
-}
-
 /// A read takes 32,768 bytes.
 #[test]
 fn a_first_line_about_the_length_of_a_read() {

@@ -8,29 +8,14 @@ mod support;
 
 use base62::DecodeError;
 use std::collections::BTreeMap;
-use std::io::Write;
-use std::process::{Command, Output, Stdio};
-use std::thread;
-use support::{bytes, decode_error, rows};
+use std::{fs, thread};
+use support::{bytes, decode_error, rows, shell::run};
 
 /// A row of values, without its kind.
 type Row = Vec<&'static str>;
 
 /// A line of input, and its line of output or the end of the message about it.
 type Line = (Vec<u8>, Result<Vec<u8>, String>);
-
-/// Runs the command with arguments that blanks separate.
-fn run(arguments: &str, input: Vec<u8>) -> Output {
-    let mut command = Command::new(env!("CARGO_BIN_EXE_base62"));
-    command.args(arguments.split_whitespace());
-    command.stdin(Stdio::piped()).stdout(Stdio::piped());
-    let mut child = command.stderr(Stdio::piped()).spawn().unwrap();
-    let mut stdin = child.stdin.take().unwrap();
-    let writer = thread::spawn(move || stdin.write_all(&input));
-    let ended = child.wait_with_output().unwrap();
-    writer.join().unwrap().unwrap();
-    ended
-}
 
 /// Compares the status, the output and the messages of a run over lines.
 #[track_caller]
@@ -46,15 +31,18 @@ fn check(arguments: &str, lines: impl IntoIterator<Item = Line>) {
         }
         output.push(b'\n');
     }
-    let ended = run(arguments, input);
-    let reported = String::from_utf8(ended.stderr).unwrap();
+    // Tests run at the same time, each in a thread.
+    let (folder, id) = (env!("CARGO_TARGET_TMPDIR"), thread::current().id());
+    let file = format!("{folder}/{id:?}");
+    fs::write(&file, input).unwrap();
+    let (status, printed, reported) = run(&format!("base62 {arguments} <'{file}'"));
     assert_eq!(reported.lines().count(), errors.len(), "{reported}");
     for (line, (start, end)) in reported.lines().zip(&errors) {
         let is_expected = line.starts_with(start) && line.ends_with(end);
         assert!(is_expected, "{line}, not {start}..{end}");
     }
-    assert_eq!(ended.stdout, output, "{arguments}");
-    assert_eq!(ended.status.code(), Some(i32::from(!errors.is_empty())));
+    assert_eq!(printed.as_bytes(), output, "{arguments}");
+    assert_eq!(status, Some(i32::from(!errors.is_empty())));
 }
 
 /// The message of an error of decoding. That of an overflow is not the one of the library, which names a type of Rust.
@@ -85,7 +73,7 @@ fn each(kind: &str, width: Option<usize>, test: impl Fn(&str, &[Row])) {
         }
         for (width, rows) in found {
             let width = width.map_or(String::new(), |it| format!("-w {it} "));
-            test(&format!("{width}-A {}", alphabet[1]), &rows);
+            test(&format!("{width}-A '{}'", alphabet[1]), &rows);
             match alphabet[0] {
                 "standard" => test(&width, &rows),
                 "alternative" => test(&format!("{width}-a"), &rows),
@@ -111,6 +99,11 @@ fn errors(rows: &[Row], error: impl Fn(&Row) -> String) -> Vec<Line> {
 fn values_of_texts() {
     each("encode", None, |options, rows| {
         check(&format!("encode {options}"), pairs(rows, 1, 2));
+        let with_zeros = pairs(rows, 1, 2).into_iter().map(|(mut number, text)| {
+            number.splice(..0, *b"000000000000000000000");
+            (number, text)
+        });
+        check(&format!("encode {options}"), with_zeros);
         check(&format!("decode {options}"), pairs(rows, 2, 1));
         check(&format!("decode --canonical {options}"), pairs(rows, 2, 1));
     });
@@ -172,11 +165,6 @@ fn uuids() {
     let uuids = rows("uuid");
     check("encode -u", pairs(&uuids, 1, 2));
     check("decode -u", pairs(&uuids, 2, 1));
-    let keys = uuids.iter().map(|row| (row[1], format!("{:0>22}", row[2])));
-    let encoded = |(uuid, key): (&str, String)| (bytes(uuid), Ok(key.into()));
-    check("encode -u -w 22", keys.clone().map(encoded));
-    let decoded = |(uuid, key): (&str, String)| (key.into(), Ok(bytes(uuid)));
-    check("decode -u -w 22", keys.map(decoded));
     let number = |uuid: &str| u128::from_str_radix(&uuid.replace('-', ""), 16).unwrap();
     let line = |row: &Row| match row[1] {
         "none" => (bytes(row[0]), Err("not a UUID".into())),
@@ -191,17 +179,15 @@ fn uuids() {
 #[test]
 fn values_of_hexadecimal() {
     each("encode", None, |options, rows| {
-        let pair = |row: &Row| (row[1].parse::<u128>().unwrap(), bytes(row[2]));
-        let pairs = rows.iter().map(pair);
-        let lines = pairs
-            .clone()
-            .map(|(num, text)| (format!("{num:x}").into(), Ok(text)));
-        check(&format!("encode -x {options}"), lines);
-        let lines = pairs
-            .clone()
-            .map(|(num, text)| (text, Ok(format!("{num:x}").into())));
-        check(&format!("decode -x {options}"), lines);
-        let lines = pairs.map(|(num, text)| (format!("0X{num:032X}").into(), Ok(text)));
-        check(&format!("encode --hex {options}"), lines);
+        let mut lines: [Vec<Line>; 3] = Default::default();
+        for row in rows {
+            let (num, text) = (row[1].parse::<u128>().unwrap(), bytes(row[2]));
+            lines[0].push((format!("{num:x}").into(), Ok(text.clone())));
+            lines[1].push((text.clone(), Ok(format!("{num:x}").into())));
+            lines[2].push((format!("0X{num:032X}").into(), Ok(text)));
+        }
+        for (call, lines) in ["encode -x", "decode -x", "encode --hex"].iter().zip(lines) {
+            check(&format!("{call} {options}"), lines);
+        }
     });
 }

@@ -235,24 +235,23 @@ fn decoding_at_a_width() {
 
 #[test]
 fn ranges() {
-    let alphabets = alphabets();
-    for row in rows("range") {
-        let (alphabet, prefix) = (&alphabets[row[0]], bytes(row[2]));
+    each("range", |alphabet, row| {
         // Not each machine has each width.
-        let Ok(width) = row[1].parse() else { continue };
-        let expected = match row[3..] {
+        let Ok(width) = row[0].parse() else { return };
+        let prefix = bytes(row[1]);
+        let expected = match row[2..] {
             ["numbers", least, greatest] => Ok(Some(number(least)..=number(greatest))),
             ["none"] => Ok(None),
-            _ => Err(decode_error(&row[3..]).unwrap()),
+            _ => Err(decode_error(&row[2..]).unwrap()),
         };
         assert_eq!(prefix_range_with(alphabet, &prefix, width), expected);
-        if row[0] == "standard" {
+        if *alphabet == Alphabet::standard() {
             assert_eq!(prefix_range(&prefix, width), expected);
             if width == 22 {
                 assert_eq!(base62::key_range(&prefix), expected);
             }
         }
-    }
+    });
 }
 
 #[test]

@@ -38,8 +38,6 @@ extern "C" {
     fn base62_digit_count(number: Number) -> usize;
     fn base62_alphabet_init(alphabet: &mut Alphabet, characters: &[u8; 62], bad: &mut BadByte) -> u32;
     fn base62_to_uuid(number: Number, uuid: &mut [u8; 16]);
-    fn base62_from_uuid(uuid: &[u8; 16]) -> Number;
-    fn base62_error_message(status: u32, bad: BadByte, buffer: *mut u8, size: usize) -> usize;
 }
 
 /// Calls with a buffer. They answer how many bytes they wrote, or 0 if it is too small.
@@ -140,11 +138,6 @@ pub fn decode_uuid(text: &[u8]) -> Result<[u8; 16], DecodeError> {
     Ok(uuid)
 }
 
-pub fn number_of(uuid: [u8; 16]) -> u128 {
-    // SAFETY: the UUID is here.
-    unsafe { base62_from_uuid(&uuid) }.value()
-}
-
 pub fn encode_key(num: u128) -> [u8; 22] {
     let mut key = [0; 22];
     // SAFETY: the key is here.
@@ -166,24 +159,4 @@ impl Alphabet {
             _ => Err(AlphabetError::Repeated(bad.byte, bad.index)),
         }
     }
-}
-
-/// What a fault says.
-pub fn text_of(fault: DecodeError) -> String {
-    match fault {
-        DecodeError::EmptyInput => message(2, BadByte::default()),
-        DecodeError::InvalidBase62Byte(byte, index) => message(3, BadByte { index, byte }),
-        DecodeError::ArithmeticOverflow => message(4, BadByte::default()),
-    }
-}
-
-pub fn wrong_length() -> String {
-    message(8, BadByte::default())
-}
-
-fn message(status: u32, bad: BadByte) -> String {
-    let mut text = [0; 77];
-    // SAFETY: the buffer is here.
-    let length = unsafe { base62_error_message(status, bad, text.as_mut_ptr(), text.len()) };
-    String::from_utf8(text[..length].to_vec()).unwrap()
 }

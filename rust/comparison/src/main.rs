@@ -1,6 +1,19 @@
 //! Compares this crate with a library for C: `comparison CALLS SEED`. Both get the same calls. With the feature
 //! `original`, the crate `base62` 2.2.6 gets those that it has too.
 
+/// Makes each call by the names of this crate and of another module, with the alphabet of each for `$own`. How many calls
+/// there are.
+macro_rules! same {
+    ($input:ident, $there:ident, $own:ident = $ours:expr, $theirs:expr; $($call:expr,)*) => {
+        0 $(+ crate::compare(
+            $input,
+            stringify!($call),
+            { use proved::*; let $own = &$ours; $call },
+            { use $there::*; let $own = &$theirs; $call },
+        ))*
+    };
+}
+
 mod input;
 mod library;
 #[cfg(feature = "original")]
@@ -10,26 +23,6 @@ use input::{Input, Random};
 use std::fmt::Debug;
 use std::{env, process};
 
-mod here {
-    pub use proved::*;
-
-    /// The text of the crate, but that the library for C does not name a type of Rust.
-    pub fn text_of(fault: DecodeError) -> String {
-        match fault {
-            DecodeError::ArithmeticOverflow => "Decoded number is 2^128 or more".to_string(),
-            _ => fault.to_string(),
-        }
-    }
-
-    pub fn wrong_length() -> String {
-        FixedError::WrongLength.to_string()
-    }
-
-    pub fn number_of(uuid: [u8; 16]) -> u128 {
-        u128::from_be_bytes(uuid)
-    }
-}
-
 /// Ends the program with status 1 if the answers differ. One call is compared.
 fn compare<T: PartialEq + Debug>(input: &Input, call: &str, here: T, there: T) -> usize {
     if here != there {
@@ -37,18 +30,6 @@ fn compare<T: PartialEq + Debug>(input: &Input, call: &str, here: T, there: T) -
         process::exit(1);
     }
     1
-}
-
-/// Makes each call by the names of both modules, with the alphabet of each for `$own`. How many calls there are.
-macro_rules! same {
-    ($input:ident, $own:ident = $ours:ident, $theirs:ident; $($call:expr,)*) => {
-        0 $(+ compare(
-            $input,
-            stringify!($call),
-            { use here::*; let $own = &$ours; $call },
-            { use library::*; let $own = &$theirs; $call },
-        ))*
-    };
 }
 
 #[allow(unused_variables)] // Few calls take `own`.
@@ -60,7 +41,7 @@ fn round(input: &Input) -> usize {
     // The same number over the other letters.
     let mut buf = [0; 22];
     let length = proved::encode_bytes_with(&ours, number, &mut buf).unwrap();
-    let of_number = same! { input, own = ours, theirs;
+    let of_number = same! { input, library, own = ours, theirs;
         Alphabet::new(repeated).err(),
         input.buffer(|buf| encode_bytes(number, buf)),
         input.buffer(|buf| encode_alternative_bytes(number, buf)),
@@ -70,12 +51,10 @@ fn round(input: &Input) -> usize {
         input.buffer(|places| encode_fixed_with(own, number, places)),
         encode_key(number),
         digit_count(number),
-        number_of(number.to_be_bytes()),
         decode_key(&encode_key(number)),
-        wrong_length(),
     };
     let of_text = |text: &[u8]| {
-        same! { input, own = ours, theirs;
+        same! { input, library, own = ours, theirs;
             decode(text),
             decode_alternative(text),
             decode_with(own, text),
@@ -92,8 +71,6 @@ fn round(input: &Input) -> usize {
             key_range(text),
             prefix_range(text, width),
             prefix_range_with(own, text, width),
-            decode(text).err().map(text_of),
-            decode_with(own, text).err().map(text_of),
         }
     };
     #[cfg(feature = "original")]

@@ -1,6 +1,5 @@
 //! The functions that the crate `base62` 2.2.6 has too, with what its errors and displays show.
 
-use crate::compare;
 use crate::input::Input;
 use std::collections::hash_map::DefaultHasher;
 use std::fmt::{Debug, Display};
@@ -27,16 +26,9 @@ fn appended<T: Default>(call: impl FnOnce(&mut T)) -> T {
     target
 }
 
-/// Makes each call by the names of both crates. How many calls there are.
-macro_rules! same {
-    ($input:ident; $($call:expr,)*) => {
-        0 $(+ compare($input, stringify!($call), { use proved::*; $call }, { use base62::*; $call }))*
-    };
-}
-
 pub fn round(input: &Input) -> usize {
     let (number, text, other) = (input.number, &input.text[..], &input.text[input.text.len() / 2..]);
-    same! { input;
+    same! { input, base62, _own = (), ();
         input.buffer(|buf| told(encode_bytes(number, buf))),
         input.buffer(|buf| told(encode_bytes(number as u64, buf))),
         input.buffer(|buf| told(encode_alternative_bytes(number, buf))),

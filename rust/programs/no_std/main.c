@@ -1,12 +1,12 @@
 #include <inttypes.h>
 #include <stdio.h>
 
-void shop_lines(uint64_t id, char lines[100]);
+void shop_text(uint64_t id, char text[5]);
 uint64_t shop_round_trip(uint64_t id);
 
 int main(void) {
-    char lines[100];
-    shop_lines(1337, lines);
-    printf("%s%" PRIu64 "\n", lines, shop_round_trip(UINT64_MAX));
+    char text[5];
+    shop_text(1337, text);
+    printf("%.5s\n%" PRIu64 "\n", text, shop_round_trip(UINT64_MAX));
     return 0;
 }

@@ -11,7 +11,7 @@ use base62::{Alphabet, DecodeError};
 use std::collections::HashMap;
 use std::fs;
 use std::path::Path;
-use std::sync::OnceLock;
+use std::sync::LazyLock;
 
 pub const STANDARD: &[u8; 62] = b"0123456789ABCDEFGHIJKLMNOPQRSTUVWXYZabcdefghijklmnopqrstuvwxyz";
 pub const ALTERNATIVE: &[u8; 62] =
@@ -22,29 +22,17 @@ pub fn high_letters() -> [u8; 62] {
     std::array::from_fn(|digit| 194 + digit as u8)
 }
 
-/// The values that the tests of all packages share. `make dist` packs them beside the tests. A crate that cargo alone has
-/// packed lacks them.
-fn values() -> Option<&'static str> {
-    static VALUES: OnceLock<Option<String>> = OnceLock::new();
-    let read = || {
-        let folder = Path::new(env!("CARGO_MANIFEST_DIR"));
-        let files = ["../tests/values.tsv", "tests/values.tsv"].map(|file| folder.join(file));
-        let found = files.iter().find(|file| file.exists());
-        let is_packed = folder.join("Cargo.toml.orig").exists();
-        assert!(found.is_some() || is_packed, "values.tsv is missing");
-        found.map(|file| fs::read_to_string(file).unwrap())
-    };
-    VALUES.get_or_init(read).as_deref()
-}
+/// The values that the tests of all packages share. `make dist` packs them beside the tests.
+static VALUES: LazyLock<String> = LazyLock::new(|| {
+    let read = |file| fs::read_to_string(Path::new(env!("CARGO_MANIFEST_DIR")).join(file));
+    let shared = read("../tests/values.tsv");
+    shared.or_else(|_| read("tests/values.tsv")).unwrap()
+});
 
 /// The rows of a kind in tests/values.tsv, whose head tells of them, without the kind.
 pub fn rows(kind: &str) -> Vec<Vec<&'static str>> {
-    let Some(values) = values() else {
-        eprintln!("left out: values of {kind}, which the repository has in tests/values.tsv");
-        return Vec::new();
-    };
     let start = format!("{kind}\t");
-    let found = values.lines().filter_map(|line| line.strip_prefix(&start));
+    let found = VALUES.lines().filter_map(|line| line.strip_prefix(&start));
     let found: Vec<Vec<_>> = found.map(|row| row.split('\t').collect()).collect();
     assert!(!found.is_empty(), "no row of {kind}");
     found

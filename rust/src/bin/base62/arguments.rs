@@ -84,7 +84,7 @@ fn long_option(argument: &[u8], rest: Rest) -> Result<Given, String> {
     let mut parts = argument.splitn(2, |byte| *byte == b'=');
     let (name, attached) = (parts.next().unwrap_or_default(), parts.next());
     let option = find_option(name)?;
-    if !option.value_name.is_empty() {
+    if let Effect::SetBy(..) = option.effect {
         return Ok((option, value_of(name, attached, rest)?));
     }
     match attached {
@@ -99,7 +99,7 @@ fn short_options(mut letters: &[u8], rest: Rest, given: &mut Vec<Given>) -> Resu
         let name = [b'-', *letter];
         let (option, mut value) = (find_option(&name)?, Vec::new());
         letters = after;
-        if !option.value_name.is_empty() {
+        if let Effect::SetBy(..) = option.effect {
             let attached = Some(after).filter(|after| !after.is_empty());
             value = value_of(&name, attached, rest)?;
             letters = &[];
@@ -134,7 +134,7 @@ fn settings_of(subcommand: &Subcommand, given: &[Given]) -> Result<Settings, Str
         }
         match option.effect {
             Effect::Set(set) => set(&mut settings),
-            Effect::SetBy(set) => set(&mut settings, value)?,
+            Effect::SetBy(_, set) => set(&mut settings, value)?,
             Effect::Help | Effect::Version => {}
         }
     }

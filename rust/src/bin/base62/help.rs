@@ -24,16 +24,14 @@ pub(crate) struct Subcommand {
 pub(crate) struct CommandOption {
     pub(crate) letter: u8,
     pub(crate) name: &'static str,
-    /// What the help calls its value, such as `N`. Empty if it takes no value.
-    pub(crate) value_name: &'static str,
     purpose: &'static str,
     pub(crate) effect: Effect,
 }
 
 pub(crate) enum Effect {
     Set(fn(&mut Settings)),
-    /// Sets something by the value of the option. An error says what is wrong with the value.
-    SetBy(fn(&mut Settings, &[u8]) -> Result<(), String>),
+    /// Sets something by the value of the option, which the help calls by this name. An error says what is wrong with it.
+    SetBy(&'static str, fn(&mut Settings, &[u8]) -> Result<(), String>),
     Help,
     Version,
 }
@@ -84,16 +82,14 @@ pub(crate) static OPTIONS: [CommandOption; 9] = [
     CommandOption {
         letter: b'a',
         name: "alternative",
-        value_name: "",
         purpose: "use the alphabet 0 to 9, a to z, A to Z",
         effect: Effect::Set(|it| it.alphabet = Alphabet::alternative()),
     },
     CommandOption {
         letter: b'A',
         name: "alphabet",
-        value_name: "CHARACTERS",
         purpose: "use these 62 printable ASCII characters, the zero first",
-        effect: Effect::SetBy(|it, value| {
+        effect: Effect::SetBy("CHARACTERS", |it, value| {
             it.alphabet = parse_alphabet(value)?;
             Ok(())
         }),
@@ -101,9 +97,8 @@ pub(crate) static OPTIONS: [CommandOption; 9] = [
     CommandOption {
         letter: b'w',
         name: "width",
-        value_name: "N",
         purpose: "strings have exactly N characters, with leading zeros",
-        effect: Effect::SetBy(|it, value| {
+        effect: Effect::SetBy("N", |it, value| {
             it.width = Some(parse_width(value)?);
             Ok(())
         }),
@@ -111,42 +106,36 @@ pub(crate) static OPTIONS: [CommandOption; 9] = [
     CommandOption {
         letter: b'c',
         name: "canonical",
-        value_name: "",
         purpose: "reject strings with leading zeros",
         effect: Effect::Set(|it| it.is_canonical = true),
     },
     CommandOption {
         letter: b'u',
         name: "uuid",
-        value_name: "",
         purpose: "numbers are UUIDs",
         effect: Effect::Set(|it| it.notation = Some(Notation::Uuid)),
     },
     CommandOption {
         letter: b'x',
         name: "hex",
-        value_name: "",
         purpose: "numbers are hexadecimal",
         effect: Effect::Set(|it| it.notation = Some(Notation::Hexadecimal)),
     },
     CommandOption {
         letter: b'e',
         name: "keep-empty",
-        value_name: "",
         purpose: "an empty input gives an empty line, and is no error",
         effect: Effect::Set(|it| it.keeps_empty = true),
     },
     CommandOption {
         letter: b'h',
         name: "help",
-        value_name: "",
         purpose: HELP,
         effect: Effect::Help,
     },
     CommandOption {
         letter: b'V',
         name: "version",
-        value_name: "",
         purpose: "print the version",
         effect: Effect::Version,
     },
@@ -193,13 +182,11 @@ pub(crate) fn help(subcommand: Option<&Subcommand>) -> String {
 fn rows_of_options(letters: &[u8]) -> String {
     let options = OPTIONS.iter().filter(|it| letters.contains(&it.letter));
     let rows = options.map(|it| {
-        let names = format!(
-            "-{}, --{} {}",
-            char::from(it.letter),
-            it.name,
-            it.value_name
-        );
-        row(names.trim_end(), it.purpose)
+        let names = format!("-{}, --{}", char::from(it.letter), it.name);
+        match it.effect {
+            Effect::SetBy(value, _) => row(&format!("{names} {value}"), it.purpose),
+            _ => row(&names, it.purpose),
+        }
     });
     rows.collect()
 }

@@ -29,13 +29,7 @@ dec 26tF05fvSIgh0000000000 -> 92202686130861137968548313400401640448
 dec 7n42DGM5Tflk9n8mt7Fhc8 -> fault: Decoded number cannot fit into a `u128`
 dec \xff -> fault: Encoded input contains the invalid byte b'\\xff' at index 0
 dec  -> fault: Encoded input is an empty string
-alt 1337 -> lz
-adc rustlang -> 96813686712946
- -> fault: unknown command
-\xff -> fault: unknown command
-ENC 1 -> fault: unknown command
 enc\xff1 -> fault: unknown command
-enc -> fault: unknown command
 ";
 
 /// Moves one byte a call. Its first read fails with the error, if there is one. A flush adds a 0.

@@ -8,13 +8,15 @@ mod support;
 
 use std::alloc::{GlobalAlloc, Layout, System};
 use std::cell::Cell;
+use std::process::Command;
 use support::{alphabets, bytes, rows};
 
 thread_local! {
     static REQUESTS: Cell<usize> = const { Cell::new(0) };
+    static IS_REFUSING: Cell<bool> = const { Cell::new(false) };
 }
 
-/// Counts the requests of a thread.
+/// Counts the requests of a thread, and refuses them if it is told to.
 struct Counted;
 
 #[global_allocator]
@@ -24,6 +26,9 @@ static ALLOCATOR: Counted = Counted;
 unsafe impl GlobalAlloc for Counted {
     unsafe fn alloc(&self, layout: Layout) -> *mut u8 {
         REQUESTS.set(REQUESTS.get() + 1);
+        if IS_REFUSING.get() {
+            return std::ptr::null_mut();
+        }
         System.alloc(layout)
     }
 
@@ -61,4 +66,23 @@ fn each_length_in_each_capacity() {
             }
         }
     }
+}
+
+#[test]
+fn refused_memory_ends_the_program() {
+    const CHILD: &str = "BASE62_REFUSED";
+    if std::env::var_os(CHILD).is_some() {
+        let mut buf = String::new();
+        IS_REFUSING.set(true);
+        base62::encode_buf(1337_u32, &mut buf);
+        IS_REFUSING.set(false);
+        std::process::exit(0);
+    }
+    let mut child = Command::new(std::env::current_exe().unwrap());
+    child.args(["--exact", "refused_memory_ends_the_program"]);
+    let output = child.env(CHILD, "").output().unwrap();
+    assert!(!output.status.success());
+    let said = String::from_utf8(output.stderr).unwrap();
+    let message = "memory allocation of 8 bytes failed";
+    assert!(said.contains(message), "{said}");
 }

@@ -165,6 +165,11 @@ fn uuids() {
     let uuids = rows("uuid");
     check("encode -u", pairs(&uuids, 1, 2));
     check("decode -u", pairs(&uuids, 2, 1));
+    let keys = uuids.iter().map(|row| (row[1], format!("{:0>22}", row[2])));
+    let encoded = |(uuid, key): (&str, String)| (bytes(uuid), Ok(key.into()));
+    check("encode -u -w 22", keys.clone().map(encoded));
+    let decoded = |(uuid, key): (&str, String)| (key.into(), Ok(bytes(uuid)));
+    check("decode -u -w 22", keys.map(decoded));
     let number = |uuid: &str| u128::from_str_radix(&uuid.replace('-', ""), 16).unwrap();
     let line = |row: &Row| match row[1] {
         "none" => (bytes(row[0]), Err("not a UUID".into())),

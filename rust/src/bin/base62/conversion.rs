@@ -12,7 +12,7 @@ use base62::{Alphabet, CanonicalError, DecodeError, FixedError, MAX_DIGITS};
 use std::fmt::{self, Display, Formatter};
 use std::io::Write;
 
-use ConversionError::{Decode, Invalid};
+use ConversionError::{Decode, Invalid, WrongLength};
 use Notation::{Hexadecimal, Uuid};
 
 /// Appends the result for an input. If the input is invalid, it appends nothing.
@@ -22,6 +22,7 @@ pub(crate) type Converter = fn(&Settings, &[u8], &mut Bytes) -> Result<(), Conve
 pub(crate) enum ConversionError {
     Failure(Failure),
     Decode(CanonicalError),
+    WrongLength,
     Invalid(&'static str),
 }
 
@@ -41,7 +42,7 @@ impl From<FixedError> for ConversionError {
     fn from(error: FixedError) -> Self {
         match error {
             FixedError::Decode(error) => Decode(error.into()),
-            FixedError::WrongLength => Invalid("Encoded input does not have the given width"),
+            FixedError::WrongLength => WrongLength,
         }
     }
 }
@@ -54,6 +55,7 @@ impl Display for ConversionError {
                 f.write_str("Decoded number is 2^128 or more")
             }
             Decode(error) => error.fmt(f),
+            WrongLength => FixedError::WrongLength.fmt(f),
             Invalid(error) => error.fmt(f),
         }
     }

@@ -71,11 +71,6 @@ function uuidOf(number) {
   return number.toString(16).padStart(32, '0').replace(/^(.{8})(.{4})(.{4})(.{4})/, '$1-$2-$3-$4-');
 }
 
-// The calls that take UUIDs, each with the width of its text.
-function encodersOfUuids({ encodeUuid, encodeKey, encodeFixed }) {
-  return [[encodeUuid, 0], [encodeKey, 22], [(it) => encodeFixed(it, 23), 23]];
-}
-
 // A call with the fault of a row. There is none here for a long text, a letter outside ASCII, a prefix of no text, a
 // narrow buffer, or a UUID.
 function callWith(base62, [kind, byte, index]) {
@@ -231,15 +226,23 @@ const tests = {
     }
   },
 
-  'a UUID has the text of its number'({ base62, rows }) {
-    for (const [digits, uuid, text] of rows.uuid) {
-      const bytes = Uint8Array.from(uuid.replaceAll('-', '').match(/../g), (it) => parseInt(it, 16));
-      for (const [call, width] of encodersOfUuids(base62)) {
+  'a UUID has the text of its number'({ base62, rows, refused }) {
+    const { encodeUuid, encodeKey, encodeFixed } = base62;
+    for (const [digits, uuid] of rows.uuid) same(uuidOf(BigInt(digits)), uuid);
+    for (const [call, width] of [[encodeUuid, 0], [encodeKey, 22], [(it) => encodeFixed(it, 23), 23]]) {
+      for (const [, uuid, text] of rows.uuid) {
+        const bytes = Uint8Array.from(uuid.replaceAll('-', '').match(/../g), (it) => parseInt(it, 16));
         for (const form of [uuid, bytes]) same(call(form), text.padStart(width, '0'));
-        if (width > 0) same(base62.decodeUuidFixed(call(uuid), width), uuid);
       }
-      same(uuidOf(BigInt(digits)), uuid);
+      for (const [field, uuid] of rows.form) {
+        const form = decodeURIComponent(field);
+        if (uuid === 'none') refused(() => call(form), 'INVALID_UUID');
+        else same(base62.decodeUuid(call(form)), uuid);
+      }
+      for (const length of [0, 15, 17]) refused(() => call(new Uint8Array(length)), 'INVALID_UUID');
     }
+    const forms = 'with hyphens or without, in braces or after urn:uuid:, or 16 bytes';
+    refused(() => encodeUuid(''), 'INVALID_UUID', `a UUID is 32 hexadecimal digits, ${forms}`);
   },
 
   'a range has the numbers of a prefix'({ base62, rowsOf, alphabets, refused }) {
@@ -385,21 +388,6 @@ const tests = {
       [() => base62.encode(1337, letters.readable), ', not a string: create one with new Alphabet(..)'],
       [() => base62.encode(1337, null), ' of this copy of base62-proved'],
     ]) same(faultOf(call).message, `an alphabet is an Alphabet${said}`);
-  },
-
-  'valid and invalid UUIDs'({ base62, rows, refused }) {
-    const calls = encodersOfUuids(base62).map(([call]) => call);
-    for (const [field, uuid] of rows.form) {
-      for (const call of calls) {
-        if (uuid === 'none') refused(() => call(decodeURIComponent(field)), 'INVALID_UUID');
-        else same(base62.decodeUuid(call(decodeURIComponent(field))), uuid);
-      }
-    }
-    for (const length of [0, 15, 17]) {
-      for (const call of calls) refused(() => call(new Uint8Array(length)), 'INVALID_UUID');
-    }
-    const forms = 'with hyphens or without, in braces or after urn:uuid:, or 16 bytes';
-    refused(() => base62.encodeUuid(''), 'INVALID_UUID', `a UUID is 32 hexadecimal digits, ${forms}`);
   },
 
   'an alphabet has its characters'({ base62, rows, letters, alphabets, refused, Alphabet }) {

@@ -27,8 +27,8 @@ def of_ascii(kind: str) -> list[list[str]]:
 
 def of_widths(kind: str) -> list[tuple[Any, ...]]:
     """Such rows with a width that SQL has. Their string or prefix is bytes."""
-    found = [(letters, int(width), unquote_to_bytes(field), *result) for letters, width, field, *result in of_ascii(kind)]
-    return [row for row in found if 0 < row[1] <= WIDEST]
+    given = ((row, int(row[1])) for row in of_ascii(kind))
+    return [(row[0], width, unquote_to_bytes(row[2]), *row[3:]) for row, width in given if 0 < width <= WIDEST]
 
 
 # Alphabets of ASCII characters other than a null byte.

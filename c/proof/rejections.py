@@ -19,7 +19,7 @@ UNPROVED, FORM = "does not prove the axiom", "an axiom of another form"
 CODE, BODY, WARNING, NO_CONTRACT = "the lists change the code", "without a body", "arning", "no contract, or none"
 FALSE, NOT_TRIED = "an axiom of WP that is false", "WP tries no goal"
 NUMBER, CHAR, APART = "a pointer from a number", "a plain char", "Memory model hypotheses"
-LINE, TYPE, EXPRESSION, STATEMENT = "preprocessor.txt", "list: a type", "list: the expression", "list: a statement"
+LINE, TYPE, EXPRESSION, STATEMENT = "are not reviewed", "list: a type", "list: the expression", "list: a statement"
 VARIABLE, UNTYPED, CALL = "is not initialized", "list: an expression", "a call that may write"
 
 # A function, which stands behind those of base62.c, and its contract.

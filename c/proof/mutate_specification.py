@@ -38,7 +38,7 @@ LAWS = {
     " one_text_of_uuid one_uuid escape",
     "number_of(\\result) == value": "of_half half version", "logic integer escape_length": "escape",
     "logic integer without_decimals": "compute_decimals index_again",
-    "logic integer byte_at_index_length": "texts_by_example index_again",
+    "logic integer byte_at_index_length": "texts_by_example ends_of_texts index_again",
 }
 
 # What is exchanged for what in definitions and in what is ensured, and in what is required and assigned.

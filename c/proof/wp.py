@@ -29,7 +29,7 @@ CORES = int(os.environ.get("CORES", os.cpu_count()))
 
 # How a line "== prove" of the annotations or the laws says that WP proves a function. All others are proved without what
 # stands in constant tables, since it slows provers.
-HOW = {"with tables", "asserts named same with tables", "without a filter of hypotheses", "not split"}
+HOW = {"with tables", "not split"}
 
 
 @functools.cache
@@ -188,21 +188,12 @@ def is_proved(function, how):
 
 def proved(file, function, last=None, limit=LIMIT):
     """What WP says of a function or of all lemmas, with a limit of seconds for each goal."""
-    if not is_proved(function, "asserts named same with tables"):
-        return run(file, function, is_proved(function, "with tables"), [], last, limit)
-    log = run(file, function, True, ["-wp-prop", "same"], last, limit)
-    return log if last and last in log else log + run(file, function, False, ["-wp-prop=-same"], last, limit)
-
-
-def run(file, function, with_tables, options, last, limit):
-    """What one run of WP says, with or without what stands in constant tables."""
     # Both provers try a goal at the same time, until one of them proves it.
-    options = [*options, "-wp", "-wp-rte", "-warn-invalid-pointer", "-wp-prover", "cvc4,z3", "-wp-timeout", str(limit),
+    options = ["-wp", "-wp-rte", "-warn-invalid-pointer", "-wp-prover", "cvc4,z3", "-wp-timeout", str(limit),
                "-wp-par", "2", "-wp-msg-key", "print-generated",
                "-wp-prop" if function == LEMMAS else "-wp-fct", function]
     options += [] if is_proved(function, "not split") else ["-wp-split"]
-    options += [] if with_tables else ["-wp-no-init-const"]
-    options += ["-wp-no-filter"] if is_proved(function, "without a filter of hypotheses") else []
+    options += [] if is_proved(function, "with tables") else ["-wp-no-init-const"]
     cache = os.environ.get("CACHE")
     options += ["-wp-cache", "update", "-wp-cache-dir", cache] if cache else ["-wp-cache", "none"]
     return frama_c(file, function, options, last)

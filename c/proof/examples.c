@@ -62,8 +62,18 @@ size_t index_again(base62_bad_byte bad) {
     && \forall integer i; 0 <= i < decimal_length(bad.index) ==> \
         buffer[NAMED(start) - decimal_length(bad.index) + i] == decimal_byte(bad.index, i))
 
+// == prove ends_of_texts: with tables
+/*@ assigns \nothing; ensures too_small_text[0] == 'B' && too_small_text[36] == 'r' && empty_text[0] == 'E'
+        && empty_text[31] == 'g' && overflow_text[0] == 'D' && overflow_text[30] == 'e' && no_match_text[0] == 'N'
+        && no_match_text[45] == 'x' && leading_zero_text[0] == 'E' && leading_zero_text[31] == 'o'
+        && wrong_length_text[0] == 'E' && wrong_length_text[42] == 'h' && invalid_uuid_text[0] == 'N'
+        && invalid_uuid_text[9] == 'D' && invalid_text[0] == 'E' && invalid_text[34] == ' '
+        && repeated_text[0] == 'A' && repeated_text[20] == ' ' && byte_text[0] == 'b' && byte_text[6] == '\''
+        && index_text[0] == '\'' && index_text[10] == ' ';
+*/
+static void ends_of_texts(void) {}
+
 /* A text is written whole, and nothing behind it, if there is room. 0 and numbers from 10 on have none. */
-// == prove texts_by_example: asserts named same with tables
 /*@ requires \valid(buffer + (0 .. size - 1));
     assigns buffer[0 .. size - 1];
     ensures longest: \result <= BASE62_MAX_ERROR_MESSAGE;
@@ -84,12 +94,7 @@ size_t index_again(base62_bad_byte bad) {
     ensures invalid_uuid: TEXT_OF(9, 10, 'N', 'D');
 */
 size_t texts_by_example(base62_status status, base62_bad_byte bad, char *buffer, size_t size) {
-    /*@ assert same: too_small_text[0] == 'B' && too_small_text[36] == 'r' && empty_text[0] == 'E'
-            && empty_text[31] == 'g' && overflow_text[0] == 'D' && overflow_text[30] == 'e' && no_match_text[0] == 'N'
-            && no_match_text[45] == 'x' && leading_zero_text[0] == 'E' && leading_zero_text[31] == 'o'
-            && wrong_length_text[0] == 'E' && wrong_length_text[42] == 'h' && invalid_uuid_text[0] == 'N'
-            && invalid_uuid_text[9] == 'D' && invalid_text[0] == 'E' && invalid_text[34] == ' ' && repeated_text[0] == 'A' && repeated_text[20] == ' ' && byte_text[0] == 'b'
-            && byte_text[6] == '\'' && index_text[0] == '\'' && index_text[10] == ' '; */
+    ends_of_texts();
     escape(bad.byte);
     compute_decimals(bad.index);
     return base62_error_message(status, bad, buffer, size);

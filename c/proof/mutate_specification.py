@@ -38,7 +38,7 @@ LAWS = {
     " one_text_of_uuid one_uuid escape",
     "number_of(\\result) == value": "of_half half version", "logic integer escape_length": "escape",
     "logic integer without_decimals": "compute_decimals index_again",
-    "logic integer byte_at_index_length": "texts_by_example index_again",
+    "logic integer byte_at_index_length": "texts_by_example ends_of_texts index_again",
 }
 
 # What is exchanged for what in definitions and in what is ensured, and in what is required and assigned.
@@ -175,32 +175,32 @@ def seen(file, names, limits):
         return "not read"
 
 
-def tried(found, same, file_of):
-    """Prints which changes leave the functions proved, but for the same, and how many are tried. A change is the functions,
-    what it is called, and the text of which file_of makes a file in a folder."""
+def main(texts):
+    found = [change for change in changes(wp.SPECIFICATION.read_text())
+             if not texts or any(text in change[1] for text in texts)]
+
     def result(i):
-        names, what, text = found[i]
-        by = seen(file_of(work / str(i), text), names, limits)
-        if bool(by) == (what in same):
-            print(f"{by or 'not'} seen: {what}", flush=True)
+        names, line, text = found[i]
+        by = seen(wp.prepared(work / str(i), annotate.laws(), text), names, limits)
+        if bool(by) == (line in SAME):
+            print(f"{by or 'not'} seen: {line}", flush=True)
         return by
 
     with tempfile.TemporaryDirectory() as folder:
         work = pathlib.Path(folder)
         os.environ.setdefault("CACHE", f"{folder}/cache")  # A change leaves most goals as they are.
-        right, names = file_of(work / "right", None), sorted({name for names, _, _ in found for name in names})
+        right = wp.prepared(work / "right", annotate.laws())
+        names = sorted({name for names, _, _ in found for name in names})
         logs = dict(zip(names, wp.at_once(lambda name: wp.proved(right, name, FAILED), names)))
         limits = {name: 2 + 3 * max((took for _, _, took in wp.goals(log)), default=0) // 1000
                   for name, log in logs.items()}
         print("".join(f"not proved without a change: {name}\n" for name, log in logs.items() if FAILED in log), end="")
         by = wp.at_once(result, range(len(found)))
-    failed = [what for (_, what, _), it in zip(found, by) if bool(it) == (what in same)]
-    failed += [name for name, log in logs.items() if FAILED in log]
-    print(f"{len(found) - by.count('not read')} changes, {by.count('')} of them change nothing, {len(failed)} failed")
+    failed = sum(bool(it) == (line in SAME) for (_, line, _), it in zip(found, by))
+    failed += sum(FAILED in log for log in logs.values())
+    print(f"{len(found) - by.count('not read')} changes, {by.count('')} of them change nothing, {failed} failed")
     return 1 if failed else 0
 
 
 if __name__ == "__main__":
-    chosen = [change for change in changes(wp.SPECIFICATION.read_text())
-              if not sys.argv[1:] or any(text in change[1] for text in sys.argv[1:])]
-    sys.exit(tried(chosen, SAME, lambda folder, text: wp.prepared(folder, annotate.laws(), text)))
+    sys.exit(main(sys.argv[1:]))

@@ -19,7 +19,7 @@ UNPROVED, FORM = "does not prove the axiom", "an axiom of another form"
 CODE, BODY, WARNING, NO_CONTRACT = "the lists change the code", "without a body", "arning", "no contract, or none"
 FALSE, NOT_TRIED = "an axiom of WP that is false", "WP tries no goal"
 NUMBER, CHAR, APART = "a pointer from a number", "a plain char", "Memory model hypotheses"
-LINE, TYPE, EXPRESSION, STATEMENT = "preprocessor.txt", "list: a type", "list: the expression", "list: a statement"
+LINE, TYPE, EXPRESSION, STATEMENT = "are not reviewed", "list: a type", "list: the expression", "list: a statement"
 VARIABLE, UNTYPED, CALL = "is not initialized", "list: an expression", "a call that may write"
 
 # A function, which stands behind those of base62.c, and its contract.
@@ -167,6 +167,17 @@ SOURCES = [
     (HERE, HERE.replace("uint8_t *to", "uint8_t *restrict to"), "restrict"), (HERE, HERE.replace("size_t length", "unsigned length"), TYPE),
 ]
 
+# Wrong code of each kind: the function that then has no proof, what stands in base62.c, and what takes its place.
+WRONG = [
+    # A constant, a comparison, an operator, a condition.
+    ("narrow_count", "(n);\n    const size_t estimate = (highest * 43", "(n);\n    const size_t estimate = (highest * 44"),
+    ("count_valid", "[text[count]] <= 63", "[text[count]] < 63"), ("u128_sub", "a.low - b.low}", "a.low + b.low}"),
+    ("u128_mul_add", "if (high.high != 0)", "if (high.high == 0)"),
+    # A statement that is left out, arguments in another order, an entry of a table, a text.
+    ("store_bad_byte", "    bad->index = index;\n", ""), ("u128_saturating_add", "u128_less(sum, a)", "u128_less(a, sum)"),
+    ("standard_letter", "'9', 'A', 'B'", "'9', 'B', 'A'"), ("texts_are_same", "Not a UUID", "Not an UUID"),
+]
+
 # A program that shows what is false by WP's axiom for an array that is read whole.
 PROGRAM = """struct all { unsigned char bytes[318]; };
 /*@ requires \\valid(s) && s->bytes[5] == 0; assigns *s; */
@@ -248,6 +259,9 @@ def cases(work):
         specification, "#define LETTERS(", "#define u128_less(a, b) u128_less(b, a)\n#define LETTERS(")), bare)
     yield "no body", "no body: narrow_count", lambda at: said_of(wp.prepared(
         at, laws + "/*@ assigns \\nothing; ensures \\false; */ size_t narrow_count(uint64_t n);"), None, calls)
+    for name, old, new in WRONG:
+        yield name, "Failed", lambda at, name=name, text=once(whole, old, new): [
+            wp.proved(wp.prepared(at, text), name, "[Failed] Goal", 5)]
     yield PROGRAM, FALSE, lambda at: said_of_function(wp.prepared(at, PROGRAM))
     yield OTHER, APART, lambda at: said_of_function(wp.prepared(at, OTHER))
     yield NEVER, "planted_wp_smoke", lambda at: wp.contradictions(wp.prepared(at, NEVER))

@@ -39,7 +39,6 @@ module Listed = struct
   let number text =
     let is_of suffix = String.ends_with ~suffix (String.lowercase_ascii text) in
     is_of "ll" || not (is_of "l") && (is_of "u" || String.starts_with ~prefix:"0x" text || int_of_string text < 0x80000000)
-  let is_ascii c = c < '\128'
 
   let enumerators = ref []
   let rec is_constant e = match e.expr_node with
@@ -59,7 +58,7 @@ module Listed = struct
     | BINARY ((ADD | SUB | MUL | DIV | MOD | AND | OR | BAND | BOR | XOR | SHL | SHR | EQ | NE | LT | GT | LE | GE), _, _) -> true
     | CONSTANT (CONST_INT n) -> number n
     | CONSTANT (CONST_CHAR [ c ]) -> c < 128L
-    | CONSTANT (CONST_STRING s) -> Seq.fold_left (fun all c -> all && is_ascii c) true (String.to_seq s)
+    | CONSTANT (CONST_STRING s) -> String.for_all (fun c -> c < '\128') s
     | BINARY ((ASSIGN | ADD_ASSIGN | SUB_ASSIGN | MUL_ASSIGN | DIV_ASSIGN | SHR_ASSIGN), _, _) | UNARY ((POSINCR | POSDECR), _) ->
       may_have_effect
     | CALL ({ expr_node = VARIABLE _; _ }, _, []) -> true (* Those that write are below. *)
@@ -491,8 +490,9 @@ class walk = object (self)
       | TLval _ | TCastE _ when (match t.term_type with Ctype typ -> is_of_kind IChar typ | _ -> false) ->
         tell "char" self#name (at_place t.term_loc plain_char)
       | _ -> ());
-    match t.term_type with
-    | Ctype typ when has_array typ -> self#reject t.term_loc read_whole; Cil.SkipChildren
+    match t.term_node, t.term_type with
+    | TSizeOfE _, _ -> Cil.SkipChildren
+    | _, Ctype typ when has_array typ -> self#reject t.term_loc read_whole; Cil.SkipChildren
     | _ -> Cil.DoChildren
 end
 

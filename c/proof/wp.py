@@ -2,8 +2,8 @@
 
 import concurrent.futures
 import dataclasses
-import difflib
 import functools
+import hashlib
 import os
 import re
 import shutil
@@ -21,7 +21,6 @@ BITS = os.environ.get("BITS", "64")
 CODE = C / "base62.c"
 HEADER = C / "base62.h"
 SPECIFICATION = FOLDER / "base62.acsl"
-PREPROCESSOR = FOLDER / "preprocessor.txt"
 # What stands before the bare code: no specification, and nothing that says who reads it.
 BARE = "#include <stddef.h>\n#include <stdint.h>\n#undef __FRAMAC__\n"
 FLAGS = f"-D__FC_MACHDEP_X86_{BITS} -DBASE62_NO_INT128 -U__SIZEOF_INT128__ -U__GNUC__"
@@ -30,7 +29,7 @@ CORES = int(os.environ.get("CORES", os.cpu_count()))
 
 # How a line "== prove" of the annotations or the laws says that WP proves a function. All others are proved without what
 # stands in constant tables, since it slows provers.
-HOW = {"with tables", "asserts named same with tables", "without a filter of hypotheses", "not split"}
+HOW = {"with tables", "not split"}
 
 
 @functools.cache
@@ -72,7 +71,9 @@ def prepared(work, code, specification=None):
     return file
 
 
-# The only lines of the preprocessor that PREPROCESSOR leaves out, if they are not between #if and #endif.
+# The SHA-256 of what of_preprocessor finds in base62.h and base62.c: to change it, read all of this again.
+REVIEWED = "3a7810aedb21e282413dabf82d0b905a06f6a136548ef3f85a58f86ec3fcca12"
+# The only lines of the preprocessor that it leaves out, if they are not between #if and #endif.
 CONSTANT = re.compile(r'#define B(?:ASE)?62_\w+ (?:(?!_)\w+|"[^"]*"|\w+\(\w+\)|\(\(\w+\)\w+\))')
 
 
@@ -91,11 +92,12 @@ def of_preprocessor(name, text):
     return found
 
 
-def unlisted_lines(header, source):
-    """Where the lines of both files for the preprocessor are not those of the list."""
-    found = of_preprocessor(HEADER.name, header) + of_preprocessor(CODE.name, source)
-    yield from (f"{PREPROCESSOR.name}: {line}" for line in difflib.ndiff(PREPROCESSOR.read_text().splitlines(), found)
-                if line[0] in "-+")
+def check_reviewed(source):
+    """Ends the run if base62.h and base62.c have other lines for the preprocessor than those reviewed."""
+    found = "\n".join(of_preprocessor(HEADER.name, HEADER.read_text()) + of_preprocessor(CODE.name, source))
+    digest = hashlib.sha256(found.encode()).hexdigest()
+    if digest != REVIEWED:
+        raise SystemExit(f"lines for the preprocessor that are not reviewed: their SHA-256 is {digest}")
 
 
 def frama_c(file, name, options, last=None, **more):
@@ -169,9 +171,7 @@ def checked(file, bare=None, calls=None):
 
 def checked_code(work, source, *more):
     """The file of base62.c with annotations; and what is said of it, and of what is not on the list of the C it may be."""
-    wrong = [*unlisted_lines(HEADER.read_text(), source)]
-    if wrong:
-        raise SystemExit("\n".join(wrong))
+    check_reviewed(source)
     bare = prepared(work / "bare", source, BARE)
     found = tree(bare)
     file = prepared(work, annotate.annotated(source, *more))
@@ -188,21 +188,12 @@ def is_proved(function, how):
 
 def proved(file, function, last=None, limit=LIMIT):
     """What WP says of a function or of all lemmas, with a limit of seconds for each goal."""
-    if not is_proved(function, "asserts named same with tables"):
-        return run(file, function, is_proved(function, "with tables"), [], last, limit)
-    log = run(file, function, True, ["-wp-prop", "same"], last, limit)
-    return log if last and last in log else log + run(file, function, False, ["-wp-prop=-same"], last, limit)
-
-
-def run(file, function, with_tables, options, last, limit):
-    """What one run of WP says, with or without what stands in constant tables."""
     # Both provers try a goal at the same time, until one of them proves it.
-    options = [*options, "-wp", "-wp-rte", "-warn-invalid-pointer", "-wp-prover", "cvc4,z3", "-wp-timeout", str(limit),
+    options = ["-wp", "-wp-rte", "-warn-invalid-pointer", "-wp-prover", "cvc4,z3", "-wp-timeout", str(limit),
                "-wp-par", "2", "-wp-msg-key", "print-generated",
                "-wp-prop" if function == LEMMAS else "-wp-fct", function]
     options += [] if is_proved(function, "not split") else ["-wp-split"]
-    options += [] if with_tables else ["-wp-no-init-const"]
-    options += ["-wp-no-filter"] if is_proved(function, "without a filter of hypotheses") else []
+    options += [] if is_proved(function, "with tables") else ["-wp-no-init-const"]
     cache = os.environ.get("CACHE")
     options += ["-wp-cache", "update", "-wp-cache-dir", cache] if cache else ["-wp-cache", "none"]
     return frama_c(file, function, options, last)

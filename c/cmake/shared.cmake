@@ -8,7 +8,8 @@ function(base62_share target version)
         set_target_properties(${target} PROPERTIES RUNTIME_OUTPUT_NAME "base62-${major}")
     elseif(UNIX AND NOT APPLE AND CMAKE_C_COMPILER_ID MATCHES "GNU|Clang")
         # A function that a minor version N adds has a symbol version of its own, so that its callers fail to load with an
-        # older library: add BASE62_${major}.N { global: base62_NAME; } BASE62_${major}; to the script.
+        # older library: add BASE62_${major}.N { global: base62_NAME; } BASE62_${major}; to the script, and the function to
+        # `later` in ../tests/symbols.cmake.
         set(script "${CMAKE_CURRENT_BINARY_DIR}/${target}.symbols")
         file(WRITE "${script}" "BASE62_${major} { global: base62_*; };\n")
         # LINKER: would part the path at a comma.

@@ -259,8 +259,7 @@ size_t encode(OVER, form how, base62_number number, char *buffer, size_t size) {
 #define VALUE value{Pre}(letters, BYTES(text), length)
 #define SHOWN (length - ZEROS == 22 && shifted(value{Pre}(letters, BYTES(text), ZEROS + 10), 12) >= ACSL_2_128)
 
-/* The conditions of DECODING, one by one. All letters are accepted or overflow by their value alone: so each text that an
-   encoder writes decodes to its number. */
+/* The conditions of DECODING, one by one. All letters are accepted or overflow by their value alone. */
 /*@ requires ALPHABET && TEXT_VALID(text, length) && \valid(number) && \valid(bad);
     requires \separated(number, bad, text + (0 .. length - 1)) && APART(number) && APART(bad);
     assigns *number, *bad;
@@ -385,6 +384,26 @@ void uninitialized(const base62_alphabet *alphabet, const char *text, size_t len
 
 /* -------------------- Back again -------------------- */
 
+//@ assigns \nothing; ensures \result == (number_of(a) == number_of(b) ? 1 : 0);
+static int same(base62_number a, base62_number b) { return a.high == b.high && a.low == b.low; }
+
+/* Each text decodes to its number. Canonical decoding rejects those with leading zeros. */
+/*@ requires ALPHABET && FORM(size);
+    requires \valid(buffer + (0 .. size - 1)) && APART(buffer + (0 .. size - 1));
+    assigns buffer[0 .. size - 1];
+    ensures \result == 1 <==> digit_count(number_of(number)) <= size
+        && (is_strict && how != SHORTEST ==> digit_count(number_of(number)) == size);
+*/
+int back_again(OVER, form how, int is_strict, base62_number number, char *buffer, size_t size) {
+    base62_number again;
+    base62_bad_byte bad;
+    const size_t length = encode(letters, alphabet, how, number, buffer, size);
+    if (length == 0) return 0;
+    compute_bad_index(letters, BYTES(buffer), length);
+    shortest(letters, BYTES(buffer), length, number);
+    return decode(letters, alphabet, is_strict, buffer, length, &again, &bad) == BASE62_OK && same(again, number);
+}
+
 /* As memcmp. */
 /*@ requires TEXT_VALID(p, n) && TEXT_VALID(q, n); assigns \nothing;
     ensures same: \result == 0 <==> are_same(BYTES(p), BYTES(q), n);
@@ -420,7 +439,7 @@ int one_text(OVER, form how, base62_number number, const char *p, size_t n, char
     const int is_written = length > 0 && n == length && compare(p, buffer, n) == 0;
     const base62_status status = how == SHORTEST ? decode(letters, alphabet, 1, p, n, &again, &bad)
         : decode_fixed(letters, alphabet, how, size, p, n, &again, &bad);
-    const int is_accepted = status == BASE62_OK && again.high == number.high && again.low == number.low;
+    const int is_accepted = status == BASE62_OK && same(again, number);
     //@ assert accepted: is_accepted == 1 ==> denotes(letters, BYTES(p), n, number_of(number)) && n == length;
     return is_written == is_accepted;
 }

@@ -5,6 +5,9 @@
 #
 # SHARED is a shared library of ELF, OVER_STATIC one that calls the static library, and IMPORT the import library of a DLL.
 
+# The functions that a minor version added, with their symbol versions, such as base62_NAME@@BASE62_N.1.
+set(later)
+
 # Some processors lack instructions for which the compiler calls its own library, and some flags make it test more.
 set(of_compiler "__aeabi_[a-z]+|__[a-z]+di[0-9]|_GLOBAL_OFFSET_TABLE_|__x86.get_pc_thunk.[a-z]+")
 string(APPEND of_compiler "|__stack_chk_[a-z_]+|__mem[a-z]+_chk")
@@ -62,6 +65,12 @@ if(SHARED)
     list(FILTER found EXCLUDE REGEX "^A BASE62_${MAJOR}(@@BASE62_${MAJOR})?$")
     string(REGEX REPLACE "(^|;)T " "\\1" found "${found}")
     list(TRANSFORM functions APPEND "@@BASE62_${MAJOR}")
+    foreach(symbol IN LISTS later)
+        string(REGEX REPLACE "@@.*" "@@BASE62_${MAJOR}" former "${symbol}")
+        string(REPLACE "${former}" "${symbol}" functions "${functions}")
+        string(REGEX REPLACE ".*@@" "" version "${symbol}")
+        list(FILTER found EXCLUDE REGEX "^A ${version}(@@${version})?$")
+    endforeach()
     expect_same("the shared library exports" "${found}" "${functions}")
     find_symbols(--dynamic "${OVER_STATIC}")
     list(FILTER found INCLUDE REGEX "base62_")

@@ -141,6 +141,8 @@ class Header(unittest.TestCase):
     def test_names_of_the_source(self):
         """base62.c may stand behind other headers: they define OK, TEXT, OVERFLOW and the like."""
         text = re.sub(r"/\*.*?\*/|//[^\n]*|\"[^\"\n]*\"|'[^\n]'", "", (FOLDER / "base62.c").read_text(), flags=re.S)
+        defined = re.findall(r"#\s*define (\w+)", text)
+        self.assertEqual([name for name in defined if not name.startswith("B62_")], [])
         capitals = {name for name in re.findall(r"\b[A-Z][A-Z0-9_]+\b", text) if not re.match("B(ASE)?62_", name)}
         self.assertEqual(capitals, {"CHAR_BIT", "GCC", "SIZE_MAX", "UINT64_C"})
 

@@ -15,6 +15,11 @@ enum { LINE = 1024, MOST_FIELDS = 8, MOST_TEXT = 512, MOST_ALPHABETS = 8, AROUND
 /* The size in this major version, which callers of the shared library allocate. */
 typedef char alphabet_has_318_bytes[sizeof(base62_alphabet) == 318 ? 1 : -1];
 
+/* Its numbers of statuses, which are compiled into callers too. */
+typedef char statuses_are_numbered[BASE62_OK == 0 && BASE62_BUFFER_TOO_SMALL == 1 && BASE62_EMPTY_INPUT == 2
+    && BASE62_INVALID_BYTE == 3 && BASE62_OVERFLOW == 4 && BASE62_NO_MATCH == 5 && BASE62_REPEATED_CHARACTER == 6
+    && BASE62_NOT_CANONICAL == 7 && BASE62_WRONG_LENGTH == 8 && BASE62_INVALID_UUID == 9 ? 1 : -1];
+
 /* What stands at a byte and at a number that no call has written. */
 #define FILLER 0xa5
 #define UNWRITTEN UINT64_C(0xa5a5a5a5a5a5a5a5)
@@ -284,6 +289,20 @@ static void expect_number(const char *text, size_t length, base62_status wanted_
     expect_decoded(text, length, BASE62_OK, wanted_canonical, wanted);
 }
 
+/* What the header has inline. */
+static void check_inline(base62_number number) {
+    const base62_number short_one = base62_from_u64(number.low);
+    uint64_t value = UNWRITTEN;
+    expect_of_row(short_one.high == 0 && short_one.low == number.low, "from_u64");
+    expect_of_row(base62_to_u64(number, &value) == (number.high == 0 ? BASE62_OK : BASE62_OVERFLOW), "to_u64");
+    expect_of_row(value == (number.high == 0 ? number.low : UNWRITTEN), "the value of to_u64");
+#ifdef __SIZEOF_INT128__
+    const base62_u128 wide = base62_to_u128(number);
+    expect_of_row((uint64_t)(wide >> 64) == number.high && (uint64_t)wide == number.low, "to_u128");
+    expect_of_row(same(base62_from_u128(wide), number), "from_u128");
+#endif
+}
+
 /* The lengths of the longest texts of the rows, which are those of the header. */
 static size_t most_digits, longest_message;
 
@@ -303,11 +322,7 @@ static void check_encode(void) {
     }
     expect_of_row(base62_digit_count(number) == length, "digit_count");
     expect_number(text, length, BASE62_OK, number);
-#ifdef __SIZEOF_INT128__
-    const base62_u128 wide = base62_to_u128(number);
-    expect_of_row((uint64_t)(wide >> 64) == number.high && (uint64_t)wide == number.low, "to_u128");
-    expect_of_row(same(base62_from_u128(wide), number), "from_u128");
-#endif
+    check_inline(number);
 }
 
 static void check_zeros(void) {

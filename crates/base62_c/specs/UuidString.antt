@@ -1,12 +1,23 @@
--- Strings for UUIDs. The kit's crate `uuid` defines what digits represent.
-use Rattle.std.specs.Prelude.{◌≡◌, ◌<◌, ◌-◌, ◌⊎◌, ℕ, List, Some, codes, length, map, take, drop, slice_index}
-use Rattle.std.specs.Char.{to_ascii_lowercase}
-use Rattle.uuid.specs.Text.{parsed_simple, parsed_hyphenated}
+-- Strings for UUIDs.
+use Rattle.std.specs.Prelude.{◌≡◌, ◌<◌, ◌-◌, ◌/◌, ◌%◌, ◌⊎◌, ℕ, List, [], ◌∷◌, ◌++◌, codes, flat_map, length, map, take, drop, slice_index, slice_range}
+use Rattle.std.specs.Char.{digit_char, to_ascii_lowercase}
+use Rattle.base62.specs.Uuid.{IsUuid}
 
--- the text is the 32 hexadecimal digits of a UUID, in either case, without hyphens or with hyphens
--- after the digits 8, 12, 16 and 20
-abbrev pub AreDigitsOf : List ℕ → List ℕ → Type 0
-AreDigitsOf uuid text = (parsed_simple text ≡ Some uuid) ⊎ (parsed_hyphenated text ≡ Some uuid)
+-- the 32 hexadecimal digits of a UUID in lowercase, two for each byte
+abbrev pub digits : List ℕ → List ℕ
+digits uuid = flat_map (λ byte. digit_char (byte / 16) ∷ digit_char (byte % 16) ∷ []) uuid
+
+-- digits with hyphens after the digits 8, 12, 16 and 20
+abbrev pub hyphenated : List ℕ → List ℕ
+hyphenated text =
+    slice_range text 0 8 ++ codes "-" ++ slice_range text 8 12 ++ codes "-" ++ slice_range text 12 16
+    ++ codes "-" ++ slice_range text 16 20 ++ codes "-" ++ slice_range text 20 32
+
+-- the text in lowercase is the digits of the UUID, without hyphens or with them
+pub record AreDigitsOf (uuid text : List ℕ) : Type 0 where
+  pub bytes : IsUuid uuid
+  pub digits : (map to_ascii_lowercase text ≡ digits uuid)
+      ⊎ (map to_ascii_lowercase text ≡ hyphenated (digits uuid))
 
 -- the text begins with `{` and ends with `}`
 pub record IsInBraces (text : List ℕ) : Type 0 where

@@ -13,11 +13,10 @@ ghost use Rattle.base62.specs.Key.{IsKey};
 ghost use Rattle.base62.specs.Range.{range_of};
 ghost use Rattle.base62.specs.Uuid.{uuid_number};
 ghost use Rattle.base62.specs.declared.fault.TheConstants.{MAX_FAULT_TEXT};
-ghost use Rattle.uuid.specs.Text.{hyphenated_text, lower};
 ghost use Rattle.base62_c.specs.Answer.{Encodes, Fills, TellsNumber, TellsCanonical, TellsFixed, TellsEnds, WritesText};
 ghost use Rattle.base62_c.specs.Fault.{status_text};
 ghost use Rattle.base62_c.specs.Number.{number_of};
-ghost use Rattle.base62_c.specs.UuidString.{IsUuidString};
+ghost use Rattle.base62_c.specs.UuidString.{IsUuidString, digits, hyphenated};
 ghost use Rattle.base62_c.specs.declared.TheConstants.{VERSION_NUMBER};
 
 mod answer;
@@ -323,7 +322,7 @@ pub extern "C" fn base62_uuid_from_string(string: &[u8], uuid: &mut [u8; 16]) ->
 
 #[unsafe(no_mangle)]
 pub extern "C" fn base62_uuid_to_string(uuid: &[u8; 16], string: &mut [u8; 36])
-    ensures written { string.new ≡ hyphenated_text lower uuid.now }
+    ensures written { string.new ≡ hyphenated (digits uuid.now) }
     ensures back { IsUuidString string.new uuid.now }
 {
     *string = text_of_uuid(*uuid);

@@ -203,8 +203,10 @@ pub fn uuid_strings_by_example()
 #[tactic(auto, using(std::proofs::lemmas::Fmt::decimal_digit), unfolding(
 // the text of a status
 crate::specs::Fault::status_text,
-// what each fault says
-base62::specs::Fault::decode_error_text, base62::specs::Fault::canonical_error_text, base62::specs::Fault::fixed_error_text, base62::specs::Fault::encode_error_text, base62::specs::Fault::alphabet_error_text,
+// what each fault of decoding says
+base62::specs::Fault::decode_error_text, base62::specs::Fault::canonical_error_text, base62::specs::Fault::fixed_error_text,
+// what the other faults say
+base62::specs::Fault::encode_error_text, base62::specs::Fault::alphabet_error_text,
 // a byte and its index
 base62::specs::Fault::byte_at_index, base62::specs::Fault::escaped))]
 pub fn status_texts_by_example()

@@ -1,10 +1,9 @@
 //! Strings for UUIDs.
 
-ghost use Rattle.std.specs.Prelude.{◌≡◌, ◌↔◌, ℕ, List, IsTrue, Some};
-ghost use Rattle.base62_c.specs.UuidString.{AreDigitsOf, HasUrn, IsInBraces, IsUuidString};
-ghost use Rattle.uuid.specs.Text.{hyphenated_text, lower};
-
-use uuid::Uuid;
+ghost use Rattle.std.specs.Prelude.{◌≡◌, ◌≢◌, ◌<◌, ◌≤◌, ◌+◌, ◌++◌, ◌↔◌, ℕ, List, IsTrue, Some, None, length, map, take, drop};
+ghost use Rattle.std.specs.Char.{digit_char, to_ascii_lowercase};
+ghost use Rattle.base62.specs.Uuid.{IsUuid};
+ghost use Rattle.base62_c.specs.UuidString.{AreDigitsOf, HasUrn, IsInBraces, IsUuidString, digits, hyphenated};
 
 // Returns the UUID that a string stands for.
 pub(crate) fn parse_uuid(string: &[u8]) -> Option<[u8; 16]>
@@ -32,31 +31,119 @@ fn has_urn(string: &[u8]) -> bool
     string.len() > 8 && string[..9].eq_ignore_ascii_case(b"urn:uuid:")
 }
 
-// Returns the UUID of 32 digits, with hyphens or without.
-fn parse_digits(digits: &[u8]) -> Option<[u8; 16]>
-    ensures stored { (uuid : List ℕ) → result ≡ Some uuid → AreDigitsOf uuid digits.now }
-    ensures accepted { (uuid : List ℕ) → AreDigitsOf uuid digits.now → result ≡ Some uuid }
+// Returns the UUID of 32 digits in either case, with hyphens or without.
+fn parse_digits(text: &[u8]) -> Option<[u8; 16]>
+    ensures stored { (uuid : List ℕ) → result ≡ Some uuid → AreDigitsOf uuid text.now }
+    ensures accepted { (uuid : List ℕ) → AreDigitsOf uuid text.now → result ≡ Some uuid }
 {
-    // A longer string is another form.
-    if digits.len() > 36 {
+    match without_hyphens(text) {
+        Some(digits) => parse_pairs(&digits),
+        None => parse_pairs(text),
+    }
+}
+
+// Removes the hyphens after the digits 8, 12, 16 and 20, if the text has all four.
+fn without_hyphens(text: &[u8]) -> Option<[u8; 32]>
+    ensures found { (digits : List ℕ) → result ≡ Some digits → text.now ≡ hyphenated digits }
+    ensures none { (digits : List ℕ) → result ≡ None → length digits ≡ 32
+        → map to_ascii_lowercase text.now ≢ hyphenated digits }
+{
+    if text.len() != 36 {
         return None;
     }
-    match Uuid::try_parse_ascii(digits) {
-        Ok(uuid) => Some(uuid.into_bytes()),
-        Err(_) => None,
+    if [text[8], text[13], text[18], text[23]] != [b'-'; 4] {
+        return None;
+    }
+    let mut digits = [0u8; 32];
+    copy_at(&mut digits, 0, &text[..8]);
+    copy_at(&mut digits, 8, &text[9..13]);
+    copy_at(&mut digits, 12, &text[14..18]);
+    copy_at(&mut digits, 16, &text[19..23]);
+    copy_at(&mut digits, 20, &text[24..36]);
+    Some(digits)
+}
+
+// Returns the bytes of 32 digits in either case.
+fn parse_pairs(text: &[u8]) -> Option<[u8; 16]>
+    ensures stored { (uuid : List ℕ) → result ≡ Some uuid → IsUuid uuid }
+    ensures digits { (uuid : List ℕ) → result ≡ Some uuid
+        → map to_ascii_lowercase text.now ≡ digits uuid }
+    ensures accepted { (uuid : List ℕ) → IsUuid uuid
+        → map to_ascii_lowercase text.now ≡ digits uuid → result ≡ Some uuid }
+{
+    if text.len() != 32 {
+        return None;
+    }
+    let mut uuid = [0u8; 16];
+    for index in 0..16 {
+        let high = digit_value(text[2 * index])?;
+        let low = digit_value(text[2 * index + 1])?;
+        uuid[index] = high * 16 + low;
+    }
+    Some(uuid)
+}
+
+// Returns the value of a hexadecimal digit in either case.
+fn digit_value(digit: u8) -> Option<u8>
+    ensures stored { (value : ℕ) → result ≡ Some value
+        → (value < 16) × (to_ascii_lowercase digit ≡ digit_char value) }
+    ensures other { (value : ℕ) → result ≡ None → value < 16
+        → to_ascii_lowercase digit ≢ digit_char value }
+{
+    match digit {
+        b'0'..=b'9' => Some(digit - b'0'),
+        b'a'..=b'f' => Some(digit - b'a' + 10),
+        b'A'..=b'F' => Some(digit - b'A' + 10),
+        _ => None,
     }
 }
 
 // Returns the digits of a UUID in lowercase, with hyphens.
 pub(crate) fn text_of_uuid(uuid: [u8; 16]) -> [u8; 36]
-    ensures written { result ≡ hyphenated_text lower uuid }
+    ensures written { result ≡ hyphenated (digits uuid) }
     ensures back { AreDigitsOf uuid result }
 {
-    let mut buffer = [0u8; 36];
-    let mut text = [0u8; 36];
-    let written = Uuid::from_bytes(uuid)
-        .hyphenated()
-        .encode_lower(&mut buffer);
-    text.copy_from_slice(written.as_bytes());
+    with_hyphens(digits_of(uuid))
+}
+
+fn with_hyphens(digits: [u8; 32]) -> [u8; 36]
+    ensures { result ≡ hyphenated digits }
+{
+    let mut text = [b'-'; 36];
+    copy_at(&mut text, 0, &digits[..8]);
+    copy_at(&mut text, 9, &digits[8..12]);
+    copy_at(&mut text, 14, &digits[12..16]);
+    copy_at(&mut text, 19, &digits[16..20]);
+    copy_at(&mut text, 24, &digits[20..32]);
     text
+}
+
+fn copy_at(to: &mut [u8], index: usize, bytes: &[u8])
+    requires { index + length bytes.now ≤ length to.old }
+    ensures { to.new ≡ take index to.old ++ bytes.now ++ drop (index + length bytes.now) to.old }
+{
+    to[index..index + bytes.len()].copy_from_slice(bytes);
+}
+
+fn digits_of(uuid: [u8; 16]) -> [u8; 32]
+    ensures { result ≡ digits uuid }
+{
+    let mut text = [0u8; 32];
+    for index in 0..16 {
+        text[2 * index] = digit_char(uuid[index] / 16);
+        text[2 * index + 1] = digit_char(uuid[index] % 16);
+    }
+    text
+}
+
+// Returns the character of a hexadecimal digit in lowercase.
+fn digit_char(digit: u8) -> u8
+    requires { digit < 16 }
+    ensures { result ≡ digit_char digit }
+{
+    if digit < 10 {
+        b'0' + digit
+    } else {
+        b'a' + digit - 10
+    }
 }

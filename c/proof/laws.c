@@ -335,6 +335,8 @@ base62_status find_range(OVER, form how, size_t width, const char *prefix, size_
     shift_keeps_order(rest);
     /*@ assert less: shifted(value(letters, BYTES(prefix), length), rest)
             < shifted(value(letters, BYTES(prefix), length) + 1, rest); */
+    /*@ assert ends: length <= width ==>
+            least_of(letters, BYTES(prefix), length, width) < next_of(letters, BYTES(prefix), length, width); */
     if (how == KEY) return base62_key_range(prefix, length, range, bad);
     if (letters == standard_letters) return base62_prefix_range(prefix, length, width, range, bad);
     return base62_prefix_range_with(alphabet, prefix, length, width, range, bad);

@@ -327,7 +327,7 @@ class Far(unittest.TestCase):
             is_text = form in TEXTS
             loop: Any = _base62.decode_rows if is_text else _base62.encode_rows
             result, characters = ("L" if is_text else "u", *new), b"LZ" if is_text else None
-            call = lambda valid: loop(ALPHABETS[0], -1, (form, offset, 2, valid, values, characters), result, True)
+            call: Any = lambda valid: loop(ALPHABETS[0], -1, (form, offset, 2, valid, values, characters), result, True)
             # The strings are of 7 characters before the row, and of 7 fewer in it.
             if is_text:
                 values[place : place + size] = bytes(size)

@@ -8,6 +8,9 @@ from pathlib import Path
 TOP = Path(__file__).resolve().parent.parent
 # What the name of a call over another alphabet has besides, in Rust and C.
 OF_ALPHABETS = re.compile(r"_(alternative|alt|with)(?=_|$)")
+# The tests and READMEs that name all of a language.
+NAMING = {"Rust": ["rust/tests/*.rs"], "C": ["c/tests/values.c"], "Python": ["python/tests/test_*.py", "python/README.md"]}
+NAMING |= {"JavaScript": ["js/tests/calls.mjs", "js/tests/types.ts", "js/README.md"]}
 
 
 def text(*names: str) -> str:
@@ -57,6 +60,13 @@ def main() -> None:
         raise SystemExit(f"docs/CALLS.md has the columns {', '.join(there)}")
     faults = [f"{it} is exported, and not in docs/CALLS.md" for name in here for it in sorted(here[name] - there[name])]
     faults += [f"{it} is in docs/CALLS.md, and not exported" for name in here for it in sorted(there[name] - here[name])]
+    faults += [
+        f"{it} is not in {files}"
+        for name in NAMING
+        for files in NAMING[name]
+        for it in sorted(here[name])
+        if it.removeprefix("columns.") not in re.findall(r"\w+", text(files))
+    ]
     if faults:
         raise SystemExit("\n".join(faults))
 

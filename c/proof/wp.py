@@ -46,7 +46,7 @@ def tools():
     library = subprocess.run(["frama-c", "-print-lib-path"], env={"PATH": PATH}, check=True, capture_output=True, text=True).stdout
     for command in (["ocamlfind", "ocamlopt", "-shared", "-I", library.strip(), "-package", "zarith,ocamlgraph",
                      "-o", "tree.cmxs", "tree.ml"], ["why3", "config", "detect"]):
-        subprocess.run(command, cwd=folder.name, env=environment(folder.name), check=True, capture_output=True)
+        subprocess.run(command, cwd=folder.name, env=environment(folder.name), check=True, capture_output=command[0] == "why3")
     return folder
 
 

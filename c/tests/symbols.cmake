@@ -61,6 +61,11 @@ list(FILTER found EXCLUDE REGEX "^[bd] \\.(bss|data)$")
 expect_same("the static library has variables" "${found}" "")
 
 if(SHARED)
+    # As many as the first version of this major one has.
+    list(LENGTH functions count)
+    list(LENGTH later added)
+    math(EXPR first "${count} - ${added}")
+    expect_same("functions with the symbol version BASE62_${MAJOR}" "${first}" 28)
     find_symbols(--dynamic --defined-only "${SHARED}")
     list(FILTER found EXCLUDE REGEX "^A BASE62_${MAJOR}(@@BASE62_${MAJOR})?$")
     string(REGEX REPLACE "(^|;)T " "\\1" found "${found}")

@@ -37,6 +37,8 @@ class Package(unittest.TestCase):
         types = ["AnyAlphabet", "AnyUUID", "EncodedString", "Number"]
         names = {name for name in dir(base62) if name[0] != "_"} - {"columns"}
         self.assertEqual(sorted(names), sorted(base62.__all__ + types))
+        typed = (PACKAGE / "tests" / "types_of_calls.py").read_text()
+        self.assertEqual([call.__name__ for call in CALLS if f"{call.__name__}(" not in typed], [])
 
     def test_columns_without_pyarrow(self) -> None:
         """What is missing is named, and how it is installed. The package does not need it."""

@@ -3,7 +3,8 @@
 
 ghost use Rattle.std.specs.Prelude.{◌≡◌, ◌^◌, ◌-◌, codes};
 ghost use Rattle.std.specs.declared.cmp.Ordering.TheVariants.{Less, Equal, Greater};
-ghost use Rattle.base62.specs.Fault.{escaped, decode_error_text, canonical_error_text, fixed_error_text, encode_error_text, alphabet_error_text, decode_error_order, canonical_error_order, fixed_error_order, alphabet_error_order};
+ghost use Rattle.base62.specs.Fault.{escaped, decode_error_text, canonical_error_text, fixed_error_text, encode_error_text, alphabet_error_text};
+ghost use Rattle.base62.specs.Fault.{decode_error_order, canonical_error_order, fixed_error_order, alphabet_error_order};
 ghost use Rattle.base62.specs.declared.fault.AlphabetError.TheVariants.{Repeated};
 ghost use Rattle.base62.specs.declared.fault.CanonicalError.TheVariants.{LeadingZero, Decode};
 ghost use Rattle.base62.specs.declared.fault.DecodeError.TheVariants.{ArithmeticOverflow, EmptyInput, InvalidBase62Byte};

@@ -8,7 +8,11 @@ returns-then-input-width c = fixed_wrong c.args.tables.now.letters c.args.width 
 pub returns-in_err-number : goal.returns-in_err-number
 returns-in_err-number c =
     let p = err_from_is_err_and c.from_residual.result c.from_residual.ensures.1 in
-    rw (p.1, p.2) (fixed_refused c.args.tables.now.letters c.args.width c.args.input.now c.requires.alphabet c.if-input-width.false c.in_err-number.field-0.0 (cc (c.in_err-number.was, c.decode_over.ensures.answer)))
+    rw (p.1, p.2) (fixed_refused
+    c.args.tables.now.letters c.args.width c.args.input.now c.requires.alphabet c.if-input-width.false
+    c.in_err-number.field-0.0 (cc (c.in_err-number.was, c.decode_over.ensures.answer)))
 
 pub returns : goal.returns
-returns c = fixed_number c.args.tables.now.letters c.args.width c.args.input.now c.requires.alphabet c.if-input-width.false c.in_ok-number.number (cc (c.in_ok-number.was, c.decode_over.ensures.answer))
+returns c = fixed_number
+    c.args.tables.now.letters c.args.width c.args.input.now c.requires.alphabet c.if-input-width.false
+    c.in_ok-number.number (cc (c.in_ok-number.was, c.decode_over.ensures.answer))

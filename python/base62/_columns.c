@@ -29,7 +29,8 @@ struct conversion {
     const base62_alphabet *alphabet;
     /* The width, or ANY_WIDTH, or of decoding CANONICAL. */
     Py_ssize_t width;
-    /* Of decoding: the greatest number of the type of the result. */
+    /* Of decoding: the function without a width, and the greatest number of the type of the result. */
+    decode_with *decode;
     base62_number greatest;
     /* Invalid rows become null. Otherwise the first one ends the conversion. */
     int coerces;
@@ -189,14 +190,12 @@ static enum outcome encode_until(struct conversion *conversion, Py_ssize_t end) 
     return VALID;
 }
 
-static base62_status decode_text(const struct conversion *conversion, struct text text, base62_number *number) {
-    const base62_alphabet *alphabet = conversion->alphabet;
+static inline base62_status decode_text(const struct conversion *conversion, struct text text, base62_number *number) {
     base62_bad_byte bad;
     size_t length = (size_t)text.length, width = (size_t)conversion->width;
-    if (conversion->width >= 0)
-        return base62_decode_fixed_with(alphabet, text.bytes, length, width, number, &bad);
-    decode_with *decode = conversion->width == CANONICAL ? base62_decode_canonical_with : base62_decode_with;
-    return decode(alphabet, text.bytes, length, number, &bad);
+    if (conversion->width < 0)
+        return conversion->decode(conversion->alphabet, text.bytes, length, number, &bad);
+    return base62_decode_fixed_with(conversion->alphabet, text.bytes, length, width, number, &bad);
 }
 
 static inline enum outcome decode_row(const struct conversion *conversion, Py_ssize_t row, int is_large,
@@ -210,8 +209,11 @@ static inline enum outcome decode_row(const struct conversion *conversion, Py_ss
         return outcome;
     if (decode_text(conversion, text, number) != BASE62_OK)
         return INVALID;
-    base62_number most = conversion->greatest;
-    return number->high > most.high || (number->high == most.high && number->low > most.low) ? INVALID : VALID;
+    /* One condition of both halves is slower. */
+    const base62_number *most = &conversion->greatest;
+    if (number->high == most->high)
+        return number->low > most->low ? INVALID : VALID;
+    return number->high > most->high ? INVALID : VALID;
 }
 
 static enum outcome decode_until(struct conversion *conversion, Py_ssize_t end) {
@@ -340,6 +342,7 @@ PyObject *decode_rows(PyObject *module, PyObject *args) {
     if (parse_conversion(module, args, &conversion) != 0)
         return NULL;
     int type = conversion.result.type;
+    conversion.decode = conversion.width == CANONICAL ? base62_decode_canonical_with : base62_decode_with;
     conversion.greatest = greatest_of(type);
     enum outcome outcome = MALFORMED;
     if (is_type(conversion.source.type, "uzUZ") && is_type(type, "LldwuU") &&

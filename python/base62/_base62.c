@@ -126,7 +126,7 @@ int number_or_raise(struct state *state, PyObject *argument, base62_number *numb
 }
 
 /* A width above PY_SSIZE_T_MAX becomes PY_SSIZE_T_MAX: no string is so long, so no call has another result. */
-static int width_or_raise(PyObject *argument, size_t *width) {
+static inline Py_ALWAYS_INLINE int width_or_raise(PyObject *argument, size_t *width) {
     int overflow = 0;
     long long found = PyLong_CheckExact(argument) ? PyLong_AsLongLongAndOverflow(argument, &overflow)
                                                   : PyNumber_AsSsize_t(argument, NULL);

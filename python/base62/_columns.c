@@ -29,7 +29,7 @@ struct conversion {
     const base62_alphabet *alphabet;
     /* The width, or ANY_WIDTH, or of decoding CANONICAL. */
     Py_ssize_t width;
-    /* Of decoding: the function without a width, and the greatest number of the type of the result. */
+    /* Of decoding: the function, NULL if there is a width, and the greatest number of the type of the result. */
     decode_with *decode;
     base62_number greatest;
     /* Invalid rows become null. Otherwise the first one ends the conversion. */
@@ -127,20 +127,14 @@ static void store_offset(const struct result *result, Py_ssize_t row) {
         memcpy(place_at(&result->offsets, row, sizeof small), &small, sizeof small);
 }
 
-/* Stores a decoded number. A null row has 0, or no string. */
-static void store_number(struct result *result, Py_ssize_t row, base62_number number, int is_valid) {
+/* Stores a decimal, or a string for a UUID. A null row has 0, or no string. In the loop over rows this would slow down the
+   other types. */
+static Py_NO_INLINE void store_decimal_or_string(struct result *result, Py_ssize_t row, base62_number number,
+                                                 int is_valid) {
     const uint64_t halves[2] = {PY_BIG_ENDIAN ? number.high : number.low, PY_BIG_ENDIAN ? number.low : number.high};
     unsigned char uuid[BASE62_UUID_LENGTH];
-    switch (result->type) {
-    case 'L':
-    case 'l':
-        memcpy(place_at(&result->values, row, sizeof number.low), &number.low, sizeof number.low);
-        return;
-    case 'd':
+    if (result->type == 'd') {
         memcpy(place_at(&result->values, row, sizeof halves), halves, sizeof halves);
-        return;
-    case 'w':
-        base62_to_uuid(number, place_at(&result->values, row, sizeof uuid));
         return;
     }
     if (is_valid) {
@@ -149,6 +143,16 @@ static void store_number(struct result *result, Py_ssize_t row, base62_number nu
         result->used += BASE62_UUID_STRING_LENGTH;
     }
     store_offset(result, row + 1);
+}
+
+/* Stores a decoded number, or 0 for a null row. */
+static inline void store_number(struct result *result, Py_ssize_t row, base62_number number, int is_valid) {
+    if (result->type == 'L' || result->type == 'l')
+        memcpy(place_at(&result->values, row, sizeof number.low), &number.low, sizeof number.low);
+    else if (result->type == 'w')
+        base62_to_uuid(number, place_at(&result->values, row, BASE62_UUID_LENGTH));
+    else
+        store_decimal_or_string(result, row, number, is_valid);
 }
 
 /* Makes a row null. Returns 0 if it ends the conversion instead. */
@@ -193,7 +197,7 @@ static enum outcome encode_until(struct conversion *conversion, Py_ssize_t end) 
 static inline base62_status decode_text(const struct conversion *conversion, struct text text, base62_number *number) {
     base62_bad_byte bad;
     size_t length = (size_t)text.length, width = (size_t)conversion->width;
-    if (conversion->width < 0)
+    if (conversion->decode != NULL)
         return conversion->decode(conversion->alphabet, text.bytes, length, number, &bad);
     return base62_decode_fixed_with(conversion->alphabet, text.bytes, length, width, number, &bad);
 }
@@ -342,7 +346,8 @@ PyObject *decode_rows(PyObject *module, PyObject *args) {
     if (parse_conversion(module, args, &conversion) != 0)
         return NULL;
     int type = conversion.result.type;
-    conversion.decode = conversion.width == CANONICAL ? base62_decode_canonical_with : base62_decode_with;
+    if (conversion.width < 0)
+        conversion.decode = conversion.width == CANONICAL ? base62_decode_canonical_with : base62_decode_with;
     conversion.greatest = greatest_of(type);
     enum outcome outcome = MALFORMED;
     if (is_type(conversion.source.type, "uzUZ") && is_type(type, "LldwuU") &&

@@ -121,16 +121,15 @@ static int read_alphabet(sqlite3_context *context, int index, int argc, sqlite3_
 
 /* The width of the second argument, or that of a key if there is no such argument. */
 static int read_width(sqlite3_context *context, int argc, sqlite3_value **argv, size_t *width) {
+    int64_t value = BASE62_KEY_LENGTH;
     call_error error;
-    *width = BASE62_KEY_LENGTH;
-    if (argc == 1)
-        return 1;
-    if (sqlite3_value_type(argv[1]) != SQLITE_INTEGER)
-        return set_wrong_value(context, "the width is not an integer", argv[1]);
-    if (!check_width(sqlite3_value_int64(argv[1]), &error))
-        return set_error(context, &error);
-    *width = (size_t)sqlite3_value_int64(argv[1]);
-    return 1;
+    if (argc > 1) {
+        if (sqlite3_value_type(argv[1]) != SQLITE_INTEGER)
+            return set_wrong_value(context, "the width is not an integer", argv[1]);
+        value = sqlite3_value_int64(argv[1]);
+    }
+    *width = (size_t)value;
+    return check_width(value, &error) || set_error(context, &error);
 }
 
 /* Functions. Each reads a number or UUID, a width, an alphabet and a string in this order, so the first error of these

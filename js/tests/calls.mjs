@@ -71,27 +71,6 @@ function uuidOf(number) {
   return number.toString(16).padStart(32, '0').replace(/^(.{8})(.{4})(.{4})(.{4})/, '$1-$2-$3-$4-');
 }
 
-// A call with the fault of a row. There is none here for a long text, a letter outside ASCII, a prefix of no text, a
-// narrow buffer, or a UUID.
-function callWith(base62, [kind, byte, index]) {
-  const { Alphabet, decode, decodeCanonical, decodeKey } = base62;
-  if (index > 10_000) return undefined;
-  if (kind === 'empty') return () => decode('');
-  if (kind === 'overflow') return () => decode('z'.repeat(22));
-  if (kind === 'zero') return () => decodeCanonical('00');
-  if (kind === 'length') return () => decodeKey('LZ');
-  // Of 62 different letters, none of which is the byte.
-  const codes = [...Array(63).keys()].filter((it) => it !== Number(byte)).slice(0, 62);
-  if (kind === 'byte') {
-    const alphabet = new Alphabet(String.fromCharCode(...codes));
-    return () => decode(new Uint8Array(Number(index) + 1).fill(codes[0]).fill(byte, index), alphabet);
-  }
-  if (kind !== 'repeated' || byte > 127) return undefined;
-  codes[0] = byte;
-  codes[index] = byte;
-  return () => new Alphabet(String.fromCharCode(...codes));
-}
-
 // What the tests share of a form of the package. An alphabet of the rows whose letters are not ASCII is none here.
 function contextOf(base62, rows) {
   const { Alphabet } = base62;
@@ -99,6 +78,14 @@ function contextOf(base62, rows) {
   const names = Object.keys(letters).filter((it) => isAscii(letters[it]));
   const alphabets = Object.fromEntries(names.map((it) => [it, new Alphabet(letters[it])]));
   const refused = (call, ...wanted) => refuses(base62, call, ...wanted);
+  // The message of each kind of error and of each byte. The index follows.
+  const messages = {};
+  for (const [field, kind, byte] of rows.message) messages[[kind, byte]] = textOf(field).replace(/\d+$/, '');
+  // Refused with an error of the rows: its kind, and for some kinds a byte and its index.
+  const refusedBy = (call, [kind, byte, index = '']) => {
+    const numbers = byte === undefined ? [] : [Number(byte), Number(index)];
+    refused(call, codes[kind], messages[[kind, byte]] + index, ...numbers);
+  };
   // Runs a check over two alphabets with strings and arrays of many lengths.
   const forEachLength = (check) => {
     for (const name of ['standard', 'readable']) {
@@ -110,10 +97,13 @@ function contextOf(base62, rows) {
   };
   // The rows of a kind whose alphabet is one here.
   const rowsOf = (kind) => rows[kind].filter(([name]) => name in alphabets);
-  return { base62, rows, rowsOf, letters, Alphabet, alphabets, alphabet: alphabets.readable, refused, forEachLength };
+  // The last arguments that give a call an alphabet. The standard one may be left out.
+  const givenOf = (name) => (name === 'standard' ? [[], [alphabets[name]]] : [[alphabets[name]]]);
+  const shared = { base62, rows, rowsOf, letters, Alphabet, alphabets, alphabet: alphabets.readable };
+  return { ...shared, givenOf, refused, refusedBy, forEachLength };
 }
 
-const faults = {
+const codes = {
   byte: 'INVALID_BYTE',
   empty: 'EMPTY_INPUT',
   length: 'WRONG_LENGTH',
@@ -122,56 +112,48 @@ const faults = {
   repeated: 'REPEATED_CHARACTER',
 };
 
-// What refuses takes of a bad byte, with the message.
-function invalid(byte, index) {
-  const escape = `\\x${byte.toString(16)}`;
-  return ['INVALID_BYTE', `Encoded input contains the invalid byte b'${escape}' at index ${index}`, byte, index];
+// The decoders of a form, such as Fixed, return the number or UUID of a text, or refuse it with an error of the rows.
+function checkForm({ base62, givenOf, refused, refusedBy }, form, name, text, wanted, ...width) {
+  for (const kind of ['', 'Number', 'Uuid']) {
+    for (const given of givenOf(name)) {
+      const call = () => base62[`decode${kind}${form}`](text, ...width, ...given);
+      if (typeof wanted !== 'bigint') refusedBy(call, wanted);
+      else if (kind === '') same(call(), wanted);
+      else if (kind === 'Uuid') same(call(), uuidOf(wanted));
+      else if (wanted <= Number.MAX_SAFE_INTEGER) same(call(), Number(wanted));
+      else refused(call, 'UNSAFE_INTEGER', `the number is above 2**53 - 1: use decode${form}`);
+    }
+  }
 }
 
-// The calls that decode, but decodeKey. Those for a width get the length of the text, or another one.
-function decodersOf(base62, widthOf = (text) => text.length) {
-  return Object.keys(base62).filter((it) => /^decode(?!Key)/.test(it)).map((name) => {
-    const decoder = base62[name];
-    return name.endsWith('Fixed') ? (text, ...given) => decoder(text, widthOf(text), ...given) : decoder;
-  });
-}
-
-// What refuses takes of a fault.
-function wantedOf([kind, ...numbers], message) {
-  return [faults[kind], message, ...numbers.map(Number)];
-}
-
-// A Number has the text of its BigInt, or is not safe.
-function sameNumber(base62, bigint, text, alphabet, refused) {
-  const number = Number(bigint);
-  const isSafe = Number.isSafeInteger(number);
-  if (isSafe) same(base62.encode(number, alphabet), text);
-  else refused(() => base62.encode(number, alphabet), 'OUT_OF_RANGE');
-  if (isSafe) same(base62.digitCount(number), text.length);
-  for (const [form, ...width] of [[''], ['Canonical'], ['Fixed', text.length]]) {
-    const call = () => base62[`decodeNumber${form}`](text, ...width, alphabet);
-    if (isSafe) same(call(), number);
-    else refused(call, 'UNSAFE_INTEGER', `the number is above 2**53 - 1: use decode${form}`);
+// The same of all forms. Canonical decoding may refuse what the others accept.
+function checkDecoding(context, name, field, wanted, canonical = wanted) {
+  for (const text of formsOf(textOf(field))) {
+    checkForm(context, '', name, text, wanted);
+    checkForm(context, 'Canonical', name, text, canonical);
+    checkForm(context, 'Fixed', name, text, wanted, text.length);
   }
 }
 
 const tests = {
-  'each number has its text, and back'({ base62, rowsOf, alphabets, refused }) {
+  'each number has its text, and back'(context) {
+    const { base62, rowsOf, givenOf, alphabets, refused } = context;
     for (const [name, digits, field] of rowsOf('encode')) {
       const number = BigInt(digits);
       const uuid = uuidOf(number);
       const text = textOf(field);
-      for (const given of name === 'standard' ? [[], [alphabets[name]]] : [[alphabets[name]]]) {
+      for (const given of givenOf(name)) {
         same(base62.encode(number, ...given), text);
-        same(base62.decode(text, ...given), number);
-        same(base62.decodeCanonical(bytesOf(text), ...given), number);
         same(base62.encodeUuid(uuid, ...given), text);
-        same(base62.decodeUuid(text, ...given), uuid);
-        same(base62.decodeUuidCanonical(text, ...given), uuid);
         same(base62.encodeFixed(uuid, 22, ...given), base62.encodeFixed(number, 22, ...given));
       }
       same(base62.digitCount(number), text.length);
-      sameNumber(base62, number, text, alphabets[name], refused);
+      // A Number has the text of its BigInt, or is not safe.
+      if (number <= Number.MAX_SAFE_INTEGER) {
+        same(base62.encode(Number(number), alphabets[name]), text);
+        same(base62.digitCount(Number(number)), text.length);
+      } else refused(() => base62.encode(Number(number), alphabets[name]), 'OUT_OF_RANGE');
+      checkDecoding(context, name, field, number);
     }
   },
 
@@ -192,37 +174,25 @@ const tests = {
     same(base62.encodeFixed(1337, 1e6, alphabet), 'Pd'.padStart(1e6, '2'));
   },
 
-  'decoding at a width accepts only texts of that width'({ base62, rowsOf, alphabets, refused }) {
-    const { decodeFixed, decodeKey, decodeNumberFixed, decodeUuidFixed } = base62;
-    for (const [name, width, field, kind, ...numbers] of rowsOf('exact')) {
+  'decoding at a width accepts only texts of that width'(context) {
+    const { base62, rowsOf, refused, refusedBy } = context;
+    for (const [name, digits, field, kind, ...numbers] of rowsOf('exact')) {
+      const width = Number(digits);
+      const wanted = kind === 'number' ? BigInt(numbers[0]) : [kind, ...numbers];
       for (const text of formsOf(textOf(field))) {
-        const given = [text, Number(width), alphabets[name]];
-        const calls = [() => decodeFixed(...given)];
-        if (name === 'standard') calls.push(() => decodeFixed(text, Number(width)));
-        if (name === 'standard' && width === '22') calls.push(() => decodeKey(text));
-        if (kind === 'number') {
-          for (const call of calls) same(call(), BigInt(numbers[0]));
-          same(decodeUuidFixed(...given), uuidOf(BigInt(numbers[0])));
-        } else {
-          calls.push(() => decodeNumberFixed(...given), () => decodeUuidFixed(...given));
-          // A width may be no Number.
-          const wanted = Number(width) < 2 ** 53 ? wantedOf([kind, ...numbers]) : ['OUT_OF_RANGE'];
-          for (const call of calls) refused(call, ...wanted);
-        }
+        // A width may be no Number.
+        if (Number.isSafeInteger(width)) checkForm(context, 'Fixed', name, text, wanted, width);
+        else refused(() => base62.decodeFixed(text, width), 'OUT_OF_RANGE');
+        if (name !== 'standard' || width !== 22) continue;
+        if (kind === 'number') same(base62.decodeKey(text), wanted);
+        else refusedBy(() => base62.decodeKey(text), wanted);
       }
     }
   },
 
-  'leading zeros change no number, and are not canonical'({ base62, rowsOf, alphabets, refused }) {
-    const { decodeCanonical, decodeNumberCanonical, decodeUuidCanonical } = base62;
-    for (const [name, field, digits] of rowsOf('zeros')) {
-      for (const text of formsOf(textOf(field))) {
-        same(base62.decode(text, alphabets[name]), BigInt(digits));
-        same(base62.decodeUuid(text, alphabets[name]), uuidOf(BigInt(digits)));
-        for (const call of [decodeCanonical, decodeNumberCanonical, decodeUuidCanonical]) {
-          refused(() => call(text, alphabets[name]), 'NOT_CANONICAL');
-        }
-      }
+  'leading zeros change no number, and are not canonical'(context) {
+    for (const [name, field, digits] of context.rowsOf('zeros')) {
+      checkDecoding(context, name, field, BigInt(digits), ['zero']);
     }
   },
 
@@ -245,17 +215,16 @@ const tests = {
     refused(() => encodeUuid(''), 'INVALID_UUID', `a UUID is 32 hexadecimal digits, ${forms}`);
   },
 
-  'a range has the numbers of a prefix'({ base62, rowsOf, alphabets, refused }) {
+  'a range has the numbers of a prefix'({ base62, rowsOf, givenOf, refusedBy }) {
     const numbersOf = (keys) => keys && keys.map((key) => key.length === 22 && base62.decode(key));
     for (const [name, width, field, kind, ...numbers] of rowsOf('range')) {
       for (const prefix of formsOf(textOf(field))) {
-        const calls = [() => base62.prefixRange(prefix, Number(width), alphabets[name])];
-        if (name === 'standard') calls.push(() => base62.prefixRange(prefix, Number(width)));
+        const calls = givenOf(name).map((given) => () => base62.prefixRange(prefix, Number(width), ...given));
         if (name === 'standard' && width === '22') {
           calls.push(() => base62.keyRange(prefix), () => numbersOf(base62.keyBounds(prefix)));
         }
         for (const call of calls) {
-          if (kind === 'byte') refused(call, ...wantedOf([kind, ...numbers]));
+          if (kind === 'byte') refusedBy(call, [kind, ...numbers]);
           else sameRange(call(), kind === 'none' ? null : numbers);
         }
       }
@@ -286,43 +255,21 @@ const tests = {
   },
 
   'invalid widths are rejected'({ base62, refused }) {
-    for (const width of [-1, 1.5, NaN, Infinity, 2 ** 53]) {
-      refused(() => base62.encodeFixed(5, width), 'OUT_OF_RANGE');
-      refused(() => base62.decodeFixed('5', width), 'OUT_OF_RANGE');
-      refused(() => base62.prefixRange('', width), 'OUT_OF_RANGE');
-    }
-    for (const width of ['5', 5n, undefined, null, convertible, trap]) {
-      refusesType(() => base62.encodeFixed(5, width));
-      refusesType(() => base62.decodeFixed('5', width));
-      refusesType(() => base62.prefixRange('', width));
+    const decoders = [base62.decodeFixed, base62.decodeNumberFixed, base62.decodeUuidFixed];
+    const calls = [base62.prefixRange, ...decoders].map((call) => (width) => call('5', width));
+    for (const call of [(width) => base62.encodeFixed(5, width), ...calls]) {
+      for (const width of [-1, 1.5, NaN, Infinity, 2 ** 53]) refused(() => call(width), 'OUT_OF_RANGE');
+      for (const width of ['5', 5n, undefined, null, convertible, trap]) refusesType(() => call(width));
     }
     refused(() => base62.encodeFixed(0, 0), 'OUT_OF_RANGE');
     same(base62.prefixRange('', 0), null);
   },
 
-  'each decoder reports the error of a text'({ base62, rowsOf, alphabets, refused }) {
-    for (const call of decodersOf(base62)) {
-      for (const [name, field, ...fault] of rowsOf('refused')) {
-        for (const text of formsOf(textOf(field))) {
-          refused(() => call(text, alphabets[name]), ...wantedOf(fault));
-          if (name === 'standard') refused(() => call(text), ...wantedOf(fault));
-        }
-      }
-    }
+  'each decoder reports the error of a text'(context) {
+    for (const [name, field, ...error] of context.rowsOf('refused')) checkDecoding(context, name, field, error);
   },
 
-  'each error has its message'({ base62, rows, refused }) {
-    const told = new Set();
-    for (const [field, ...fault] of rows.message) {
-      const call = callWith(base62, fault);
-      if (!call) continue;
-      refused(call, ...wantedOf(fault, textOf(field)));
-      told.add(fault[0]);
-    }
-    same([...told].sort().join(), Object.keys(faults).sort().join());
-  },
-
-  'a string is read as UTF-8'({ base62, refused }) {
+  'a string is read as UTF-8'({ base62, refusedBy }) {
     // Each character with its first byte and the count of its bytes. A lone surrogate has three. Cut to eight bits, the
     // first would be A.
     const narrow = [['\u0141', 0xc5, 2], ['\u00e9', 0xc3, 2], ['\u07ff', 0xdf, 2], ['\u0800', 0xe0, 3], ['\u20ac', 0xe2, 3]];
@@ -332,15 +279,15 @@ const tests = {
       for (const [prefix, suffix, letters] of [['', '', 0], ['0', '', 0], ['000LZ', '', 2], ['0', 'LZ', 2]]) {
         for (let count = 1; count <= 12; count++) {
           const text = prefix + character.repeat(count) + suffix;
-          const found = ['INVALID_BYTE', undefined, byte, prefix.length];
-          const wanted = letters + size * count > 22 ? ['OVERFLOW'] : found;
+          const found = ['byte', byte, prefix.length];
+          const wanted = letters + size * count > 22 ? ['overflow'] : found;
           const width = prefix.length + size * count + suffix.length;
-          refused(() => base62.decode(text), ...wanted);
-          refused(() => base62.decodeFixed(text, width), ...wanted);
+          refusedBy(() => base62.decode(text), wanted);
+          refusedBy(() => base62.decodeFixed(text, width), wanted);
           for (const other of [text.length, width - 1, width + 1]) {
-            if (other !== width) refused(() => base62.decodeFixed(text, other), 'WRONG_LENGTH');
+            if (other !== width) refusedBy(() => base62.decodeFixed(text, other), ['length']);
           }
-          refused(() => base62.prefixRange(text, 7), ...found);
+          refusedBy(() => base62.prefixRange(text, 7), found);
         }
       }
     }
@@ -350,7 +297,12 @@ const tests = {
     const others = [undefined, null, 5, 5n, true, [], ['LZ'], {}, Symbol('LZ'), Object('LZ'), convertible, trap];
     const arrays = [new Uint8ClampedArray(2), new Int8Array(2), new ArrayBuffer(2), new DataView(new ArrayBuffer(2))];
     const { decodeKey, encodeUuid, keyRange, keyBounds } = base62;
-    const decoders = decodersOf(base62, () => 2);
+    // Those for a width get that of LZ.
+    const decoders = ['', 'Number', 'Uuid'].flatMap((kind) => [
+      base62[`decode${kind}`],
+      base62[`decode${kind}Canonical`],
+      (text, ...given) => base62[`decode${kind}Fixed`](text, 2, ...given),
+    ]);
     for (const other of [...others, ...arrays, new Proxy(new Uint8Array(2), {})]) {
       for (const call of [...decoders, decodeKey, keyRange, keyBounds, encodeUuid]) refusesType(() => call(other));
       refusesType(() => new Alphabet(other));
@@ -390,7 +342,7 @@ const tests = {
     ]) same(faultOf(call).message, `an alphabet is an Alphabet${said}`);
   },
 
-  'an alphabet has its characters'({ base62, rows, letters, alphabets, refused, Alphabet }) {
+  'an alphabet has its characters'({ base62, rows, letters, alphabets, refused, refusedBy, Alphabet }) {
     const { standard, alternative, readable: custom } = letters;
     same(Alphabet.standard.characters, standard);
     same(Alphabet.alternative.characters, alternative);
@@ -400,8 +352,8 @@ const tests = {
     }
     for (const [field, byte, index] of rows.repeated) {
       const repeated = textOf(field);
-      const wanted = isAscii(repeated) ? wantedOf(['repeated', byte, index]) : ['INVALID_ALPHABET'];
-      refused(() => new Alphabet(repeated), ...wanted);
+      if (isAscii(repeated)) refusedBy(() => new Alphabet(repeated), ['repeated', byte, index]);
+      else refused(() => new Alphabet(repeated), 'INVALID_ALPHABET');
     }
     for (const [wrong, size] of [['', '0 characters'], ['0', '1 character'], [`${standard}-`, '63 characters']]) {
       refused(() => new Alphabet(wrong), 'INVALID_ALPHABET', `the alphabet has ${size}, not 62`);
@@ -432,7 +384,7 @@ const tests = {
     refusesType(() => base62.keyRange(sent));
   },
 
-  'texts of each length are read'({ base62, refused, forEachLength }) {
+  'texts of each length are read'({ base62, refusedBy, forEachLength }) {
     forEachLength((count, zeros, zero, one, form, alphabet) => {
       const call = (decoder, text) => base62[decoder](form(text), alphabet);
       same(call('decode', `${zeros}${one}${zero}`), 62n);
@@ -440,25 +392,23 @@ const tests = {
       same(call('decode', `${zeros}${one}${zero.repeat(21)}`), 62n ** 21n);
       const decodeFixed = (text, width) => base62.decodeFixed(form(text), width, alphabet);
       same(decodeFixed(`${zeros}${one}${zero}`, count + 2), 62n);
-      refused(() => decodeFixed(`${zeros}${one}\x7f`, count + 2), ...invalid(127, count + 1));
+      refusedBy(() => decodeFixed(`${zeros}${one}\x7f`, count + 2), ['byte', 127, count + 1]);
       for (const width of [count + 1, count + 3, count + 2 + 2 ** 32, Number.MAX_SAFE_INTEGER]) {
-        for (const last of [zero, '\x7f']) refused(() => decodeFixed(`${zeros}${one}${last}`, width), 'WRONG_LENGTH');
+        for (const last of [zero, '\x7f']) refusedBy(() => decodeFixed(`${zeros}${one}${last}`, width), ['length']);
       }
-      refused(() => call('decode', `${zeros}${one}${zero.repeat(22)}`), 'OVERFLOW');
-      refused(() => call('decode', `${zeros}${one}\x7f`), ...invalid(127, count + 1));
-      for (const last of count > 0 ? [zero, one] : []) {
-        refused(() => call('decodeCanonical', zeros + last), 'NOT_CANONICAL');
-      }
+      refusedBy(() => call('decode', `${zeros}${one}${zero.repeat(22)}`), ['overflow']);
+      refusedBy(() => call('decode', `${zeros}${one}\x7f`), ['byte', 127, count + 1]);
+      for (const last of count > 0 ? [zero, one] : []) refusedBy(() => call('decodeCanonical', zeros + last), ['zero']);
     });
     for (const [character, size] of [['\u20ac', 3], ['\u{1f600}', 4]]) {
       const text = character.repeat(25_000);
-      refused(() => base62.decode(text), 'OVERFLOW');
-      refused(() => base62.decodeFixed(text, size * 25_000), 'OVERFLOW');
-      refused(() => base62.decodeFixed(text, text.length), 'WRONG_LENGTH');
+      refusedBy(() => base62.decode(text), ['overflow']);
+      refusedBy(() => base62.decodeFixed(text, size * 25_000), ['overflow']);
+      refusedBy(() => base62.decodeFixed(text, text.length), ['length']);
     }
   },
 
-  'prefixes of each length are read'({ base62, refused, forEachLength }) {
+  'prefixes of each length are read'({ base62, refusedBy, forEachLength }) {
     forEachLength((count, zeros, zero, one, form, alphabet) => {
       const range = (width, prefix) => base62.prefixRange(form(prefix), width, alphabet);
       sameRange(range(count + 2, zeros + one), [62n, 123n]);
@@ -468,12 +418,12 @@ const tests = {
       sameRange(range(count + 1, zeros), [0n, 61n]);
       same(range(Number.MAX_SAFE_INTEGER, zeros + one), null);
       sameRange(range(Number.MAX_SAFE_INTEGER, zeros), [0n, 2n ** 128n - 1n]);
-      refused(() => range(count + 2, `${zeros}\x7f`), ...invalid(127, count));
-      refused(() => range(1, `${one.repeat(count)}\x7f`), ...invalid(127, count));
+      refusedBy(() => range(count + 2, `${zeros}\x7f`), ['byte', 127, count]);
+      refusedBy(() => range(1, `${one.repeat(count)}\x7f`), ['byte', 127, count]);
       if (count > 22) same(range(count, one.repeat(count)), null);
       if (form !== String) return;
       for (const [character, byte] of [['\u20ac', 0xe2], ['\u{1f600}', 0xf0], ['\ud83d', 0xed]]) {
-        refused(() => range(count, one.repeat(count) + character + one), ...invalid(byte, count));
+        refusedBy(() => range(count, one.repeat(count) + character + one), ['byte', byte, count]);
       }
     });
   },

@@ -75,20 +75,6 @@ test('properties of errors and alphabets are enumerable and read-only', () => {
   });
 });
 
-// A copy of the package, and the stack pointer of its WebAssembly.
-function copyWithStack() {
-  const { Instance } = WebAssembly;
-  let stack;
-  WebAssembly.Instance = function (module) {
-    const instance = new Instance(module);
-    stack = instance.exports.__stack_pointer;
-    return instance;
-  };
-  const copy = load(compiled());
-  WebAssembly.Instance = Instance;
-  return [copy, stack];
-}
-
 const long = new Uint8Array(Buffer.from('LZ'.padStart(70_000, '0')));
 
 // Calls of a copy that use all of it, and what each returns.
@@ -127,10 +113,11 @@ function resultOf(call) {
   }
 }
 
-test('calls go on after the stack has run out in one', () => {
-  const [copy, stack] = copyWithStack();
+test('calls go on after the stack has run out in one', ({ mock }) => {
+  const { mock: instances } = mock.method(WebAssembly, 'Instance');
+  const calls = callsOf(load(compiled()));
+  const stack = instances.calls[0].result.exports.__stack_pointer;
   const top = stack.value;
-  const calls = callsOf(copy);
   const others = new Set();
   let aborted = 0;
   const attempt = ([call, wanted]) => {
@@ -185,10 +172,8 @@ function abortAt(object, name, n, call) {
   };
   try {
     call();
-  } catch {
-  } finally {
-    object[name] = builtin;
-  }
+  } catch {}
+  object[name] = builtin;
   return count >= n;
 }
 

@@ -4,7 +4,6 @@
 
 import contextlib
 import itertools
-import json
 import os
 import re
 import sqlite3
@@ -15,14 +14,13 @@ from typing import Any
 from urllib.parse import unquote_to_bytes
 from uuid import UUID
 
-from values import ALPHABET, ALTERNATIVE, BIGINT, HEADER, NEGATIVE, NO_ALPHABETS, ORDER, OWN, README, STANDARD, TEXTS
-from values import WIDEST, WIDTH, functions_of, is_large, message, narrow, of_ascii, of_widths, rows, shown, text
+from values import ALPHABET, BIGINT, HEADER, NEGATIVE, NO_ALPHABETS, ORDER, OWN, README, STANDARD, TEXTS
+from values import WIDEST, WIDTH, functions_of, is_large, message, narrow, of_ascii, of_widths, rows, shown
 
 if not hasattr(sqlite3.Connection, "enable_load_extension"):
     sys.exit(f"{sys.executable} can't load extensions of SQLite. Set PYTHON to one that can, such as Debian's.")
 
 MODULE = os.environ["BASE62_SQLITE"]
-TOO_BIG = "string or blob too big"
 KEY = 22
 
 
@@ -228,20 +226,7 @@ class Arguments(Case):
         self.assertEqual(self.result("encode_fixed", 1337, WIDEST), "LZ".rjust(WIDEST, "0"))
         self.db.setlimit(sqlite3.SQLITE_LIMIT_LENGTH, 100)
         for name, given in (("encode_fixed", (0, 101)), ("encode_fixed", (0, 101, OWN)), ("first_string", ("0", 101))):
-            self.assertEqual(self.result(name, *given), TOO_BIG)
-
-    def test_changing_letters(self) -> None:
-        """Letters that change from row to row. Those of the second call are constant, and SQLite caches them."""
-        chosen = OWN, ALTERNATIVE, OWN, STANDARD
-        query = (
-            "SELECT base62_encode(1337, value), base62_encode(key, ?), base62_encode_fixed(1337, 2, value),"
-            " base62_first_number('1', 1, value) FROM json_each(?)"
-        )
-        wanted = [
-            (text(1337, letters), text(number, OWN), text(1337, letters), letters.index("1"))
-            for number, letters in enumerate(chosen)
-        ]
-        self.assertEqual(self.db.execute(query, (OWN, json.dumps(chosen))).fetchall(), wanted)
+            self.assertEqual(self.result(name, *given), "string or blob too big")
 
     def test_order(self) -> None:
         """Of several errors, also of arguments of other types."""

@@ -37,18 +37,13 @@ ALPHABETS = {
     for name, letters, ascii, _ in rows("alphabet")
     if ascii == "1" and "%00" not in letters
 }
-STANDARD, ALTERNATIVE, OWN = (ALPHABETS[name] for name in ("standard", "alternative", "reversed"))
+STANDARD, OWN = ALPHABETS["standard"], ALPHABETS["reversed"]
 BIGINT = 2**63 - 1
 WIDEST = 1000
 # The message of each error and of each byte. The index follows.
 MESSAGES = {tuple(row[1:3]): re.sub(r"\d+$", "", unquote_to_bytes(row[0]).decode()) for row in rows("message")}
 # Canonical standard texts by their numbers.
 TEXTS = {int(number): text for alphabet, number, text in rows("encode") if alphabet == "standard"}
-
-
-def text(number: int, letters: str = STANDARD) -> str:
-    """The canonical text of one of these numbers, in an ASCII alphabet."""
-    return TEXTS[number].translate(str.maketrans(STANDARD, letters))
 
 
 def shown(value: bytes) -> str:

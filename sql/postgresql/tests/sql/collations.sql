@@ -1,9 +1,6 @@
-\set ECHO none
 -- SPDX-License-Identifier: MIT
 -- Copyright (c) 2026 the maintainers of base62 for Rattle
 -- Keys in a database that sorts by the rules of a language, of a user who is not a superuser.
-\pset format unaligned
-\pset tuples_only on
 SET client_min_messages = warning;
 DROP DATABASE IF EXISTS contrib_regression_language;
 DROP ROLE IF EXISTS regress_base62;
@@ -59,6 +56,5 @@ CREATE INDEX plain_key ON plain (key COLLATE "C");
 EXPLAIN (COSTS off) SELECT * FROM plain WHERE key BETWEEN base62_first_string('2a') AND base62_last_string('2a');
 \set VERBOSITY sqlstate
 SELECT count(*) FROM plain WHERE declared BETWEEN base62_first_string('2a') AND base62_last_string('2a');
-\set VERBOSITY default
 SELECT count(*) FILTER (WHERE starts_with(key, '2a')) - count(*) FILTER
     (WHERE declared COLLATE "C" BETWEEN base62_first_string('2a') AND base62_last_string('2a')) declared FROM plain;

@@ -1,9 +1,6 @@
-\set ECHO none
 -- SPDX-License-Identifier: MIT
 -- Copyright (c) 2026 the maintainers of base62 for Rattle
 -- A dump is restored, with the generated columns.
-\pset format unaligned
-\pset tuples_only on
 SET client_min_messages = warning;
 DROP DATABASE IF EXISTS contrib_regression_restored;
 CREATE DATABASE contrib_regression_restored TEMPLATE template0;

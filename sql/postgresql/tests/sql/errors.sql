@@ -1,9 +1,7 @@
-\set ECHO none
 -- SPDX-License-Identifier: MIT
 -- Copyright (c) 2026 the maintainers of base62 for Rattle
 -- Errors beside those of values.sql, by what it and functions.sql create. Only the calls that differ are printed.
-\pset format unaligned
-\pset tuples_only on
+
 CREATE FUNCTION own() RETURNS text LANGUAGE sql AS $$ SELECT letters FROM alphabet WHERE name = 'reversed' $$;
 
 -- A call of each function with this value of one of its arguments. Errors of numbers come before those of widths, of

@@ -1,9 +1,7 @@
-\set ECHO none
 -- SPDX-License-Identifier: MIT
 -- Copyright (c) 2026 the maintainers of base62 for Rattle
 -- Functions, their attributes and arguments, and custom alphabets that change.
-\pset format unaligned
-\pset tuples_only on
+
 CREATE VIEW functions AS SELECT p.*
     FROM pg_proc p JOIN pg_depend d ON (d.classid, d.objid, d.deptype) = ('pg_proc'::regclass, p.oid, 'e')
     JOIN pg_extension e ON (d.refclassid, d.refobjid, e.extname) = ('pg_extension'::regclass, e.oid, 'base62');
@@ -11,7 +9,6 @@ CREATE VIEW functions AS SELECT p.*
 SELECT provolatile, proisstrict, proparallel, proleakproof, prosecdef, count(*) FROM functions GROUP BY 1, 2, 3, 4, 5;
 \echo No two share a name, unless an argument is optional; each has its own description
 SELECT proname FROM functions GROUP BY proname, pronargs HAVING count(*) > 1;
-SELECT oid::regprocedure FROM functions WHERE obj_description(oid, 'pg_proc') IS NULL;
 SELECT count(DISTINCT obj_description(oid, 'pg_proc')), obj_description('base62_key'::regtype, 'pg_type')
     FROM functions;
 SELECT extversion, extrelocatable FROM pg_extension WHERE extname = 'base62';
@@ -50,12 +47,10 @@ BEGIN
 END $$;
 SELECT string_agg(each, ' ')
     FROM with_each(:own, :alternative, :own, repeat('0', 62), :own, left(:own, 61), :alternative) each;
-PREPARE with_one AS SELECT string_agg(base62_encode(n, $1), ' ') FROM generate_series(61, 63) n;
-EXECUTE with_one (:own);
-EXECUTE with_one (:alternative);
 \echo A constant alphabet is created once for all rows
 SET client_min_messages = debug1;
 SELECT count(base62_encode_fixed(n, 22, :own)) FROM generate_series(1, 1000) n;
+PREPARE with_one AS SELECT string_agg(base62_encode(n, $1), ' ') FROM generate_series(61, 63) n;
 EXECUTE with_one (:own);
 RESET client_min_messages;
 \echo Alphabets that change do not take more memory with each row

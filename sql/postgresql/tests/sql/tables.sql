@@ -1,9 +1,6 @@
-\set ECHO none
 -- SPDX-License-Identifier: MIT
 -- Copyright (c) 2026 the maintainers of base62 for Rattle
 -- Generated columns, constraints and indexes, and the plans that use them.
-\pset format unaligned
-\pset tuples_only on
 CREATE TABLE link (id bigint PRIMARY KEY, slug text GENERATED ALWAYS AS (base62_encode(id)) STORED UNIQUE
     CHECK (base62_is_canonical(slug)));
 CREATE TABLE item (u uuid PRIMARY KEY, key base62_key GENERATED ALWAYS AS (base62_encode_uuid_key(u)) STORED UNIQUE,

@@ -1,9 +1,6 @@
-\set ECHO none
 -- SPDX-License-Identifier: MIT
 -- Copyright (c) 2026 the maintainers of base62 for Rattle
 -- The results for the values that all packages are tested with. Of these only the rows that differ are printed.
-\pset format unaligned
-\pset tuples_only on
 CREATE EXTENSION base62;
 \set lines `cat "$BASE62_VALUES"`
 CREATE TABLE line AS SELECT string_to_array(line, E'\t') f

@@ -49,12 +49,9 @@ def sql_by_sqlalchemy(module: Any, database: str) -> str:
 SQL = {"django_field": sql_by_django, "sqlalchemy_column": sql_by_sqlalchemy}
 
 
-def wrong_databases(name: str, module: Any) -> list[str]:
-    """The databases in which a column of keys has another type."""
-    if name not in SQL:
-        return []
-    compile_sql = SQL[name]
-    found = {database: compile_sql(module, database).replace("VARCHAR", "varchar") for database in TYPES}
+def wrong_sql(name: str, module: Any) -> list[str]:
+    """What creates the table in each database in which a column of keys has another type."""
+    found = {it: SQL[name](module, it).replace("VARCHAR", "varchar") for it in TYPES if name in SQL}
     return [sql for database, sql in found.items() if TYPES[database] not in sql]
 
 
@@ -68,7 +65,7 @@ def main() -> int:
         else:
             example = importlib.import_module(module)
             result = doctest.testmod(example)
-            wrong = wrong_databases(module, example)
+            wrong = wrong_sql(module, example)
             failed += result.failed or not result.attempted or len(wrong)
             print(f"{module}: {result.attempted} examples", *wrong)
     return failed

@@ -46,10 +46,8 @@ TEXT_TYPES = [pa.string(), pa.large_string(), pa.string_view(), pa.binary(), pa.
 
 
 def dictionary(array: Any) -> Any:
-    """A dictionary of the distinct values, whose type may have no kernel for that."""
-    rows = array.to_pylist()
-    distinct = [*dict.fromkeys(rows)]
-    return pa.DictionaryArray.from_arrays(pa.array([*map(distinct.index, rows)], pa.int16()), pa.array(distinct, array.type))
+    """A dictionary of all rows: their type may have no kernel that finds the distinct ones."""
+    return pa.DictionaryArray.from_arrays(pa.array(range(len(array)), pa.int16()), array)
 
 
 def forms_of(array: Any) -> Iterator[Any]:
@@ -460,8 +458,8 @@ class Arguments(ColumnsTestCase):
                            {0: value}, UserDict({0: value}), [{"a": value}], pd.DataFrame(), pd.DataFrame(two), pa.table(two)):
                 self.raised(TypeError, call, column, *given)
             for errors in ("null", "ignore", None, True):
-                error = self.raised(ValueError, call, [value], *given, errors=errors)
-                self.assertEqual(str(error), f"errors is 'raise' or 'coerce', not {errors!r}")
+                message = f"errors is 'raise' or 'coerce', not {errors!r}"
+                self.says(message, ValueError, call, [value], *given, errors=errors)
             if call is not columns.encode_key:
                 for alphabet in ("short", "0" * 62, b"", "é" * 62):
                     self.assertRaises(ValueError, call, [value], *given, alphabet)
@@ -471,8 +469,7 @@ class Arguments(ColumnsTestCase):
                             *({*UUID_TYPES, *LIMITS} - {*types_of(call)})):
                 self.raised(TypeError, call, [], *given, type=of_type)
         for call in (columns.encode, columns.encode_uuid, lambda it, letters: columns.encode_fixed(it, 5, letters)):
-            error = self.raised(ValueError, call, [NAME], HIGH)
-            self.assertEqual(str(error), "an alphabet for encoding has ASCII characters")
+            self.says("an alphabet for encoding has ASCII characters", ValueError, call, [NAME], HIGH)
         self.check(lambda it: columns.decode(it, HIGH), [HIGH[5:6]], [5])
         for call in (columns.encode_fixed, columns.decode_fixed, columns.decode_uuid_fixed):
             for width, kind in ((-1, ValueError), (-(2**70), ValueError), ("1", TypeError)):

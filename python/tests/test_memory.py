@@ -16,14 +16,13 @@ from typing import Any
 import base62
 import calls
 from base62 import _types
-from calls import ERRORS, LETTERS, WIDE, Call
+from calls import LETTERS, OWNED, WIDE, Call
 
 # A call has made its allocations if it succeeds although each of the next ones would fail. No call makes so many.
 NEXT_ALLOCATIONS = 25
 MAX_ALLOCATIONS = 240
 # What calls borrow, besides what they are given. WIDE is the int of UUIDs.
-BORROWED: list[object] = [None, False, True, 0, 64, WIDE, uuid.UUID, *ERRORS]
-BORROWED += [base62.Alphabet, base62.Alphabet.STANDARD, base62.Alphabet.ALTERNATIVE]
+BORROWED: list[object] = [None, False, True, 0, 64, WIDE, uuid.UUID, *OWNED]
 
 try:
     memory: Any = importlib.import_module("_testcapi")

@@ -3,12 +3,12 @@
 """Tests of the package: its exports, reimports and subinterpreters."""
 
 import ast
-import contextlib
 import ctypes
 import doctest
 import gc
 import importlib
 import importlib.metadata
+import importlib.util
 import inspect
 import pathlib
 import sys
@@ -21,12 +21,17 @@ from typing import Any
 
 import base62
 from base62 import _base62, _types
-from calls import CUSTOM, ERRORS, TEXT
+from calls import CUSTOM, OWNED, TEXT
 from paths import PACKAGE, TOP, readme
 from test_memory import load_extension
 
 # The calls, and the type that is called too.
 CALLS: list[Any] = [getattr(base62, it) for it in base62.__all__ if it == "Alphabet" or it.islower()]
+# The module by which a Python makes others.
+INTERPRETERS = "_interpreters" if sys.version_info >= (3, 13) else "_xxsubinterpreters"
+# The types of the parameters, by name.
+TYPES = {"number": "Number", "value": "AnyUUID", "width": "SupportsIndex", "alphabet": "AnyAlphabet"}
+TYPES |= {"text": "EncodedString", "prefix": "EncodedString", "characters": "str | bytes"}
 
 
 class Package(unittest.TestCase):
@@ -79,13 +84,15 @@ class Package(unittest.TestCase):
                 self.assertEqual(call(**given), call(*reversed(given.values()), base62.Alphabet.STANDARD))
 
     def test_stub(self) -> None:
-        """Editors show what help shows."""
+        """Editors show what help shows. Parameters of one name have one type."""
         stub = ast.parse(pathlib.Path(_base62.__file__).with_name("_base62.pyi").read_text())
         documented = [node for node in stub.body if isinstance(node, (ast.FunctionDef, ast.ClassDef))]
         self.assertEqual(str(inspect.signature(base62.encode)), "(number, alphabet=Alphabet.STANDARD)")
         told = {node.name: ast.get_docstring(node) for node in documented}
         shown = {name: inspect.getdoc(one) for name, one in vars(_base62).items() if callable(one)}
         self.assertEqual(told, shown)
+        arguments = [it for node in ast.walk(stub) if isinstance(node, ast.FunctionDef) for it in node.args.args]
+        self.assertEqual({(it.arg, ast.unparse(it.annotation)) for it in arguments if it.annotation}, {*TYPES.items()})
 
     def test_wrong_arguments(self) -> None:
         """Too few or too many, one of another name, and one twice. The call is named."""
@@ -107,20 +114,9 @@ class Package(unittest.TestCase):
 
 def reimported(name: str = "base62") -> Any:
     """Imports another copy of a module of the package, as another interpreter would."""
-    names = [name for name in sys.modules if name.split(".")[0] == "base62"]
-    stored = {name: sys.modules.pop(name) for name in names}
-    try:
+    others = {other: module for other, module in sys.modules.items() if other.split(".")[0] != "base62"}
+    with unittest.mock.patch.dict(sys.modules, others, clear=True):
         return importlib.import_module(name)
-    finally:
-        sys.modules.update(stored)
-
-
-def interpreters() -> Any:
-    """The module by which a Python makes others. It has had two names."""
-    for name in ("_interpreters", "_xxsubinterpreters"):
-        with contextlib.suppress(ImportError):
-            return importlib.import_module(name)
-    raise unittest.SkipTest("this Python has no module for interpreters")
 
 
 class Modules(unittest.TestCase):
@@ -157,10 +153,9 @@ class Modules(unittest.TestCase):
     def test_gc_traverse(self) -> None:
         """The collector finds the objects that the module and an alphabet refer to."""
         found = gc.get_referents(_base62)
-        alphabets = [base62.Alphabet, base62.Alphabet.STANDARD, base62.Alphabet.ALTERNATIVE]
         conversions = [_types.to_int, _types.to_bytes, _types.to_characters]
         of_uuids = [_types.uuid_to_int, _types.int_to_uuid, uuid.UUID, uuid.SafeUUID.unknown, "int", "is_safe"]
-        for owned in (*ERRORS, *alphabets, *conversions, *of_uuids):
+        for owned in (*OWNED, *conversions, *of_uuids):
             self.assertTrue(any(one is owned for one in found), owned)
         self.assertEqual(gc.get_referents(base62.Alphabet(CUSTOM)), [base62.Alphabet])
 
@@ -173,12 +168,13 @@ class Modules(unittest.TestCase):
         gc.collect()
         self.assertEqual([one() for one in left], [None] * len(left))
 
+    @unittest.skipUnless(importlib.util.find_spec(INTERPRETERS), "this Python has no module for interpreters")
     def test_interpreters(self) -> None:
         """From 3.12 on an isolated one has its own GIL, and accepts only modules that support this."""
         said = "import base62\nassert base62.decode(base62.encode(2**128 - 1)) == 2**128 - 1"
-        maker = interpreters()
+        maker: Any = importlib.import_module(INTERPRETERS)
         for isolated in (False, True) * 3:
-            if maker.__name__ == "_interpreters":
+            if sys.version_info >= (3, 13):
                 other = maker.create("isolated" if isolated else "legacy")
             else:
                 other = maker.create(isolated=isolated)

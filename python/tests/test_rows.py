@@ -10,11 +10,11 @@ from __future__ import annotations
 import mmap
 import random
 import signal
-import struct
 import sys
 import unittest
 import uuid
 from array import array
+from itertools import accumulate, pairwise
 from typing import Any
 
 import base62
@@ -23,7 +23,7 @@ from calls import LETTERS
 from test_base62 import others_run
 
 SIZES = {"L": 8, "l": 8, "d": 16, "w": 16, "u": 4, "z": 4, "U": 8, "Z": 8}
-CODES = {"L": "Q", "l": "q", "u": "i", "z": "i", "U": "q", "Z": "q"}
+ORDERS: Any = dict.fromkeys(SIZES, sys.byteorder) | {"w": "big"}
 TEXTS = "uzUZ"
 # The types of a column and of a result, of encoding and of decoding.
 FORMS = {True: ("LldwuzUZ", "uU"), False: (TEXTS, "LldwuU")}
@@ -43,18 +43,14 @@ def buffer(given: bytes) -> array[int]:
     return array("B", given)
 
 
-def values_of(form: str, rows: list[Any]) -> list[bytes]:
-    """The buffers of rows: bytes for the types that have them, and otherwise integers."""
-    if form in TEXTS:
-        ends = [0]
-        for row in rows:
-            ends.append(ends[-1] + len(row))
-        return [struct.pack(f"={len(ends)}{CODES[form]}", *ends), b"".join(rows)]
-    if form == "w":
-        return [b"".join(rows), b""]
-    if form == "d":
-        return [b"".join(row.to_bytes(16, sys.byteorder, signed=True) for row in rows), b""]
-    return [struct.pack(f"={len(rows)}{CODES[form]}", *rows), b""]
+def to_bytes(form: str, *numbers: int) -> bytes:
+    """Values of a type, or the offsets of its strings."""
+    return b"".join(it.to_bytes(SIZES[form], ORDERS[form], signed=form not in "Lw") for it in numbers)
+
+
+def number_at(form: str, values: array[int], index: int) -> int:
+    size = SIZES[form]
+    return int.from_bytes(values[index * size : index * size + size], ORDERS[form], signed=form not in "Lw")
 
 
 class Input:
@@ -68,7 +64,9 @@ class Input:
         self.offset, self.count, self.coerces = of.choice([0, of.randrange(20)]), of.randrange(20), of.random() < 0.5
         valid = [of.random() < 0.8 for _ in range(self.offset + self.count)]
         self.validity = buffer(bitmap(valid)) if of.random() < 0.7 else None
-        self.values, self.characters = map(buffer, values_of(self.form, [self.row() for _ in valid]))
+        rows, is_text = [self.row() for _ in valid], self.form in TEXTS
+        self.values = buffer(to_bytes(self.form, *(accumulate(map(len, rows), initial=0) if is_text else rows)))
+        self.characters = buffer(b"".join(rows) if is_text else b"")
         ends = (self.count + 1) * SIZES[self.new_form] if self.new_form in TEXTS else 0
         length = self.most() * self.count + of.choice([0, 0, 0, 0, of.randrange(30)])
         self.new = [buffer(bytes(size)) for size in ((self.count + 7) // 8, ends, length)]
@@ -85,10 +83,8 @@ class Input:
         number = of.getrandbits(of.randint(1, bits))
         if self.form in "ld" and of.random() < 0.1:
             return ~number
-        if self.form in "Lld":
+        if self.form not in TEXTS:
             return number
-        if self.form == "w":
-            return number.to_bytes(16, "big")
         if not self.encodes:
             text = base62.encode(number >> of.choice([0, 64]), self.letters).encode()
             padded = text.rjust(max(self.option, 0), self.letters[:1])
@@ -109,16 +105,16 @@ class Input:
             other = of.choice([of.randrange(30), of.getrandbits(64) - 2**63])
             parts[key] = of.choice([-1, -2, -(2**63), 2**63 - 1, 2**62, 2**60, 2**32, other])
         elif place in ("form", "new_form"):
-            # Modulo 256 the last one is the type.
-            parts[key] = of.choice([*"LldwuzUZ", "\0", chr(ord(parts[key]) + 256)])
+            parts[key] = of.choice("LldwuzUZ")
         elif place != "ends":
             # A slice has no byte behind its end either.
             parts[key] = parts[key] and parts[key][: -of.choice([1, 1, 1, of.randint(1, 20)])]
         elif self.form in TEXTS and len(self.values) >= SIZES[self.form]:
-            code, size = CODES[self.form], SIZES[self.form]
-            length, great = len(self.characters), [2**31 - 1, -(2**31)] if code == "i" else [2**32, 2**63 - 1, -(2**63)]
+            size, length = SIZES[self.form], len(self.characters)
+            great = [2**31 - 1, -(2**31)] if size == 4 else [2**32, 2**63 - 1, -(2**63)]
             end = of.choice([-1, 0, of.randrange(length + 1), length, length + 1, *great])
-            struct.pack_into(f"={code}", self.values, of.randrange(len(self.values) // size) * size, end)
+            start = of.randrange(len(self.values) // size) * size
+            self.values[start : start + size] = buffer(to_bytes(self.form, end))
 
     def has_rows(self) -> bool:
         last = self.offset + self.count
@@ -138,14 +134,12 @@ class Input:
         i = self.offset + row
         if self.validity is not None and not self.validity[i // 8] >> i % 8 & 1:
             return None
-        size = SIZES[self.form]
         if self.form not in TEXTS:
-            given, order = self.values[i * size : i * size + size].tobytes(), "big" if self.form == "w" else sys.byteorder
-            return int.from_bytes(given, order, signed=self.form in "ld")
-        ends = struct.unpack(f"=2{CODES[self.form]}", self.values[i * size : i * size + 2 * size].tobytes())
-        if not 0 <= ends[0] <= ends[1] <= len(self.characters):
+            return number_at(self.form, self.values, i)
+        start, end = (number_at(self.form, self.values, it) for it in (i, i + 1))
+        if not 0 <= start <= end <= len(self.characters):
             raise LookupError
-        text = self.characters[ends[0] : ends[1]].tobytes()
+        text = self.characters[start:end].tobytes()
         return text.decode() if self.encodes and self.form in "uU" else text
 
     def convert(self, value: Any) -> Any:
@@ -186,13 +180,12 @@ class Input:
         valid = [bool(self.new[0][i // 8] >> i % 8 & 1) for i in range(row)]
         assert valid.count(False) == nulls, (valid, nulls)
         if self.new_form in TEXTS:
-            ends = memoryview(self.new[1])[: (row + 1) * SIZES[self.new_form]].cast(CODES[self.new_form])
+            ends = [number_at(self.new_form, self.new[1], i) for i in range(row + 1)]
             assert (ends[0], ends[row]) == (0, used), (ends, used)
-            found: list[Any] = [self.new[2][ends[i] : ends[i + 1]].tobytes() for i in range(row)]
+            found: list[Any] = [self.new[2][start:end].tobytes() for start, end in pairwise(ends)]
             assert not any(text for text, is_valid in zip(found, valid) if not is_valid)
         else:
-            size, order = SIZES[self.new_form], "big" if self.new_form == "w" else sys.byteorder
-            found = [int.from_bytes(self.new[2][i * size : i * size + size].tobytes(), order) for i in range(row)]
+            found = [number_at(self.new_form, self.new[2], i) for i in range(row)]
         return [text if is_valid else None for text, is_valid in zip(found, valid)]
 
     def check(self) -> bool:
@@ -322,16 +315,14 @@ class Far(unittest.TestCase):
             values = self.pages((offset + 4) * size)
             new = bytearray(1), bytearray(32), bytearray(64)
             place = (offset + 1) * size
-            number: dict[str, Any] = {"w": (15 * b"\0" + b"\7"), "d": (7).to_bytes(16, sys.byteorder)}
-            values[place : place + size] = number.get(form, (7).to_bytes(size, sys.byteorder))
+            values[place : place + size] = to_bytes(form, 7)
             is_text = form in TEXTS
             loop: Any = _base62.decode_rows if is_text else _base62.encode_rows
             result, characters = ("L" if is_text else "u", *new), b"LZ" if is_text else None
             call: Any = lambda valid: loop(ALPHABETS[0], -1, (form, offset, 2, valid, values, characters), result, True)
             # The strings are of 7 characters before the row, and of 7 fewer in it.
             if is_text:
-                values[place : place + size] = bytes(size)
-                values[place + size : place + 2 * size] = (2).to_bytes(size, sys.byteorder)
+                values[place : place + 2 * size] = to_bytes(form, 0, 2)
                 self.assertEqual(call(validity), (2, 0, 1))
                 self.assertEqual(memoryview(new[2]).cast("Q")[1], 1337)
             else:
@@ -351,20 +342,16 @@ class Far(unittest.TestCase):
                 self.assertRaisesRegex(ValueError, MALFORMED, _base62.encode_rows, ALPHABETS[0], -1, *given)
 
     def test_characters(self) -> None:
-        first = 2**32 + 2**31
-        characters = self.pages(first + 2)
-        characters[first:] = b"LZ"
-        source = "U", 0, 1, None, struct.pack("=2q", first, first + 2), characters
-        values = bytearray(8)
+        """The last string has more than 2^31 characters, of which nearly all are the zero of its alphabet."""
+        end = 2**32 + 2**31 + 2
+        characters, values = self.pages(end), array("B", bytes(8))
         result = "L", bytearray(1), bytearray(), values
-        self.assertEqual(_base62.decode_rows(ALPHABETS[0], -1, source, result, False), (1, 0, 0))
-        self.assertEqual(int.from_bytes(values, sys.byteorder), 1337)
-        # A string of more than 2^31 characters, of which nearly all are the zero of this alphabet.
-        characters[first:] = b"\1\2"
-        source = "U", 0, 1, None, struct.pack("=2q", first - 2**31, first + 2), characters
-        letters = base62.Alphabet(bytes(range(62)))
-        self.assertEqual(_base62.decode_rows(letters, -1, source, result, False), (1, 0, 0))
-        self.assertEqual(int.from_bytes(values, sys.byteorder), 64)
+        other = base62.Alphabet(bytes(range(62)))
+        for letters, text, length, number in ((ALPHABETS[0], b"LZ", 2, 1337), (other, b"\1\2", 2**31 + 2, 64)):
+            characters[-2:] = text
+            source = "U", 0, 1, None, to_bytes("U", end - length, end), characters
+            self.assertEqual(_base62.decode_rows(letters, -1, source, result, False), (1, 0, 0))
+            self.assertEqual(number_at("L", values, 0), number)
 
 
 if __name__ == "__main__":

@@ -1,6 +1,8 @@
 # SPDX-License-Identifier: MIT
 # Copyright (c) 2026 the maintainers of base62 for Rattle
-"""What mypy finds in calls: exactly these types, and an error in each marked line. Nothing here is run."""
+"""What mypy finds in calls: exactly these types, and an error in each marked line. Nothing here is run.
+
+Parameters of one name have one type, which test_package.py shows: one function gets each wrong argument."""
 
 from typing import SupportsIndex, assert_type
 from uuid import UUID
@@ -10,9 +12,12 @@ from base62 import Alphabet, AlphabetError, DecodeError, InvalidByteError
 
 
 Custom = Alphabet | str | bytes
+Name = UUID | str | bytes
+# No buffer is taken for bytes: mypy runs without its promotions.
+Text = str | bytes | bytearray | memoryview
 
 
-def right(number: SupportsIndex | UUID, name: UUID | str | bytes, width: SupportsIndex, custom: Custom) -> None:
+def right(number: SupportsIndex | UUID, name: Name, text: Text, width: SupportsIndex, custom: Custom) -> None:
     assert_type((Alphabet(custom), Alphabet.STANDARD, Alphabet.ALTERNATIVE), tuple[Alphabet, Alphabet, Alphabet])
     assert_type(base62.encode(number, custom), str)
     assert_type(base62.encode_uuid(name, custom), str)
@@ -20,10 +25,6 @@ def right(number: SupportsIndex | UUID, name: UUID | str | bytes, width: Support
     assert_type(base62.encode_key(number), str)
     assert_type(base62.digit_count(number), int)
     assert_type(base62.__version__, str)
-
-
-def right_texts(text: str | bytes | bytearray | memoryview, width: SupportsIndex, custom: Custom) -> None:
-    """No buffer is taken for bytes: mypy runs without its promotions."""
     assert_type(base62.decode(text, custom), int)
     assert_type(base62.decode_canonical(text, custom), int)
     assert_type(base62.decode_fixed(text, width, custom), int)
@@ -48,32 +49,16 @@ def wrong(number: int, name: UUID, text: str, custom: Alphabet, view: memoryview
     base62.encode(text)  # type: ignore[arg-type]
     base62.encode(1.0)  # type: ignore[arg-type]
     base62.encode(number, None)  # type: ignore[arg-type]
+    base62.encode(number, view)  # type: ignore[arg-type]
     base62.decode(number)  # type: ignore[arg-type]
-    base62.decode(text, None)  # type: ignore[arg-type]
-    base62.decode_canonical(number)  # type: ignore[arg-type]
-    base62.decode_canonical(text, None)  # type: ignore[arg-type]
-    base62.decode_fixed(text, text)  # type: ignore[arg-type]
-    base62.decode_key(number)  # type: ignore[arg-type]
-    base62.digit_count(text)  # type: ignore[arg-type]
-    base62.encode_fixed(text, number)  # type: ignore[arg-type]
     base62.encode_fixed(number, text)  # type: ignore[arg-type]
     base62.encode_fixed(number, name)  # type: ignore[arg-type]
-    base62.encode_fixed(number, number, None)  # type: ignore[arg-type]
-    base62.encode_key(text)  # type: ignore[arg-type]
-    base62.key_range(number)  # type: ignore[arg-type]
-    base62.prefix_range(text, text)  # type: ignore[arg-type]
-    base62.prefix_range(number, number)  # type: ignore[arg-type]
-    base62.prefix_range(text, number, None)  # type: ignore[arg-type]
     base62.key_bounds(number)  # type: ignore[arg-type]
     base62.encode_uuid(number)  # type: ignore[arg-type]
     base62.encode_uuid(bytearray(16))  # type: ignore[arg-type]
     base62.encode_uuid(view)  # type: ignore[arg-type]
-    base62.encode(number, view)  # type: ignore[arg-type]
     base62.encode_uuid(name, number)  # type: ignore[arg-type]
     base62.decode_uuid(name)  # type: ignore[arg-type]
-    base62.decode_uuid(text, number)  # type: ignore[arg-type]
-    base62.decode_uuid_canonical(name)  # type: ignore[arg-type]
-    base62.decode_uuid_canonical(text, number)  # type: ignore[arg-type]
     Alphabet(number)  # type: ignore[arg-type]
     custom.characters  # type: ignore[attr-defined]
     custom.name = text  # type: ignore[attr-defined]

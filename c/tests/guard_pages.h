@@ -1,7 +1,4 @@
 /* What the tests share: expect, and guarded memory, which lies between two areas that cannot be accessed. */
-#ifndef GUARD_PAGES_H
-#define GUARD_PAGES_H
-
 #include <stddef.h>
 #include <stdio.h>
 #include <stdlib.h>
@@ -50,5 +47,3 @@ static inline void set_read_only(char *memory) {
 static inline char *place_in(char *memory, int at_end, size_t length) {
     return at_end ? memory + GUARDED - length : memory;
 }
-
-#endif

@@ -147,37 +147,35 @@ static void expect_results(base62_status returned, base62_status status, struct 
     *found = unwritten;
 }
 
-/* The status of a word and the two fields that follow it. Writes the byte and the index that it names. */
-static base62_status status_field(size_t i, base62_bad_byte *bad) {
-    static const struct {
-        const char *word;
-        base62_status status;
-        int has_byte;
-    } words[] = {
-        {"empty", BASE62_EMPTY_INPUT, 0},
-        {"overflow", BASE62_OVERFLOW, 0},
-        {"byte", BASE62_INVALID_BYTE, 1},
-        {"narrow", BASE62_BUFFER_TOO_SMALL, 0},
-        {"none", BASE62_NO_MATCH, 0},
-        {"repeated", BASE62_REPEATED_CHARACTER, 1},
-        {"zero", BASE62_NOT_CANONICAL, 0},
-        {"length", BASE62_WRONG_LENGTH, 0},
-        {"uuid", BASE62_INVALID_UUID, 0},
+/* The status of a word. Writes the numbers, or the byte and the index, that follow it. */
+static base62_status status_field(size_t i, struct results *wanted) {
+    static const char *const words[] = {
+        [BASE62_BUFFER_TOO_SMALL] = "narrow",
+        [BASE62_EMPTY_INPUT] = "empty",
+        [BASE62_INVALID_BYTE] = "byte",
+        [BASE62_OVERFLOW] = "overflow",
+        [BASE62_NO_MATCH] = "none",
+        [BASE62_REPEATED_CHARACTER] = "repeated",
+        [BASE62_NOT_CANONICAL] = "zero",
+        [BASE62_WRONG_LENGTH] = "length",
+        [BASE62_INVALID_UUID] = "uuid",
     };
-    for (size_t k = 0; k < sizeof words / sizeof *words; k++)
-        if (strcmp(field(i), words[k].word) == 0) {
-            if (words[k].has_byte) {
-                bad->byte = (unsigned char)size_field(i + 1);
-                bad->index = size_field(i + 2);
-            }
-            return words[k].status;
-        }
-    expect_of_row(0, "no such status");
-    return BASE62_OK;
+    size_t status = sizeof words / sizeof *words - 1;
+    while (status > BASE62_OK && strcmp(field(i), words[status]) != 0)
+        status--;
+    if (status == BASE62_INVALID_BYTE || status == BASE62_REPEATED_CHARACTER)
+        wanted->bad = (base62_bad_byte){size_field(i + 2), (unsigned char)size_field(i + 1)};
+    else if (strcmp(field(i), "number") == 0)
+        wanted->number = number_field(i + 1);
+    else if (strcmp(field(i), "numbers") == 0)
+        wanted->range = (base62_range){number_field(i + 1), number_field(i + 2)};
+    else
+        expect_of_row(status > BASE62_OK, "no such status");
+    return (base62_status)status;
 }
 
-/* An alphabet of the file, at the start and at the end of read-only memory. If it is built in, it has letters and calls
- * of its own. */
+/* An alphabet of the file, at the start and at the end of read-only memory. The built-in ones are its first. They have
+ * letters and calls of their own. */
 struct named {
     char name[32];
     const base62_alphabet *made[2];
@@ -189,7 +187,13 @@ struct named {
     base62_status (*decode_fixed)(const char *, size_t, size_t, base62_number *, base62_bad_byte *);
 };
 
-static struct named alphabets[MOST_ALPHABETS];
+static struct named alphabets[MOST_ALPHABETS] = {
+    {"standard", {NULL}, BASE62_STANDARD_ALPHABET, base62_encode, base62_encode_fixed, base62_decode,
+     base62_decode_canonical, base62_decode_fixed},
+    {"alternative", {NULL}, BASE62_ALTERNATIVE_ALPHABET, base62_encode_alternative, base62_encode_alternative_fixed,
+     base62_decode_alternative, base62_decode_alternative_canonical, base62_decode_alternative_fixed},
+};
+static const struct named *const standard = &alphabets[0];
 static size_t alphabet_count;
 
 static const struct named *alphabet_field(size_t i) {
@@ -198,28 +202,6 @@ static const struct named *alphabet_field(size_t i) {
             return &alphabets[k];
     expect_of_row(0, "no such alphabet");
     return NULL;
-}
-
-static int is_standard(const struct named *alphabet) {
-    return strcmp(alphabet->name, "standard") == 0;
-}
-
-static void set_built_in(struct named *alphabet) {
-    if (is_standard(alphabet)) {
-        alphabet->letters = BASE62_STANDARD_ALPHABET;
-        alphabet->encode = base62_encode;
-        alphabet->encode_fixed = base62_encode_fixed;
-        alphabet->decode = base62_decode;
-        alphabet->decode_canonical = base62_decode_canonical;
-        alphabet->decode_fixed = base62_decode_fixed;
-    } else if (strcmp(alphabet->name, "alternative") == 0) {
-        alphabet->letters = BASE62_ALTERNATIVE_ALPHABET;
-        alphabet->encode = base62_encode_alternative;
-        alphabet->encode_fixed = base62_encode_alternative_fixed;
-        alphabet->decode = base62_decode_alternative;
-        alphabet->decode_canonical = base62_decode_alternative_canonical;
-        alphabet->decode_fixed = base62_decode_alternative_fixed;
-    }
 }
 
 /* Makes an alphabet where all bytes had one value. It is the same whatever stood there, and that stays if the letters
@@ -248,9 +230,9 @@ static void check_alphabet(void) {
     expect_of_row(alphabet_count < MOST_ALPHABETS && strlen(field(1)) < sizeof alphabets->name, "the alphabets");
     struct named *alphabet = &alphabets[alphabet_count];
     char *memory = map_guarded();
-    strcpy(alphabet->name, field(1));
-    set_built_in(alphabet);
+    expect_of_row(alphabet->letters == NULL || strcmp(alphabet->name, field(1)) == 0, "the name");
     expect_of_row(alphabet->letters == NULL || memcmp(letters, alphabet->letters, 62) == 0, "the letters");
+    strcpy(alphabet->name, field(1));
     alphabet->made[at_end] = memcpy(place_in(memory, at_end, sizeof made), &made, sizeof made);
     set_read_only(memory);
     alphabet_count += (size_t)at_end;
@@ -335,7 +317,7 @@ static void check_refused(void) {
     char text[MOST_TEXT];
     struct results wanted = unwritten;
     const size_t length = text_field(2, text);
-    const base62_status status = status_field(3, &wanted.bad);
+    const base62_status status = status_field(3, &wanted);
     expect_decoded(text, length, status, status, wanted);
 }
 
@@ -355,7 +337,7 @@ static void check_fixed(void) {
     const base62_number number = number_field(2);
     expect_of_row(length == width, "the length of the text");
     expect_fixed(width, text, length);
-    if (is_standard(alphabet_field(1)) && width == BASE62_KEY_LENGTH) {
+    if (alphabet_field(1) == standard && width == BASE62_KEY_LENGTH) {
         base62_encode_key(number, fresh(width));
         expect_text(width, width, text, length, "encode_key");
     }
@@ -376,11 +358,7 @@ static void check_exact(void) {
         return;
     const size_t width = size_field(2), length = text_field(3, text);
     const char *from = copy_guarded(text, length);
-    base62_status status = BASE62_OK;
-    if (strcmp(field(4), "number") == 0)
-        wanted.number = number_field(5);
-    else
-        status = status_field(4, &wanted.bad);
+    const base62_status status = status_field(4, &wanted);
     if (status == BASE62_WRONG_LENGTH)
         from = written + GUARDED;
     expect_results(base62_decode_fixed_with(alphabet->made[at_end], from, length, width, &found.number, &found.bad),
@@ -389,7 +367,7 @@ static void check_exact(void) {
         return;
     expect_results(alphabet->decode_fixed(from, length, width, &found.number, &found.bad), status, &found, wanted,
                    "decode_fixed");
-    if (is_standard(alphabet) && width == BASE62_KEY_LENGTH)
+    if (alphabet == standard && width == BASE62_KEY_LENGTH)
         expect_results(base62_decode_key(from, length, &found.number, &found.bad), status, &found, wanted, "decode_key");
 }
 
@@ -401,16 +379,10 @@ static void check_range(void) {
         return;
     const size_t width = size_field(2), length = text_field(3, prefix);
     const char *from = copy_guarded(prefix, length);
-    base62_status status = BASE62_OK;
-    if (strcmp(field(4), "numbers") == 0) {
-        wanted.range.least = number_field(5);
-        wanted.range.greatest = number_field(6);
-    } else {
-        status = status_field(4, &wanted.bad);
-    }
+    const base62_status status = status_field(4, &wanted);
     expect_results(base62_prefix_range_with(alphabet->made[at_end], from, length, width, &found.range, &found.bad),
                    status, &found, wanted, "prefix_range_with");
-    if (!is_standard(alphabet))
+    if (alphabet != standard)
         return;
     expect_results(base62_prefix_range(from, length, width, &found.range, &found.bad), status, &found, wanted,
                    "prefix_range");
@@ -441,15 +413,15 @@ static void check_uuid(void) {
 /* The text in a buffer of each size, just too small ones too. */
 static void check_message(void) {
     char text[MOST_TEXT];
-    base62_bad_byte bad = unwritten.bad;
+    struct results of_row = unwritten;
     const size_t length = text_field(1, text);
     if (field_count > 4 && !is_size(4))
         return;
-    const base62_status status = status_field(2, &bad);
+    const base62_status status = status_field(2, &of_row);
     longest_message = length > longest_message ? length : longest_message;
     for (size_t size = 0; size <= BASE62_MAX_ERROR_MESSAGE + 2; size++) {
         const size_t wanted = size < length ? 0 : length;
-        expect_text(base62_error_message(status, bad, fresh(size), size), size, text, wanted, "error_message");
+        expect_text(base62_error_message(status, of_row.bad, fresh(size), size), size, text, wanted, "error_message");
     }
 }
 

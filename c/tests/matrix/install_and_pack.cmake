@@ -1,7 +1,8 @@
 # Builds and installs the library, moves what is installed to PREFIX, and compares the list of its files. It also packs
 # the library twice, which has to give the same bytes.
 #
-#     cmake -DBASE62=FOLDER -DPREFIX=FOLDER [-DOPTIONS=OPTION;..] -P install_and_pack.cmake
+#     cmake -DBASE62=FOLDER -DPREFIX=FOLDER -DLIB=lib -DINCLUDE=include [-DOPTIONS=OPTION;..] [-DMORE=FILE;..]
+#         -P install_and_pack.cmake
 
 function(run)
     execute_process(COMMAND ${ARGN} OUTPUT_QUIET COMMAND_ERROR_IS_FATAL ANY)
@@ -33,11 +34,3 @@ run("${CMAKE_COMMAND}" -E env "DESTDIR=${PREFIX}-staged"
 file(RENAME "${PREFIX}-staged/of/base62" "${PREFIX}")
 
 include("${CMAKE_CURRENT_LIST_DIR}/installed_files.cmake")
-
-# The pages name files of the repository, and link to none.
-foreach(page IN ITEMS CHANGELOG README)
-    file(READ "${PREFIX}/share/doc/base62/${page}.md" text)
-    if(text MATCHES "\\]\\([^#:)]+[#)]")
-        message(FATAL_ERROR "${page}.md, as installed, has the link ${CMAKE_MATCH_0}")
-    endif()
-endforeach()

@@ -82,9 +82,8 @@ def time_rust(work):
     if not found:
         print("not timed: the crate base62: it is not in Cargo's registry, and BASE62_CRATE is not its folder")
     (work / "Cargo.toml").write_text(CARGO.format(top=TOP, theirs=found))
-    features = ["--features=theirs"] if found else []
-    target = work / "target"
-    run("cargo", "build", "--quiet", "--release", "--manifest-path", work / "Cargo.toml", "--target-dir", target, *features)
+    target, options = work / "target", ["--quiet", "--release", "--all-features"]
+    run("cargo", "build", *options, "--manifest-path", work / "Cargo.toml", "--target-dir", target)
     return [target / "release/bench"]
 
 

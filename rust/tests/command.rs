@@ -100,6 +100,7 @@ fn invalid_inputs() {
         range 'L ' -> L : Encoded input contains the invalid byte b' ' at index 1
         encode -u - -> -: not a UUID: try base62 encode <FILE
         decode - -> -: Encoded input contains the invalid byte b'-' at index 0: try base62 decode <FILE
+        decode -w2 - -> -: Encoded input does not have the given width: try base62 decode <FILE
         range - -> -: Encoded input contains the invalid byte b'-' at index 0: try base62 range <FILE
         decode /dev/null -> /dev/null: Encoded input contains the invalid byte b'/' at index 0
         encode <<<- -> line 1: -: not a decimal number below 2^128";

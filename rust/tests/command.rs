@@ -98,6 +98,7 @@ fn invalid_inputs() {
         decode -w2 <<<'' -> line 1: '': Encoded input does not have the given width
         decode -w18446744073709551617 0 -> 0: Encoded input does not have the given width
         range 'L ' -> L : Encoded input contains the invalid byte b' ' at index 1
+        range $'\xff' -> \xff: Encoded input contains the invalid byte b'\xff' at index 0
         encode -u - -> -: not a UUID: try base62 encode <FILE
         decode - -> -: Encoded input contains the invalid byte b'-' at index 0: try base62 decode <FILE
         decode -w2 - -> -: Encoded input does not have the given width: try base62 decode <FILE

@@ -31,8 +31,7 @@ FETCHING_NOTHING = ["--no-index", f"--find-links={WHEELS}"] if os.path.exists(WH
 # Runs a command where DuckDB or pyarrow is, in the root of Debian testing, with a folder as /mnt.
 IN_TESTING = """cd "$0" && . scripts/helpers.bash
 is_installed "$1" || { echo "$1 is missing" >&2 && exit 1; }
-within() { local work=$1 && in_testing "${@:2}"; }
-within "${@:2}"
+work=$2 in_testing "${@:3}"
 """
 CARGO = """[package]
 name = "bench"
@@ -42,9 +41,6 @@ edition = "2021"
 [[bin]]
 name = "bench"
 path = "{top}/bench/rust.rs"
-
-[features]
-theirs = []
 
 [dependencies]
 ours = {{ package = "base62-proved", path = "{top}/rust" }}
@@ -82,13 +78,12 @@ def time_c(work):
 def time_rust(work):
     home = Path(os.environ.get("CARGO_HOME", Path.home() / ".cargo"))
     theirs = os.environ.get("BASE62_CRATE") or max(home.glob("registry/src/*/base62-[0-9]*"), default=None)
-    found = f'theirs = {{ package = "base62", path = "{Path(theirs).resolve()}" }}' if theirs else ""
+    found = f'theirs = {{ package = "base62", path = "{Path(theirs).resolve()}", optional = true }}' if theirs else ""
     if not found:
         print("not timed: the crate base62: it is not in Cargo's registry, and BASE62_CRATE is not its folder")
     (work / "Cargo.toml").write_text(CARGO.format(top=TOP, theirs=found))
-    features = ["--features=theirs"] if found else []
-    target = work / "target"
-    run("cargo", "build", "--quiet", "--release", "--manifest-path", work / "Cargo.toml", "--target-dir", target, *features)
+    target, options = work / "target", ["--quiet", "--release", "--all-features"]
+    run("cargo", "build", *options, "--manifest-path", work / "Cargo.toml", "--target-dir", target)
     return [target / "release/bench"]
 
 

@@ -72,20 +72,15 @@ LETTERS = {
 # The calls
 
 
-def first_repeat(letters: bytes) -> Result | None:
-    """The first byte that also stands at an earlier index."""
-    found = ((byte, index) for index, byte in enumerate(letters) if byte in letters[:index])
-    return next((("repeated", *named) for named in found), None)
+def first_repeat(letters: bytes) -> tuple[int, int]:
+    """The first byte that also stands at an earlier index, and its index."""
+    return next((byte, index) for index, byte in enumerate(letters) if byte in letters[:index])
 
 
 def text_of(letters: bytes, number: int) -> bytes:
     """The canonical text."""
     rest, digit = divmod(number, 62)
-    digits = [digit]
-    while rest:
-        rest, digit = divmod(rest, 62)
-        digits.append(digit)
-    return bytes(letters[digit] for digit in reversed(digits))
+    return (text_of(letters, rest) if rest else b"") + letters[digit : digit + 1]
 
 
 def fixed_text(letters: bytes, number: int, width: int) -> bytes | None:
@@ -157,20 +152,22 @@ def escaped(byte: int) -> str:
     return own.get(byte) or (chr(byte) if 32 <= byte <= 126 else f"\\x{byte:02x}")
 
 
+MESSAGES = {
+    "overflow": "Decoded number is 2^128 or more",
+    "empty": "Encoded input is an empty string",
+    "narrow": "Buffer too small to encode the number",
+    "zero": "Encoded input has a leading zero",
+    "none": "No string of this width begins with the prefix",
+    "length": "Encoded input does not have the given width",
+    "uuid": "Not a UUID",
+    "byte": "Encoded input contains the invalid byte b'{}' at index {}",
+    "repeated": "Alphabet repeats the byte b'{}' at index {}",
+}
+
+
 def message(fault: Result) -> str:
-    texts = {
-        "empty": "Encoded input is an empty string",
-        "overflow": "Decoded number is 2^128 or more",
-        "byte": "Encoded input contains the invalid byte b'{}' at index {}",
-        "zero": "Encoded input has a leading zero",
-        "narrow": "Buffer too small to encode the number",
-        "none": "No string of this width begins with the prefix",
-        "length": "Encoded input does not have the given width",
-        "uuid": "Not a UUID",
-        "repeated": "Alphabet repeats the byte b'{}' at index {}",
-    }
     word, *named = fault
-    return texts[str(word)].format(*[escaped(int(named[0])), named[1]] if named else [])
+    return MESSAGES[str(word)].format(*[escaped(int(named[0])), named[1]] if named else [])
 
 
 def forms() -> Iterator[tuple[str, str | None]]:
@@ -371,13 +368,6 @@ KNOWN_MESSAGES: list[tuple[str, Result]] = [
     ("Encoded input contains the invalid byte b'\\n' at index 10", ("byte", 10, 10)),
     ("Alphabet repeats the byte b'\\'' at index 61", ("repeated", 39, 61)),
     ("Alphabet repeats the byte b'0' at index 1", ("repeated", 48, 1)),
-    ("Decoded number is 2^128 or more", ("overflow",)),
-    ("Encoded input is an empty string", ("empty",)),
-    ("Buffer too small to encode the number", ("narrow",)),
-    ("Encoded input has a leading zero", ("zero",)),
-    ("No string of this width begins with the prefix", ("none",)),
-    ("Encoded input does not have the given width", ("length",)),
-    ("Not a UUID", ("uuid",)),
 ]
 
 
@@ -404,10 +394,8 @@ def check_model() -> None:
         assert of is None or uuid.UUID(string.lower()) == uuid.UUID(of), string
     for said, fault in KNOWN_MESSAGES:
         assert message(fault) == said, fault
-    for letters in LETTERS.values():
-        assert len(letters) == len({*letters}) == 62, letters
-    assert first_repeat(b"a" * 62) == ("repeated", 97, 1)
-    assert first_repeat(STANDARD[:-1] + b"7") == ("repeated", 55, 61)
+    assert first_repeat(b"a" * 62) == (97, 1)
+    assert first_repeat(STANDARD[:-1] + b"7") == (55, 61)
 
 
 check_model()
@@ -510,9 +498,7 @@ def rows_of_repeats() -> Iterator[tuple[str, bytes, int, int]]:
         letters[later] = letters[later * later % 62 % later]
         chosen.append(bytes(letters))
     for each in chosen:
-        found = first_repeat(each)
-        assert found, each
-        yield "repeated", each, int(found[1]), int(found[2])
+        yield "repeated", each, *first_repeat(each)
 
 
 def rows_of_texts(alphabet: str, step: int) -> Iterator[Row]:
@@ -569,6 +555,7 @@ def rows_of_ranges(alphabet: str, step: int) -> Iterator[Row]:
 
 def rows_of_messages() -> Iterator[Row]:
     faults: list[Result] = [fault for _, fault in KNOWN_MESSAGES]
+    faults += [(word,) for word, text in MESSAGES.items() if "{}" not in text]
     indices = [0, 7, *(10**power - low for power in range(1, 20) for low in (1, 0)), 2**32 - 1, 2**64 - 1]
     faults += [("byte", byte, indices[byte % len(indices)]) for byte in range(256)]
     faults += [("repeated", byte, index) for _, _, byte, index in rows_of_repeats()]

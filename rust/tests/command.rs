@@ -37,8 +37,6 @@ fn inputs() {
     prints("base62 decode LZ 00LZ", "1337\n1337\n");
     prints("base62 decode -xw4 00LZ 0000", "539\n0\n");
     prints("base62 range -w5 000L 000M", "1302 1363\n1364 1425\n");
-    let all = format!("0 {0}\n{0} {0}\n", u128::MAX);
-    prints("base62 range '' 7n42DGM5Tflk9n8mt7Fhc7", &all);
     prints("printf '1337\\n61' | base62 encode --", "LZ\nz\n");
     prints("printf 'LZ\\r\\nz\\r\\n' | base62 decode", "1337\n61\n");
     prints("base62 decode </dev/null", "");
@@ -95,7 +93,6 @@ fn invalid_inputs() {
         encode -x $(printf %033d 0) -> 000000000000000000000000000000000: not 1 to 32 hexadecimal digits
         encode -u $'\xff' -> \xff: not a UUID
         decode ' LZ' ->  LZ: Encoded input contains the invalid byte b' ' at index 0
-        decode $'\xff' -> \xff: Encoded input contains the invalid byte b'\xff' at index 0
         decode -e <<<- -> line 1: -: Encoded input contains the invalid byte b'-' at index 0
         decode <<<'' -> line 1: '': Encoded input is an empty string
         decode -w2 <<<'' -> line 1: '': Encoded input does not have the given width
@@ -106,7 +103,6 @@ fn invalid_inputs() {
         decode - -> -: Encoded input contains the invalid byte b'-' at index 0: try base62 decode <FILE
         decode -w2 - -> -: Encoded input does not have the given width: try base62 decode <FILE
         range - -> -: Encoded input contains the invalid byte b'-' at index 0: try base62 range <FILE
-        encode -x /dev/null -> /dev/null: not 1 to 32 hexadecimal digits
         decode /dev/null -> /dev/null: Encoded input contains the invalid byte b'/' at index 0
         encode <<<- -> line 1: -: not a decimal number below 2^128";
     for (arguments, error) in sides(table) {
@@ -151,7 +147,6 @@ fn options() {
         prints(&format!("base62 encode {option} 5"), "00000000005\n");
         prints(&format!("base62 encode 5 {option}"), "00000000005\n");
         prints(&format!("base62 {option} encode 5"), "00000000005\n");
-        prints(&format!("base62 decode {option} 00000000005"), "5\n");
     }
     for option in ["--alternative", "-A $letters -a"] {
         prints(&format!("base62 encode {option} 1337"), "lz\n");
@@ -222,10 +217,7 @@ fn wrong_arguments() {
         encode -c 5 -> encode has no option --canonical
         decode -c -w 5 -> decode takes --canonical or --width, not both
         decode --width=5 --canonical -> decode takes --canonical or --width, not both
-        range -c 5 -> range has no option --canonical
         range -aux 5 -> range has no option --uuid
-        range -x 5 -> range has no option --hex
-        range -e 5 -> range has no option --keep-empty
         encode -w -> -w needs a value
         encode --alphabet -> --alphabet needs a value
         encode -w '' 5 -> a width is an integer of 1 or more, not ''
@@ -250,7 +242,6 @@ fn wrong_arguments() {
     for width in ["0", "00", "x", "-5", "+5", "=5", "5 5", "5.0"] {
         let error = format!("a width is an integer of 1 or more, not {width}");
         is_wrong(&format!("encode -w '{width}' 5"), &error);
-        is_wrong(&format!("decode -w '{width}' 5"), &error);
         is_wrong(&format!("range --width='{width}' 5"), &error);
     }
 }

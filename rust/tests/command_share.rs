@@ -6,7 +6,7 @@
 
 mod support;
 
-use support::shell::{is_installed, run, sides};
+use support::shell::{is_installed, prints, run, sides};
 
 const BASH: &str = "source $crate/share/bash-completion/completions/base62";
 
@@ -23,9 +23,8 @@ fn pages() {
         return;
     }
     for name in ["base62", "base62_cli"] {
-        let page = output_of(&format!("cat $crate/share/man/man1/{name}.1"));
-        let written = output_of(&format!("$crate/tests/page {name}"));
-        assert_eq!(written, page, "tests/page {name} writes it anew");
+        let line = format!("$crate/tests/page {name} | diff - $crate/share/man/man1/{name}.1");
+        prints(&line, "");
     }
 }
 

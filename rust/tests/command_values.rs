@@ -6,7 +6,6 @@
 
 mod support;
 
-use base62::DecodeError;
 use std::collections::BTreeMap;
 use std::{fs, thread};
 use support::{bytes, decode_error, rows, shell::run};
@@ -45,18 +44,21 @@ fn check(arguments: &str, lines: impl IntoIterator<Item = Line>) {
     assert_eq!(status, Some(i32::from(!errors.is_empty())));
 }
 
-/// The message of an error of decoding. That of an overflow is not the one of the library, which names a type of Rust.
-fn decode_message(fields: &[&str]) -> String {
-    match decode_error(fields).unwrap() {
-        DecodeError::ArithmeticOverflow => message("overflow"),
-        error => error.to_string(),
-    }
-}
-
 /// The shared message of an error.
 fn message(error: &str) -> String {
     let row = rows("message").into_iter().find(|row| row[1..] == [error]);
     String::from_utf8(bytes(row.unwrap()[0])).unwrap()
+}
+
+/// What the last fields of a row name: the numbers, or the message of an error.
+fn result(fields: &[&str]) -> Result<Vec<u8>, String> {
+    match fields {
+        ["number", number] => Ok(number.as_bytes().into()),
+        ["numbers", least, greatest] => Ok(format!("{least} {greatest}").into()),
+        // The library's message of an overflow is another one, which names a type of Rust.
+        [error @ ("length" | "none" | "overflow")] => Err(message(error)),
+        _ => Err(decode_error(fields).unwrap().to_string()),
+    }
 }
 
 /// Hands the rows of a kind to a test, with each way to name their alphabet, and their width if they have one in a field of
@@ -89,12 +91,6 @@ fn pairs(rows: &[Row], input: usize, output: usize) -> Vec<Line> {
     rows.iter().map(line).collect()
 }
 
-/// Lines of a field of rows, each with an error.
-fn errors(rows: &[Row], error: impl Fn(&Row) -> String) -> Vec<Line> {
-    let line = |row: &Row| (bytes(row[1]), Err(error(row)));
-    rows.iter().map(line).collect()
-}
-
 #[test]
 fn values_of_texts() {
     each("encode", None, |options, rows| {
@@ -109,11 +105,11 @@ fn values_of_texts() {
     });
     each("zeros", None, |options, rows| {
         check(&format!("decode {options}"), pairs(rows, 1, 2));
-        let lines = errors(rows, |_| message("zero"));
+        let lines = rows.iter().map(|row| (bytes(row[1]), Err(message("zero"))));
         check(&format!("decode -c {options}"), lines);
     });
     each("refused", None, |options, rows| {
-        let lines = errors(rows, |row| decode_message(&row[2..]));
+        let lines = rows.iter().map(|row| (bytes(row[1]), result(&row[2..])));
         check(&format!("decode -u {options}"), lines.clone());
         check(&format!("decode -c {options}"), lines);
     });
@@ -125,16 +121,12 @@ fn values_of_widths() {
         check(&format!("encode {options}"), pairs(rows, 1, 3));
     });
     each("narrow", Some(2), |options, rows| {
-        let error = |_: &Row| "the number needs more characters than the width".into();
-        check(&format!("encode {options}"), errors(rows, error));
+        let error = "the number needs more characters than the width";
+        let lines = rows.iter().map(|row| (bytes(row[1]), Err(error.into())));
+        check(&format!("encode {options}"), lines);
     });
     each("exact", Some(1), |options, rows| {
-        let line = |row: &Row| match row[3..] {
-            ["number", number] => Ok(number.into()),
-            ["length"] => Err(message("length")),
-            _ => Err(decode_message(&row[3..])),
-        };
-        let lines = rows.iter().map(|row| (bytes(row[2]), line(row)));
+        let lines = rows.iter().map(|row| (bytes(row[2]), result(&row[3..])));
         check(&format!("decode {options}"), lines);
     });
 }
@@ -142,20 +134,14 @@ fn values_of_widths() {
 #[test]
 fn values_of_ranges() {
     each("range", Some(1), |options, rows| {
-        let lines = |none: &str| {
-            let line = |row: &Row| match row[3..] {
-                ["numbers", least, greatest] => Ok(format!("{least} {greatest}").into()),
-                ["none"] => Err(none.into()),
-                _ => Err(decode_message(&row[3..])),
-            };
-            let lines = rows.iter().map(|row| (bytes(row[2]), line(row)));
-            lines.collect::<Vec<_>>()
-        };
-        check(&format!("range {options}"), lines(&message("none")));
+        let lines = rows.iter().map(|row| (bytes(row[2]), result(&row[3..])));
+        check(&format!("range {options}"), lines.clone());
         // It is the width without an option.
         if let Some(options) = options.strip_prefix("-w 22 ") {
             let none = "no string of 22 characters begins with it; -w sets the width";
-            check(&format!("range {options}"), lines(none));
+            let own = |error: String| error.replace(&message("none"), none);
+            let lines = lines.map(|(prefix, result)| (prefix, result.map_err(own)));
+            check(&format!("range {options}"), lines);
         }
     });
 }
@@ -184,15 +170,12 @@ fn uuids() {
 #[test]
 fn values_of_hexadecimal() {
     each("encode", None, |options, rows| {
-        let mut lines: [Vec<Line>; 3] = Default::default();
-        for row in rows {
-            let (num, text) = (row[1].parse::<u128>().unwrap(), bytes(row[2]));
-            lines[0].push((format!("{num:x}").into(), Ok(text.clone())));
-            lines[1].push((text.clone(), Ok(format!("{num:x}").into())));
-            lines[2].push((format!("0X{num:032X}").into(), Ok(text)));
-        }
-        for (call, lines) in ["encode -x", "decode -x", "encode --hex"].iter().zip(lines) {
-            check(&format!("{call} {options}"), lines);
-        }
+        let number = |row: &Row| row[1].parse::<u128>().unwrap();
+        let encoded = |row: &Row| (format!("{:x}", number(row)).into(), Ok(bytes(row[2])));
+        check(&format!("encode -x {options}"), rows.iter().map(encoded));
+        let decoded = |row: &Row| (bytes(row[2]), Ok(format!("{:x}", number(row)).into()));
+        check(&format!("decode -x {options}"), rows.iter().map(decoded));
+        let padded = |row: &Row| (format!("0X{:032X}", number(row)).into(), Ok(bytes(row[2])));
+        check(&format!("encode --hex {options}"), rows.iter().map(padded));
     });
 }

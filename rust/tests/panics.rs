@@ -30,8 +30,9 @@ fn the_caller_is_told() {
         let said = panic.payload().downcast_ref::<&str>().unwrap_or(&"");
         *TOLD.lock().unwrap() = Some((place.file().into(), place.line(), (*said).into()));
     }));
+    let highest = support::alphabets()["highest"];
     for place in 1..62 {
-        let mut letters = support::high_letters();
+        let mut letters = *highest.characters();
         letters[place] = letters[place - 1];
         let said = "the alphabet repeats a character";
         panics_here(said, || Alphabet::from_static(letters));

@@ -9,6 +9,7 @@ use base62::{
     Alphabet, AlphabetError, CanonicalError, DecodeError, EncodeError, FixedError,
     ParseAlphabetError,
 };
+use std::error::Error;
 use std::fmt::{Debug, Display};
 use std::hash::Hash;
 
@@ -39,14 +40,7 @@ fn writers_of_the_crate<T: Into<u128>, W: std::io::Write + ?Sized>() {
 
 #[test]
 fn types() {
-    fn fault<T: Copy + Debug + Eq + Hash + Ord + std::error::Error + Send + Sync + Unpin>() {}
     fn alphabet<T: Copy + Debug + Default + Eq + Hash + Send + Sync + Unpin>() {}
-    fault::<DecodeError>();
-    fault::<CanonicalError>();
-    fault::<FixedError>();
-    fault::<EncodeError>();
-    fault::<AlphabetError>();
-    fault::<ParseAlphabetError>();
     alphabet::<Alphabet>();
     let _: fn([u8; 62]) -> Result<Alphabet, AlphabetError> = Alphabet::try_from;
     fn shown(it: impl Copy + Debug + Display + Send + Sync + 'static) -> String {
@@ -67,7 +61,7 @@ fn constants() {
     const IS_ASCII: bool = OWN.is_ascii();
     assert_eq!(DIGITS, [1, base62::MAX_DIGITS]);
     assert_eq!(REPEATED, Err(AlphabetError::Repeated(7, 1)));
-    assert_eq!(OWN.characters(), support::ALTERNATIVE);
+    assert_eq!(OWN, Alphabet::alternative());
     assert_eq!((IS_ASCENDING, IS_ASCII), ([false, true], true));
 }
 
@@ -75,7 +69,7 @@ fn constants() {
 fn alphabets_are_shown_by_their_letters() {
     let shown = "Alphabet(b\"0123456789ABCDEFGHIJKLMNOPQRSTUVWXYZabcdefghijklmnopqrstuvwxyz\")";
     assert_eq!(format!("{:?}", Alphabet::standard()), shown);
-    let mut letters = support::high_letters();
+    let mut letters = *support::alphabets()["highest"].characters();
     letters[..4].copy_from_slice(b"\"\\\n\0");
     let shown = format!("{:?}", Alphabet::new(letters).unwrap());
     assert!(shown.starts_with(r#"Alphabet(b"\"\\\n\x00\xc6\xc7"#));
@@ -83,16 +77,17 @@ fn alphabets_are_shown_by_their_letters() {
 }
 
 #[test]
-fn errors_ignore_formats_as_in_base62_2_2_6() {
-    fn ignores(error: impl std::error::Error) {
+fn errors_have_traits_and_ignore_formats_as_in_base62_2_2_6() {
+    fn check<T: Copy + Debug + Eq + Hash + Ord + Error + Send + Sync + Unpin>(error: T) {
         assert_eq!(format!("{error:>100}{error:.3}"), format!("{error}{error}"));
     }
-    ignores(DecodeError::InvalidBase62Byte(b'-', 2));
-    ignores(DecodeError::EmptyInput);
-    ignores(CanonicalError::LeadingZero);
-    ignores(FixedError::WrongLength);
-    ignores(EncodeError::BufferTooSmall);
-    ignores(AlphabetError::Repeated(b'-', 2));
+    check(DecodeError::InvalidBase62Byte(b'-', 2));
+    check(DecodeError::EmptyInput);
+    check(CanonicalError::LeadingZero);
+    check(FixedError::WrongLength);
+    check(EncodeError::BufferTooSmall);
+    check(AlphabetError::Repeated(b'-', 2));
+    check(ParseAlphabetError::InvalidLength(2));
 }
 
 #[test]

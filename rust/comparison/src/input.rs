@@ -1,15 +1,12 @@
 //! Numbers and texts, many of them about borders.
 
-/// SplitMix64.
-pub struct Random(pub u64);
+/// A linear congruential generator.
+pub struct Random(pub u128);
 
 impl Random {
     fn word(&mut self) -> u64 {
-        self.0 = self.0.wrapping_add(0x9E37_79B9_7F4A_7C15);
-        let mut word = self.0;
-        word = (word ^ (word >> 30)).wrapping_mul(0xBF58_476D_1CE4_E5B9);
-        word = (word ^ (word >> 27)).wrapping_mul(0x94D0_49BB_1331_11EB);
-        word ^ (word >> 31)
+        self.0 = self.0.wrapping_mul(0xDA94_2042_E4DD_58B5).wrapping_add(1);
+        (self.0 >> 64) as u64
     }
 
     fn below(&mut self, end: usize) -> usize {
@@ -52,11 +49,9 @@ impl Random {
                 *byte ^= 1 << 5;
             }
         }
-        for _ in 0..self.below(3) {
-            if !text.is_empty() {
-                let index = self.below(text.len());
-                text[index] = self.word() as u8;
-            }
+        for _ in 0..self.below(3).min(text.len()) {
+            let index = self.below(text.len());
+            text[index] = self.word() as u8;
         }
         text
     }

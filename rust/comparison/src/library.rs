@@ -35,9 +35,7 @@ pub struct Alphabet([u8; 318]);
 #[link(name = "base62_c", kind = "static")]
 extern "C" {
     fn base62_encode_key(number: Number, key: &mut [u8; 22]);
-    fn base62_digit_count(number: Number) -> usize;
     fn base62_alphabet_init(alphabet: &mut Alphabet, characters: &[u8; 62], bad: &mut BadByte) -> u32;
-    fn base62_to_uuid(number: Number, uuid: &mut [u8; 16]);
 }
 
 /// Calls with a buffer. They answer how many bytes they wrote, or 0 if it is too small.
@@ -131,23 +129,11 @@ fn found<T>(status: u32, none: u32, found: T) -> Option<T> {
     (status == 0).then_some(found)
 }
 
-pub fn decode_uuid(text: &[u8]) -> Result<[u8; 16], DecodeError> {
-    let (number, mut uuid) = (Number::new(decode(text)?), [0; 16]);
-    // SAFETY: the UUID is here.
-    unsafe { base62_to_uuid(number, &mut uuid) };
-    Ok(uuid)
-}
-
 pub fn encode_key(num: u128) -> [u8; 22] {
     let mut key = [0; 22];
     // SAFETY: the key is here.
     unsafe { base62_encode_key(Number::new(num), &mut key) };
     key
-}
-
-pub fn digit_count(num: u128) -> usize {
-    // SAFETY: it has no pointers.
-    unsafe { base62_digit_count(Number::new(num)) }
 }
 
 impl Alphabet {

@@ -50,7 +50,6 @@ fn round(input: &Input) -> usize {
         input.buffer(|places| encode_alternative_fixed(number, places)),
         input.buffer(|places| encode_fixed_with(own, number, places)),
         encode_key(number),
-        digit_count(number),
         decode_key(&encode_key(number)),
     };
     let of_text = |text: &[u8]| {
@@ -67,7 +66,6 @@ fn round(input: &Input) -> usize {
             decode_fixed_with(own, text, width),
             decode_fixed_with(own, text, text.len()),
             decode_key(text),
-            decode_uuid(text),
             key_range(text),
             prefix_range(text, width),
             prefix_range_with(own, text, width),
@@ -84,7 +82,7 @@ fn main() {
         eprintln!("its arguments are CALLS SEED");
         process::exit(2);
     };
-    let (mut random, mut calls) = (Random(seed), 0);
+    let (mut random, mut calls) = (Random(seed.into()), 0);
     while calls < wanted as usize {
         calls += round(&Input::new(&mut random));
     }

@@ -134,17 +134,6 @@ mod fill_tests {
 #[cfg(all(test, debug_assertions))]
 mod tests {
     #[test]
-    #[should_panic(expected = "assertion failed: n < 5")]
-    fn a_false_clause_panics() {
-        fn asks(n: u8) -> u8 {
-            requires!(n < 5);
-            n
-        }
-        assert_eq!(asks(4), 4);
-        asks(5);
-    }
-
-    #[test]
     #[should_panic(expected = "assertion failed: k <= 10")]
     fn a_false_clause_of_the_source_panics() {
         crate::powers::power(11);

@@ -14,13 +14,6 @@ use std::path::Path;
 use std::sync::LazyLock;
 
 pub const STANDARD: &[u8; 62] = b"0123456789ABCDEFGHIJKLMNOPQRSTUVWXYZabcdefghijklmnopqrstuvwxyz";
-pub const ALTERNATIVE: &[u8; 62] =
-    b"0123456789abcdefghijklmnopqrstuvwxyzABCDEFGHIJKLMNOPQRSTUVWXYZ";
-
-/// Letters that ascend and are no ASCII.
-pub fn high_letters() -> [u8; 62] {
-    std::array::from_fn(|digit| 194 + digit as u8)
-}
 
 /// The values that the tests of all packages share. `make dist` packs them beside the tests.
 static VALUES: LazyLock<String> = LazyLock::new(|| {

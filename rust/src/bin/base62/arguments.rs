@@ -145,18 +145,19 @@ fn settings_of(subcommand: &Subcommand, given: &[Given]) -> Result<Settings, Str
     Ok(settings)
 }
 
-pub(crate) fn parse_width(value: &[u8]) -> Result<usize, String> {
+pub(crate) fn set_width(settings: &mut Settings, value: &[u8]) -> Result<(), String> {
     if value.iter().all(u8::is_ascii_digit) && value.iter().any(|digit| *digit != b'0') {
         // A width above `usize::MAX` becomes `usize::MAX`. With either, `encode` runs out of memory, `decode` rejects each
         // string, and `range` prints the same numbers.
         let width = parse_decimal(value).and_then(|it| it.try_into().ok());
-        return Ok(width.unwrap_or(usize::MAX));
+        settings.width = width.or(Some(usize::MAX));
+        return Ok(());
     }
     let value = Escaped(value);
     Err(format!("a width is an integer of 1 or more, not {value}"))
 }
 
-pub(crate) fn parse_alphabet(value: &[u8]) -> Result<Alphabet, String> {
+pub(crate) fn set_alphabet(settings: &mut Settings, value: &[u8]) -> Result<(), String> {
     if !value.iter().all(|byte| matches!(byte, b' '..=b'~')) {
         return Err("the alphabet has a character that is not printable ASCII".into());
     }
@@ -164,5 +165,6 @@ pub(crate) fn parse_alphabet(value: &[u8]) -> Result<Alphabet, String> {
         1 => "the alphabet has 1 character, not 62".into(),
         count => format!("the alphabet has {count} characters, not 62"),
     })?;
-    Alphabet::new(*characters).map_err(|error| error.to_string())
+    settings.alphabet = Alphabet::new(*characters).map_err(|error| error.to_string())?;
+    Ok(())
 }

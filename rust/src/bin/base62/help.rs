@@ -5,7 +5,7 @@
 //! The completions read the help of the installed command, and `tests/page` writes the manual page from it. A test runs
 //! the examples.
 
-use crate::arguments::{parse_alphabet, parse_width};
+use crate::arguments::{set_alphabet, set_width};
 use crate::conversion::{Converter, Notation, Settings};
 use base62::Alphabet;
 
@@ -89,19 +89,13 @@ pub(crate) static OPTIONS: [CommandOption; 9] = [
         letter: b'A',
         name: "alphabet",
         purpose: "use these 62 printable ASCII characters, the zero first",
-        effect: Effect::SetBy("CHARACTERS", |it, value| {
-            it.alphabet = parse_alphabet(value)?;
-            Ok(())
-        }),
+        effect: Effect::SetBy("CHARACTERS", set_alphabet),
     },
     CommandOption {
         letter: b'w',
         name: "width",
         purpose: "strings have exactly N characters, with leading zeros",
-        effect: Effect::SetBy("N", |it, value| {
-            it.width = Some(parse_width(value)?);
-            Ok(())
-        }),
+        effect: Effect::SetBy("N", set_width),
     },
     CommandOption {
         letter: b'c',

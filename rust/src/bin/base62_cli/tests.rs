@@ -28,7 +28,6 @@ dec BLJp4aZBJ3gG -> 590295810358705651712
 dec 26tF05fvSIgh0000000000 -> 92202686130861137968548313400401640448
 dec 7n42DGM5Tflk9n8mt7Fhc8 -> fault: Decoded number cannot fit into a `u128`
 dec \xff -> fault: Encoded input contains the invalid byte b'\\xff' at index 0
-dec  -> fault: Encoded input is an empty string
 enc\xff1 -> fault: unknown command
 ";
 

@@ -112,16 +112,23 @@ const codes = {
   repeated: 'REPEATED_CHARACTER',
 };
 
-// The decoders of a form, such as Fixed, return the number or UUID of a text, or refuse it with an error of the rows.
+// The decoders by the form of the strings that they accept.
+const decoders = {
+  any: ['decode', 'decodeNumber', 'decodeUuid'],
+  canonical: ['decodeCanonical', 'decodeNumberCanonical', 'decodeUuidCanonical'],
+  fixed: ['decodeFixed', 'decodeNumberFixed', 'decodeUuidFixed'],
+};
+
+// The decoders of a form return the number or UUID of a text, or refuse it with an error of the rows.
 function checkForm({ base62, givenOf, refused, refusedBy }, form, name, text, wanted, ...width) {
-  for (const kind of ['', 'Number', 'Uuid']) {
+  for (const decoder of decoders[form]) {
     for (const given of givenOf(name)) {
-      const call = () => base62[`decode${kind}${form}`](text, ...width, ...given);
+      const call = () => base62[decoder](text, ...width, ...given);
       if (typeof wanted !== 'bigint') refusedBy(call, wanted);
-      else if (kind === '') same(call(), wanted);
-      else if (kind === 'Uuid') same(call(), uuidOf(wanted));
+      else if (decoder.startsWith('decodeUuid')) same(call(), uuidOf(wanted));
+      else if (!decoder.startsWith('decodeNumber')) same(call(), wanted);
       else if (wanted <= Number.MAX_SAFE_INTEGER) same(call(), Number(wanted));
-      else refused(call, 'UNSAFE_INTEGER', `the number is above 2**53 - 1: use decode${form}`);
+      else refused(call, 'UNSAFE_INTEGER', `the number is above 2**53 - 1: use ${decoder.replace('Number', '')}`);
     }
   }
 }
@@ -129,9 +136,9 @@ function checkForm({ base62, givenOf, refused, refusedBy }, form, name, text, wa
 // The same of all forms. Canonical decoding may refuse what the others accept.
 function checkDecoding(context, name, field, wanted, canonical = wanted) {
   for (const text of formsOf(textOf(field))) {
-    checkForm(context, '', name, text, wanted);
-    checkForm(context, 'Canonical', name, text, canonical);
-    checkForm(context, 'Fixed', name, text, wanted, text.length);
+    checkForm(context, 'any', name, text, wanted);
+    checkForm(context, 'canonical', name, text, canonical);
+    checkForm(context, 'fixed', name, text, wanted, text.length);
   }
 }
 
@@ -181,7 +188,7 @@ const tests = {
       const wanted = kind === 'number' ? BigInt(numbers[0]) : [kind, ...numbers];
       for (const text of formsOf(textOf(field))) {
         // A width may be no Number.
-        if (Number.isSafeInteger(width)) checkForm(context, 'Fixed', name, text, wanted, width);
+        if (Number.isSafeInteger(width)) checkForm(context, 'fixed', name, text, wanted, width);
         else refused(() => base62.decodeFixed(text, width), 'OUT_OF_RANGE');
         if (name !== 'standard' || width !== 22) continue;
         if (kind === 'number') same(base62.decodeKey(text), wanted);
@@ -298,19 +305,18 @@ const tests = {
     const arrays = [new Uint8ClampedArray(2), new Int8Array(2), new ArrayBuffer(2), new DataView(new ArrayBuffer(2))];
     const { decodeKey, encodeUuid, keyRange, keyBounds } = base62;
     // Those for a width get that of LZ.
-    const decoders = ['', 'Number', 'Uuid'].flatMap((kind) => [
-      base62[`decode${kind}`],
-      base62[`decode${kind}Canonical`],
-      (text, ...given) => base62[`decode${kind}Fixed`](text, 2, ...given),
-    ]);
+    const calls = Object.values(decoders).flat().map((name) => {
+      const width = name.endsWith('Fixed') ? [2] : [];
+      return (text, ...given) => base62[name](text, ...width, ...given);
+    });
     for (const other of [...others, ...arrays, new Proxy(new Uint8Array(2), {})]) {
-      for (const call of [...decoders, decodeKey, keyRange, keyBounds, encodeUuid]) refusesType(() => call(other));
+      for (const call of [...calls, decodeKey, keyRange, keyBounds, encodeUuid]) refusesType(() => call(other));
       refusesType(() => new Alphabet(other));
       if (other !== undefined) refusesType(() => base62.encode(5, other));
     }
     const likenesses = [Object.create(Alphabet.prototype), Object.create(alphabet), new Proxy(alphabet, {})];
     for (const other of [letters.standard, ...likenesses]) {
-      for (const call of decoders) refusesType(() => call('LZ', other));
+      for (const call of calls) refusesType(() => call('LZ', other));
       refusesType(() => base62.prefixRange('LZ', 7, other));
       refusesType(() => base62.encodeFixed(5, 7, other));
       refusesType(() => base62.encodeUuid(new Uint8Array(16), other));

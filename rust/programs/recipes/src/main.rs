@@ -6,7 +6,7 @@
 #[path = "../id.rs"]
 mod id;
 
-use id::{Id, InvalidId, new_id};
+use id::{Id, InvalidId, key_of, new_id, uuid_of};
 use serde::Deserialize;
 use serde::de::{IntoDeserializer, value::{Error, StrDeserializer}};
 use std::collections::HashSet;
@@ -44,5 +44,7 @@ fn main() {
     for id in ids {
         let uuid = uuid::Uuid::from_bytes(base62::decode_uuid(&id).unwrap());
         assert_eq!(uuid.get_version_num(), 4);
+        let key = String::from_utf8(key_of(uuid).into()).unwrap();
+        assert_eq!(uuid_of(&key), Ok(uuid));
     }
 }

@@ -323,8 +323,12 @@ class Recipes(ColumnsTestCase):
         column = pd.Series(recipe(codes), name="id")
         for used, is_exact in ((column, False), (column.dropna(), True)):
             found = [used.map(lambda it: it), used.apply(lambda it: it), used.to_numpy(), used.to_frame().to_dict("list")["id"]]
-            exact = [int(it[0]) == ids[0] for it in found] + [len(used.drop_duplicates()) == len(used)]
+            exact = [int(it[0]) == ids[0] for it in found] + [used.astype(str)[0] == str(ids[0])]
+            exact += [len(used.drop_duplicates()) == len(used), not used.duplicated().any()]
             self.assertEqual({*exact, not pd.Series(ids[2:]).isin(used.loc[:1])[0]}, {is_exact})
+        parquet.write_table(pa.table({"id": columns.decode(codes)}), file := io.BytesIO())
+        for options, is_exact in (({}, False), ({"dtype_backend": "pyarrow"}, True)):
+            self.assertEqual(int(pd.read_parquet(file, **options)["id"][0]) == ids[0], is_exact)
 
     def test_csv(self) -> None:
         """Which strings are nulls for pyarrow."""

@@ -242,6 +242,7 @@ class Widths(RaisesTestCase):
             self.assertIsNone(base62.prefix_range(CUSTOM[1], width, CUSTOM))
             self.raised(MemoryError, base62.encode_fixed, 1, width)
             self.raised(base62.WrongLengthError, base62.decode_fixed, "00LZ", width)
+        self.raised(base62.WrongLengthError, base62.decode_fixed, "00LZ", Indexed(2**70))
 
     def test_widths(self) -> None:
         calls: list[tuple[Call, object]] = [

@@ -5,6 +5,7 @@
 import doctest
 import importlib.util
 import io
+import mmap
 import random
 import shutil
 import subprocess
@@ -176,7 +177,7 @@ class Arrays(ColumnsTestCase):
         """Values that no row has may be invalid, and many. Of others the first row is reported."""
         numbers = {"LZ": 1337, "z": 61, "-": None, None: None, "~": None}
         values = pa.array([*numbers, *["?"] * 100])
-        for rows, bad in (([0, 1, None, 0, 3], None), ([None, 0, 4, 2], 2), ([3, 2, 4] * 100, 1)):
+        for rows, bad in (([0, 1, None, 0, 3], None), ([None, 0, 4, 2], 2), ([3, 2, 4] * 100, 1), ([2, 0], 0)):
             indices: Any = pa.array(rows, pa.int16())
             column = pa.chunked_array([dictionary(pa.array(["1"])), pa.DictionaryArray.from_arrays(indices, values)])
             expected = [1, *(numbers[it] for it in values.take(indices).to_pylist())]
@@ -195,7 +196,8 @@ class Arrays(ColumnsTestCase):
             empty, of_result, nan = pa.array([], of_type), types_of(call)[0], float("nan")
             for column in (empty, [], pa.chunked_array([], of_type), pa.chunked_array([empty]), np.array([]), pd.Series([])):
                 self.check(call, column, [], of_result)
-            for column in ([None], [nan], [pd.NA], pd.Series([None]), pd.Series([nan]), np.array([nan])):
+            for column in ([None], [nan], [pd.NA], pd.Series([None]), pd.Series([nan]), np.array([nan]),
+                           np.array([nan], np.float32), pd.Series([nan], dtype="category")):
                 self.check(call, column, [None], of_result)
         # Arrow lets such an array have no offset.
         self.check(columns.decode, pa.Array.from_buffers(pa.string(), 0, [None, *[pa.py_buffer(b"")] * 2]), [])
@@ -210,10 +212,19 @@ class Arrays(ColumnsTestCase):
         self.check(columns.decode, last, [1337, 1337])
         # What could have 2^31 bytes has the large type, in each chunk.
         self.assertEqual(columns.encode_fixed([None], 2**31 - 1).type, pa.string())
-        self.assertEqual(columns.encode_fixed([None], 2**31).type, pa.large_string())
+        self.check(lambda it: columns.encode_fixed(it, 2**31, errors="coerce"), [-1], [None], pa.large_string())
         chunks = pa.chunked_array([[1], [], [None, None]], pa.uint64())
         self.check(lambda it: columns.encode_fixed(it, 2**30)[1:], chunks, [None, None], pa.large_string())
-        self.assertEqual(columns.encode_fixed(pa.chunked_array([[None]] * 2, pa.uint8()), 2**30).type, pa.string())
+        # Of a dictionary, the values that no row has are not among them.
+        for column in (pa.chunked_array([[None]] * 2, pa.uint8()), pa.DictionaryArray.from_arrays(pa.nulls(1, pa.int8()), [1, 2])):
+            self.check(lambda it: columns.encode_fixed(it, 2**30), column, [None] * len(column), pa.string())
+        # Of int64 a string has at most 11 characters, and of UUIDs 36. Numbers are no strings.
+        for call, value, count, of_result in (
+                (columns.encode, 1, 10**8, pa.string()), (columns.decode_uuid, "1", 2**26, pa.large_string())):
+            nulls = pa.DictionaryArray.from_arrays(pa.nulls(count, pa.int8()), [value])
+            self.assertEqual(call(nulls, type=pa.string()).type, of_result)
+        pages = [pa.py_buffer(mmap.mmap(-1, size)) for size in (2**30 + 4, 1)]
+        self.raised(base62.EmptyInputError, columns.decode, pa.Array.from_buffers(pa.string(), 2**28, [None, *pages]))
 
     def test_shared_strings(self) -> None:
         """Strings of 2^31 bytes and more, which share those of a view. Only LZ is valid."""
@@ -288,7 +299,7 @@ class Objects(ColumnsTestCase):
             pd.DataFrame({"code": texts}),
         ):
             self.assertEqual(columns.decode(column).to_pylist(), [1337, None, 61], column)
-        for form in ("U", "S", np.dtypes.StringDType()):
+        for form in ("U", "S", "S16", np.dtypes.StringDType()):
             column = np.array(["LZ", "0", "z\0z"], form)
             self.check(columns.decode, column[:2], [1337, 0])
             self.assertEqual(self.raised(base62.InvalidByteError, columns.decode, column).row, 2)
@@ -357,7 +368,8 @@ NUMBERS = [5, -1, 2**63, 2**64, np.int8(5), np.uint64(2**63), np.uint8(53), Inde
            pd.NA, np.float16(1.5), np.float32("nan"), np.longdouble(1.5), np.bool_(True), 5j, Fraction(5)]
 OTHERS = ["LZ", "not-a-uuid-here!", str(NAME), b"LZ", NAME.bytes, bytearray(b"LZ"), memoryview(NAME.bytes), np.str_("LZ"),
           memoryview(b"LZLZ").cast("I"), np.bytes_(b"LZ"), np.void(bytes(16)), NAME, np.timedelta64(5, "ns"), [5], {"a": 5},
-          np.datetime64("2026-01-01", "ns"), np.datetime64("2026-01-01", "D"), pd.Timestamp("2026-01-01"), object()]
+          np.datetime64("2026-01-01", "ns"), np.datetime64("2026-01-01", "D"), pd.Timestamp("2026-01-01"), object(),
+          pd.NaT, types.SimpleNamespace(int=5)]
 # Each function, and that for one value, with what they take besides. A valid value, an invalid one, and one of a type
 # that is wrong.
 FUNCTIONS: list[tuple[Call, Call, tuple[int, ...], Any, Any, Any]] = [
@@ -487,23 +499,25 @@ class Arguments(ColumnsTestCase):
 
     def test_types(self) -> None:
         """A column of another type is named, with what to pass instead."""
-        own, uhugeint = (pa.ExtensionArray.from_storage(it, pa.array([bytes(16)], pa.binary(16)))
-                         for it in (OWN, pa.opaque(pa.binary(16), "uhugeint", "DuckDB")))
+        own, uhugeint, bool8 = (pa.ExtensionArray.from_storage(it, pa.nulls(1, it.storage_type))
+                                for it in (OWN, pa.opaque(pa.binary(16), "uhugeint", "DuckDB"), pa.bool8()))
         cases: list[tuple[Call, Any, str, str]] = [
-            (columns.encode, pa.array([1.0]), "double", "in pandas as int64.pyarrow."),
+            *((columns.encode, it, name, "in pandas as int64.pyarrow.") for it, name in (
+                (pa.array([1.0]), "double"), ([1.0], "double"), (np.array([1.0], np.float32), "float"))),
             (columns.encode, pa.array([True]), "bool", "cast it to uint8"),
             (columns.encode, np.ma.array(["2026-01-01"], "M8[ns]"), "timestamp", "cast it to an integer type"),
+            (columns.encode, np.array(["2026-01-01"], "M8[D]"), "date32", "cast it to an integer type"),
             (columns.encode, [Decimal("1.0")], "decimal128.2, 1.", "cast it to decimal128.38, 0., or"),
             (columns.encode, pa.array([5], pa.decimal256(5)), "decimal256.5, 0.", "pass a list of int"),
             (columns.encode, ["1"], "string", "encode_uuid takes UUIDs; cast numbers to uint64"),
             *((columns.encode, np.array([bytes(it)], f"V{it}"), "binary", "cast numbers to uint64 or binary.16.") for it in (8, 17)),
             (columns.encode, pd.Series([1.5]).astype("category"), "double", "in pandas as int64.pyarrow."),
-            (columns.encode_uuid, [1], "int64", "encode takes integers"),
-            (columns.decode, [1337], "int64", "read strings"),
+            *((columns.encode_uuid, [it], "u?int64", "encode takes integers") for it in (1, 2**63)),
+            *((columns.decode, [it], "(int64|double)", "read strings") for it in (1337, 1.0)),
             (columns.decode, pa.array([TEXT.encode()], pa.binary(22)), "fixed_size_binary.22.", "cast it to binary"),
             *((call, *case) for call in (columns.encode, columns.encode_uuid, columns.decode) for case in (
                 (pa.RunEndEncodedArray.from_arrays([1], ["1"]), "run_end_encoded", "decode it by .*run_end_decode"),
-                (own, "extension<own", "pass its storage"),
+                *((it, "extension<(own|arrow.bool8)", "pass its storage") for it in (own, bool8)),
                 (uhugeint, "extension<arrow.opaque.*uhugeint", "cast it to UBIGINT, HUGEINT or UUID in DuckDB"))),
             (columns.decode_uuid, [NAME], "extension<arrow.uuid>", "strings or binary"),
         ]
@@ -514,10 +528,12 @@ class Arguments(ColumnsTestCase):
 
     def test_size(self) -> None:
         """A result keeps no memory for strings that are longer than its own."""
-        before = pa.total_allocated_bytes()
-        result = columns.encode([1] * 1000)
-        self.assertLess(pa.total_allocated_bytes() - before, 6000)
-        self.assertEqual(len(result), 1000)
+        for call, _, given, value, _, _ in FUNCTIONS:
+            for of_type in types_of(call):
+                before = pa.total_allocated_bytes()
+                result = call([value] * 1000, *given, type=of_type)
+                self.assertLess(pa.total_allocated_bytes() - before, result.nbytes + 200, (call, of_type))
+                del result
 
 
 def load_tests(loader: unittest.TestLoader, tests: unittest.TestSuite, pattern: object) -> unittest.TestSuite:

@@ -141,8 +141,11 @@ class Modules(unittest.TestCase):
 
     def test_other_pythons(self) -> None:
         """Where the extension cannot find what it uses of CPython, it converts arguments by Python's own functions."""
-        with unittest.mock.patch.multiple(_types, ISASCII=len, BYTES_SIZE=bytes.__basicsize__ - 16):
-            again = load_extension("base62._base62")
+        for isascii in (str.isascii, len):
+            with unittest.mock.patch.multiple(_types, ISASCII=isascii, BYTES_SIZE=bytes.__basicsize__ - 16):
+                again = load_extension("base62._base62")
+            self.assertRaises(base62.InvalidByteError, again.decode, "\ud800")
+            self.assertEqual(len({again.decode("LZ") and sys.getrefcount(False) for _ in range(9)}), 1)
         for alphabet, text in ((again.Alphabet(CUSTOM), "LZ"), (again.Alphabet.ALTERNATIVE, "lz")):
             number = base62.decode(text, bytes(alphabet))
             self.assertEqual((again.decode(text, alphabet), again.encode(number, alphabet)), (number, text))

@@ -8,6 +8,12 @@
 # The functions that a minor version added, with their symbol versions, such as base62_NAME@@BASE62_N.1.
 set(later)
 
+# Some processors lack instructions for which the compiler calls its own library, and some flags make it test more.
+set(of_compiler "__aeabi_[a-z]+|__[a-z]+di[0-9]|_GLOBAL_OFFSET_TABLE_|__x86.get_pc_thunk.[a-z]+")
+string(APPEND of_compiler "|__stack_chk_[a-z_]+|__mem[a-z]+_chk")
+set(names_it_may_call "mem(cpy|move|set|cmp)|${of_compiler}")
+cmake_policy(SET CMP0057 NEW)
+
 # Sets found to the symbols that nm prints, each as TYPE NAME.
 function(find_symbols)
     execute_process(COMMAND "${NM}" --format=posix ${ARGN} OUTPUT_VARIABLE text RESULT_VARIABLE status)
@@ -35,12 +41,24 @@ endfunction()
 file(STRINGS "${HEADER}" lines REGEX "^[a-z0-9_]+ base62_[a-z0-9_]+\\(")
 string(REGEX MATCHALL "base62_[a-z0-9_]+\\(" functions "${lines}")
 string(REPLACE "(" "" functions "${functions}")
+if(NOT "base62_encode" IN_LIST functions)
+    message(FATAL_ERROR "the header declares no functions")
+endif()
 
-# For i686 compilers add functions that return where they are called.
 find_symbols(--extern-only --defined-only "${STATIC}")
-list(FILTER found EXCLUDE REGEX "^T __x86.get_pc_thunk.[a-z]+$")
+list(FILTER found EXCLUDE REGEX "^T (${of_compiler})$")
 string(REPLACE "T " "" found "${found}")
 expect_same("the static library defines" "${found}" "${functions}")
+
+find_symbols(--undefined-only "${STATIC}")
+list(FILTER found EXCLUDE REGEX "^U (${names_it_may_call})$")
+expect_same("the static library calls" "${found}" "")
+
+# Neither data that is written nor any that is common.
+find_symbols(--defined-only "${STATIC}")
+list(FILTER found INCLUDE REGEX "^[BbDdCcGgSs] ")
+list(FILTER found EXCLUDE REGEX "^[bd] \\.(bss|data)$")
+expect_same("the static library has variables" "${found}" "")
 
 if(SHARED)
     # As many as the first version of this major one has.

@@ -26,9 +26,9 @@ OWNED += [base62.Alphabet, base62.Alphabet.STANDARD, base62.Alphabet.ALTERNATIVE
 
 Call = Callable[..., Any]
 OF_NUMBERS: list[Call] = [base62.encode, base62.digit_count, base62.encode_key, partial(base62.encode_fixed, width=22)]
-# The alternative alphabet has the standard letters, so that both have the same bad bytes. decode_fixed accepts those
-# strings that have 5002 bytes.
 DECODINGS: list[Call] = [base62.decode, base62.decode_canonical, base62.decode_uuid, base62.decode_uuid_canonical]
+# The alternative alphabet has the standard letters, so that both have the same bad bytes. The tests of these have strings
+# of 5002 bytes: decode_fixed rejects others by their length.
 OF_TEXTS: list[Call] = [*DECODINGS, base62.key_range, base62.key_bounds, partial(base62.prefix_range, width=22)]
 OF_TEXTS += [partial(base62.prefix_range, width=5002, alphabet=base62.Alphabet.ALTERNATIVE)]
 OF_TEXTS += [partial(base62.decode_fixed, width=5002, alphabet=base62.Alphabet.ALTERNATIVE)]

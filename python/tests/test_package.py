@@ -145,7 +145,11 @@ class Modules(unittest.TestCase):
             with unittest.mock.patch.multiple(_types, ISASCII=isascii, BYTES_SIZE=bytes.__basicsize__ - 16):
                 again = load_extension("base62._base62")
             self.assertRaises(base62.InvalidByteError, again.decode, "\ud800")
-            self.assertEqual(len({again.decode("LZ") and sys.getrefcount(False) for _ in range(9)}), 1)
+            # A call releases what ISASCII returns. From Python 3.12 on nothing counts the references to False.
+            before = sys.getrefcount(False)
+            for _ in range(9):
+                again.decode("LZ")
+            self.assertEqual(sys.getrefcount(False), before)
         for alphabet, text in ((again.Alphabet(CUSTOM), "LZ"), (again.Alphabet.ALTERNATIVE, "lz")):
             number = base62.decode(text, bytes(alphabet))
             self.assertEqual((again.decode(text, alphabet), again.encode(number, alphabet)), (number, text))

@@ -23,6 +23,7 @@ fn pages() {
         return;
     }
     for name in ["base62", "base62_cli"] {
+        // If the help has changed, tests/page writes the page anew.
         let line = format!("$crate/tests/page {name} | diff - $crate/share/man/man1/{name}.1");
         prints(&line, "");
     }

@@ -127,10 +127,8 @@ static void store_offset(const struct result *result, Py_ssize_t row) {
         memcpy(place_at(&result->offsets, row, sizeof small), &small, sizeof small);
 }
 
-/* Stores a decimal, or a string for a UUID. A null row has 0, or no string. In the loop over rows this would slow down the
-   other types. */
-static Py_NO_INLINE void store_decimal_or_string(struct result *result, Py_ssize_t row, base62_number number,
-                                                 int is_valid) {
+/* Stores a decimal, or a string for a UUID. A null row has 0, or no string. */
+static void store_decimal_or_string(struct result *result, Py_ssize_t row, base62_number number, int is_valid) {
     const uint64_t halves[2] = {PY_BIG_ENDIAN ? number.high : number.low, PY_BIG_ENDIAN ? number.low : number.high};
     unsigned char uuid[BASE62_UUID_LENGTH];
     if (result->type == 'd') {
@@ -145,11 +143,14 @@ static Py_NO_INLINE void store_decimal_or_string(struct result *result, Py_ssize
     store_offset(result, row + 1);
 }
 
+/* What decodes rows has the type of the result as a constant: l for uint64 and int64, w, or 0 for the others. */
+
 /* Stores a decoded number, or 0 for a null row. */
-static inline void store_number(struct result *result, Py_ssize_t row, base62_number number, int is_valid) {
-    if (result->type == 'L' || result->type == 'l')
+static inline Py_ALWAYS_INLINE void store_number(struct result *result, Py_ssize_t row, int type, base62_number number,
+                                                 int is_valid) {
+    if (type == 'l')
         memcpy(place_at(&result->values, row, sizeof number.low), &number.low, sizeof number.low);
-    else if (result->type == 'w')
+    else if (type == 'w')
         base62_to_uuid(number, place_at(&result->values, row, BASE62_UUID_LENGTH));
     else
         store_decimal_or_string(result, row, number, is_valid);
@@ -202,8 +203,8 @@ static inline base62_status decode_text(const struct conversion *conversion, str
     return base62_decode_fixed_with(conversion->alphabet, text.bytes, length, width, number, &bad);
 }
 
-static inline enum outcome decode_row(const struct conversion *conversion, Py_ssize_t row, int is_large,
-                                      base62_number *number) {
+static inline Py_ALWAYS_INLINE enum outcome decode_row(const struct conversion *conversion, Py_ssize_t row, int is_large,
+                                                       int type, base62_number *number) {
     const struct source *source = &conversion->source;
     struct text text;
     if (is_null(source, source->offset + row))
@@ -213,31 +214,43 @@ static inline enum outcome decode_row(const struct conversion *conversion, Py_ss
         return outcome;
     if (decode_text(conversion, text, number) != BASE62_OK)
         return INVALID;
-    /* One condition of both halves is slower. */
+    if (type == 'w')
+        return VALID;
     const base62_number *most = &conversion->greatest;
-    if (number->high == most->high)
-        return number->low > most->low ? INVALID : VALID;
-    return number->high > most->high ? INVALID : VALID;
+    if (type == 'l')
+        return number->high != 0 || number->low > most->low ? INVALID : VALID;
+    return number->high > most->high || (number->high == most->high && number->low > most->low) ? INVALID : VALID;
 }
 
-static enum outcome decode_until(struct conversion *conversion, Py_ssize_t end) {
-    int is_large = has_large_offsets(conversion->source.type);
+static inline Py_ALWAYS_INLINE enum outcome decode_loop(struct conversion *conversion, Py_ssize_t end, int is_large,
+                                                        int type) {
     Py_ssize_t row = conversion->row;
     for (; row < end; row++) {
         base62_number number;
-        /* Each is compiled for its size of offsets. */
-        enum outcome outcome =
-            is_large ? decode_row(conversion, row, 1, &number) : decode_row(conversion, row, 0, &number);
+        enum outcome outcome = decode_row(conversion, row, is_large, type, &number);
         if (outcome != VALID) {
             conversion->row = row;
             if (!set_null(conversion, row, outcome))
                 return outcome;
             number = base62_from_u64(0);
         }
-        store_number(&conversion->result, row, number, outcome == VALID);
+        store_number(&conversion->result, row, type, number, outcome == VALID);
     }
     conversion->row = row;
     return VALID;
+}
+
+/* Each size of offsets and of results has a loop of its own. */
+static enum outcome decode_until(struct conversion *conversion, Py_ssize_t end) {
+    int is_large = has_large_offsets(conversion->source.type);
+    switch (conversion->result.type) {
+    case 'L':
+    case 'l':
+        return is_large ? decode_loop(conversion, end, 1, 'l') : decode_loop(conversion, end, 0, 'l');
+    case 'w':
+        return is_large ? decode_loop(conversion, end, 1, 'w') : decode_loop(conversion, end, 0, 'w');
+    }
+    return is_large ? decode_loop(conversion, end, 1, 0) : decode_loop(conversion, end, 0, 0);
 }
 
 /* Calls */

@@ -1,6 +1,6 @@
 # What people run at the top of the repository. `make` prints it.
 
-parts = translate c rust compare python js sql bench dist pages
+parts = form translate c rust command compare python js sql bench dist pages
 
 help: ## print this list
 	@sed -n 's/^\([a-z-]*\):.* ## /  make \1	/p' $(MAKEFILE_LIST) | expand -t 24
@@ -23,10 +23,7 @@ prove-c: ## prove c/base62.c by Frama-C; BITS=32 for 32-bit targets, MUTANTS=1 f
 generate: ## write the generated files anew, after a change of their sources
 	tests/model.py
 	translate/rust.py --write
-	translate/wasm
-
-check-generated: ## fail if a generated file is out of date; check-js compares those of js/
-	scripts/check-generated
+	node js/commonjs.mjs
 
 version: ## set the version everywhere: make version V=X.Y.Z
 	scripts/version.py '$(V)'
@@ -37,8 +34,8 @@ bench: ## time the packages on this machine, beside other code for base 62
 
 PREFIX = /usr/local
 install-command: ## install the command, its manual page and completions: make install-command PREFIX=..
-	cargo install --quiet --force --no-track --path rust --features std --root '$(DESTDIR)$(PREFIX)'
-	cp -R rust/share '$(DESTDIR)$(PREFIX)'
+	cargo install --quiet --force --no-track --path command --root '$(DESTDIR)$(PREFIX)'
+	cp -R command/share '$(DESTDIR)$(PREFIX)'
 
 dist: ## pack all packages into a folder: make dist FOLDER=..
 	scripts/dist '$(FOLDER)'
@@ -52,5 +49,5 @@ setup-full: ## install also browsers, Wine, cross compilers, emulators and prove
 check-debian: ## try README's lines in a bare Debian, as root: make check-debian SUITE=trixie
 	scripts/check-debian '$(SUITE)'
 
-.PHONY: help check $(parts:%=check-%) prove prove-c generate check-generated version bench install-command dist setup \
-    setup-full check-debian
+.PHONY: help check $(parts:%=check-%) prove prove-c generate version bench install-command dist setup setup-full \
+    check-debian

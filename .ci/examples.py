@@ -14,31 +14,33 @@ BLOCK = re.compile(r"//[/!] ```rust\n(.*?)//[/!] ```\n", re.S)
 
 
 def examples(file: Path) -> list[tuple[str, str]]:
-    """The examples of a file, each with a name that tells its place."""
+    """The examples of a file, each with a name that says where it is."""
     text = re.sub(r"(?m)^ +(?=//[/!])", "", file.read_text())
     place = "_".join(file.relative_to(CRATES / "base62" / "src").with_suffix("").parts)
-    found = []
+    named = []
     for match in BLOCK.finditer(text):
         line = text.count("\n", 0, match.start(1)) + 1
         body = re.sub(r"(?m)^//[/!] ?", "    ", match[1])
-        found.append((f"example_{place}_{line}", re.sub(r"(?m)^ +$", "", body)))
-    return found
+        named.append((f"example_{place}_{line}", re.sub(r"(?m)^ +$", "", body)))
+    return named
 
 
 def main() -> None:
-    found = [it for file in sorted((CRATES / "base62" / "src").rglob("*.rt")) for it in examples(file)]
+    named = [pair for file in sorted((CRATES / "base62" / "src").rglob("*.rt")) for pair in examples(file)]
     with tempfile.TemporaryDirectory() as folder:
         top = Path(folder)
         shutil.copytree(CRATES / "base62", top / "crates" / "base62", ignore=shutil.ignore_patterns("out", "must-fail"))
         (top / "crates.txt").write_text("base62:\nexamples: base62\n")
         source = top / "crates" / "examples" / "src" / "lib.rt"
         source.parent.mkdir(parents=True)
-        source.write_text(HEAD + "".join(TEST.format(name=name, body=body) for name, body in found))
-        ran = subprocess.run(["rt", "try", "--test"], cwd=source.parent.parent, stdout=subprocess.PIPE, stderr=subprocess.STDOUT, text=True)
-    passed = [name for name, _ in found if f"test {name} ... ok\n" in ran.stdout]
+        source.write_text(HEAD + "".join(TEST.format(name=name, body=body) for name, body in named))
+        ran = subprocess.run(
+            ["rt", "try", "--test"], cwd=source.parent.parent, stdout=subprocess.PIPE, stderr=subprocess.STDOUT, text=True
+        )
+    passed = [name for name, _ in named if f"test {name} ... ok\n" in ran.stdout]
     print(ran.stdout, end="")
-    print(f"{len(passed)} passed, {len(found) - len(passed)} failed")
-    sys.exit(ran.returncode or len(passed) != len(found) or not found)
+    print(f"{len(passed)} passed, {len(named) - len(passed)} failed")
+    sys.exit(ran.returncode or len(passed) != len(named) or not named)
 
 
 if __name__ == "__main__":

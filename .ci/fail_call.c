@@ -17,17 +17,11 @@ __attribute__((constructor)) static void begin(void) {
     counted = name ? *name : 'a';
 }
 
-static int fails(char call) {
-    return call == counted && left > 0 && --left == 0;
-}
+static int fails(char call) { return call == counted && left > 0 && --left == 0; }
 
-void *malloc(size_t size) {
-    return fails('a') ? NULL : __libc_malloc(size);
-}
+void *malloc(size_t size) { return fails('a') ? NULL : __libc_malloc(size); }
 
-void *realloc(void *memory, size_t size) {
-    return fails('a') ? NULL : __libc_realloc(memory, size);
-}
+void *realloc(void *memory, size_t size) { return fails('a') ? NULL : __libc_realloc(memory, size); }
 
 ssize_t read(int file, void *bytes, size_t count) {
     errno = EIO;

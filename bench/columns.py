@@ -14,6 +14,5 @@ COPIES = 1000
 numbers, _, rounds = plain.arguments()
 strings = columns.encode(numbers * COPIES)
 decode = partial(columns.decode, type=pyarrow.uint64()) if max(numbers) < 2**64 else columns.decode_uuid
-arrays = {"encode": decode(strings), "decode": strings}
-calls = [("base62.columns", "encode", columns.encode), ("base62.columns", "decode", decode)]
-plain.measure(calls, rounds, lambda name, call: call(arrays[name]), len(strings))
+calls = [("base62.columns", "encode", columns.encode, decode(strings)), ("base62.columns", "decode", decode, strings)]
+plain.measure(calls, rounds, lambda call, array: call(array), len(strings))

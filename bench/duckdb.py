@@ -17,10 +17,12 @@ kind = "UBIGINT" if max(numbers) < 2**64 else "UHUGEINT"
 decode = "base62_decode" if max(numbers) < 2**63 else "base62_decode_uhugeint"
 calls = [("encode", "base62_encode(number)"), ("decode", f"{decode}(code)")] * rounds
 given = f"SELECT unnest({list(map(str, numbers))})::{kind} AS number FROM range({COPIES})"
-script = [f"LOAD '{extension}'; SET threads = 1;",
-          f"CREATE TABLE link AS SELECT number, base62_encode(number) AS code FROM ({given});",
-          *(f"SELECT epoch_ns(now()::TIMESTAMP), count({call}) FROM link;" for _, call in calls),
-          "SELECT epoch_ns(now()::TIMESTAMP), 0;"]
+script = [
+    f"LOAD '{extension}'; SET threads = 1;",
+    f"CREATE TABLE link AS SELECT number, base62_encode(number) AS code FROM ({given});",
+    *(f"SELECT epoch_ns(now()::TIMESTAMP), count({call}) FROM link;" for _, call in calls),
+    "SELECT epoch_ns(now()::TIMESTAMP), 0;",
+]
 options = ["-init", "/dev/null", "-unsigned", "-csv", "-noheader"]
 ran = subprocess.run([*shell, *options], input="\n".join(script), stdout=subprocess.PIPE, text=True, check=True)
 starts = [int(line.split(",")[0]) for line in ran.stdout.split()]

@@ -1,11 +1,12 @@
 // Times the package for JavaScript beside loops over BigInt. bench/run.py runs it.
-import { readFileSync } from 'node:fs';
-import { decode, encode } from '../js/index.js';
+import {readFileSync} from 'node:fs';
+
+import base62 from '../js/commonjs/index.js';
 
 const letters = '0123456789ABCDEFGHIJKLMNOPQRSTUVWXYZabcdefghijklmnopqrstuvwxyz';
 const [, , file, rounds] = process.argv;
 
-function encodeByLoop(number) {
+function encode(number) {
   let text = '';
   do {
     text = letters[Number(number % 62n)] + text;
@@ -14,24 +15,24 @@ function encodeByLoop(number) {
   return text;
 }
 
-function decodeByLoop(text) {
+function decode(text) {
   let number = 0n;
   for (let i = 0; i < text.length; i++) number = number * 62n + BigInt(letters.indexOf(text[i]));
   return number;
 }
 
-const numbers = readFileSync(file, 'utf8').trim().split('\n').map((text) => decode(text));
-const values = { encode: numbers, decode: numbers.map((number) => encode(number)) };
+const texts = readFileSync(file, 'utf8').trim().split('\n');
+const numbers = texts.map(decode);
 
-function measure(who, name, call) {
+function measure(who, name, call, values) {
   const start = process.hrtime.bigint();
-  for (const value of values[name]) call(value);
-  console.log([who, name, Number(process.hrtime.bigint() - start) / numbers.length].join('\t'));
+  for (const value of values) call(value);
+  console.log([who, name, Number(process.hrtime.bigint() - start) / values.length].join('\t'));
 }
 
 for (let round = 0; round < rounds; round++) {
-  measure('base62-proved', 'encode', encode);
-  measure('base62-proved', 'decode', decode);
-  measure('loop over BigInt', 'encode', encodeByLoop);
-  measure('loop over BigInt', 'decode', decodeByLoop);
+  measure('base62-proved', 'encode', base62.encode, numbers);
+  measure('base62-proved', 'decode', base62.decode, texts);
+  measure('loop over BigInt', 'encode', encode, numbers);
+  measure('loop over BigInt', 'decode', decode, texts);
 }

@@ -33,7 +33,7 @@ def arguments():
 def measure(calls, rounds, run, count):
     """Prints the time of each call in each round, which runs over so many values. Its first two parts name it."""
     for _ in range(rounds):
-        for who, name, call in calls:
+        for who, name, *call in calls:
             start = perf_counter_ns()
-            run(name, call)
+            run(*call)
             print(who, name, (perf_counter_ns() - start) / count, sep="\t")

@@ -3,7 +3,8 @@
 
 Each other program of this folder times one language, over the numbers whose strings are the lines of a file. A round
 times all its calls in turn, and prints rows: whose call it is, the call, and nanoseconds. This program builds and runs
-the others, and prints one table of the least times. What is missing is named and left out.
+the others, and prints one table of the least times. What is missing is named and left out. BASE62_CRATE may name the
+folder of the Rust crate `base62`.
 
 The numbers are random, below 2^40, 2^64 or 2^128; those of the kind `mixed` have 1 to 128 bits, in random order.
 """
@@ -48,21 +49,9 @@ ours = {{ package = "base62-proved", path = "{top}/rust" }}
 """
 
 
-class Missing(Exception):
-    """A thing that a language needs, and this machine does not have."""
-
-
 def run(*command):
-    """What a command prints. If it fails, it is left out."""
-    try:
-        ran = subprocess.run(list(map(str, command)), capture_output=True, text=True)
-    except FileNotFoundError as fault:
-        raise Missing(fault.filename) from None
-    if ran.returncode:
-        lines = ran.stderr.strip().splitlines()
-        faults = [line for line in lines if "error:" in line.lower()] or lines
-        raise Missing(f"{command[0]} fails: {faults[-1]}")
-    return ran.stdout
+    """What a command prints."""
+    return subprocess.run(list(map(str, command)), stdout=subprocess.PIPE, text=True, check=True).stdout
 
 
 def copy(work, *names):
@@ -76,35 +65,32 @@ def time_c(work):
 
 
 def time_rust(work):
-    home = Path(os.environ.get("CARGO_HOME", Path.home() / ".cargo"))
-    theirs = os.environ.get("BASE62_CRATE") or max(home.glob("registry/src/*/base62-[0-9]*"), default=None)
-    found = f'theirs = {{ package = "base62", path = "{Path(theirs).resolve()}", optional = true }}' if theirs else ""
-    if not found:
-        print("not timed: the crate base62: it is not in Cargo's registry, and BASE62_CRATE is not its folder")
-    (work / "Cargo.toml").write_text(CARGO.format(top=TOP, theirs=found))
+    theirs = os.environ.get("BASE62_CRATE")
+    dependency = f'theirs = {{ package = "base62", path = "{os.path.abspath(theirs)}", optional = true }}' if theirs else ""
+    (work / "Cargo.toml").write_text(CARGO.format(top=TOP, theirs=dependency))
     target, options = work / "target", ["--quiet", "--release", "--all-features"]
     run("cargo", "build", *options, "--manifest-path", work / "Cargo.toml", "--target-dir", target)
     return [target / "release/bench"]
 
 
+def install_python(work):
+    copy(work, "c", "python", "bench", "VERSION", "CHANGELOG.md")
+    run(PYTHON, "-m", "pip", "install", "-qq", *FETCHING_NOTHING, "--no-deps", f"--target={work}/site", work / "python")
+
+
 def time_python(work):
-    run(PYTHON, "-m", "venv", "--system-site-packages", work / "venv")
-    copy(work, "c", "python", "VERSION", "CHANGELOG.md")
-    run(work / "venv/bin/pip", "install", *FETCHING_NOTHING, work / "python")
-    return [work / "venv/bin/python", BENCH / "python.py"]
+    install_python(work)
+    return ["env", f"PYTHONPATH={work}/site", PYTHON, BENCH / "python.py"]
 
 
 def time_columns(work):
-    copy(work, "c", "python", "bench", "VERSION", "CHANGELOG.md")
-    run(PYTHON, "-m", "pip", "install", *FETCHING_NOTHING, "--no-deps", f"--target={work}/site", work / "python")
-    try:
-        within, folder = ["env"], work
-        run(PYTHON, "-c", "import pyarrow")
-    except Missing:
-        within, folder = ["bash", "-c", IN_TESTING, TOP, "pyarrow", work, "env"], Path("/mnt")
+    install_python(work)
+    within, folder = [], work
+    if subprocess.run([PYTHON, "-c", "import pyarrow"], stderr=subprocess.DEVNULL).returncode:
+        within, folder = ["bash", "-c", IN_TESTING, TOP, "pyarrow", work], Path("/mnt")
     # The file of the strings has another path there.
     program = f'python3 {folder}/bench/columns.py {folder}/texts "$1"'
-    return [*within, f"PYTHONPATH={folder}/site", "sh", "-c", program]
+    return [*within, "env", f"PYTHONPATH={folder}/site", "sh", "-c", program]
 
 
 def time_javascript(work):
@@ -113,14 +99,14 @@ def time_javascript(work):
 
 def time_sqlite(work):
     copy(work, "c", "sql")
-    run("make", "-C", work / "sql", "sqlite")
+    run("make", "-C", work / "sql/sqlite")
     return [PYTHON, BENCH / "sqlite.py", work / "sql/sqlite/base62"]
 
 
 def time_duckdb(work):
     within, folder = ([], work) if shutil.which("duckdb") else (["bash", "-c", IN_TESTING, TOP, "duckdb", work], Path("/mnt"))
     copy(work, "c", "sql")
-    run(*within, "make", "-C", folder / "sql", "duckdb")
+    run(*within, "make", "-C", folder / "sql/duckdb")
     return [PYTHON, BENCH / "duckdb.py", folder / "sql/duckdb/base62.duckdb_extension", *within, "duckdb"]
 
 
@@ -143,7 +129,7 @@ def write_texts(kind, file):
 
 def times_of(language, rounds):
     """The least nanoseconds of a call, by whose call it is, the call, and the kind of the numbers."""
-    found = defaultdict(list)
+    times = defaultdict(list)
     with tempfile.TemporaryDirectory() as folder:
         work = Path(folder)
         try:
@@ -151,28 +137,21 @@ def times_of(language, rounds):
             for kind in KINDS:
                 write_texts(kind, work / "texts")
                 for line in run(*command, work / "texts", rounds).splitlines():
-                    who, *row = line.split("\t")
-                    if row:
-                        found[who, row[0], kind].append(float(row[1]))
-                    elif kind == KINDS[0]:
-                        print(line)
-        except Missing as fault:
-            print(f"not timed: {language}: {fault}")
+                    who, call, time = line.split("\t")
+                    times[who, call, kind].append(float(time))
+        except (OSError, subprocess.CalledProcessError) as error:
+            print(f"not timed: {language}: {error}")
             return {}
-    return {call: min(times) for call, times in found.items()}
-
-
-def print_table(times):
-    print(f"\n{'nanoseconds of a call':32}" + "".join(f"{call:>7}{kind:>6}" for call in CALLS for kind in KINDS))
-    for language, found in times.items():
-        for who in dict.fromkeys(who for who, _, _ in found):
-            cells = "".join(f"{found[who, call, kind]:13.1f}" for call in CALLS for kind in KINDS)
-            print(f"{language:11}{who:21}{cells}")
+    return {call: min(values) for call, values in times.items()}
 
 
 def main(rounds):
-    print(f"Python and SQLite are timed by {PYTHON}, which is {run(PYTHON, '--version').strip()}", flush=True)
-    print_table({language: times_of(language, rounds) for language in LANGUAGES})
+    times = {language: times_of(language, rounds) for language in LANGUAGES}
+    print(f"\n{'nanoseconds of a call':32}" + "".join(f"{call:>7}{kind:>6}" for call in CALLS for kind in KINDS))
+    for language, calls in times.items():
+        for who in dict.fromkeys(who for who, _, _ in calls):
+            cells = "".join(f"{calls[who, call, kind]:13.1f}" for call in CALLS for kind in KINDS)
+            print(f"{language:11}{who:21}{cells}")
 
 
 if __name__ == "__main__":

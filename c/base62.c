@@ -5,8 +5,7 @@
  * Encodes unsigned integers below 2^128 in base 62, and decodes them: the functions that base62.h declares.
  *
  * It follows the library in crates/base62/src, which is written and proved in the language Rattle. Here the decoder
- * splits a text before its last ten digits, and looks for an invalid byte a second time to report it. There, no strings
- * for UUIDs are read or written.
+ * splits a text before its last ten digits, and looks for an invalid byte a second time to report it.
  *
  * Frama-C proves this file too, for a size_t of 64 bits and of 32: c/proof has the contracts. A line "//@ assert
  * requires" is a precondition for Frama-C. A function that writes count digits of n also requires n < 62^count.
@@ -23,6 +22,9 @@
 #include <stddef.h>
 #include <stdint.h>
 
+#ifdef __cplusplus
+#error "compile base62.c as C"
+#endif
 #if defined CHAR_BIT && CHAR_BIT != 8
 #error "base62.c is for bytes of 8 bits"
 #endif
@@ -41,7 +43,8 @@
 #define B62_ALWAYS_INLINE inline
 #define B62_MAY_ALIAS
 #endif
-#ifdef _MSC_VER
+#if defined _MSC_VER || defined __cplusplus
+/* In C++ too, so that the compiler reports no other error than that of above. */
 #define B62_RESTRICT __restrict
 #else
 #define B62_RESTRICT restrict
@@ -50,7 +53,7 @@
 /* GCC packs the halves of a u128 into a vector register, only to unpack them again. Before GCC 11 the second pragma
    would replace all other options. With -ffreestanding it would let GCC call memset. */
 #pragma GCC push_options
-#pragma GCC optimize ("no-tree-slp-vectorize")
+#pragma GCC optimize("no-tree-slp-vectorize")
 #endif
 
 /* Unsigned integers below 2^128. Sums, differences and products are modulo 2^128. */
@@ -154,10 +157,9 @@ static inline void fill_bytes(uint8_t *to, uint8_t byte, size_t length) {
     for (size_t i = 0; i < length; i++) to[i] = byte;
 }
 
-
 /* -------------------- Tables -------------------- */
 
-/* The letters of an alphabet by their digits, and the digit of each byte, 255 if it has none. */
+/* The characters of an alphabet by their digits, and the digit of each byte, 255 if it has none. */
 typedef struct B62_MAY_ALIAS Tables {
     uint8_t letters[62];
     uint8_t digits[256];
@@ -165,43 +167,42 @@ typedef struct B62_MAY_ALIAS Tables {
 typedef char Tables_are_base62_alphabet[sizeof(Tables) == sizeof(base62_alphabet) ? 1 : -1];
 
 static const Tables B62_STANDARD = {
-    .letters = {'0', '1', '2', '3', '4', '5', '6', '7', '8', '9', 'A', 'B', 'C', 'D', 'E', 'F', 'G', 'H', 'I',
-        'J', 'K', 'L', 'M', 'N', 'O', 'P', 'Q', 'R', 'S', 'T', 'U', 'V', 'W', 'X', 'Y', 'Z', 'a', 'b', 'c', 'd',
-        'e', 'f', 'g', 'h', 'i', 'j', 'k', 'l', 'm', 'n', 'o', 'p', 'q', 'r', 's', 't', 'u', 'v', 'w', 'x', 'y',
-        'z'},
+    .letters = {'0', '1', '2', '3', '4', '5', '6', '7', '8', '9', 'A', 'B', 'C', 'D', 'E', 'F', 'G', 'H', 'I', 'J', 'K',
+                'L', 'M', 'N', 'O', 'P', 'Q', 'R', 'S', 'T', 'U', 'V', 'W', 'X', 'Y', 'Z', 'a', 'b', 'c', 'd', 'e', 'f',
+                'g', 'h', 'i', 'j', 'k', 'l', 'm', 'n', 'o', 'p', 'q', 'r', 's', 't', 'u', 'v', 'w', 'x', 'y', 'z'},
     .digits = {255, 255, 255, 255, 255, 255, 255, 255, 255, 255, 255, 255, 255, 255, 255, 255, 255, 255, 255, 255,
-        255, 255, 255, 255, 255, 255, 255, 255, 255, 255, 255, 255, 255, 255, 255, 255, 255, 255, 255, 255, 255,
-        255, 255, 255, 255, 255, 255, 255, 0, 1, 2, 3, 4, 5, 6, 7, 8, 9, 255, 255, 255, 255, 255, 255, 255, 10,
-        11, 12, 13, 14, 15, 16, 17, 18, 19, 20, 21, 22, 23, 24, 25, 26, 27, 28, 29, 30, 31, 32, 33, 34, 35, 255,
-        255, 255, 255, 255, 255, 36, 37, 38, 39, 40, 41, 42, 43, 44, 45, 46, 47, 48, 49, 50, 51, 52, 53, 54, 55,
-        56, 57, 58, 59, 60, 61, 255, 255, 255, 255, 255, 255, 255, 255, 255, 255, 255, 255, 255, 255, 255, 255,
-        255, 255, 255, 255, 255, 255, 255, 255, 255, 255, 255, 255, 255, 255, 255, 255, 255, 255, 255, 255, 255,
-        255, 255, 255, 255, 255, 255, 255, 255, 255, 255, 255, 255, 255, 255, 255, 255, 255, 255, 255, 255, 255,
-        255, 255, 255, 255, 255, 255, 255, 255, 255, 255, 255, 255, 255, 255, 255, 255, 255, 255, 255, 255, 255,
-        255, 255, 255, 255, 255, 255, 255, 255, 255, 255, 255, 255, 255, 255, 255, 255, 255, 255, 255, 255, 255,
-        255, 255, 255, 255, 255, 255, 255, 255, 255, 255, 255, 255, 255, 255, 255, 255, 255, 255, 255, 255, 255,
-        255, 255, 255, 255, 255, 255, 255, 255, 255, 255, 255, 255},
+               255, 255, 255, 255, 255, 255, 255, 255, 255, 255, 255, 255, 255, 255, 255, 255, 255, 255, 255, 255,
+               255, 255, 255, 255, 255, 255, 255, 255, 0,   1,   2,   3,   4,   5,   6,   7,   8,   9,   255, 255,
+               255, 255, 255, 255, 255, 10,  11,  12,  13,  14,  15,  16,  17,  18,  19,  20,  21,  22,  23,  24,
+               25,  26,  27,  28,  29,  30,  31,  32,  33,  34,  35,  255, 255, 255, 255, 255, 255, 36,  37,  38,
+               39,  40,  41,  42,  43,  44,  45,  46,  47,  48,  49,  50,  51,  52,  53,  54,  55,  56,  57,  58,
+               59,  60,  61,  255, 255, 255, 255, 255, 255, 255, 255, 255, 255, 255, 255, 255, 255, 255, 255, 255,
+               255, 255, 255, 255, 255, 255, 255, 255, 255, 255, 255, 255, 255, 255, 255, 255, 255, 255, 255, 255,
+               255, 255, 255, 255, 255, 255, 255, 255, 255, 255, 255, 255, 255, 255, 255, 255, 255, 255, 255, 255,
+               255, 255, 255, 255, 255, 255, 255, 255, 255, 255, 255, 255, 255, 255, 255, 255, 255, 255, 255, 255,
+               255, 255, 255, 255, 255, 255, 255, 255, 255, 255, 255, 255, 255, 255, 255, 255, 255, 255, 255, 255,
+               255, 255, 255, 255, 255, 255, 255, 255, 255, 255, 255, 255, 255, 255, 255, 255, 255, 255, 255, 255,
+               255, 255, 255, 255, 255, 255, 255, 255, 255, 255, 255, 255, 255, 255, 255, 255},
 };
 
 static const Tables B62_ALTERNATIVE = {
-    .letters = {'0', '1', '2', '3', '4', '5', '6', '7', '8', '9', 'a', 'b', 'c', 'd', 'e', 'f', 'g', 'h', 'i',
-        'j', 'k', 'l', 'm', 'n', 'o', 'p', 'q', 'r', 's', 't', 'u', 'v', 'w', 'x', 'y', 'z', 'A', 'B', 'C', 'D',
-        'E', 'F', 'G', 'H', 'I', 'J', 'K', 'L', 'M', 'N', 'O', 'P', 'Q', 'R', 'S', 'T', 'U', 'V', 'W', 'X', 'Y',
-        'Z'},
+    .letters = {'0', '1', '2', '3', '4', '5', '6', '7', '8', '9', 'a', 'b', 'c', 'd', 'e', 'f', 'g', 'h', 'i', 'j', 'k',
+                'l', 'm', 'n', 'o', 'p', 'q', 'r', 's', 't', 'u', 'v', 'w', 'x', 'y', 'z', 'A', 'B', 'C', 'D', 'E', 'F',
+                'G', 'H', 'I', 'J', 'K', 'L', 'M', 'N', 'O', 'P', 'Q', 'R', 'S', 'T', 'U', 'V', 'W', 'X', 'Y', 'Z'},
     .digits = {255, 255, 255, 255, 255, 255, 255, 255, 255, 255, 255, 255, 255, 255, 255, 255, 255, 255, 255, 255,
-        255, 255, 255, 255, 255, 255, 255, 255, 255, 255, 255, 255, 255, 255, 255, 255, 255, 255, 255, 255, 255,
-        255, 255, 255, 255, 255, 255, 255, 0, 1, 2, 3, 4, 5, 6, 7, 8, 9, 255, 255, 255, 255, 255, 255, 255, 36,
-        37, 38, 39, 40, 41, 42, 43, 44, 45, 46, 47, 48, 49, 50, 51, 52, 53, 54, 55, 56, 57, 58, 59, 60, 61, 255,
-        255, 255, 255, 255, 255, 10, 11, 12, 13, 14, 15, 16, 17, 18, 19, 20, 21, 22, 23, 24, 25, 26, 27, 28, 29,
-        30, 31, 32, 33, 34, 35, 255, 255, 255, 255, 255, 255, 255, 255, 255, 255, 255, 255, 255, 255, 255, 255,
-        255, 255, 255, 255, 255, 255, 255, 255, 255, 255, 255, 255, 255, 255, 255, 255, 255, 255, 255, 255, 255,
-        255, 255, 255, 255, 255, 255, 255, 255, 255, 255, 255, 255, 255, 255, 255, 255, 255, 255, 255, 255, 255,
-        255, 255, 255, 255, 255, 255, 255, 255, 255, 255, 255, 255, 255, 255, 255, 255, 255, 255, 255, 255, 255,
-        255, 255, 255, 255, 255, 255, 255, 255, 255, 255, 255, 255, 255, 255, 255, 255, 255, 255, 255, 255, 255,
-        255, 255, 255, 255, 255, 255, 255, 255, 255, 255, 255, 255, 255, 255, 255, 255, 255, 255, 255, 255, 255,
-        255, 255, 255, 255, 255, 255, 255, 255, 255, 255, 255, 255},
+               255, 255, 255, 255, 255, 255, 255, 255, 255, 255, 255, 255, 255, 255, 255, 255, 255, 255, 255, 255,
+               255, 255, 255, 255, 255, 255, 255, 255, 0,   1,   2,   3,   4,   5,   6,   7,   8,   9,   255, 255,
+               255, 255, 255, 255, 255, 36,  37,  38,  39,  40,  41,  42,  43,  44,  45,  46,  47,  48,  49,  50,
+               51,  52,  53,  54,  55,  56,  57,  58,  59,  60,  61,  255, 255, 255, 255, 255, 255, 10,  11,  12,
+               13,  14,  15,  16,  17,  18,  19,  20,  21,  22,  23,  24,  25,  26,  27,  28,  29,  30,  31,  32,
+               33,  34,  35,  255, 255, 255, 255, 255, 255, 255, 255, 255, 255, 255, 255, 255, 255, 255, 255, 255,
+               255, 255, 255, 255, 255, 255, 255, 255, 255, 255, 255, 255, 255, 255, 255, 255, 255, 255, 255, 255,
+               255, 255, 255, 255, 255, 255, 255, 255, 255, 255, 255, 255, 255, 255, 255, 255, 255, 255, 255, 255,
+               255, 255, 255, 255, 255, 255, 255, 255, 255, 255, 255, 255, 255, 255, 255, 255, 255, 255, 255, 255,
+               255, 255, 255, 255, 255, 255, 255, 255, 255, 255, 255, 255, 255, 255, 255, 255, 255, 255, 255, 255,
+               255, 255, 255, 255, 255, 255, 255, 255, 255, 255, 255, 255, 255, 255, 255, 255, 255, 255, 255, 255,
+               255, 255, 255, 255, 255, 255, 255, 255, 255, 255, 255, 255, 255, 255, 255, 255},
 };
-
 
 /* -------------------- Powers of 62 -------------------- */
 
@@ -211,6 +212,7 @@ static const Tables B62_ALTERNATIVE = {
 #define B62_POWER_5 UINT64_C(916132832)
 #define B62_POWER_10 UINT64_C(839299365868340224)
 
+/* clang-format off */
 /* At index k: the greatest number below 2^128 of at most k digits. */
 static const u128 B62_GREATEST[23] = {{0, 0}, {0, 61}, {0, 3843}, {0, 238327}, {0, 14776335}, {0, 916132831},
     {0, UINT64_C(56800235583)}, {0, UINT64_C(3521614606207)}, {0, UINT64_C(218340105584895)},
@@ -225,12 +227,10 @@ static const u128 B62_GREATEST[23] = {{0, 0}, {0, 61}, {0, 3843}, {0, 238327}, {
 static const uint64_t B62_GREATEST_NARROW[12] = {0, 61, 3843, 238327, 14776335, 916132831, UINT64_C(56800235583),
     UINT64_C(3521614606207), UINT64_C(218340105584895), UINT64_C(13537086546263551), UINT64_C(839299365868340223),
     UINT64_C(0xffffffffffffffff)};
+/* clang-format on */
 
 /* Returns the greatest number below 2^128 of at most k digits, for any k. */
-static u128 greatest(size_t k) {
-    return B62_GREATEST[k < 22 ? k : 22];
-}
-
+static u128 greatest(size_t k) { return B62_GREATEST[k < 22 ? k : 22]; }
 
 /* -------------------- The count of digits -------------------- */
 
@@ -250,12 +250,11 @@ static B62_ALWAYS_INLINE size_t digit_count(u128 n) {
     return estimate + u128_less(B62_GREATEST[estimate], n);
 }
 
-
 /* -------------------- Encoding -------------------- */
 
 /*
- * A function write_.. writes as many digits as its name or count says at the start of a buffer. Both letters of a pair
- * are loaded before one is stored: compilers have to assume that the buffer overlaps the tables.
+ * A function write_.. writes as many digits as its name or count says at the start of a buffer. Both characters of a
+ * pair are loaded before one is stored: compilers have to assume that the buffer overlaps the tables.
  *
  * Division by 62^10 or 62^20 splits a number into parts. Its result is a u128 in fixed point: the upper half is the
  * quotient, and the lower half is a fraction, in units of 1 / 2^64. The ten digits of a fraction f are those of
@@ -470,10 +469,6 @@ size_t base62_encode_fixed(base62_number number, char *places, size_t width) {
     return encode_fixed_over(&B62_STANDARD, number, (uint8_t *)places, width);
 }
 
-size_t base62_encode_alternative_fixed(base62_number number, char *places, size_t width) {
-    return encode_fixed_over(&B62_ALTERNATIVE, number, (uint8_t *)places, width);
-}
-
 size_t base62_encode_fixed_with(const base62_alphabet *alphabet, base62_number number, char *places, size_t width) {
     return encode_fixed_over((const Tables *)alphabet, number, (uint8_t *)places, width);
 }
@@ -482,10 +477,7 @@ void base62_encode_key(base62_number number, char key[BASE62_KEY_LENGTH]) {
     write_padded(&B62_STANDARD, number, digit_count(number), (uint8_t *)key, BASE62_KEY_LENGTH);
 }
 
-size_t base62_digit_count(base62_number number) {
-    return digit_count(number);
-}
-
+size_t base62_digit_count(base62_number number) { return digit_count(number); }
 
 /* -------------------- Decoding -------------------- */
 
@@ -553,7 +545,7 @@ static B62_ALWAYS_INLINE bool decode_11_to_20(const Tables *tables, const uint8_
 
 /* Stores the number of 21 or 22 digits, unless a byte is invalid or the number is 2^128 or more. */
 static B62_ALWAYS_INLINE base62_status decode_21_or_22(const Tables *tables, const uint8_t *text, size_t count,
-    u128 *number) {
+                                                       u128 *number) {
     //@ assert requires: 20 < count && count <= 22;
     const uint64_t high = read_more(tables, 0, text, count - 20);
     if (high == B62_NO_VALUE) return BASE62_INVALID_BYTE;
@@ -566,11 +558,11 @@ static B62_ALWAYS_INLINE base62_status decode_21_or_22(const Tables *tables, con
 }
 
 static B62_ALWAYS_INLINE base62_status decode_up_to_22(const Tables *tables, const uint8_t *text, size_t count,
-    u128 *number) {
+                                                       u128 *number) {
     //@ assert requires: count <= 22;
     if (count > 20) return decode_21_or_22(tables, text, count, number);
-    const bool is_stored = count > 10 ? decode_11_to_20(tables, text, count, number)
-        : decode_up_to_10(tables, text, count, number);
+    const bool is_stored =
+        count > 10 ? decode_11_to_20(tables, text, count, number) : decode_up_to_10(tables, text, count, number);
     return is_stored ? BASE62_OK : BASE62_INVALID_BYTE;
 }
 
@@ -599,7 +591,7 @@ static base62_status store_bad_byte(const uint8_t *text, size_t index, base62_ba
 
 /* Returns the error of a text that has an invalid byte among the at most 22 that follow its leading zeros. */
 static base62_status find_error(const Tables *tables, const uint8_t *text, size_t length, size_t zeros,
-    base62_bad_byte *bad) {
+                                base62_bad_byte *bad) {
     const size_t count = length - zeros;
     const uint8_t *rest = text + zeros;
     const size_t valid = count_valid(tables, rest, count);
@@ -612,7 +604,7 @@ static base62_status find_error(const Tables *tables, const uint8_t *text, size_
 
 /* Decodes a text that is not empty, given its count of leading zeros. */
 static base62_status decode_after_zeros(const Tables *tables, const uint8_t *text, size_t length, size_t zeros,
-    base62_number *number, base62_bad_byte *bad) {
+                                        base62_number *number, base62_bad_byte *bad) {
     const size_t count = length - zeros;
     if (count > BASE62_MAX_DIGITS) return BASE62_OVERFLOW;
     const base62_status status = decode_up_to_22(tables, text + zeros, count, number);
@@ -622,7 +614,7 @@ static base62_status decode_after_zeros(const Tables *tables, const uint8_t *tex
 
 /* Decodes a text. At most 20 digits are read without a call, since most texts are that short. */
 static B62_ALWAYS_INLINE base62_status decode_over(const Tables *tables, const uint8_t *text, size_t length,
-    base62_number *number, base62_bad_byte *bad) {
+                                                   base62_number *number, base62_bad_byte *bad) {
     if (length == 0) return BASE62_EMPTY_INPUT;
     const size_t zeros = count_zeros(tables, text, length), count = length - zeros;
     if (count <= 10) {
@@ -646,14 +638,14 @@ static base62_status decode_padded(const Tables *tables, const uint8_t *text, si
 
 /* Like decode_over, but rejects a leading zero that other characters follow. */
 static B62_ALWAYS_INLINE base62_status decode_canonical_over(const Tables *tables, const uint8_t *text, size_t length,
-    base62_number *number, base62_bad_byte *bad) {
+                                                             base62_number *number, base62_bad_byte *bad) {
     if (length > 1 && text[0] == tables->letters[0]) return decode_padded(tables, text, length, bad);
     return decode_over(tables, text, length, number, bad);
 }
 
 /* Like decode_over, but first rejects a text of another length than the width. */
 static B62_ALWAYS_INLINE base62_status decode_fixed_over(const Tables *tables, const uint8_t *text, size_t length,
-    size_t width, base62_number *number, base62_bad_byte *bad) {
+                                                         size_t width, base62_number *number, base62_bad_byte *bad) {
     if (length != width) return BASE62_WRONG_LENGTH;
     return decode_over(tables, text, length, number, bad);
 }
@@ -662,50 +654,37 @@ base62_status base62_decode(const char *text, size_t length, base62_number *numb
     return decode_over(&B62_STANDARD, (const uint8_t *)text, length, number, bad);
 }
 
-base62_status base62_decode_alternative(const char *text, size_t length, base62_number *number,
-    base62_bad_byte *bad) {
+base62_status base62_decode_alternative(const char *text, size_t length, base62_number *number, base62_bad_byte *bad) {
     return decode_over(&B62_ALTERNATIVE, (const uint8_t *)text, length, number, bad);
 }
 
 base62_status base62_decode_with(const base62_alphabet *alphabet, const char *text, size_t length,
-    base62_number *number, base62_bad_byte *bad) {
+                                 base62_number *number, base62_bad_byte *bad) {
     return decode_over((const Tables *)alphabet, (const uint8_t *)text, length, number, bad);
 }
 
-base62_status base62_decode_canonical(const char *text, size_t length, base62_number *number,
-    base62_bad_byte *bad) {
+base62_status base62_decode_canonical(const char *text, size_t length, base62_number *number, base62_bad_byte *bad) {
     return decode_canonical_over(&B62_STANDARD, (const uint8_t *)text, length, number, bad);
 }
 
-base62_status base62_decode_alternative_canonical(const char *text, size_t length, base62_number *number,
-    base62_bad_byte *bad) {
-    return decode_canonical_over(&B62_ALTERNATIVE, (const uint8_t *)text, length, number, bad);
-}
-
 base62_status base62_decode_canonical_with(const base62_alphabet *alphabet, const char *text, size_t length,
-    base62_number *number, base62_bad_byte *bad) {
+                                           base62_number *number, base62_bad_byte *bad) {
     return decode_canonical_over((const Tables *)alphabet, (const uint8_t *)text, length, number, bad);
 }
 
 base62_status base62_decode_fixed(const char *text, size_t length, size_t width, base62_number *number,
-    base62_bad_byte *bad) {
+                                  base62_bad_byte *bad) {
     return decode_fixed_over(&B62_STANDARD, (const uint8_t *)text, length, width, number, bad);
 }
 
-base62_status base62_decode_alternative_fixed(const char *text, size_t length, size_t width, base62_number *number,
-    base62_bad_byte *bad) {
-    return decode_fixed_over(&B62_ALTERNATIVE, (const uint8_t *)text, length, width, number, bad);
-}
-
 base62_status base62_decode_fixed_with(const base62_alphabet *alphabet, const char *text, size_t length, size_t width,
-    base62_number *number, base62_bad_byte *bad) {
+                                       base62_number *number, base62_bad_byte *bad) {
     return decode_fixed_over((const Tables *)alphabet, (const uint8_t *)text, length, width, number, bad);
 }
 
 base62_status base62_decode_key(const char *text, size_t length, base62_number *number, base62_bad_byte *bad) {
     return decode_fixed_over(&B62_STANDARD, (const uint8_t *)text, length, BASE62_KEY_LENGTH, number, bad);
 }
-
 
 /* -------------------- Ranges of prefixes -------------------- */
 
@@ -729,7 +708,7 @@ static bool find_ends(u128 value, size_t length, size_t width, base62_range *ran
 
 /* Stores the number of a prefix that is not empty, and may be longer than 22 characters. */
 static base62_status decode_prefix(const Tables *tables, const uint8_t *prefix, size_t length, base62_number *number,
-    base62_bad_byte *bad) {
+                                   base62_bad_byte *bad) {
     const size_t zeros = count_zeros(tables, prefix, length), count = length - zeros;
     if (count <= BASE62_MAX_DIGITS) {
         const base62_status status = decode_up_to_22(tables, prefix + zeros, count, number);
@@ -742,7 +721,7 @@ static base62_status decode_prefix(const Tables *tables, const uint8_t *prefix, 
 }
 
 static base62_status range_over(const Tables *tables, const uint8_t *prefix, size_t length, size_t width,
-    base62_range *range, base62_bad_byte *bad) {
+                                base62_range *range, base62_bad_byte *bad) {
     base62_number number = {0, 0};
     if (length > 0) {
         const base62_status status = decode_prefix(tables, prefix, length, &number, bad);
@@ -757,21 +736,20 @@ base62_status base62_key_range(const char *prefix, size_t length, base62_range *
 }
 
 base62_status base62_prefix_range(const char *prefix, size_t length, size_t width, base62_range *range,
-    base62_bad_byte *bad) {
+                                  base62_bad_byte *bad) {
     return range_over(&B62_STANDARD, (const uint8_t *)prefix, length, width, range, bad);
 }
 
 base62_status base62_prefix_range_with(const base62_alphabet *alphabet, const char *prefix, size_t length, size_t width,
-    base62_range *range, base62_bad_byte *bad) {
+                                       base62_range *range, base62_bad_byte *bad) {
     return range_over((const Tables *)alphabet, (const uint8_t *)prefix, length, width, range, bad);
 }
-
 
 /* -------------------- Custom alphabets and UUIDs -------------------- */
 
 /* *alphabet is not read, so callers can pass uninitialized memory. */
 base62_status base62_alphabet_init(base62_alphabet *alphabet, const char characters[BASE62_ALPHABET_LENGTH],
-    base62_bad_byte *bad) {
+                                   base62_bad_byte *bad) {
     const uint8_t *bytes = (const uint8_t *)characters;
     uint8_t digits[256] = {0};
     fill_bytes(digits, 255, sizeof digits);
@@ -789,14 +767,9 @@ base62_status base62_alphabet_init(base62_alphabet *alphabet, const char charact
     return BASE62_OK;
 }
 
-base62_number base62_from_uuid(const unsigned char uuid[BASE62_UUID_LENGTH]) {
-    return u128_from_be_bytes(uuid);
-}
+base62_number base62_from_uuid(const unsigned char uuid[BASE62_UUID_LENGTH]) { return u128_from_be_bytes(uuid); }
 
-void base62_to_uuid(base62_number number, unsigned char uuid[BASE62_UUID_LENGTH]) {
-    u128_to_be_bytes(number, uuid);
-}
-
+void base62_to_uuid(base62_number number, unsigned char uuid[BASE62_UUID_LENGTH]) { u128_to_be_bytes(number, uuid); }
 
 /* -------------------- Strings for UUIDs -------------------- */
 
@@ -810,7 +783,7 @@ static const uint8_t B62_HEX_DIGITS[16] = {
 };
 /* The values of hexadecimal digits, from '0' to 'f', and 16 for the other bytes between them. */
 static const uint8_t B62_HEX_VALUES[55] = {
-    0, 1, 2, 3, 4, 5, 6, 7, 8, 9, 16, 16, 16, 16, 16, 16, 16, 10, 11, 12, 13, 14, 15, 16, 16, 16, 16, 16,
+    0,  1,  2,  3,  4,  5,  6,  7,  8,  9,  16, 16, 16, 16, 16, 16, 16, 10, 11, 12, 13, 14, 15, 16, 16, 16, 16, 16,
     16, 16, 16, 16, 16, 16, 16, 16, 16, 16, 16, 16, 16, 16, 16, 16, 16, 16, 16, 16, 16, 10, 11, 12, 13, 14, 15,
 };
 
@@ -821,9 +794,7 @@ static uint8_t hex_digit(uint32_t digit) {
 }
 
 /* Returns an uppercase character of ASCII in lowercase, and any other byte as it is. */
-static uint8_t lower(uint8_t byte) {
-    return byte >= 'A' && byte <= 'Z' ? (uint8_t)(byte + 32) : byte;
-}
+static uint8_t lower(uint8_t byte) { return byte >= 'A' && byte <= 'Z' ? (uint8_t)(byte + 32) : byte; }
 
 /* Returns the value of a hexadecimal digit in either case, or 16 for any other byte. */
 static B62_ALWAYS_INLINE uint32_t hex_value(uint8_t byte) {
@@ -877,7 +848,8 @@ static bool read_uuid(const uint8_t *text, size_t start, size_t count, uint8_t *
 base62_status base62_uuid_from_string(const char *string, size_t length, unsigned char uuid[BASE62_UUID_LENGTH]) {
     const uint8_t *text = (const uint8_t *)string;
     const bool is_stored = is_in_braces(text, length) ? read_uuid(text, 1, length - 2, uuid)
-        : has_urn(text, length) ? read_uuid(text, 9, length - 9, uuid) : read_uuid(text, 0, length, uuid);
+                           : has_urn(text, length)    ? read_uuid(text, 9, length - 9, uuid)
+                                                      : read_uuid(text, 0, length, uuid);
     return is_stored ? BASE62_OK : BASE62_INVALID_UUID;
 }
 
@@ -891,7 +863,6 @@ void base62_uuid_to_string(const unsigned char uuid[BASE62_UUID_LENGTH], char st
     }
 }
 
-
 /* -------------------- Messages of errors -------------------- */
 
 static const uint8_t B62_TOO_SMALL_TEXT[] = "Buffer too small to encode the number";
@@ -903,6 +874,7 @@ static const uint8_t B62_REPEATED_TEXT[] = "Alphabet repeats the ";
 static const uint8_t B62_LEADING_ZERO_TEXT[] = "Encoded input has a leading zero";
 static const uint8_t B62_WRONG_LENGTH_TEXT[] = "Encoded input does not have the given width";
 static const uint8_t B62_INVALID_UUID_TEXT[] = "Not a UUID";
+static const uint8_t B62_OUT_OF_RANGE_TEXT[] = "Number is 2^64 or more";
 static const uint8_t B62_BYTE_TEXT[] = "byte b'";
 static const uint8_t B62_INDEX_TEXT[] = "' at index ";
 
@@ -963,6 +935,7 @@ static size_t text_of(base62_status status, base62_bad_byte bad, uint8_t *messag
     if (status == BASE62_NOT_CANONICAL) return append(message, 0, B62_TEXT(B62_LEADING_ZERO_TEXT));
     if (status == BASE62_WRONG_LENGTH) return append(message, 0, B62_TEXT(B62_WRONG_LENGTH_TEXT));
     if (status == BASE62_INVALID_UUID) return append(message, 0, B62_TEXT(B62_INVALID_UUID_TEXT));
+    if (status == BASE62_OUT_OF_RANGE) return append(message, 0, B62_TEXT(B62_OUT_OF_RANGE_TEXT));
     if (status == BASE62_INVALID_BYTE) {
         const size_t length = append(message, 0, B62_TEXT(B62_INVALID_TEXT));
         return append_byte_at_index(message, length, bad.byte, bad.index);
@@ -982,9 +955,7 @@ size_t base62_error_message(base62_status status, base62_bad_byte bad, char *buf
     return length;
 }
 
-uint32_t base62_version_number(void) {
-    return BASE62_VERSION_NUMBER;
-}
+uint32_t base62_version_number(void) { return BASE62_VERSION_NUMBER; }
 
 #if defined __GNUC__ && !defined __clang__ && __GNUC__ > 10 && __STDC_HOSTED__
 #pragma GCC pop_options

@@ -28,7 +28,7 @@ class SharedSdist(sdist):
 def docstring_macro(node):
     """Return the docstring of a function or a class for C, after the signature that the module inspect reads."""
     is_class = isinstance(node, ast.ClassDef)
-    arguments = next(it for it in node.body if isinstance(it, ast.FunctionDef)).args if is_class else node.args
+    arguments = next(member for member in node.body if isinstance(member, ast.FunctionDef)).args if is_class else node.args
     for argument in (*arguments.posonlyargs, *arguments.args):
         argument.annotation = None
     first = "" if is_class else "$module, " if arguments.posonlyargs else "$module, /, "

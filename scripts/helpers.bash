@@ -13,30 +13,30 @@ export CARGO_NET_OFFLINE=true PIP_NO_INDEX=1 PIP_FIND_LINKS=/usr/share/python-wh
     npm_config_fund=false npm_config_update_notifier=false
 
 # What the checks need besides the kit: `make setup` installs these,
-required=(build cargo cargo-clippy clang clang-tidy cmake ensurepip g++ gcc git gmpy2 make mypy node npm pg_virtualenv pip
-    pkg-config postgres postgres.h Python.h python3 /usr/bin/python3 reuse rustfmt script sqlite3 sqlite3ext.h tsc uuidgen wasm-ld
-    wheel)
+required=(black build cargo cargo-clippy clang clang-format clang-tidy cmake ensurepip g++ gcc git gmpy2 make mypy node npm
+    pg_virtualenv pip pkg-config postgres postgres.h Python.h python3 /usr/bin/python3 reuse rustfmt script shfmt sqlite3
+    sqlite3ext.h tsc uuidgen wheel)
 # and `make setup-full` these too.
-optional=(aarch64-linux-gnu-gcc arm-linux-gnueabihf-gcc chromium cvc4 cvc5 debootstrap distributed django duckdb esbuild express
-    firefox-esr fish frama-c gawk go help2man i686-linux-gnu-gcc jsdom librust mlr node-base62 ocamlfind pandas pyarrow pydantic
-    qemu-aarch64 qemu-arm
-    qemu-i386 qemu-riscv64 qemu-s390x riscv64-linux-gnu-gcc ruby-base62 s390x-linux-gnu-gcc shortuuid sqlalchemy why3 wine
-    x86_64-w64-mingw32-gcc z3 zsh)
+optional=(aarch64-linux-gnu-gcc arm-linux-gnueabihf-gcc chromium cvc4 cvc5 debootstrap distributed django duckdb esbuild
+    express firefox-esr fish frama-c gawk go help2man i686-linux-gnu-gcc librust mlr node-base62 ocamlfind pandas
+    pyarrow pydantic qemu-aarch64 qemu-arm qemu-i386 qemu-riscv64 qemu-s390x riscv64-linux-gnu-gcc ruby-base62
+    s390x-linux-gnu-gcc shortuuid sqlalchemy why3 wine x86_64-w64-mingw32-gcc z3 zsh)
 # The packages of Debian that have them, where their names are others.
 declare -A packages=(
-    [build]=python3-build [distributed]=python3-distributed [django]=python3-django [ensurepip]=python3-venv [express]=node-express
-    [gmpy2]=python3-gmpy2 [pandas]=python3-pandas [pip]=python3-pip [pyarrow]=python3-pyarrow [pydantic]=python3-pydantic [Python.h]=python3-dev [/usr/bin/python3]=python3
-    [shortuuid]=python3-shortuuid [sqlalchemy]=python3-sqlalchemy [wheel]=python3-wheel-whl [cargo-clippy]=rust-clippy
-    [clang]='clang libclang-rt-dev' [gcc]='gcc libc6-dev' [go]=golang-go
-    [duckdb]='duckdb libduckdb-dev' [mlr]=miller [node]=nodejs [script]=bsdutils [tsc]=node-typescript
-    [wasm-ld]=lld [pg_virtualenv]=postgresql-common [postgres]=postgresql [postgres.h]=postgresql-server-dev-all
-    [sqlite3ext.h]=libsqlite3-dev [frama-c]=frama-c-base [ocamlfind]=ocaml-findlib [wine]='wine wine64'
-    [jsdom]=node-jsdom [librust]='librust-serde-dev librust-uuid-dev' [uuidgen]=uuid-runtime [x86_64-w64-mingw32-gcc]=gcc-mingw-w64-x86-64
-    [aarch64-linux-gnu-gcc]='gcc-aarch64-linux-gnu libc6-dev-arm64-cross' [qemu-aarch64]=qemu-user
-    [arm-linux-gnueabihf-gcc]='gcc-arm-linux-gnueabihf libc6-dev-armhf-cross' [qemu-arm]=qemu-user
-    [i686-linux-gnu-gcc]='gcc-i686-linux-gnu libc6-dev-i386-cross' [qemu-i386]=qemu-user
-    [riscv64-linux-gnu-gcc]='gcc-riscv64-linux-gnu libc6-dev-riscv64-cross' [qemu-riscv64]=qemu-user
-    [s390x-linux-gnu-gcc]='gcc-s390x-linux-gnu libc6-dev-s390x-cross' [qemu-s390x]=qemu-user
+    [build]=python3-build [distributed]=python3-distributed [django]=python3-django [ensurepip]=python3-venv
+    [express]=node-express [gmpy2]=python3-gmpy2 [pandas]=python3-pandas [pip]=python3-pip [pyarrow]=python3-pyarrow
+    [pydantic]=python3-pydantic [Python.h]=python3-dev ['/usr/bin/python3']=python3 [shortuuid]=python3-shortuuid
+    [sqlalchemy]=python3-sqlalchemy [wheel]=python3-wheel-whl ['cargo-clippy']=rust-clippy
+    [clang]='clang libclang-rt-dev' [gcc]='gcc libc6-dev' [go]=golang-go [duckdb]='duckdb libduckdb-dev' [mlr]=miller
+    [node]=nodejs [script]=bsdutils [tsc]=node-typescript [pg_virtualenv]=postgresql-common
+    [postgres]=postgresql [postgres.h]=postgresql-server-dev-all [sqlite3ext.h]=libsqlite3-dev ['frama-c']=frama-c-base
+    [ocamlfind]=ocaml-findlib [wine]='wine wine64' [librust]='librust-serde-dev librust-uuid-dev'
+    [uuidgen]=uuid-runtime ['x86_64-w64-mingw32-gcc']=gcc-mingw-w64-x86-64
+    ['aarch64-linux-gnu-gcc']='gcc-aarch64-linux-gnu libc6-dev-arm64-cross' ['qemu-aarch64']=qemu-user
+    ['arm-linux-gnueabihf-gcc']='gcc-arm-linux-gnueabihf libc6-dev-armhf-cross' ['qemu-arm']=qemu-user
+    ['i686-linux-gnu-gcc']='gcc-i686-linux-gnu libc6-dev-i386-cross' ['qemu-i386']=qemu-user
+    ['riscv64-linux-gnu-gcc']='gcc-riscv64-linux-gnu libc6-dev-riscv64-cross' ['qemu-riscv64']=qemu-user
+    ['s390x-linux-gnu-gcc']='gcc-s390x-linux-gnu libc6-dev-s390x-cross' ['qemu-s390x']=qemu-user
 )
 # The oldest Rust that the crate is for, and the folder for the oldest one of Debian that can.
 oldest_rust=$(sed -n 's/^rust-version = "\(.*\)"$/\1/p' rust/Cargo.toml)
@@ -51,7 +51,7 @@ in_order() {
 
 # TOOL. Its version.
 version_of() {
-    [[ $("$1" --version) =~ \ ([0-9]+(\.[0-9]+)*) ]] && echo "${BASH_REMATCH[1]}"
+    [[ $("$1" --version) =~ (^|\ )([0-9]+(\.[0-9]+)*) ]] && echo "${BASH_REMATCH[2]}"
 }
 
 # NAME TEXT. Says with which version of a tool a check has passed. The text is what the tool prints of it.
@@ -72,7 +72,7 @@ is_installed() {
         # Debian's file, which serves each Python without a network.
         wheel) compgen -G '/usr/share/python-wheels/wheel-*.whl' ;;
         librust) compgen -G '/usr/share/cargo/registry/uuid-*' ;;
-        express | jsdom) [[ -e /usr/share/nodejs/$1 ]] ;;
+        express) [[ -e /usr/share/nodejs/express ]] ;;
         node-base62) is_installed node && [[ -e /usr/share/nodejs/base62 ]] ;;
         ruby-base62) ruby -r base62 -e '' ;;
         Python.h) python3 -c 'import os, sysconfig; os.stat(sysconfig.get_path("include") + "/Python.h")' ;;
@@ -128,7 +128,7 @@ has() {
 
 # The compilers and linters of the gate, by the version whose warnings fail a check. Each version has rules of its own, so
 # those of any other one are only printed.
-declare -A pinned=([cargo]=1.95 [clang]=14 [clang-tidy]=14 [gcc]=12 [mypy]=1.0 [reuse]=1.1)
+declare -A pinned=([black]=23.1 [cargo]=1.95 [clang]=14 ['clang-format']=14 ['clang-tidy']=14 [gcc]=12 [mypy]=1.0 [shfmt]=3.6)
 
 # TOOL. Whether its warnings fail a check.
 is_strict() {

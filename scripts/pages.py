@@ -6,89 +6,74 @@
     scripts/pages.py write PAGE FOLDER     writes each block of PAGE whose fence names files, as in: ```c lz.c
     scripts/pages.py run PAGE FOLDER       runs PAGE in FOLDER: writes such files, runs the blocks of sh, and
                                            compares what one prints with the block of text that follows it
-    scripts/pages.py run-with-kit PAGE FOLDER, scripts/pages.py run-without-kit PAGE FOLDER
-                                           the same, but run only the blocks that call `rt`, or only the others
 
-A file that several fences name has their blocks one after the other.
+A file that several fences name has their blocks one after the other. A block of console is compared with what its lines
+that begin with `$ ` print as one script, errors too.
 """
 
 import re
+import shlex
 import subprocess
 import sys
+from collections import defaultdict
 from collections.abc import Iterator
 from pathlib import Path
 
-LINK = re.compile(r"\]\(([^)\s]+)\)")
-PASSED_OVER = "passed over"
-# The blocks of sh to run: those that call `rt`, or do not.
-MODES = {"write": [], "run": [True, False], "run-with-kit": [True], "run-without-kit": [False]}
-CALLS_KIT = re.compile(r"(?m)(^|[|&;( ])rt ")
+BLOCK = re.compile(r"(?ms)^```(.*?)\n(.*?)^```$")
+LINK = re.compile(r"\]\((?![a-z]+:)([^)\s]+)\)")
 
 
-def parts(page: Path) -> Iterator[tuple[int, str, str]]:
-    """The blocks and the lines between them: the number of the first line, the fence, or '' of a line, and the text."""
-    fence, begun, block = "", 0, list[str]()
-    for number, line in enumerate(page.read_text().splitlines(), 1):
-        if line.startswith("```"):
-            if fence:
-                yield begun, fence, "".join(block)
-                fence, block = "", []
-            else:
-                fence, begun = line.removeprefix("```") or "text", number + 1
-        elif fence:
-            block.append(line + "\n")
-        else:
-            yield number, "", line
-    if fence:
-        raise SystemExit(f"{page}:{begun}: the block has no end")
+def prose(page: Path) -> str:
+    """What is between the blocks."""
+    text = BLOCK.sub("", page.read_text())
+    if "\n```" in text:
+        raise SystemExit(f"{page}: a block has no end")
+    return text
 
 
 def anchors(page: Path) -> set[str]:
     """The headings, as links name them."""
-    headings = [line.lstrip("#").strip().lower() for _, fence, line in parts(page) if not fence and line.startswith("#")]
-    return {re.sub(r"[^\w\- ]", "", it).replace(" ", "-") for it in headings}
+    headings = re.findall(r"(?m)^#+ (.*)$", prose(page))
+    return {re.sub(r"[^\w\- ]", "", heading.lower()).replace(" ", "-") for heading in headings}
 
 
 def lost_links(pages: list[Path], top: Path) -> Iterator[str]:
     for page in pages:
-        for number, fence, line in parts(page):
-            for link in LINK.findall("" if fence else line):
-                if re.match(r"[a-z]+:", link):
-                    continue
-                path, _, heading = link.partition("#")
-                to = (page.parent / path if path else page).resolve()
-                if not to.is_relative_to(top.resolve()) or not to.exists() or heading and heading not in anchors(to):
-                    yield f"{page}:{number}: {link} leads nowhere"
+        for link in LINK.findall(prose(page)):
+            path, _, heading = link.partition("#")
+            to = (page.parent / path if path else page).resolve()
+            if not to.is_relative_to(top.resolve()) or not to.exists() or heading and heading not in anchors(to):
+                yield f"{page}: {link} leads nowhere"
 
 
-def append(fence: str, text: str, folder: Path, begun: set[Path]) -> None:
-    for name in fence.split()[1:]:
-        file = folder / name
-        file.parent.mkdir(parents=True, exist_ok=True)
-        with open(file, "a" if file in begun else "w") as it:
-            it.write(("\n" if file in begun else "") + text)
-        begun.add(file)
+def write(page: Path, folder: Path) -> None:
+    files = defaultdict[str, list[str]](list)
+    for fence, text in BLOCK.findall(page.read_text()):
+        for name in fence.split()[1:]:
+            files[name].append(text)
+    for name, texts in files.items():
+        (folder / name).parent.mkdir(parents=True, exist_ok=True)
+        (folder / name).write_text("\n".join(texts))
 
 
-def run(page: Path, folder: Path, wanted: list[bool]) -> None:
-    begun = set[Path]()
-    printed, count = None, 0
-    for number, fence, text in parts(page):
-        append(fence, text, folder, begun)
-        if fence == "sh" and bool(CALLS_KIT.search(text)) not in wanted:
-            printed = PASSED_OVER
-        elif fence == "sh":
-            count += 1
-            print(f"{page}:{number}: runs:\n{text}", end="", flush=True)
-            ran = subprocess.run(["sh", "-euc", text], cwd=folder, stdin=subprocess.DEVNULL, stdout=subprocess.PIPE, text=True)
-            if ran.returncode:
-                raise SystemExit(f"{page}:{number}: it ended with status {ran.returncode}, and printed:\n{ran.stdout}")
+def run(page: Path, folder: Path) -> None:
+    write(page, folder)
+    printed = None
+    for fence, text in BLOCK.findall(page.read_text()):
+        if fence in ("sh", "console"):
+            print(f"{page}: runs:\n{text}", end="", flush=True)
+            commands = re.findall(r"(?m)^\$ (.*)$", text)
+            shown = "".join(f"echo {shlex.quote(f'$ {command}')}\n{command} || :\n" for command in commands)
+            script = text if fence == "sh" else f"exec 2>&1\n{shown}"
+            ran = subprocess.run(["sh", "-euc", script], cwd=folder, stdin=subprocess.DEVNULL, stdout=subprocess.PIPE, text=True)
             printed = ran.stdout
-        elif fence == "text" and wanted:
-            if printed not in (text, PASSED_OVER):
-                raise SystemExit(f"{page}:{number}: this is not what it printed:\n{printed}")
+            if ran.returncode:
+                raise SystemExit(f"{page}: it ended with status {ran.returncode}, and printed:\n{printed}")
+        if fence in ("", "text", "console"):
+            if printed != text:
+                raise SystemExit(f"{page}: instead of this it printed:\n{text}\n{printed}")
             printed = None
-    if wanted and not count:
+    if "\n```sh\n" not in page.read_text():
         raise SystemExit(f"{page}: it has no block to run")
 
 
@@ -99,8 +84,10 @@ def main() -> None:
             pages = [*Path(*folder).rglob("*.md")] if folder else [*map(Path, names.splitlines())]
             if lost := list(lost_links(pages, Path(*folder))):
                 raise SystemExit("\n".join(lost))
-        case [mode, page, folder] if mode in MODES:
-            run(Path(page), Path(folder), MODES[mode])
+        case ["write", page, folder]:
+            write(Path(page), Path(folder))
+        case ["run", page, folder]:
+            run(Path(page), Path(folder))
         case _:
             raise SystemExit(__doc__)
 

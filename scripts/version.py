@@ -1,11 +1,9 @@
 #!/usr/bin/env python3
-"""Sets the version everywhere: scripts/version.py X.Y.Z. Without an argument it compares each place with VERSION.
-
-It fails if a file that git knows says "until version N", and this version is not before N.
+"""Sets the version everywhere: scripts/version.py X.Y.Z. Without an argument it compares each place with VERSION, and the
+newest version of CHANGELOG.md.
 """
 
 import re
-import subprocess
 import sys
 from pathlib import Path
 
@@ -21,38 +19,31 @@ def places(version: str) -> list[tuple[str, str, str]]:
     return [
         ("VERSION", r"\A(.*)\n\Z", version),
         ("rust/Cargo.toml", r'(?m)^version = "(.*)"$', version),
+        ("command/Cargo.toml", r'(?m)^version = "(.*)"$', version),
+        ("command/Cargo.toml", r'(?m)^base62 = .* version = "(.*)" }$', version),
         ("js/package.json", r'(?m)^  "version": "(.*)",$', version),
-        ("crates/base62_c/src/lib.rt", r"(?m)^const VERSION_NUMBER: u32 = (.*);$", number),
         *(("c/base62.h", rf"(?m)^#define BASE62_VERSION{name} (.*)$", value) for name, value in macros.items()),
         ("c/README.md", r"(?m)^find_package\(base62 (.*) CONFIG REQUIRED\)$", major),
         ("c/README.md", r"such as `BASE62_(\d+)`", major),
-        ("crates/base62/CALLING.md", r"(?i)until version (\d+)", str(int(major) + 1)),
     ]
 
 
-def outdated(version: str) -> list[str]:
-    """The lines of other files that say what holds until this version, or one before it."""
-    grep = ["git", "grep", "-noiE", r"\buntil version [0-9]+(\.[0-9]+)*", "--", ".", *(f":!{name}" for name, _, _ in places(version))]
-    found = subprocess.run(grep, cwd=TOP, stdout=subprocess.PIPE, text=True)
-    if found.returncode > 1:
-        raise SystemExit("git grep fails")
-    return [line for line in found.stdout.splitlines() if numbers(line.rpartition(" ")[2]) <= numbers(version)]
+def main(arguments: list[str]) -> None:
+    version = arguments[0] if arguments else (TOP / "VERSION").read_bytes().decode().removesuffix("\n")
+    if len(arguments) > 1 or not re.fullmatch(VERSION, version):
+        raise SystemExit(f"{' '.join(arguments) or version!r} is not a version X.Y.Z of numbers")
+    texts = {name: (TOP / name).read_bytes().decode() for name, _, _ in places(version)}
+    for name, pattern, value in places(version):
+        matches = list(re.finditer(pattern, texts[name]))
+        if len(matches) != 1 or not arguments and matches[0][1] != value:
+            raise SystemExit(f"{name} has no version, or another one than VERSION: {pattern}")
+        texts[name] = texts[name][: matches[0].start(1)] + value + texts[name][matches[0].end(1) :]
+    newest = re.search(r"(?m)^## (.*), \d{4}-\d\d-\d\d$", (TOP / "CHANGELOG.md").read_text())
+    if not arguments and (not newest or newest[1] != version):
+        raise SystemExit(f"CHANGELOG.md does not begin with version {version} and its date")
+    for name, text in texts.items() if arguments else ():
+        (TOP / name).write_bytes(text.encode())
 
 
-def numbers(version: str) -> list[int]:
-    return [int(number) for number in version.split(".")]
-
-
-given = sys.argv[1:] or [(TOP / "VERSION").read_bytes().decode().removesuffix("\n")]
-if len(given) > 1 or not re.fullmatch(VERSION, given[0]):
-    raise SystemExit(f"{' '.join(given)!r} is no version X.Y.Z of numbers")
-texts = {name: (TOP / name).read_bytes().decode() for name, _, _ in places(given[0])}
-for name, pattern, wanted in places(given[0]):
-    found = list(re.finditer(pattern, texts[name]))
-    if len(found) != 1 or not sys.argv[1:] and found[0][1] != wanted:
-        raise SystemExit(f"{name} has no version, or another one than VERSION: {pattern}")
-    texts[name] = texts[name][: found[0].start(1)] + wanted + texts[name][found[0].end(1) :]
-if lines := outdated(given[0]):
-    raise SystemExit("\n".join([f"version {given[0]} has come:", *lines]))
-for name, text in texts.items() if sys.argv[1:] else ():
-    (TOP / name).write_bytes(text.encode())
+if __name__ == "__main__":
+    main(sys.argv[1:])

@@ -22,11 +22,7 @@
 #define MAX_SHOWN 40
 
 /* PostgreSQL has an error code for each kind. */
-typedef enum {
-    INVALID_TEXT,
-    OUT_OF_RANGE,
-    INVALID_PARAMETER
-} error_kind;
+typedef enum { INVALID_TEXT, OUT_OF_RANGE, INVALID_PARAMETER } error_kind;
 
 /* The message is a string in English, of printable ASCII. Of the bytes of a value each may take four characters. */
 typedef struct {
@@ -39,7 +35,8 @@ typedef struct {
 #ifdef __GNUC__
 __attribute__((__format__(__printf__, 3, 4)))
 #endif
-static inline bool fail_with(call_error *error, error_kind kind, const char *format, ...) {
+static inline bool
+fail_with(call_error *error, error_kind kind, const char *format, ...) {
     va_list values;
     error->kind = kind;
     va_start(values, format);
@@ -51,9 +48,9 @@ static inline bool fail_with(call_error *error, error_kind kind, const char *for
 static inline bool fail_with_status(call_error *error, base62_status status, base62_bad_byte bad) {
     char message[BASE62_MAX_ERROR_MESSAGE];
     size_t length = base62_error_message(status, bad, message, sizeof message);
-    error_kind kind = status == BASE62_OVERFLOW          ? OUT_OF_RANGE
+    error_kind kind = status == BASE62_OVERFLOW             ? OUT_OF_RANGE
                       : status == BASE62_REPEATED_CHARACTER ? INVALID_PARAMETER
-                                                         : INVALID_TEXT;
+                                                            : INVALID_TEXT;
     return fail_with(error, kind, "%.*s", (int)length, message);
 }
 
@@ -80,8 +77,7 @@ static inline bool create_alphabet(const char *characters, size_t length, base62
     base62_bad_byte bad = {0, 0};
     base62_status status = BASE62_OK;
     bool ascii = true;
-    for (size_t i = 0; i < length; i++)
-        ascii = ascii && (unsigned char)characters[i] < 128;
+    for (size_t i = 0; i < length; i++) ascii = ascii && (unsigned char)characters[i] < 128;
     if (!ascii)
         fail_with(error, INVALID_PARAMETER, "the alphabet has a non-ASCII character");
     else if (memchr(characters, '\0', length) != NULL)
@@ -95,16 +91,15 @@ static inline bool create_alphabet(const char *characters, size_t length, base62
     return show(error, "'", characters, length);
 }
 
-static inline bool number_of_int64(int64_t value, base62_number *number, call_error *error) {
+static inline bool number_of_bigint(int64_t value, base62_number *number, call_error *error) {
     *number = base62_from_u64((uint64_t)value);
     return value >= 0 || fail_with(error, OUT_OF_RANGE, "the number is negative: %lld", (long long)value);
 }
 
 /* Returns whether the number is below 2^63, and if so writes it. */
-static inline bool int64_of_number(base62_number number, int64_t *value) {
+static inline bool bigint_of_number(base62_number number, int64_t *value) {
     uint64_t low;
-    if (base62_to_u64(number, &low) != BASE62_OK || low > INT64_MAX)
-        return false;
+    if (base62_to_u64(number, &low) != BASE62_OK || low > INT64_MAX) return false;
     *value = (int64_t)low;
     return true;
 }
@@ -115,8 +110,8 @@ static inline bool check_width(int64_t width, call_error *error) {
 }
 
 /* What distinguishes functions that share code. Those with CANONICAL or FIXED decode only canonical strings or those of
- * a width, and those with FIXED encode at a width. Those with TRY store no error of a string. */
-enum { CANONICAL = 1, FIXED = 2, TRY = 4, OF_UUID = 8, LAST = 16 };
+ * a width, and those with FIXED encode at a width, with KEY at that of a key. Those with TRY store no error of a string. */
+enum { CANONICAL = 1, FIXED = 2, KEY = 4 | FIXED, TRY = 8, OF_UUID = 16, LAST = 32 };
 
 /* A string to decode. Only FIXED has a width. */
 typedef struct {
@@ -150,15 +145,21 @@ static inline bool encode_width(const base62_alphabet *alphabet, base62_number n
 #ifdef __GNUC__
 __attribute__((__cold__, __noinline__))
 #endif
-static void reject(const encoded *given, base62_status status, base62_bad_byte bad, const char *wider,
-                   call_error *error) {
-    const char *form = given->flags & FIXED ? "_fixed" : given->flags & CANONICAL ? "_canonical" : "";
-    if (given->flags & TRY)
-        return;
-    if (wider == NULL)
-        fail_with_status(error, status, bad);
+static void
+reject(const encoded *given, base62_status status, base62_bad_byte bad, const char *wider, call_error *error) {
+    int flags = given->flags;
+    if (flags & TRY) return;
+    if (wider != NULL)
+        fail_with(error, OUT_OF_RANGE, "the number is 2^63 or more; use %s%s", wider,
+                  (flags & KEY) == KEY ? "_key"
+                  : flags & FIXED      ? "_fixed"
+                  : flags & CANONICAL  ? "_canonical"
+                                       : "");
+    else if (status == BASE62_WRONG_LENGTH)
+        fail_with(error, INVALID_TEXT, "Encoded input has %lu byte%s, not %u", (unsigned long)given->length,
+                  given->length == 1 ? "" : "s", (unsigned)given->width);
     else
-        fail_with(error, OUT_OF_RANGE, "the number is 2^63 or more; use %s%s", wider, form);
+        fail_with_status(error, status, bad);
     show(error, "'", given->text, given->length);
 }
 
@@ -172,17 +173,15 @@ static inline bool decode_text(const encoded *given, base62_number *number, call
         status = CALL_WITH(given->alphabet, base62_decode_canonical, text, given->length, number, &bad);
     else
         status = CALL_WITH(given->alphabet, base62_decode, text, given->length, number, &bad);
-    if (status != BASE62_OK)
-        reject(given, status, bad, NULL, error);
+    if (status != BASE62_OK) reject(given, status, bad, NULL, error);
     return status == BASE62_OK;
 }
 
 /* Decodes a number below 2^63. */
-static inline bool decode_int64(const encoded *given, const char *wider, int64_t *value, call_error *error) {
+static inline bool decode_to_bigint(const encoded *given, const char *wider, int64_t *value, call_error *error) {
     base62_number number;
-    bool decoded = decode_text(given, &number, error), fits = decoded && int64_of_number(number, value);
-    if (decoded && !fits)
-        reject(given, BASE62_OVERFLOW, (base62_bad_byte){0, 0}, wider, error);
+    bool decoded = decode_text(given, &number, error), fits = decoded && bigint_of_number(number, value);
+    if (decoded && !fits) reject(given, BASE62_OVERFLOW, (base62_bad_byte){0, 0}, wider, error);
     return fits;
 }
 
@@ -196,11 +195,9 @@ static inline bool range_of_prefix(const base62_alphabet *alphabet, const char *
 }
 
 /* The first or the last number of the range that is below 2^63. Returns whether there is one. */
-static inline bool int64_bound(base62_range range, bool last, int64_t *value) {
-    if (!int64_of_number(range.least, value))
-        return false;
-    if (last && !int64_of_number(range.greatest, value))
-        *value = INT64_MAX;
+static inline bool bigint_bound(base62_range range, bool last, int64_t *value) {
+    if (!bigint_of_number(range.least, value)) return false;
+    if (last && !bigint_of_number(range.greatest, value)) *value = INT64_MAX;
     return true;
 }
 

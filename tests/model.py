@@ -1,6 +1,4 @@
 #!/usr/bin/env python3
-# SPDX-License-Identifier: MIT
-# Copyright (c) 2026 the maintainers of base62 for Rattle
 """What each call has to return, by integers, and the file of such values that the tests of every language read.
 
     python3 tests/model.py    writes tests/values.tsv
@@ -23,7 +21,7 @@ HEAD = r"""
 # 126, each % and each \ is % and two hexadecimal digits. An empty text is an empty field.
 #
 #   alphabet  NAME  LETTERS  ASCII  ASCENDING  62 letters; 1 or 0: all are ASCII; each is greater than the one before it
-#   repeated  LETTERS  BYTE  INDEX             62 bytes that are no alphabet: the first repeated byte, and its index
+#   repeated  LETTERS  BYTE  INDEX             62 bytes that are not an alphabet: the first repeated byte, and its index
 #   encode    ALPHABET  NUMBER  TEXT           the canonical text: encoding returns it, and both decodings accept it
 #   zeros     ALPHABET  TEXT  NUMBER           decoding returns the number; canonical decoding rejects a leading zero
 #   refused   ALPHABET  TEXT  FAULT            both decodings reject the text with this error
@@ -32,19 +30,19 @@ HEAD = r"""
 #   exact     ALPHABET  WIDTH  TEXT  RESULT    what decoding returns that accepts only texts of WIDTH letters
 #   range     ALPHABET  WIDTH  PREFIX  RANGE   the numbers whose texts of WIDTH letters begin with the prefix
 #   uuid      NUMBER  UUID  TEXT               the number as a UUID, and its canonical standard text
-#   form      STRING  UUID | none              a string that stands for a UUID, in lowercase with hyphens, or for none
+#   form      STRING  UUID | none              a string, and the UUID that it stands for, in lowercase with hyphens
 #   message   TEXT  FAULT                      the text of an error, but that Rust has another one for overflow
 #
 # FAULT  empty | overflow | byte BYTE INDEX
 #        in messages also: zero (a leading one) | narrow (a buffer is too small) | none (no text has the prefix) |
-#        length (is not the width) | uuid (a string is none) | repeated BYTE INDEX (in an alphabet)
+#        length (is not the width) | uuid (a string is none) | wide (2^64 or more) | repeated BYTE INDEX (in an alphabet)
 # RESULT number NUMBER | length | FAULT
 # RANGE  numbers LEAST GREATEST | none | byte BYTE INDEX
 #
 # tests/test_coverage.py checks what occurs. Alphabets are of ASCII and not, and ascend and do not. Over each one there
-# are numbers from 0 to 2^128 - 1, texts and prefixes of each length, each byte that is no letter, and one at each index.
-# Over the standard one each power of 2 and of 62 has its neighbours, and each letter is in each place. A repeated letter
-# has each index, and a message each byte.
+# are numbers from 0 to 2^128 - 1, texts and prefixes of each length, each byte that is not a letter, and one at each
+# index, also of a key. Over the standard one each power of 2 and of 62 has its neighbours, and each letter is in each
+# place. A repeated letter has each index, and a message each byte.
 #
 # The count of a number's digits is the length of its canonical text. An index or a width may be 2^32 - 1 or more: not
 # every machine, and not every call, takes it.
@@ -73,7 +71,7 @@ LETTERS = {
 
 
 def first_repeat(letters: bytes) -> tuple[int, int]:
-    """The first byte that also stands at an earlier index, and its index."""
+    """The first byte that is also at an earlier index, and its index."""
     return next((byte, index) for index, byte in enumerate(letters) if byte in letters[:index])
 
 
@@ -98,9 +96,8 @@ def value(letters: bytes, text: bytes) -> int:
 
 
 def first_bad(letters: bytes, text: bytes) -> Result | None:
-    """The first byte that is no letter."""
-    found = ((byte, index) for index, byte in enumerate(text) if byte not in letters)
-    return next((("byte", *named) for named in found), None)
+    """The first byte that is not a letter."""
+    return next((("byte", byte, index) for index, byte in enumerate(text) if byte not in letters), None)
 
 
 def decoded(letters: bytes, text: bytes) -> Result:
@@ -123,10 +120,10 @@ def decoded(letters: bytes, text: bytes) -> Result:
 
 
 def decoded_canonical(letters: bytes, text: bytes) -> Result:
-    """The same, where a needless zero is a fault."""
-    answer = decoded(letters, text)
-    needless = len(text) > 1 and text.startswith(letters[:1])
-    return ("zero",) if answer[0] == "number" and needless else answer
+    """The same, where a leading zero is a fault."""
+    result = decoded(letters, text)
+    has_leading_zero = len(text) > 1 and text.startswith(letters[:1])
+    return ("zero",) if result[0] == "number" and has_leading_zero else result
 
 
 def decoded_fixed(letters: bytes, width: int, text: bytes) -> Result:
@@ -148,8 +145,7 @@ def range_of(letters: bytes, width: int, prefix: bytes) -> Result:
 
 def escaped(byte: int) -> str:
     """A byte as a fault shows it."""
-    own = {9: "\\t", 10: "\\n", 13: "\\r", 34: '\\"', 39: "\\'", 92: "\\\\"}
-    return own.get(byte) or (chr(byte) if 32 <= byte <= 126 else f"\\x{byte:02x}")
+    return ("\\" if byte in b"'\"" else "") + chr(byte).encode("unicode_escape").decode()
 
 
 MESSAGES = {
@@ -160,6 +156,7 @@ MESSAGES = {
     "none": "No string of this width begins with the prefix",
     "length": "Encoded input does not have the given width",
     "uuid": "Not a UUID",
+    "wide": "Number is 2^64 or more",
     "byte": "Encoded input contains the invalid byte b'{}' at index {}",
     "repeated": "Alphabet repeats the byte b'{}' at index {}",
 }
@@ -334,7 +331,7 @@ KNOWN_FORMS = {
 }
 # A manual has some of these too, and Python takes many.
 KNOWN_NO_UUIDS = """
-    1337 {} - urn:uuid: uuid: 0x1337 f81d4fae-7dec-11d0-a765 00000000-0000-0000-0000-00000000000g
+    1337 {} - urn:uuid urn:uuid: uuid: 0x1337 f81d4fae-7dec-11d0-a765 00000000-0000-0000-0000-00000000000g
     1234567812345678123456781234567 123456781234567812345678123456780 12345678123456781234567812345678-
     -12345678123456781234567812345678 1-2345678123456781234567812345678 12345678-123456781234567812345678
     12345678--1234-5678-1234-567812345678 123456781234-5678-1234-567812345678 12345678-1234-5678-1234567812345678
@@ -382,18 +379,18 @@ def check_model() -> None:
         assert decoded(STANDARD, text) == decoded_canonical(STANDARD, text) == fault, text
     for number, width, filled in KNOWN_FIXED:
         assert fixed_text(STANDARD, number, width) == filled, (number, width)
-    for width, text, answer in KNOWN_EXACT:
-        assert decoded_fixed(STANDARD, width, text) == answer, (width, text)
-    for width, prefix, answer in KNOWN_RANGES:
-        assert range_of(STANDARD, width, prefix) == answer, (width, prefix)
+    for width, text, result in KNOWN_EXACT:
+        assert decoded_fixed(STANDARD, width, text) == result, (width, text)
+    for width, prefix, result in KNOWN_RANGES:
+        assert range_of(STANDARD, width, prefix) == result, (width, prefix)
     assert range_of(ALTERNATIVE, 2, b"l") == ("numbers", 1302, 1363)
     for number, name in KNOWN_UUIDS:
         assert uuid.UUID(name).int == number, name
-    for string, of in forms():
+    for string, name in forms():
         # Python knows urn:uuid: in lowercase only.
-        assert of is None or uuid.UUID(string.lower()) == uuid.UUID(of), string
-    for said, fault in KNOWN_MESSAGES:
-        assert message(fault) == said, fault
+        assert name is None or uuid.UUID(string.lower()) == uuid.UUID(name), string
+    for text_of_fault, fault in KNOWN_MESSAGES:
+        assert message(fault) == text_of_fault, fault
     assert first_repeat(b"a" * 62) == (97, 1)
     assert first_repeat(STANDARD[:-1] + b"7") == (55, 61)
 
@@ -415,10 +412,10 @@ def numbers() -> list[int]:
     """Each power of 62 and of 2 with its neighbours, letters at each place, and others."""
     centers = [62**power for power in range(22)] + [2**power for power in range(129)]
     near = [center + beside for center in centers for beside in (-1, 0, 1)]
-    # In these 62 texts of 20 or 21 letters each letter stands at each place, counted from the end.
+    # In these 62 texts of 20 or 21 letters each letter is at each place, counted from the end.
     turned = [sum((place * 7 + turn) % 62 * 62**place for place in range(21)) for turn in range(62)]
-    found = [number for number, *_ in KNOWN_NUMBERS + KNOWN_UUIDS] + near + turned + drawn(256, "numbers")
-    return list(dict.fromkeys(number for number in found if number <= LARGEST))
+    known = [number for number, *_ in KNOWN_NUMBERS + KNOWN_UUIDS]
+    return list(dict.fromkeys(n for n in known + near + turned + drawn(256, "numbers") if n <= LARGEST))
 
 
 def some_numbers(step: int) -> list[int]:
@@ -428,17 +425,17 @@ def some_numbers(step: int) -> list[int]:
 
 
 def over(letters: bytes, text: bytes) -> bytes:
-    """A standard text in the letters of another alphabet. Its other bytes become ones that are no letters there."""
+    """A standard text in the letters of another alphabet. Its other bytes become bytes that are not letters there."""
     others = [byte for byte in range(256) if byte not in letters]
     at_others = [byte for byte in range(256) if byte not in STANDARD]
     return text.translate(bytes.maketrans(STANDARD + bytes(at_others), letters + bytes(others)))
 
 
 def refused_texts() -> Iterator[bytes]:
-    """Standard texts with a byte that is no letter, and texts of numbers that are too large."""
+    """Standard texts with a byte that is not a letter, and texts of numbers that are too large."""
     no_letters = [byte for byte in range(256) if byte not in STANDARD]
     turn = 0
-    # In these each such byte stands somewhere, and one stands at each place of each length.
+    # In these each such byte is somewhere, and one is at each place of each length.
     for length in range(1, 24):
         for place in range(length):
             text = bytearray(b"z1Z"[turn % 3 : turn % 3 + 1] * length)
@@ -491,14 +488,14 @@ def rows_of_alphabets() -> Iterator[Row]:
 
 
 def rows_of_repeats() -> Iterator[tuple[str, bytes, int, int]]:
-    """Letters of which one stands again at each index."""
+    """Letters of which one is repeated at each index."""
     chosen = [b"a" * 62, b"\0" * 62, bytes(range(31)) * 2, STANDARD[:-2] + b"zz"]
     for later in range(1, 62):
         letters = bytearray([*LETTERS.values()][later % len(LETTERS)])
         letters[later] = letters[later * later % 62 % later]
         chosen.append(bytes(letters))
-    for each in chosen:
-        yield "repeated", each, *first_repeat(each)
+    for repeating in chosen:
+        yield "repeated", repeating, *first_repeat(repeating)
 
 
 def rows_of_texts(alphabet: str, step: int) -> Iterator[Row]:
@@ -512,9 +509,9 @@ def rows_of_texts(alphabet: str, step: int) -> Iterator[Row]:
     for text, number in KNOWN_ZEROS:
         yield "zeros", alphabet, over(letters, text), number
     for text in (over(letters, text) for text in ([text for text, _ in KNOWN_REFUSED] + [*refused_texts()])):
-        answer = decoded(letters, text)
-        assert answer[0] != "number", text
-        yield "refused", alphabet, text, *answer
+        result = decoded(letters, text)
+        assert result[0] != "number", text
+        yield "refused", alphabet, text, *result
 
 
 def rows_of_widths(alphabet: str, step: int) -> Iterator[Row]:
@@ -533,9 +530,11 @@ def rows_of_widths(alphabet: str, step: int) -> Iterator[Row]:
 
 
 def rows_of_exact(alphabet: str, step: int) -> Iterator[Row]:
-    """Texts at their own length, and at widths beside it."""
+    """Texts at their own length, and at widths beside it. Of keys one has a bad byte at each index."""
     letters = LETTERS[alphabet]
+    largest = text_of(STANDARD, LARGEST)
     pairs = [(width, text) for width, text, _ in KNOWN_EXACT]
+    pairs += [(KEY, largest[:index] + b"-" + largest[index + 1 :]) for index in range(KEY)]
     for text in [text_of(STANDARD, number) for number in some_numbers(2 * step)] + [*refused_texts()][:: 2 * step]:
         padded = text.rjust(KEY, b"0")
         pairs += [(len(text) + beside, text) for beside in (-1, 0, 1)] + [(KEY, text), (len(padded), padded)]
@@ -579,10 +578,10 @@ def rows() -> Iterator[Row]:
     yield from rows_of_messages()
 
 
-def field(of: str | int | bytes) -> str:
-    if not isinstance(of, bytes):
-        return str(of)
-    return "".join(chr(byte) if 33 <= byte <= 126 and byte not in b"%\\" else f"%{byte:02X}" for byte in of)
+def field(value: str | int | bytes) -> str:
+    if not isinstance(value, bytes):
+        return str(value)
+    return "".join(chr(byte) if 33 <= byte <= 126 and byte not in b"%\\" else f"%{byte:02X}" for byte in value)
 
 
 def main() -> None:

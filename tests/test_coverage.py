@@ -12,7 +12,7 @@ FILE = Path(__file__).with_name("values.tsv")
 LINES = FILE.read_text("ascii").splitlines()
 ROWS = [line.split("\t") for line in LINES if not line.startswith("#")]
 LARGEST = 2**128 - 1
-FAULTS = {"empty", "overflow", "byte", "zero", "narrow", "none", "length", "uuid", "repeated"}
+FAULTS = {"empty", "overflow", "byte", "zero", "narrow", "none", "length", "uuid", "wide", "repeated"}
 
 
 def rows(kind: str, *first: str) -> list[list[str]]:
@@ -25,9 +25,9 @@ ALPHABETS = {name: unquote_to_bytes(letters) for name, letters, *_ in rows("alph
 
 
 class Coverage(unittest.TestCase):
-    def has(self, wanted: Iterable[Any], found: Iterable[Any], of: str = "") -> None:
-        missing = set(wanted) - set(found)
-        self.assertEqual(len(missing), 0, f"{of}: {sorted(missing)[:5]} are missing")
+    def has(self, wanted: Iterable[Any], values: Iterable[Any], alphabet: str = "") -> None:
+        missing = set(wanted) - set(values)
+        self.assertEqual(len(missing), 0, f"{alphabet}: {sorted(missing)[:5]} are missing")
 
     def test_kinds(self) -> None:
         """The kinds of the head, each with rows, and no row twice."""
@@ -37,11 +37,11 @@ class Coverage(unittest.TestCase):
 
     def test_alphabets(self) -> None:
         flags = set()
-        for name, _, *told in rows("alphabet"):
+        for name, _, *properties in rows("alphabet"):
             letters = ALPHABETS[name]
             self.assertEqual((len(letters), len({*letters})), (62, 62), name)
-            self.assertEqual(told, [str(int(it)) for it in (letters.isascii(), bytes(sorted(letters)) == letters)])
-            flags.add("".join(told))
+            self.assertEqual(properties, [f"{letters.isascii():d}", f"{bytes(sorted(letters)) == letters:d}"])
+            flags.add("".join(properties))
         self.has(["00", "01", "10", "11"], flags)
         self.has([0, 127, 128, 255], b"".join(ALPHABETS.values()))
         self.has(map(str, range(1, 62)), [index for _, _, index in rows("repeated")])
@@ -77,9 +77,12 @@ class Coverage(unittest.TestCase):
             self.has([(width, zeros) for width in range(2, 23) for zeros in (0, 1)], fixed, name)
             narrow = [(int(width), length.get(number, 0) - int(width)) for number, width in rows("narrow", name)]
             self.has([(width, 1) for width in range(22)], narrow, name)
-            exact = [(int(width), len(unquote_to_bytes(text)), word) for width, text, word, *_ in rows("exact", name)]
-            self.has([(length + more, length) for length in range(1, 23) for more in (-1, 0, 1)], [it[:2] for it in exact], name)
-            self.has(["number", "length", "byte", "overflow"], [word for width, _, word in exact if width == 22], name)
+            exact = rows("exact", name)
+            lengths = [(int(width), len(unquote_to_bytes(text))) for width, text, *_ in exact]
+            self.has([(length + more, length) for length in range(1, 23) for more in (-1, 0, 1)], lengths, name)
+            of_keys = [result for width, _, *result in exact if width == "22"]
+            self.has(["number", "length", "byte", "overflow"], [word for word, *_ in of_keys], name)
+            self.has(map(str, range(22)), [result[2] for result in of_keys if result[0] == "byte"], name)
             ranges = rows("range", name)
             self.has(["numbers", "none", "byte"], [kind for _, _, kind, *_ in ranges], name)
             self.has(map(str, [0, 1, 11, 21, 22, 23, 2**32 - 1]), [width for width, *_ in ranges], name)
@@ -97,13 +100,13 @@ class Coverage(unittest.TestCase):
     def test_forms(self) -> None:
         """Strings for a UUID, and for none, begin in each way. Some of these have one brace, or a control character."""
         for front in ("{", "urn:uuid:", "1"):
-            self.assertEqual({name == "none" for it, name in rows("form") if it.startswith(front)}, {False, True}, front)
-        self.assertTrue(any(it.startswith("URN:UUID:") for it, name in rows("form") if name != "none"))
-        others = [unquote_to_bytes(it) for it, name in rows("form") if name == "none"]
-        braces = {(len(it), it.startswith(b"{"), it.endswith(b"}")) for it in others}
+            self.assertEqual({uuid == "none" for string, uuid in rows("form") if string.startswith(front)}, {False, True}, front)
+        self.assertTrue(any(string.startswith("URN:UUID:") for string, uuid in rows("form") if uuid != "none"))
+        others = [unquote_to_bytes(string) for string, uuid in rows("form") if uuid == "none"]
+        braces = {(len(string), string.startswith(b"{"), string.endswith(b"}")) for string in others}
         self.has([(length, first, not first) for length in (34, 38) for first in (True, False)], braces)
         # Digits, the hyphen and the colon without bit 32, letters without bit 64, and the brackets beside the braces.
-        self.has([*range(0x10, 0x1B), 0x0D, *(ord(it) ^ 64 for it in "URNIDABCEF"), *b"[]"], b"".join(others))
+        self.has([*range(0x10, 0x1B), 0x0D, *(ord(letter) ^ 64 for letter in "URNIDABCEF"), *b"[]"], b"".join(others))
 
 
 if __name__ == "__main__":

@@ -7,13 +7,15 @@
 import subprocess
 import sys
 import tempfile
-import uuid
-from collections.abc import Callable
 from pathlib import Path
 
 ROWS = [line.split("\t") for line in Path(__file__).with_name("values.tsv").read_text().splitlines()]
-STANDARD = "0123456789ABCDEFGHIJKLMNOPQRSTUVWXYZabcdefghijklmnopqrstuvwxyz"
 # Each prints, for each number of a line, its string, and the number that this decodes to.
+GMPY2 = """import gmpy2, sys
+for line in sys.stdin:
+    text = gmpy2.digits(int(line), 62)
+    print(text, gmpy2.mpz(text, 62))
+"""
 GO = """package main
 
 import ("bufio"; "fmt"; "math/big"; "os")
@@ -32,58 +34,32 @@ for (const line of require('fs').readFileSync(0, 'ascii').trim().split('\\n')) {
   console.log(text, base62.decode(text));
 }
 """
-RUBY = """require 'base62'
-ARGF.each_line do |line|
-  text = Base62.encode(line.to_i)
-  puts "#{text} #{Base62.decode(text)}"
-end
+RUBY = 'text = Base62.encode($_.to_i); puts "#{text} #{Base62.decode(text)}"'
+SHORTUUID = """import shortuuid, string, sys, uuid
+keys = shortuuid.ShortUUID(alphabet=string.digits + string.ascii_uppercase + string.ascii_lowercase)
+for line in sys.stdin:
+    text = keys.encode(uuid.UUID(int=int(line)))
+    print(text, keys.decode(text).int)
 """
-
-
-def ran(command: list[str], name: str, program: str, numbers: list[int]) -> list[str]:
-    """What a program prints of numbers."""
-    with tempfile.TemporaryDirectory() as folder:
-        file = Path(folder, name)
-        file.write_text(program)
-        return subprocess.run(
-            [*command, file],
-            input="".join(f"{n}\n" for n in numbers),
-            env={"HOME": folder, "PATH": "/usr/bin:/bin"},
-            check=True,
-            capture_output=True,
-            text=True,
-        ).stdout.splitlines()
-
-
-def gmpy2(numbers: list[int]) -> list[str]:
-    import gmpy2  # type: ignore[import-not-found, import-untyped, unused-ignore]
-
-    return [f"{gmpy2.digits(n, 62)} {gmpy2.mpz(gmpy2.digits(n, 62), 62)}" for n in numbers]
-
-
-def shortuuid(numbers: list[int]) -> list[str]:
-    import shortuuid  # type: ignore[import-not-found, import-untyped, unused-ignore]
-
-    keys = shortuuid.ShortUUID(alphabet=STANDARD)
-    return [f"{text} {keys.decode(text).int}" for text in (keys.encode(uuid.UUID(int=n)) for n in numbers)]
-
-
-# The code, its alphabet, the end of the numbers that it takes, and the width of its strings.
-OTHERS: dict[str, tuple[Callable[[list[int]], list[str]], str, int, int]] = {
-    "gmpy2": (gmpy2, "standard", 2**128, 0),
-    "go": (lambda numbers: ran(["go", "run"], "main.go", GO, numbers), "alternative", 2**128, 0),
-    "node-base62": (lambda numbers: ran(["node"], "main.js", NODE, numbers), "alternative", 2**53, 0),
-    "ruby-base62": (lambda numbers: ran(["ruby"], "main.rb", RUBY, numbers), "standard", 2**128, 0),
-    "shortuuid": (shortuuid, "standard", 2**128, 22),
+# The command, the alphabet, the end of the numbers that it takes, and the width of its strings.
+OTHERS: dict[str, tuple[list[str], str, int, int]] = {
+    "gmpy2": (["python3", "-c", GMPY2], "standard", 2**128, 0),
+    "go": (["go", "run", "main.go"], "alternative", 2**128, 0),
+    "node-base62": (["node", "-e", NODE], "alternative", 2**53, 0),
+    "ruby-base62": (["ruby", "-rbase62", "-ne", RUBY], "standard", 2**128, 0),
+    "shortuuid": (["python3", "-c", SHORTUUID], "standard", 2**128, 22),
 }
 
 
 def main(name: str) -> None:
-    call, alphabet, end, width = OTHERS[name]
-    texts = {int(row[2]): row[3].rjust(width, "0") for row in ROWS if row[:2] == ["encode", alphabet]}
-    texts = {n: text for n, text in texts.items() if n < end}
+    command, alphabet, end, width = OTHERS[name]
+    texts = {row[2]: row[3].rjust(width, "0") for row in ROWS if row[:2] == ["encode", alphabet] and int(row[2]) < end}
     assert len(texts) > 100
-    if call([*texts]) != [f"{text} {n}" for n, text in texts.items()]:
+    with tempfile.TemporaryDirectory() as folder:
+        Path(folder, "main.go").write_text(GO)
+        environment = {"HOME": folder, "PATH": "/usr/bin:/bin"}
+        printed = subprocess.check_output(command, cwd=folder, env=environment, input="\n".join(texts), text=True)
+    if printed.splitlines() != [f"{text} {number}" for number, text in texts.items()]:
         raise SystemExit(f"{name} has other strings than those of the {alphabet} alphabet")
     print(f"{name}: {len(texts)} strings are those of the {alphabet} alphabet")
 

@@ -6,7 +6,7 @@ Each of these files is a list. A line that begins with "==" says where the lines
     == contract NAME, ..            before the definition of each function, as clauses in /*@ .. */
     == in NAME before TEXT          before the only line of that function that contains the text, in the same way
     == in NAME after TEXT           after it
-    == prove NAME, ..: HOW          nowhere: WP proves these functions so, by one of HOW in wp.py. The lines say why
+    == prove NAME, ..: HOW          nowhere: WP proves these functions "with tables" or "not split". The lines say why
 
 The text @end is the last line of the function. A line that begins with "//" says why, and goes in as well. Of
 several lines "==" one directly under the other, each gets the lines after the last. A text <<0..62 by 2: TEXT>> is that
@@ -21,8 +21,8 @@ import re
 FOLDER = pathlib.Path(__file__).resolve().parent
 
 # In the order in which they need each other.
-ANNOTATIONS = ("numbers faults powers digits alphabets tables readers decoder texts ranges fractions"
-               " parts writers counts encoders fixed uuids").split()
+ANNOTATIONS = "numbers faults powers digits alphabets tables readers decoder texts ranges fractions".split()
+ANNOTATIONS += "parts writers counts encoders fixed uuids".split()
 
 
 def laws():
@@ -32,12 +32,20 @@ def laws():
 
 def expanded(text):
     """A list with its repeated texts and its powers written out."""
-    text = re.sub(r"<<(\d+)\.\.(\d+)(?: by (\d+))?: (.*?)>>", lambda found: "".join(
-        found[4].replace("#", str(n)) for n in range(int(found[1]), int(found[2]) + 1, int(found[3] or 1))), text)
-    text = re.sub(r"<<(\w+(?:, \w+)+):\s(.*?)>>(?! )", lambda found: "".join(
-        found[2].replace("##", it.upper()).replace("#", it) for it in found[1].split(", ")), text, flags=re.S)
-    return re.sub(r"\b(\d+)\^(?:(\d+)\b|\((\d+) - (\d+)\))", lambda found: str(
-        int(found[1]) ** (int(found[2]) if found[2] else int(found[3]) - int(found[4]))), text)
+
+    def for_numbers(match):
+        numbers = range(int(match[1]), int(match[2]) + 1, int(match[3] or 1))
+        return "".join(match[4].replace("#", str(n)) for n in numbers)
+
+    def for_names(match):
+        return "".join(match[2].replace("##", name.upper()).replace("#", name) for name in re.split(r",\s+", match[1]))
+
+    def power(match):
+        return str(int(match[1]) ** (int(match[2] or match[3]) - int(match[4] or 0)))
+
+    text = re.sub(r"<<(\d+)\.\.(\d+)(?: by (\d+))?: (.*?)>>", for_numbers, text)
+    text = re.sub(r"<<(\w+(?:,\s+\w+)+):\s(.*?)>>(?! )", for_names, text, flags=re.S)
+    return re.sub(r"\b(\d+)\^(?:(\d+)\b|\((\d+) - (\d+)\))", power, text)
 
 
 @functools.cache
@@ -48,23 +56,23 @@ def lists():
 
 @functools.cache
 def hints():
-    """How functions of base62.c and of the laws are proved: pairs of a function and a word of HOW in wp.py."""
-    lines = [found for text in (*lists(), laws()) for found in re.findall(r"^(?:// )?== prove (.*): (.*)$", text, re.M)]
+    """How functions of base62.c and of the laws are proved: pairs of a function and how."""
+    lines = [line for text in (*lists(), laws()) for line in re.findall(r"^(?:// )?== prove (.*): (.*)$", text, re.M)]
     return {(name, how) for names, how in lines for name in names.split(", ")}
 
 
 def sections(text):
     """The places of a list, and the lines for each. A contract of several functions is one for each."""
-    found = []
+    parts = []
     for line in text.split("\n"):
         if line.startswith("=="):
-            found.append((line[2:].strip(), []))
-        elif found:
-            found[-1][1].append(line.rstrip())
-    for i, (head, body) in enumerate(found):
+            parts.append((line[2:].strip(), []))
+        elif parts:
+            parts[-1][1].append(line.rstrip())
+    for i, (head, body) in enumerate(parts):
         if head.startswith("prove "):
             continue
-        body = "\n".join(next(lines for _, lines in found[i:] if lines)).strip("\n").split("\n")
+        body = "\n".join(next(lines for _, lines in parts[i:] if lines)).strip("\n").split("\n")
         for name in head.split(", ") if head.startswith("contract ") else [head]:
             yield name if name.startswith(("after ", "in ", "contract ")) else f"contract {name}", body
 
@@ -72,52 +80,41 @@ def sections(text):
 def definitions(lines):
     """Each function's first line and last line."""
     text = "\n".join(lines)
-    head = r"^(?:static |size_t |void |base62_\w+ |uint32_t )[^=;{}]*?(\w+)\([^;{}]*\{"
-    found = re.finditer(head + r"(?:[^\n]*\}|.*?\n\})$", text, re.M | re.S)
-    return {it[1]: (text.count("\n", 0, it.start()), text.count("\n", 0, it.end())) for it in found}
+    head = r"^(?:static |int |size_t |void |base62_\w+ |uint32_t )[^=;{}]*?(\w+)\([^;{}]*\{"
+    matches = re.finditer(head + r"(?:[^\n]*\}|.*?\n\})$", text, re.M | re.S)
+    return {match[1]: (text.count("\n", 0, match.start()), text.count("\n", 0, match.end())) for match in matches}
 
 
-def comment(body, indent):
-    if len(body) == 1:
-        return [indent + "//@ " + body[0].strip()]
-    return [indent + "/*@ " + body[0].strip()] + [indent + "    " + line for line in body[1:]] + [indent + "*/"]
+def comment(body):
+    return ["/*@ " + body[0], *body[1:], "*/"]
 
 
-def clauses(body, indent):
+def clauses(body):
     """Frama-C wants each assertion in a comment of its own, but the clauses of one loop in one comment."""
     groups = []
     for line in body:
         starts = re.match(r"(assert|check|loop|ghost|//)", line)
-        if not starts and not groups:
-            raise SystemExit(f"no clause that is known: {line}")
         if not starts or (groups and starts.group(1) == "loop" and groups[-1][0].startswith("loop")):
             groups[-1].append(line)
         else:
             groups.append([line])
-    return [line for group in groups
-            for line in ([indent + group[0]] if group[0].startswith("//") else comment(group, indent))]
+    return [line for group in groups for line in (group if group[0].startswith("//") else comment(group))]
 
 
 def place(head, lines, functions):
     """The line before which a section goes, and how its lines are written."""
-    if head.startswith("after "):
-        text = head.split(None, 1)[1]
-        hits = [i for i, line in enumerate(lines) if text in line]
-        if not hits:
-            raise SystemExit(f"no such line: {head}")
-        return hits[0] + 1, lambda body: ["", *body]
-    words = head.split()
-    if words[1] not in functions:
-        raise SystemExit(f"no such function: {head}")
-    first, last = functions[words[1]]
-    if words[0] == "contract":
-        return first, lambda body: comment(body, "")
+    kind, name = head.split()[:2]
+    if kind == "after":
+        text = head.removeprefix("after ")
+        return next(i for i, line in enumerate(lines) if text in line) + 1, list
+    first, last = functions[name]
+    if kind == "contract":
+        return first, comment
     where, text = re.split(r" (before|after) ", head, maxsplit=1)[1:]
     hits = [last] if text == "@end" else [i for i in range(first, last + 1) if text in lines[i]]
     if len(hits) != 1:
         raise SystemExit(f"{len(hits)} lines: {head}")
-    indent = "    " if text == "@end" else re.match(r" *", lines[hits[0]]).group()
-    return hits[0] + (where == "after"), lambda body: clauses(body, indent)
+    return hits[0] + (where == "after"), clauses
 
 
 def annotated(source, *more):
@@ -132,6 +129,6 @@ def annotated(source, *more):
     if wrong:
         raise SystemExit("a line for the preprocessor: " + wrong[0])
     for head, body in (section for text in texts for section in sections(text)):
-        at, form = place(head, lines, functions)
-        before.setdefault(at, []).extend(form(body))
+        at, commented = place(head, lines, functions)
+        before.setdefault(at, []).extend(commented(body))
     return "\n".join(new for i, line in enumerate(lines) for new in [*before.get(i, []), line])

@@ -9,18 +9,17 @@ PATH = "/usr/bin:/bin"
 
 
 @functools.cache
-def answers(query):
+def results(query):
     """What each prover says of a query. It has to be unsat: nothing contradicts the axiom."""
     commands = ["z3", "-in"], ["cvc5", "--lang=smt2"]
     text = f"(set-logic QF_BV)\n{query}\n"
-    said = [subprocess.run(command, input=text, env={"PATH": PATH}, capture_output=True, text=True, timeout=300)
-            for command in commands]
-    return [(command[0], ran.stdout.strip()) for command, ran in zip(commands, said)]
+    settings = {"input": text, "env": {"PATH": PATH}, "capture_output": True, "text": True, "timeout": 300}
+    return [(command[0], subprocess.run(command, **settings).stdout.strip()) for command in commands]
 
 
 def wrong(tree):
     """The axioms of a tree that a prover does not prove."""
     for kind, name, query in tree:
-        if kind == "axiom":
-            yield from (f"{prover} does not prove the axiom {name}: {answer}"
-                        for prover, answer in answers(query) if answer != "unsat")
+        for prover, result in results(query) if kind == "axiom" else []:
+            if result != "unsat":
+                yield f"{prover} does not prove the axiom {name}: {result}"

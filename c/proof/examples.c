@@ -67,21 +67,22 @@ size_t index_again(base62_bad_byte bad) {
         && empty_text[31] == 'g' && overflow_text[0] == 'D' && overflow_text[30] == 'e' && no_match_text[0] == 'N'
         && no_match_text[45] == 'x' && leading_zero_text[0] == 'E' && leading_zero_text[31] == 'o'
         && wrong_length_text[0] == 'E' && wrong_length_text[42] == 'h' && invalid_uuid_text[0] == 'N'
-        && invalid_uuid_text[9] == 'D' && invalid_text[0] == 'E' && invalid_text[34] == ' '
+        && invalid_uuid_text[9] == 'D' && out_of_range_text[0] == 'N' && out_of_range_text[21] == 'e'
+        && invalid_text[0] == 'E' && invalid_text[34] == ' '
         && repeated_text[0] == 'A' && repeated_text[20] == ' ' && byte_text[0] == 'b' && byte_text[6] == '\''
         && index_text[0] == '\'' && index_text[10] == ' ';
 */
 static void ends_of_texts(void) {}
 
-/* A text is written whole, and nothing behind it, if there is room. 0 and numbers from 10 on have none. */
+/* A text is written whole, and nothing behind it, if there is room. 0 and numbers from 11 on have none. */
 /*@ requires \valid(buffer + (0 .. size - 1));
     assigns buffer[0 .. size - 1];
     ensures longest: \result <= BASE62_MAX_ERROR_MESSAGE;
-    ensures roomy: size >= BASE62_MAX_ERROR_MESSAGE && 1 <= status <= 9 ==> \result > 0;
-    ensures none: status == 0 || status > 9 ==> \result == 0;
-    ensures rejected: \result == 0 && 1 <= status <= 9 ==> size < (status == 1 ? 37 : status == 2 ? 32
+    ensures roomy: size >= BASE62_MAX_ERROR_MESSAGE && 1 <= status <= 10 ==> \result > 0;
+    ensures none: status == 0 || status > 10 ==> \result == 0;
+    ensures rejected: \result == 0 && 1 <= status <= 10 ==> size < (status == 1 ? 37 : status == 2 ? 32
         : status == 3 ? NAMED(35) : status == 4 ? 31 : status == 5 ? 46 : status == 6 ? NAMED(21) : status == 7 ? 32
-        : status == 8 ? 43 : 10);
+        : status == 8 ? 43 : status == 9 ? 10 : 22);
     ensures stays: \forall integer i; \result <= i < size ==> buffer[i] == \old(buffer[i]);
     ensures too_small: TEXT_OF(1, 37, 'B', 'r');
     ensures empty: TEXT_OF(2, 32, 'E', 'g');
@@ -92,6 +93,7 @@ static void ends_of_texts(void) {}
     ensures leading_zero: TEXT_OF(7, 32, 'E', 'o');
     ensures wrong_length: TEXT_OF(8, 43, 'E', 'h');
     ensures invalid_uuid: TEXT_OF(9, 10, 'N', 'D');
+    ensures out_of_range: TEXT_OF(10, 22, 'N', 'e');
 */
 size_t texts_by_example(base62_status status, base62_bad_byte bad, char *buffer, size_t size) {
     ends_of_texts();

@@ -97,7 +97,9 @@ static void powers_grow(size_t j, size_t k) {
     for (size_t i = j; i < k; i++) {}
 }
 
-//@ assigns \nothing; ensures power_of_62(21) < ACSL_2_128 <= power_of_62(22);
+/*@ assigns \nothing; ensures power_of_62(21) < ACSL_2_128 <= power_of_62(22);
+    ensures ten: power_of_62(10) == 839299365868340224 && shifted(839299365868340223, 12) >= ACSL_2_128;
+*/
 static void power_22(void) {}
 
 /* A text denotes no less than its first k letters followed by zeros, and less than the next such number. */
@@ -115,7 +117,7 @@ static void begins_with(const unsigned char *letters, const unsigned char *p, si
     }
 }
 
-/* n letters denote a number below 62^n, which is 62^(n - 1) or more exactly if the first is no zero. */
+/* n letters denote a number below 62^n, which is 62^(n - 1) or more exactly if the first is not a zero. */
 /*@ requires LETTERS_VALID && TEXT_VALID(p, n) && are_letters(letters, p, n) && n > 0; assigns \nothing;
     ensures below: 0 <= value(letters, p, n) < power_of_62(n);
     ensures zero: p[0] == letters[0] ==> value(letters, p, n) < power_of_62(n - 1);
@@ -216,9 +218,11 @@ static void is_decoded(const unsigned char *letters, const unsigned char *p, siz
 #define OVER const unsigned char *letters, const base62_alphabet *alphabet
 #define APART(written) \separated(written, letters + (0 .. 61)) && \separated(written, alphabet)
 
-/* The shortest text, one of as many letters as there are places, or a key. */
+/* The shortest text, one of as many letters as there are places, or a key. Calls over the alternative letters only write
+   shortest texts, and decode any. */
 typedef enum { SHORTEST, FIXED, KEY } form;
-#define FORM(size) (how == KEY ==> letters == STANDARD_LETTERS && size == BASE62_KEY_LENGTH)
+#define FORM(size) (how == KEY ==> letters == STANDARD_LETTERS && size == BASE62_KEY_LENGTH) \
+    && (how != SHORTEST ==> letters != ALTERNATIVE_LETTERS)
 
 /* An encoder writes a text of the number and nothing behind it. It fails exactly if the buffer is too small. */
 /*@ requires ALPHABET && FORM(size);
@@ -238,9 +242,7 @@ size_t encode(OVER, form how, base62_number number, char *buffer, size_t size) {
     }
     if (letters == standard_letters)
         return how == SHORTEST ? base62_encode(number, buffer, size) : base62_encode_fixed(number, buffer, size);
-    if (letters == alternative_letters)
-        return how == SHORTEST ? base62_encode_alternative(number, buffer, size)
-            : base62_encode_alternative_fixed(number, buffer, size);
+    if (letters == alternative_letters) return base62_encode_alternative(number, buffer, size);
     return how == SHORTEST ? base62_encode_with(alphabet, number, buffer, size)
         : base62_encode_fixed_with(alphabet, number, buffer, size);
 }
@@ -260,7 +262,8 @@ size_t encode(OVER, form how, base62_number number, char *buffer, size_t size) {
 #define SHOWN (length - ZEROS == 22 && shifted(value{Pre}(letters, BYTES(text), ZEROS + 10), 12) >= ACSL_2_128)
 
 /* The conditions of DECODING, one by one. All letters are accepted or overflow by their value alone. */
-/*@ requires ALPHABET && TEXT_VALID(text, length) && \valid(number) && \valid(bad);
+/*@ requires ALPHABET && (is_strict ==> letters != ALTERNATIVE_LETTERS);
+    requires TEXT_VALID(text, length) && \valid(number) && \valid(bad);
     requires \separated(number, bad, text + (0 .. length - 1)) && APART(number) && APART(bad);
     assigns *number, *bad;
     ensures empty: length == 0 ==> \result == BASE62_EMPTY_INPUT;
@@ -283,9 +286,7 @@ base62_status decode(OVER, int is_strict, const char *text, size_t length, base6
     if (letters == standard_letters)
         return is_strict ? base62_decode_canonical(text, length, number, bad)
             : base62_decode(text, length, number, bad);
-    if (letters == alternative_letters)
-        return is_strict ? base62_decode_alternative_canonical(text, length, number, bad)
-            : base62_decode_alternative(text, length, number, bad);
+    if (letters == alternative_letters) return base62_decode_alternative(text, length, number, bad);
     return is_strict ? base62_decode_canonical_with(alphabet, text, length, number, bad)
         : base62_decode_with(alphabet, text, length, number, bad);
 }
@@ -306,15 +307,12 @@ base62_status decode_fixed(OVER, form how, size_t width, const char *text, size_
     if (length == width) compute_bad_index(letters, BYTES(text), length);
     if (how == KEY) return base62_decode_key(text, length, number, bad);
     if (letters == standard_letters) return base62_decode_fixed(text, length, width, number, bad);
-    if (letters == alternative_letters) return base62_decode_alternative_fixed(text, length, width, number, bad);
     return base62_decode_fixed_with(alphabet, text, length, width, number, bad);
 }
 
-/* The calls for ranges have none over the alternative letters. */
-#define RANGES ALPHABET && FORM(width) && how != SHORTEST && letters != ALTERNATIVE_LETTERS
-
 /* A bad byte in the prefix is an error. Otherwise a range has a number, or no text begins with the prefix. */
-/*@ requires RANGES && TEXT_VALID(prefix, length) && \valid(range) && \valid(bad);
+/*@ requires ALPHABET && FORM(width) && how != SHORTEST;
+    requires TEXT_VALID(prefix, length) && \valid(range) && \valid(bad);
     requires \separated(range, bad, prefix + (0 .. length - 1)) && APART(range) && APART(bad);
     assigns *range, *bad;
     ensures rejected: \result == BASE62_INVALID_BYTE <==> bad_index{Pre}(letters, BYTES(prefix), length) < length;
@@ -390,7 +388,7 @@ void uninitialized(const base62_alphabet *alphabet, const char *text, size_t len
 static int same(base62_number a, base62_number b) { return a.high == b.high && a.low == b.low; }
 
 /* Each text decodes to its number. Canonical decoding rejects those with leading zeros. */
-/*@ requires ALPHABET && FORM(size);
+/*@ requires ALPHABET && FORM(size) && (is_strict ==> letters != ALTERNATIVE_LETTERS);
     requires \valid(buffer + (0 .. size - 1)) && APART(buffer + (0 .. size - 1));
     assigns buffer[0 .. size - 1];
     ensures \result == 1 <==> digit_count(number_of(number)) <= size
@@ -406,7 +404,7 @@ int back_again(OVER, form how, int is_strict, base62_number number, char *buffer
     return decode(letters, alphabet, is_strict, buffer, length, &again, &bad) == BASE62_OK && same(again, number);
 }
 
-/* As memcmp. */
+/* Like memcmp. */
 /*@ requires TEXT_VALID(p, n) && TEXT_VALID(q, n); assigns \nothing;
     ensures same: \result == 0 <==> are_same(BYTES(p), BYTES(q), n);
     ensures before: \result < 0 <==> sorts_before(BYTES(p), BYTES(q), n);
@@ -422,6 +420,7 @@ static int compare(const char *p, const char *q, size_t n) {
 /* For each encoder there is a decoder that accepts exactly what it writes: a text is read as a number exactly if it is
    written for this number. */
 /*@ requires ALPHABET && FORM(size) && (how == SHORTEST ==> size == BASE62_MAX_DIGITS) && TEXT_VALID(p, n);
+    requires letters != ALTERNATIVE_LETTERS;
     requires \valid(buffer + (0 .. size - 1)) && APART(buffer + (0 .. size - 1));
     requires \separated(buffer + (0 .. size - 1), p + (0 .. n - 1));
     assigns buffer[0 .. size - 1];
@@ -503,7 +502,7 @@ void is_beyond(const unsigned char *letters, const unsigned char *prefix, size_t
 }
 
 /* The numbers whose texts begin with a prefix are those from the least to the greatest, and no others. */
-/*@ requires RANGES && TEXT_VALID(prefix, length);
+/*@ requires ALPHABET && FORM(width) && how != SHORTEST && TEXT_VALID(prefix, length);
     requires \valid(places + (0 .. width - 1)) && APART(places + (0 .. width - 1));
     requires \separated(places + (0 .. width - 1), prefix + (0 .. length - 1));
     assigns places[0 .. width - 1];
@@ -548,7 +547,7 @@ base62_number number_back_again(const unsigned char *uuid, unsigned char *again)
 
 /*@ requires \valid(value);
     assigns *value;
-    ensures \result == BASE62_OK || \result == BASE62_OVERFLOW;
+    ensures \result == BASE62_OK || \result == BASE62_OUT_OF_RANGE;
     ensures \result == BASE62_OK <==> number_of(number) < ACSL_2_64;
     ensures \result == BASE62_OK ==> *value == number_of(number);
     ensures \result != BASE62_OK ==> *value == \old(*value);
@@ -583,12 +582,44 @@ void letter(unsigned d) { TEN(0) TEN(10) TEN(20) TEN(30) TEN(40) TEN(50) ONE(60)
 
 /*@ assigns \nothing; ensures standard: is_alphabet(STANDARD_LETTERS) && ascend(STANDARD_LETTERS);
     ensures alternative: is_alphabet(ALTERNATIVE_LETTERS) && !ascend(ALTERNATIVE_LETTERS);
+    ensures digits: digit(STANDARD_LETTERS, 'z') == 61 && digit(STANDARD_LETTERS, '-') >= 62;
 */
 void letters_by_example(void) {
     /*@ loop invariant 0 <= i <= 62;
         loop invariant standard: \forall integer d; 0 <= d < i ==> standard_letters[d] == LETTER(d, 'A', 'a');
         loop invariant alternative: \forall integer d; 0 <= d < i ==> alternative_letters[d] == LETTER(d, 'a', 'A');
+        loop invariant z: digit(STANDARD_LETTERS, 'z') == place_from(STANDARD_LETTERS, 'z', i < 61 ? i : 61);
+        loop invariant none: digit(STANDARD_LETTERS, '-') == place_from(STANDARD_LETTERS, '-', i);
         loop assigns i; loop variant 62 - i; */
     for (unsigned i = 0; i < 62; i++) letter(i);
     //@ assert falls: alternative_letters[10] == 'a' && alternative_letters[36] == 'A';
+}
+
+/* Each row of the table has a text: letters z, and at one index a byte that is not a letter. */
+/*@ requires n <= 24; assigns \nothing;
+    ensures empty: n == 0 ==> \result == BASE62_EMPTY_INPUT;
+    ensures long_text: n > 22 ==> \result == BASE62_OVERFLOW;
+    ensures early: n <= 22 && at < n && at < 10 ==> \result == BASE62_INVALID_BYTE;
+    ensures shown: n == 22 && 10 <= at ==> \result == BASE62_OVERFLOW;
+    ensures late: n < 22 && 10 <= at < n ==> \result == BASE62_INVALID_BYTE;
+    ensures accepted: 0 < n < 22 && n <= at ==> \result == BASE62_OK;
+*/
+base62_status rows_by_example(size_t n, size_t at) {
+    char text[24];
+    base62_number number;
+    base62_bad_byte bad;
+    /*@ loop invariant 0 <= i <= n && \forall integer j; 0 <= j < i ==> text[j] == (j == at ? '-' : 'z');
+        loop assigns i, text[0 .. n - 1]; loop variant n - i; */
+    for (size_t i = 0; i < n; i++) text[i] = i == at ? '-' : 'z';
+    letters_by_example();
+    /*@ loop invariant 0 <= i <= n && bad_index(STANDARD_LETTERS, BYTES(text), i) == (at < i ? at : i);
+        loop invariant i <= at ==> value(STANDARD_LETTERS, BYTES(text), i) == power_of_62(i) - 1;
+        loop invariant 10 <= i && 10 <= at ==> value(STANDARD_LETTERS, BYTES(text), 10) == power_of_62(10) - 1;
+        loop assigns i; loop variant n - i; */
+    for (size_t i = 0; i < n; i++) {}
+    powers_grow(n < 21 ? n : 21, 21);
+    power_22();
+    /*@ assert shown: n == 22 && 10 <= at ==> shifted(value(STANDARD_LETTERS, BYTES(text),
+            leading_zeros(STANDARD_LETTERS, BYTES(text), n) + 10), 12) >= ACSL_2_128; */
+    return base62_decode(text, n, &number, &bad);
 }

@@ -2,8 +2,10 @@
 """Changes base62.acsl in one place after the other: c/proof/mutate_specification.py [TEXTS..]
 
 Each change has to leave a law or an example without a proof. OPERATORS says what is exchanged for what, wherever it
-stands in a definition or a contract, and LAWS which laws are tried. If there are texts, it tries the changes whose line
-has one of them.
+stands in a definition or a contract. All laws are tried that name the contract or the definition, or something that
+does. So a new function is tried as soon as a law calls it, and one that no law calls is a failure. If there are texts, it
+tries the changes whose line has one of them. With the variable SHARE it tries one change in so many, without those of
+SAME, by the seed SEED.
 
 It prints the changes that leave all with a proof, but for those of SAME, and how many it tried. A goal that is false
 uses all of its time. So it has three times as long as the slowest goal of the function takes without a change, and two
@@ -12,6 +14,7 @@ seconds more. A change that Frama-C cannot read is not tried.
 
 import os
 import pathlib
+import random
 import re
 import sys
 import tempfile
@@ -21,25 +24,9 @@ import wp
 
 FAILED = "[wp] [Failed] Goal"
 
-# From this text of base62.acsl on, up to the next one: the laws that are tried, in this order.
-LAWS = {
-    "#define ACSL_2_64": "of_halves", "logic integer shifted": "power_22 begins_with shift_keeps_order",
-    "static const unsigned char standard_letters": "letter", "logic integer place_from": "compute_digit",
-    "predicate are_distinct": "makes",
-    "predicate are_entries": "",  # What a made alphabet is made of is for base62.c alone.
-    "logic integer value": "begins_with two_texts compute_leading_zeros",
-    "logic integer bad_index": "compute_bad_index", "logic integer zeros_from": "compute_leading_zeros",
-    "predicate denotes": "shortest decode", "logic integer count_from": "compute_count",
-    "predicate encodes": "encode compute_count uninitialized",
-    "logic integer decoding": "is_decoded decode decode_fixed uninitialized",
-    "logic integer least_of": "is_in_range find_range is_beyond range_is_exact uninitialized",
-    "/*@ requires \\valid_read(characters": "makes", "logic integer uuid_value": "number_back_again",
-    "static const unsigned char urn_text": wp.LEMMAS + " begins_with_urn compute_braces one_kind read_uuid write_uuid"
-    " one_text_of_uuid one_uuid escape",
-    "number_of(\\result) == value": "of_half half version", "logic integer escape_length": "escape",
-    "logic integer without_decimals": "compute_decimals index_again",
-    "logic integer byte_at_index_length": "texts_by_example ends_of_texts index_again",
-}
+# fmt: off
+# What a made alphabet is made of is for base62.c alone.
+FREE = {"are_entries", "is_made"}
 
 # What is exchanged for what in definitions and in what is ensured, and in what is required and assigned.
 OPERATORS = [
@@ -75,14 +62,14 @@ SAME = {
     r"\true && are_distinct(letters, index)", "index <= 62 && are_distinct(letters, index)",
     r": width == 0 || n > width || \false ? BASE62_NO_MATCH",
     ": width == 0 || n > width || least_of(letters, prefix, n, width) > ACSL_2_128 ? BASE62_NO_MATCH",
-    *(f"n {it} : uuid_value(uuid, n - 1) * 256 + uuid[n - 1];" for it in ("< 0 ? 0", "<= 0 ? 1")),
-    r"ensures \result == (number_of(number) <= ACSL_2_64 ? BASE62_OK : BASE62_OVERFLOW);",
+    *(f"n {bound} : uuid_value(uuid, n - 1) * 256 + uuid[n - 1];" for bound in ("< 0 ? 0", "<= 0 ? 1")),
+    r"ensures \result == (number_of(number) <= ACSL_2_64 ? BASE62_OK : BASE62_OUT_OF_RANGE);",
     "(ACSL_HAS(text, start, byte_text, 7) && ACSL_ESCAPED(text, start + (7 - 1), byte) \\",
     "ACSL_HAS(text, 1, invalid_text, 35) && ACSL_BYTE_AT_INDEX(text, 35, bad.byte, bad.index)) \\",
     "ACSL_HAS(text, 1, repeated_text, 21) && ACSL_BYTE_AT_INDEX(text, 21, bad.byte, bad.index)) \\",
     "ACSL_HAS(text, 0, repeated_text, 21) && ACSL_BYTE_AT_INDEX(text, (21 - 1), bad.byte, bad.index)) \\",
     # It says more of a text that is not written, and no text has one byte.
-    *(rf"ensures ACSL_MESSAGE(BYTES(buffer), \result {it}, status, bad);" for it in (">= 0", "> 1")),
+    *(rf"ensures ACSL_MESSAGE(BYTES(buffer), \result {bound}, status, bad);" for bound in (">= 0", "> 1")),
     # The first bad byte of n bytes is at n at most.
     "n > 0 && bad_index(letters, text, n) >= n && value(letters, text, n) == number;",
     "n < 0 ? 0 : bad_index(letters, text, n - 1) == n - 1 && digit(letters, text[n - 1]) < 62 ? n",
@@ -95,25 +82,27 @@ SAME = {
     ": n - zeros == 22 && shifted(value(letters, text, zeros + 10), 12) > ACSL_2_128 ? BASE62_OVERFLOW",
 }
 
+# fmt: on
+
 
 def blanked(text, pattern):
     """The text with blanks for what the pattern finds."""
-    return re.sub(pattern, lambda found: re.sub(r"[^\n]", " ", found.group()), text, flags=re.S)
+    return re.sub(pattern, lambda match: re.sub(r"[^\n]", " ", match.group()), text, flags=re.S)
 
 
 def clauses(text):
     """What stands in annotations, and in the macros for these, at its place: no names that are defined, no comments."""
     code = list(re.sub(r"[^\n]", " ", text))
-    for found in re.finditer(r"/\*@.*?\*/|(?://@|static const)[^\n]*|#define ACSL_(?:[^\n]*\\\n)*[^\n]*", text, re.S):
-        code[found.start():found.end() + 1] = found.group() + ";"  # A macro ends like a clause.
-    return blanked("".join(code), r"/\*@|\*/|//@|//[^\n]*|static .*?\[\d+\]|#define \w+(?:\([^)]*\))?|\\\n"
-                   r"|(?:logic integer|predicate) \w+(?:\{[^}]*\})?\([^)]*\)")
+    for match in re.finditer(r"/\*@.*?\*/|(?://@|static const)[^\n]*|#define ACSL_(?:[^\n]*\\\n)*[^\n]*", text, re.S):
+        code[match.start() : match.end() + 1] = match.group() + ";"  # A macro ends like a clause.
+    defined = r"static .*?\[\d+\]|#define \w+(?:\([^)]*\))?|(?:logic integer|predicate) \w+(?:\{[^}]*\})?\([^)]*\)"
+    return blanked("".join(code), rf"/\*@|\*/|//@|//[^\n]*|\\\n|{defined}")
 
 
 def end_of(code, at, stops):
     """Where one of the stops stands, or where the parentheses about this place end."""
     depth = 0
-    while depth or not re.match(stops + r"|\)", code[at:at + 3]):
+    while depth or not re.match(stops + r"|\)", code[at : at + 3]):
         depth += {"(": 1, ")": -1}.get(code[at], 0)
         at += 1
     return at
@@ -122,46 +111,85 @@ def end_of(code, at, stops):
 def operands(code):
     """The parts of conjunctions and disjunctions, conclusions and clauses, each with what makes it say nothing. Not so
     in a hypothesis, where less says more."""
-    for found in re.finditer(r"&&|\|\||==>|[(?:]|\\exists\b[^;]*;|ensures|(?<=\s)=(?=\s)", code):
-        start = re.compile(r"\s*").match(code, found.end()).end()
+    for before in re.finditer(r"&&|\|\||==>|[(?:]|\\exists\b[^;]*;|ensures|(?<=\s)=(?=\s)", code):
+        start = re.compile(r"\s*").match(code, before.end()).end()
         bound = re.match(r"\\(?:forall|exists|let)\b[^;]*;", code[start:])
         end = end_of(code, start + bound.end(), ";") if bound else end_of(code, start, r"&&|\|\||==>|[?:;]")
-        about = {found.group(), code[end:end + 2]}
+        about = {before.group(), code[end : end + 2]}
         if code[end_of(code, end, "==>|;")] != "=" and about & {"&&", "||", "==>", "ensures"}:
             yield start, start + len(code[start:end].rstrip()), r"\false" if "||" in about else r"\true"
 
 
 def exchanges(code):
     """Two arguments next to each other in the other order, if both are pointers or none."""
-    for found in re.finditer(r"(?<![\\\w])[a-z]\w*(?:\{[^}]*\})?\(", code):
-        ends = [found.end() - 1]
+    for call in re.finditer(r"(?<![\\\w])[a-z]\w*(?:\{[^}]*\})?\(", code):
+        ends = [call.end() - 1]
         while code[ends[-1]] != ")" or len(ends) == 1:
             ends.append(end_of(code, ends[-1] + 1, ","))
         for start, middle, end in zip(ends, ends[1:], ends[2:]):
-            first, second = code[start + 1:middle].strip(), code[middle + 1:end].strip()
+            first, second = code[start + 1 : middle].strip(), code[middle + 1 : end].strip()
             if first != second and bool(POINTER.match(first)) == bool(POINTER.match(second)):
                 yield start + 1, end, f"{second}, {first}"
+
+
+def named_parts(text):
+    """Where each contract and definition of base62.acsl begins, and its name."""
+    for match in re.finditer(r"(?:logic integer|predicate|static const unsigned char|#define) (\w+)", text):
+        yield match.start(), match[1]
+    for match in re.finditer(r"(?<=\n\n)(?:(?!\n\n).)*?^[\w ]+ (base62_\w+)\(", text, re.M | re.S):
+        yield match.start(), match[1]
+
+
+def texts_of_laws():
+    """The text of each law, with its contract, and that of all lemmas."""
+    lines = annotate.laws().split("\n")
+    ends = sorted((last, law) for law, (_, last) in annotate.definitions(lines).items())
+    starts = [0] + [last + 1 for last, _ in ends]
+    texts = {law: "\n".join(lines[start : last + 1]) for start, (last, law) in zip(starts, ends)}
+    return texts | {wp.LEMMAS: "".join(re.findall(r"\blemma\b.*?\*/", annotate.laws(), re.S))}
+
+
+def tried_laws(specification):
+    """Where each contract and definition begins, its name, and its laws: those that name it, or something that does, each
+    with a number, which is 1 if it does so itself."""
+    begins = sorted(named_parts(specification))
+    ends = [at for at, _ in begins[1:]] + [len(specification)]
+    laws = texts_of_laws()
+    texts = {name: specification[at:end] for (at, name), end in zip(begins, ends)} | laws
+    names = {name: {*re.findall(r"[@\w]+", text)} for name, text in texts.items()}
+
+    def steps(name):
+        counts, last = {name: 0}, {name}
+        while last:
+            last = {other for other in texts.keys() - counts.keys() if names[other] & last}
+            counts |= dict.fromkeys(last, max(counts.values()) + 1)
+        return {law: count for law, count in counts.items() if law in laws}
+
+    return [(at, name, steps(name)) for at, name in begins]
 
 
 def changes(text):
     """Each changed specification: the laws to try, the line, and the text."""
     whole = clauses(text)
-    said = blanked(whole, r"\b(?:requires|assigns)\b[^;]*;")
-    found = [(*each.span(), each.expand(new))
-             for code, table in ((said, OPERATORS), (whole, CONTRACTS))
-             for old, new in table for each in re.finditer(old, code)
-             if not (each.group() in "<>" and code[end_of(code, each.end(), "==>|;")] == "=")]
-    starts = sorted((text.index(start), laws.split()) for start, laws in LAWS.items())
-    seen = set()
-    for start, end, new in sorted([*found, *operands(said), *exchanges(said)]):
+    conclusions = blanked(whole, r"\b(?:requires|assigns)\b[^;]*;")
+    exchanged = [
+        (*match.span(), match.expand(new))
+        for code, table in ((conclusions, OPERATORS), (whole, CONTRACTS))
+        for old, new in table
+        for match in re.finditer(old, code)
+        if not (match.group() in "<>" and code[end_of(code, match.end(), "==>|;")] == "=")
+    ]
+    parts = tried_laws(text)
+    yielded = set()
+    for start, end, new in sorted([*exchanged, *operands(conclusions), *exchanges(conclusions)]):
         changed = text[:start] + new + text[end:]
-        laws = [laws for at, laws in starts if at <= start][-1]
-        if laws and changed not in seen:
-            seen.add(changed)
-            yield laws, changed[changed.rfind("\n", 0, start) + 1:changed.index("\n", start)].strip(), changed
+        name, laws = [part[1:] for part in parts if part[0] <= start][-1]
+        if name not in FREE and changed not in yielded:
+            yielded.add(changed)
+            yield laws, changed[changed.rfind("\n", 0, start) + 1 : changed.index("\n", start)].strip(), changed
 
 
-def seen(file, names, limits):
+def failing(file, names, limits):
     """The function that a change leaves without a proof, or that prove rejects it, or that Frama-C cannot read it."""
     logs = []
     try:
@@ -169,37 +197,51 @@ def seen(file, names, limits):
             logs.append(wp.proved(file, name, FAILED, limits[name]))
             if FAILED in logs[-1]:
                 return name
-        said = wp.checked(file)
-        return "rejected" if said.wrong or any([*wp.warnings(log, said.constants)] for log in logs) else ""
+        tree = wp.checked(file)
+        return "rejected" if tree.wrong or any([*wp.warnings(log, tree.constants)] for log in logs) else ""
     except SystemExit:
         return "not read"
 
 
+def chosen_changes(specification, texts):
+    """The changes to try: all, those of the texts, or a share."""
+    chosen = [change for change in changes(specification) if not texts or any(text in change[1] for text in texts)]
+    share = int(os.environ.get("SHARE", "1"))
+    if share > 1:
+        others = [change for change in chosen if change[1] not in SAME]
+        chosen = random.Random(os.environ.get("SEED", "1")).sample(others, -(-len(others) // share))
+    return chosen
+
+
 def main(texts):
-    found = [change for change in changes(wp.SPECIFICATION.read_text())
-             if not texts or any(text in change[1] for text in texts)]
+    specification = wp.SPECIFICATION.read_text()
+    chosen = chosen_changes(specification, texts)
+    failures = [f"no law calls {name}" for _, name, laws in tried_laws(specification) if name.startswith("base62_") and not laws]
 
     def result(i):
-        names, line, text = found[i]
-        by = seen(wp.prepared(work / str(i), annotate.laws(), text), names, limits)
+        laws, line, text = chosen[i]
+        in_order = sorted(laws, key=lambda law: (laws[law], times[law]))
+        by = failing(wp.prepared(work / str(i), annotate.laws(), text), in_order, limits)
         if bool(by) == (line in SAME):
-            print(f"{by or 'not'} seen: {line}", flush=True)
+            failures.append(f"{by or 'not'} seen: {line}")
+            print(failures[-1], flush=True)
         return by
 
     with tempfile.TemporaryDirectory() as folder:
         work = pathlib.Path(folder)
         os.environ.setdefault("CACHE", f"{folder}/cache")  # A change leaves most goals as they are.
-        right = wp.prepared(work / "right", annotate.laws())
-        names = sorted({name for names, _, _ in found for name in names})
-        logs = dict(zip(names, wp.at_once(lambda name: wp.proved(right, name, FAILED), names)))
-        limits = {name: 2 + 3 * max((took for _, _, took in wp.goals(log)), default=0) // 1000
-                  for name, log in logs.items()}
-        print("".join(f"not proved without a change: {name}\n" for name, log in logs.items() if FAILED in log), end="")
-        by = wp.at_once(result, range(len(found)))
-    failed = sum(bool(it) == (line in SAME) for (_, line, _), it in zip(found, by))
-    failed += sum(FAILED in log for log in logs.values())
-    print(f"{len(found) - by.count('not read')} changes, {by.count('')} of them change nothing, {failed} failed")
-    return 1 if failed else 0
+        unchanged = wp.prepared(work / "unchanged", annotate.laws())
+        names = sorted({law for laws, _, _ in chosen for law in laws})
+        logs = dict(zip(names, wp.at_once(lambda name: wp.proved(unchanged, name, FAILED), names)))
+        times = {name: sum(took for _, _, took in wp.goals(log)) for name, log in logs.items()}
+        limits = {name: 2 + 3 * max((took for _, _, took in wp.goals(log)), default=0) // 1000 for name, log in logs.items()}
+        failures += [f"not proved without a change: {name}" for name, log in logs.items() if FAILED in log]
+        print("".join(line + "\n" for line in failures), end="", flush=True)
+        results = wp.at_once(result, range(len(chosen)))
+    tried = len(chosen) - results.count("not read")
+    print(f"{tried} changes, {results.count('')} of them change nothing")
+    print(f"{max(tried - len(failures), 0)} passed, {len(failures)} failed")
+    return 1 if failures else 0
 
 
 if __name__ == "__main__":

@@ -1,14 +1,14 @@
 #!/usr/bin/python3 -B
 """Proves base62.c and laws.c by Frama-C's WP: c/proof/prove.py [FUNCTIONS..]
 
-It prints the goals without a proof, how many are proved and how many failed, and the time. It fails if a goal has no
-proof or rests on an axiom of WP that is false, if Frama-C warns of anything, if its tree has what tree.ml rejects, or
-if the code without annotations and ghosts is not that of base62.c. Without names it fails too if WP's smoke tests find
-a requirement that nothing meets. It names each goal that takes over a third of its limit.
+It prints the goals without a proof, how many are proved and how many failed. It fails if a goal has no proof or rests
+on an axiom of WP that is false, if Frama-C warns of anything, if its tree has what tree.ml rejects, or if the code
+without annotations and ghosts is not that of base62.c. Without names it fails too if WP's smoke tests find a
+requirement that nothing meets. It names each goal that takes over a third of its limit.
 
 Variables: BITS (32 for a machine of 32 bits), CORES (how many functions are proved at once), LIMIT (seconds for a
-goal), WORK (an empty folder for the annotated code, the logs, and goals.tsv with the time of each goal), CACHE (a
-folder of results of provers, for a proof that is being made: it fails).
+goal), WORK (an empty folder for the annotated code and the logs), CACHE (a folder of results of provers, for a proof
+that is being made: it fails).
 """
 
 import os
@@ -16,34 +16,26 @@ import pathlib
 import re
 import sys
 import tempfile
-import time
 
 import annotate
 import wp
 
 
-def proved(file, mark, names):
-    """What WP says of functions of a file, or of all lemmas, by their names behind a mark of the file."""
-    logs = wp.at_once(lambda name: wp.proved(file, name), sorted(names))
-    return {mark + name: log for name, log in zip(sorted(names), logs)}
-
-
-def counted(logs, constants):
-    """Each goal behind the name of its function; and what is wrong with the logs."""
+def proved(file, names, constants):
+    """Each goal of functions of a file, or of all lemmas; and what is wrong with what WP says of them."""
     goals, wrong = [], []
-    for function, log in logs.items():
-        found = [*wp.goals(log)]
-        passed = sum(prover != "Failed" for _, prover, _ in found)
+    for function, log in zip(names, wp.at_once(lambda name: wp.proved(file, name), names)):
+        tried = [*wp.goals(log)]
+        passed = sum(prover != "Failed" for _, prover, _ in tried)
         counts = [map(int, each) for each in re.findall(r"^\[wp\] Proved goals: +(\d+) / (\d+)$", log, re.M)]
-        if [passed, len(found)] != [*map(sum, zip(*counts))]:
-            wrong.append(f"not counted so by Frama-C: {passed} of {len(found)} goals of {function}")
+        if [passed, len(tried)] != [*map(sum, zip(*counts))]:
+            wrong.append(f"not counted so by Frama-C: {passed} of {len(tried)} goals of {function}")
         wrong += [f"{function}: {warning}" for warning in wp.warnings(log, constants)]
-        goals += [(function, *goal) for goal in found]
+        goals += tried
     return goals, wrong
 
 
 def main(chosen):
-    start = time.monotonic()
     work = pathlib.Path(os.environ.get("WORK") or tempfile.mkdtemp()).resolve()
     if work.exists() and [*work.iterdir()]:
         sys.exit(f"not an empty folder: {work}")
@@ -53,19 +45,17 @@ def main(chosen):
     wrong = code.wrong + of_laws.wrong + ["results are of CACHE"] * ("CACHE" in os.environ)
     wrong += [f"no such function: {name}" for name in sorted({*chosen} - code.to_prove - of_laws.to_prove)]
     if not chosen:
-        wrong += [f"nothing meets it: {name}" for each in (file, laws) for name in wp.contradictions(each)]
+        wrong += [f"nothing meets it: {name}" for path in (file, laws) for name in wp.contradictions(path)]
     goals = []
-    for each, mark, said in (file, "", code), (laws, "laws.c: ", of_laws):
-        names = said.to_prove & {*chosen} if chosen else said.to_prove
-        more, others = counted(proved(each, mark, names), said.constants)
+    for path, checked in (file, code), (laws, of_laws):
+        names = checked.to_prove & {*chosen} if chosen else checked.to_prove
+        more, others = proved(path, sorted(names), checked.constants)
         goals += more
         wrong += others
-    (work / "goals.tsv").write_text("".join("\t".join(map(str, goal)) + "\n" for goal in goals))
-    failed = [name for _, name, prover, _ in goals if prover == "Failed"]
+    failed = [name for name, prover, _ in goals if prover == "Failed"]
     wrong += [f"not proved: {name}" for name in failed]
-    slow = [f"slow: {name} {took / 1000:.1f} s" for _, name, _, took in goals if 3 * took > 1000 * wp.LIMIT]
+    slow = [f"slow: {name} {took / 1000:.1f} s" for name, _, took in goals if 3 * took > 1000 * wp.LIMIT]
     print("".join(line + "\n" for line in slow + wrong), end="")
-    print(f"{time.monotonic() - start:.0f} s")
     print(f"{len(goals) - len(failed)} passed, {len(wrong)} failed")
     return 1 if wrong else 0
 

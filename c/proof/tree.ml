@@ -8,14 +8,14 @@ let () =
   List.iter (fun (name, machine) -> File.new_machdep name { machine with char_is_unsigned = true })
     [ ("base62_64", Machdeps.gcc_x86_64); ("base62_32", Machdeps.gcc_x86_32) ]
 
-let found = ref []
-let tell kind name what = found := String.concat "\t" [ kind; name; what ] :: !found
+let rows = ref []
+let report kind name what = rows := String.concat "\t" [ kind; name; what ] :: !rows
 let file_of (place : location) = Filename.basename (Filepath.Normalized.to_pretty_string (fst place).Filepath.pos_path)
 let is_library (place : location) =
   String.starts_with ~prefix:"FRAMAC_SHARE/" (Filepath.Normalized.to_pretty_string (fst place).Filepath.pos_path)
 let at_place place what = Format.asprintf "%a: %s" Cil_printer.pp_location place what
 (* What is not on the list counts in base62.c and base62.h alone. *)
-let allow is_listed place what = if not is_listed then tell "unlisted" "" (at_place place ("not on the list: " ^ what))
+let allow is_listed place what = if not is_listed then report "unlisted" "" (at_place place ("not on the list: " ^ what))
 
 (* -------------------- The list: the C that base62.c and base62.h may be -------------------- *)
 
@@ -100,7 +100,7 @@ module Listed = struct
 
     method! vstmt s =
       here <- Cabshelper.get_statementloc s;
-      if not (statement s) then tell "rejected" "" (at_place here "not on the list: a statement");
+      if not (statement s) then report "rejected" "" (at_place here "not on the list: a statement");
       (match s.stmt_node with
         | COMPUTATION (e, _) | RETURN (e, _) | IF (e, _, _, _) | WHILE (_, e, _, _) -> effects <- alone e
         | FOR (_, _, condition, step, _, _) -> effects <- alone condition @ alone step
@@ -393,7 +393,7 @@ class walk = object (self)
   inherit Visitor.frama_c_inplace
   val mutable whole = []
   method private name = match self#current_kf with Some kf -> Kernel_function.get_name kf | None -> ""
-  method private reject place what = tell "rejected" self#name (at_place place what)
+  method private reject place what = report "rejected" self#name (at_place place what)
   method private reject_if wrong place what = if wrong then self#reject place what
 
   method! vglob_aux g =
@@ -401,12 +401,12 @@ class walk = object (self)
     (match g with
       | GFun ({ svar = f; _ }, _) | GFunDecl (_, f, _) when Ast.is_def_or_last_decl g ->
         let kf = Globals.Functions.get f in
-        tell (if Kernel_function.is_definition kf then "defined" else "declared") f.vname "";
-        if Hashtbl.mem in_header f.vorig_name && f.vstorage <> Static then tell "public" f.vname "";
-        List.iter (fun what -> tell "rejected" f.vname (at_place place what)) (contract kf)
+        report (if Kernel_function.is_definition kf then "defined" else "declared") f.vname "";
+        if Hashtbl.mem in_header f.vorig_name && f.vstorage <> Static then report "public" f.vname "";
+        List.iter (fun what -> report "rejected" f.vname (at_place place what)) (contract kf)
       | GVar (v, _, _) ->
         allow (v.vghost || is_constant_type v.vtype) place "a variable that is kept";
-        if v.vstorage = Static && is_constant_type v.vtype && file_of place = "base62.c" then tell "constant" v.vname ""
+        if v.vstorage = Static && is_constant_type v.vtype && file_of place = "base62.c" then report "constant" v.vname ""
       | _ -> ());
     Cil.DoChildren
 
@@ -431,9 +431,9 @@ class walk = object (self)
     (match a with
       | Daxiomatic _ -> ()
       | Dlemma (name, _, _, { tp_kind = Admit; tp_statement }, _, _) ->
-        (try tell "axiom" name (query tp_statement)
+        (try report "axiom" name (query tp_statement)
          with Other_form -> self#reject place ("an axiom of another form: " ^ name))
-      | Dlemma (name, _, _, _, _, _) -> self#reject_if (name = "no_wp") place not_tried; tell "lemma" name ""
+      | Dlemma (name, _, _, _, _, _) -> self#reject_if (name = "no_wp") place not_tried; report "lemma" name ""
       | Dfun_or_pred (info, _) ->
         List.iter (fun what -> self#reject place (what ^ ": " ^ info.l_var_info.lv_name)) (definition info)
       | _ -> self#reject place "an annotation of another kind");
@@ -468,7 +468,7 @@ class walk = object (self)
     allow (listed whole e) e.eloc (Format.asprintf "the expression %a" Printer.pp_exp e);
     match e.enode with
     | SizeOf _ | SizeOfE _ -> Cil.SkipChildren
-    | Lval _ | CastE _ when is_of_kind IChar (Cil.typeOf e) -> tell "char" self#name (at_place e.eloc plain_char); Cil.DoChildren
+    | Lval _ | CastE _ when is_of_kind IChar (Cil.typeOf e) -> report "char" self#name (at_place e.eloc plain_char); Cil.DoChildren
     | CastE (to_, a) ->
       self#reject_if (is_through_a_number to_ (Cil.typeOf a) && not (Cil.isZero a)) e.eloc through_a_number; Cil.DoChildren
     | Lval lval -> self#reject_if (has_array (Cil.typeOfLval lval)) e.eloc read_whole; Cil.DoChildren
@@ -488,7 +488,7 @@ class walk = object (self)
       | TCastE (to_, { term_type = Linteger; _ }) when Cil.isPointerType to_ -> self#reject t.term_loc through_a_number
       | TCastE (to_, _) when is_of_kind IBool to_ -> self#reject t.term_loc "a cast to _Bool, which WP leaves out"
       | TLval _ | TCastE _ when (match t.term_type with Ctype typ -> is_of_kind IChar typ | _ -> false) ->
-        tell "char" self#name (at_place t.term_loc plain_char)
+        report "char" self#name (at_place t.term_loc plain_char)
       | _ -> ());
     match t.term_node, t.term_type with
     | TSizeOfE _, _ -> Cil.SkipChildren
@@ -538,8 +538,8 @@ let main file =
   Visitor.visitFramacFileSameGlobals (new walk) (Ast.get ());
   List.iter (fun (name, place) -> allow (not (writes name)) place "a call that may write, within an expression") !Listed.nested_calls;
   let callers = List.sort_uniq compare (Hashtbl.fold (fun f _ all -> f :: all) calls []) in
-  List.iter (fun f -> tell "rejected" f "it calls itself") (endless callers);
-  write file (List.rev_map (fun line -> line ^ "\n") !found);
+  List.iter (fun f -> report "rejected" f "it calls itself") (endless callers);
+  write file (List.rev_map (fun line -> line ^ "\n") !rows);
   Visitor.visitFramacFile (new bare) (Ast.get ());
   let text = Format.asprintf "\012%a" (Printer.without_annot Printer.pp_global) in
   write (file ^ ".c") (List.map text (List.filter is_code (Ast.get ()).globals))

@@ -127,7 +127,7 @@ static int begins_with_urn(const unsigned char *p, size_t n) {
 */
 static int compute_braces(const unsigned char *p, size_t n) { return n > 1 && p[0] == '{' && p[n - 1] == '}'; }
 
-/* What is written is read, and the other way round. */
+/* What is written is read, and what is read is written. */
 /*@ requires TEXT_VALID(p, start + places) && (places == 32 || places == 36) && start < 10;
     requires \valid_read(uuid + (0 .. 15)) && TEXT_VALID(text, 36) && is_text_of(text, uuid); assigns \nothing;
     ensures are_written(p, start, places, text, 16) <==> are_read(p, start, places, uuid, 16);
@@ -146,7 +146,7 @@ static void same_digits(const unsigned char *p, size_t start, size_t places, con
     }
 }
 
-/* Braces, and urn:uuid:, tell that the digits do not begin at once. */
+/* Behind braces or urn:uuid: the digits do not begin at once. */
 /*@ requires TEXT_VALID(p, n); assigns \nothing;
     ensures braces: is_in_braces(p, n) ==> !are_uuid_digits(p, 0, n) && !has_urn(p, n);
     ensures urn: has_urn(p, n) ==> !are_uuid_digits(p, 0, n);

@@ -1,7 +1,7 @@
 """Runs Frama-C: what its tree has, and what WP proves, one function at a time."""
 
+import collections
 import concurrent.futures
-import dataclasses
 import functools
 import hashlib
 import os
@@ -27,26 +27,21 @@ FLAGS = f"-D__FC_MACHDEP_X86_{BITS} -DBASE62_NO_INT128 -U__SIZEOF_INT128__ -U__G
 LIMIT = int(os.environ.get("LIMIT", "20"))
 CORES = int(os.environ.get("CORES", os.cpu_count()))
 
-# How a line "== prove" of the annotations or the laws says that WP proves a function. All others are proved without what
-# stands in constant tables, since it slows provers.
-HOW = {"with tables", "not split"}
-
 
 @functools.cache
 def tools():
     """A folder with what Frama-C needs: the walk over its tree, and why3's list of provers."""
-    needed = ("frama-c", "ocamlfind", "why3", "z3", "cvc4", "cvc5", "gcc")
-    missing = [tool for tool in needed if not shutil.which(tool, path=PATH)]
+    missing = [tool for tool in "frama-c ocamlfind why3 z3 cvc4 cvc5 gcc".split() if not shutil.which(tool, path=PATH)]
     if missing:
-        raise SystemExit(f"missing in {PATH}: {' '.join(missing)}\n"
-                         "Debian 12 has them: make setup-full installs all, as root. Elsewhere take c/proof/Dockerfile.")
+        raise SystemExit(f"missing in {PATH}, see c/proof/README.md: {' '.join(missing)}")
     folder = tempfile.TemporaryDirectory()
     check_path(folder.name)
     shutil.copy(FOLDER / "tree.ml", folder.name)
-    library = subprocess.run(["frama-c", "-print-lib-path"], env={"PATH": PATH}, check=True, capture_output=True, text=True).stdout
-    for command in (["ocamlfind", "ocamlopt", "-shared", "-I", library.strip(), "-package", "zarith,ocamlgraph",
-                     "-o", "tree.cmxs", "tree.ml"], ["why3", "config", "detect"]):
-        subprocess.run(command, cwd=folder.name, env=environment(folder.name), check=True, capture_output=command[0] == "why3")
+    library = subprocess.check_output(["frama-c", "-print-lib-path"], env={"PATH": PATH}, text=True).strip()
+    compiler = f"ocamlfind ocamlopt -shared -I {library} -package zarith,ocamlgraph -o tree.cmxs tree.ml"
+    subprocess.run(compiler.split(), cwd=folder.name, env=environment(folder.name), check=True)
+    detect = ["why3", "config", "detect"]
+    subprocess.run(detect, cwd=folder.name, env=environment(folder.name), check=True, capture_output=True)
     return folder
 
 
@@ -72,7 +67,7 @@ def prepared(work, code, specification=None):
 
 
 # The SHA-256 of what of_preprocessor finds in base62.h and base62.c: to change it, read all of this again.
-REVIEWED = "3a7810aedb21e282413dabf82d0b905a06f6a136548ef3f85a58f86ec3fcca12"
+REVIEWED = "01a32bcf2517201f856db4d2e797268c15753394a10e8b68c0267295e7de64bd"
 # The only lines of the preprocessor that it leaves out, if they are not between #if and #endif.
 CONSTANT = re.compile(r'#define B(?:ASE)?62_\w+ (?:(?!_)\w+|"[^"]*"|\w+\(\w+\)|\(\(\w+\)\w+\))')
 
@@ -82,20 +77,20 @@ def of_preprocessor(name, text):
     underscore, as macros of compilers do, and all between #if and #endif."""
     comment = r"(?:/\*(?:(?!\*/).)*\*/|//(?!@)[^\n]*)"
     text = re.sub(rf"^ *{comment}\n| *{comment}", "", text, flags=re.M | re.S)
-    found, depth = [f"== {name}"], -(name == HEADER.name)  # All of it is between #ifndef and #endif.
+    reviewed, depth = [f"== {name}"], -(name == HEADER.name)  # All of it is between #ifndef and #endif.
     for part in re.split("\n\n+", text.strip()):
         opened, closed = (len(re.findall(f"^ *# *{word}", part, re.M)) for word in ("if", "endif"))
         lines = [line for line in part.split("\n") if opened or depth > 0 or not CONSTANT.fullmatch(line)]
         if depth > 0 or any(re.search(r"^ *#|\b_", line) for line in lines):
-            found += lines
+            reviewed += lines
         depth += opened - closed
-    return found
+    return reviewed
 
 
 def check_reviewed(source):
     """Ends the run if base62.h and base62.c have other lines for the preprocessor than those reviewed."""
-    found = "\n".join(of_preprocessor(HEADER.name, HEADER.read_text()) + of_preprocessor(CODE.name, source))
-    digest = hashlib.sha256(found.encode()).hexdigest()
+    lines = "\n".join(of_preprocessor(HEADER.name, HEADER.read_text()) + of_preprocessor(CODE.name, source))
+    digest = hashlib.sha256(lines.encode()).hexdigest()
     if digest != REVIEWED:
         raise SystemExit(f"lines for the preprocessor that are not reviewed: their SHA-256 is {digest}")
 
@@ -104,11 +99,11 @@ def frama_c(file, name, options, last=None, **more):
     """What Frama-C says of a file, up to a line that has the last text. The folder of the file keeps it by the name."""
     folder = tools().name
     flags = f"-include {file.parent / SPECIFICATION.name} {FLAGS}"
-    command = ["frama-c", "-load-module", f"{folder}/tree.cmxs", "-machdep", f"base62_{BITS}",
-               f"-cpp-extra-args={flags}", file, *options]
+    command = f"frama-c -load-module {folder}/tree.cmxs -machdep base62_{BITS}".split()
+    command += [f"-cpp-extra-args={flags}", file, *options]
+    output = {"text": True, "stdout": subprocess.PIPE, "stderr": subprocess.STDOUT, "start_new_session": True}
     log = []
-    with subprocess.Popen(command, cwd=folder, env=environment(folder, **more), text=True, stdout=subprocess.PIPE, stderr=subprocess.STDOUT,
-                          start_new_session=True) as running:
+    with subprocess.Popen(command, cwd=folder, env=environment(folder, **more), **output) as running:
         for line in running.stdout:
             log.append(line)
             if last and last in line:
@@ -122,18 +117,20 @@ def frama_c(file, name, options, last=None, **more):
 
 def tree(file):
     """What tree.ml finds in a file: the kind, the name, and what. Warnings are rejected too."""
-    said = file.parent / "tree.tsv"
-    log = frama_c(file, "tree", [], TREE=str(said))
-    found = [tuple(line.split("\t")) for line in said.read_text().splitlines()]
-    return found + [("rejected", "", warning) for warning in warnings(log)]
+    table = file.parent / "tree.tsv"
+    log = frama_c(file, "tree", [], TREE=str(table))
+    rows = [tuple(line.split("\t")) for line in table.read_text().splitlines()]
+    return rows + [("rejected", "", warning) for warning in warnings(log)]
 
 
 def code(file):
     """Each definition of a file as tree has printed it, but for a mark that changes no code, for line breaks, and for the
     literals before it."""
+
     def counted(text):
         names = {}
-        return re.sub(r"__constr_expr(_\d+)?", lambda found: names.setdefault(found[0], f"literal_{len(names)}"), text)
+        return re.sub(r"__constr_expr(_\d+)?", lambda match: names.setdefault(match[0], f"literal_{len(names)}"), text)
+
     text = re.sub(r"\n *", " ", (file.parent / "tree.tsv.c").read_text().replace("__inline ", ""))
     return sorted(map(counted, text.split("\f")))
 
@@ -142,58 +139,47 @@ def code(file):
 LEMMAS = "@lemma"
 
 
-@dataclasses.dataclass
-class Checked:
-    """What is to be proved of a file, which calls of base62.h it defines or declares, which of its constants no pointer of
-    a caller points to, and what it has that is rejected."""
-
-    to_prove: set
-    calls: set
-    constants: set
-    wrong: list
+# What is to be proved of a file, which calls of base62.h it defines or declares, which of its constants no pointer of a
+# caller points to, and what it has that is rejected.
+Checked = collections.namedtuple("Checked", "to_prove calls constants wrong")
 
 
 def checked(file, bare=None, calls=None):
     """A file as its tree is. base62.c with annotations has the code of the bare one, as Frama-C prints it, and no plain
     char. The laws have no body for these calls, and one for all else."""
-    found = tree(file)
-    of = {kind: {name for each, name, _ in found if each == kind}
-          for kind in ("defined", "declared", "public", "lemma", "constant")}
-    wrong = [f"rejected: {name} {what}" for kind, name, what in dict.fromkeys(found)
-             if kind == "rejected" or kind == "char" and bare]
-    wrong += [f"no body: {name}" for name in sorted(of["declared"] - (set() if bare else calls or of["public"]))]
-    wrong += bits.wrong(found)
+    rows = tree(file)
+    names = {kind: set() for kind in ("defined", "declared", "public", "lemma", "constant")}
+    for kind, name, _ in rows:
+        names.setdefault(kind, set()).add(name)
+    kinds = {"rejected", "char"} if bare else {"rejected"}
+    wrong = [f"rejected: {name} {what}" for kind, name, what in dict.fromkeys(rows) if kind in kinds]
+    wrong += [f"no body: {name}" for name in sorted(names["declared"] - (set() if bare else calls or names["public"]))]
+    wrong += bits.wrong(rows)
     if bare and code(file) != bare:
         wrong.append("the lists change the code")
-    lemmas = {LEMMAS} if of["lemma"] else set()
-    return Checked(of["defined"] | lemmas, of["public"], set() if calls else of["constant"], wrong)
+    lemmas = {LEMMAS} if names["lemma"] else set()
+    return Checked(names["defined"] | lemmas, names["public"], set() if calls else names["constant"], wrong)
 
 
 def checked_code(work, source, *more):
     """The file of base62.c with annotations; and what is said of it, and of what is not on the list of the C it may be."""
     check_reviewed(source)
     bare = prepared(work / "bare", source, BARE)
-    found = tree(bare)
+    rows = tree(bare)
     file = prepared(work, annotate.annotated(source, *more))
-    said = checked(file, code(bare))
-    said.wrong += [what for kind, _, what in found if kind == "unlisted"]
-    return file, said
-
-
-def is_proved(function, how):
-    if {each for _, each in hints()} - HOW or how not in HOW:
-        raise SystemExit("a line that begins with == prove and is not understood")
-    return (function, how) in hints()
+    result = checked(file, code(bare))
+    result.wrong.extend(what for kind, _, what in rows if kind == "unlisted")
+    return file, result
 
 
 def proved(file, function, last=None, limit=LIMIT):
     """What WP says of a function or of all lemmas, with a limit of seconds for each goal."""
     # Both provers try a goal at the same time, until one of them proves it.
-    options = ["-wp", "-wp-rte", "-warn-invalid-pointer", "-wp-prover", "cvc4,z3", "-wp-timeout", str(limit),
-               "-wp-par", "2", "-wp-msg-key", "print-generated",
-               "-wp-prop" if function == LEMMAS else "-wp-fct", function]
-    options += [] if is_proved(function, "not split") else ["-wp-split"]
-    options += [] if is_proved(function, "with tables") else ["-wp-no-init-const"]
+    options = "-wp -wp-rte -warn-invalid-pointer -wp-prover cvc4,z3 -wp-par 2 -wp-msg-key print-generated".split()
+    options += ["-wp-timeout", str(limit), "-wp-prop" if function == LEMMAS else "-wp-fct", function]
+    options += [] if (function, "not split") in hints() else ["-wp-split"]
+    # What stands in constant tables slows provers.
+    options += [] if (function, "with tables") in hints() else ["-wp-no-init-const"]
     cache = os.environ.get("CACHE")
     options += ["-wp-cache", "update", "-wp-cache-dir", cache] if cache else ["-wp-cache", "none"]
     return frama_c(file, function, options, last)
@@ -202,9 +188,9 @@ def proved(file, function, last=None, limit=LIMIT):
 def contradictions(file):
     """The requirements of a file that nothing meets, as far as WP's smoke tests find them in a second each."""
     # WP has no smoke test for a function without any other goal, so it proves what a function writes.
-    options = ["-wp", "-wp-smoke-tests", "-wp-no-smoke-dead-code", "-wp-no-smoke-dead-loop", "-wp-no-smoke-dead-call",
-               "-wp-prop=-@requires,-@ensures,-@invariant,-@variant,-@lemma,-@assert", "-wp-no-init-const",
-               "-wp-smoke-timeout", "1", "-wp-timeout", "1", "-wp-prover", "cvc4", "-wp-par", str(CORES)]
+    options = "-wp -wp-smoke-tests -wp-no-smoke-dead-code -wp-no-smoke-dead-loop -wp-no-smoke-dead-call -wp-no-init-const"
+    options += " -wp-prop=-@requires,-@ensures,-@invariant,-@variant,-@lemma,-@assert"
+    options = f"{options} -wp-smoke-timeout 1 -wp-timeout 1 -wp-prover cvc4 -wp-par {CORES}".split()
     tests = re.findall(r"^\[wp\] \[(\w+)\] Smoke-test (\w+)", frama_c(file, "smoke", options), re.M)
     return [name for answer, name in tests if answer != "Passed"] or ([] if tests else ["no smoke test"])
 
@@ -219,9 +205,9 @@ def at_once(task, names):
 def goals(log):
     """Each goal: its name, the prover or Failed, and the time of the prover in milliseconds."""
     for prover, name, rest in re.findall(r"^\[wp\] \[([\w. ]+)\] Goal (\w+)(.*)", log, re.M):
-        times = re.findall(r"\(([\d.]+)(ms|s|')\)", rest)
-        yield name, prover.split()[0], max((int(float(n) * {"ms": 1, "s": 1000, "'": 60000}[unit])
-                                            for n, unit in times), default=0)
+        units = {"ms": 1, "s": 1000, "'": 60000}
+        times = [int(float(n) * units[unit]) for n, unit in re.findall(r"\(([\d.]+)(ms|s|')\)", rest)]
+        yield name, prover.split()[0], max(times, default=0)
 
 
 def warnings(log, constants=frozenset()):

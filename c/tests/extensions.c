@@ -1,8 +1,7 @@
 /*
- * Tests the two functions of base62.c that use extensions of the compiler, if it has them: u128_mul_64 and u64_ilog2.
- * Each result is compared with long multiplication and with a shift by one bit at a time. With TEST_OTHER_COMPILERS
- * base62.c is compiled in the forms for compilers without these extensions. The command takes how many random pairs to
- * try, and a seed, by default the current time.
+ * Tests what base62.c does by extensions of the compiler, if it has them: u128_mul_64, u64_ilog2, and copies of
+ * alphabets. Each result of the two functions is compared with long multiplication and with a shift by one bit at a
+ * time. With TEST_OTHER_COMPILERS base62.c is compiled in the forms for compilers without these extensions.
  */
 #include <inttypes.h>
 #include <limits.h>
@@ -17,20 +16,23 @@
 #endif
 #include "base62.c"
 
-static const uint32_t corners[] = {0,          1,          2,          0xffff,     0x10000,    0x10001,
+static const uint32_t corners[] = {0,          1,          2,          0xffff,     0x10000,   0x10001,
                                    0x7fffffff, 0x80000000, 0x80000001, 0xfffffffe, 0xffffffff};
 enum { CORNERS = sizeof corners / sizeof *corners };
 
-static uint64_t seed, state;
-
 static void expect_of(bool holds, const char *what, uint64_t a, uint64_t b) {
-    if (!holds)
-        fprintf(stderr, "seed %" PRIu64 ", 0x%" PRIx64 " and 0x%" PRIx64 ": ", seed, a, b);
+    if (!holds) fprintf(stderr, "0x%" PRIx64 " and 0x%" PRIx64 ": ", a, b);
     expect(holds, what);
 }
 
+static void test_highest_bit(uint64_t n) {
+    uint32_t index = 0;
+    while (n >> index > 1) index++;
+    expect_of(n == 0 || u64_ilog2(n) == index, "u64_ilog2", n, index);
+}
+
 /* Long multiplication by the bits of b. */
-static void test_product(uint64_t a, uint64_t b) {
+static void test(uint64_t a, uint64_t b) {
     const u128 product = u128_mul_64(a, b);
     uint64_t high = 0, low = 0;
     for (int bit = 63; bit >= 0; bit--) {
@@ -39,24 +41,13 @@ static void test_product(uint64_t a, uint64_t b) {
         low = doubled + addend;
     }
     expect_of(product.high == high && product.low == low, "u128_mul_64", a, b);
-}
-
-static void test_highest_bit(uint64_t n) {
-    uint32_t index = 0;
-    while (n >> index > 1)
-        index++;
-    expect_of(n == 0 || u64_ilog2(n) == index, "u64_ilog2", n, index);
-}
-
-static void test(uint64_t a, uint64_t b) {
-    test_product(a, b);
     test_highest_bit(a);
     test_highest_bit(b);
 }
 
-static uint64_t corner(size_t i) {
-    return (uint64_t)corners[i / CORNERS] << 32 | corners[i % CORNERS];
-}
+static uint64_t corner(size_t i) { return (uint64_t)corners[i / CORNERS] << 32 | corners[i % CORNERS]; }
+
+static uint64_t state;
 
 /* The next number of splitmix64, as one of any count of bits. */
 static uint64_t draw(void) {
@@ -67,17 +58,28 @@ static uint64_t draw(void) {
     return n >> n % 64;
 }
 
-int main(int count, char **arguments) {
-    const long rounds = count > 1 ? strtol(arguments[1], NULL, 10) : 0;
-    expect(rounds > 0, "its arguments are COUNT SEED");
-    seed = state = count > 2 ? strtoull(arguments[2], NULL, 10) : (uint64_t)time(NULL);
+/* A copy of an alphabet encodes as the alphabet does, even if the compiler sees both the copy and base62.c: there an
+ * alphabet is another struct, of the same bytes. Without its attribute may_alias, GCC leaves out the copy. */
+static void test_copy(void) {
+#ifdef __GNUC__
+    char text[2];
+    base62_alphabet alphabet;
+    base62_bad_byte bad;
+    expect(base62_alphabet_init(&alphabet, BASE62_ALTERNATIVE_ALPHABET, &bad) == BASE62_OK, "base62_alphabet_init");
+    const base62_alphabet copy = alphabet;
+    expect(base62_encode_with(&copy, base62_from_u64(1337), text, 2) == 2 && text[0] == 'l' && text[1] == 'z',
+           "a copy");
+#endif
+}
+
+int main(void) {
+    state = (uint64_t)time(NULL);
+    test_copy();
     for (size_t i = 0; i < CORNERS * CORNERS; i++)
-        for (size_t k = 0; k < CORNERS * CORNERS; k++)
-            test(corner(i), corner(k));
-    for (long i = 0; i < rounds; i++) {
+        for (size_t k = 0; k < CORNERS * CORNERS; k++) test(corner(i), corner(k));
+    for (int i = 0; i < 100000; i++) {
         const uint64_t a = draw();
         test(a, draw());
     }
-    printf("all pairs of corners, and %ld random pairs by the seed %" PRIu64 ": as expected\n", rounds, seed);
     return 0;
 }

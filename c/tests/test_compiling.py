@@ -1,6 +1,7 @@
-"""Tests of base62.h: what it defines, and what compilers warn of; and of base62.c: its names, what it demands of
-compilers, and, as README.md says, which external functions it calls and how much stack it takes. CC is the compiler, by
-default gcc."""
+"""Tests of what base62.h defines and what compilers warn of, and of base62.c: its names, what it demands of compilers,
+and, as README.md says, which external functions it calls and how much stack it takes. CC is the compiler, by default gcc,
+and CFLAGS and CXXFLAGS are how it warns.
+"""
 
 import itertools
 import os
@@ -18,45 +19,22 @@ IS_X86_64 = os.uname().machine == "x86_64"
 INCLUDES = "#include <stddef.h>\n#include <stdint.h>\n"
 HEADER = "#include <base62.h>\n"
 SOURCE = '#include "base62.c"\n'
-MACROS = {"BASE62_H", "BASE62_VERSION", "BASE62_VERSION_MAJOR", "BASE62_VERSION_MINOR", "BASE62_VERSION_PATCH"}
-MACROS |= {"BASE62_VERSION_NUMBER", "BASE62_MAX_DIGITS", "BASE62_KEY_LENGTH", "BASE62_ALPHABET_LENGTH"}
-MACROS |= {"BASE62_UUID_LENGTH", "BASE62_UUID_STRING_LENGTH", "BASE62_MAX_ERROR_MESSAGE"}
-MACROS |= {"BASE62_STANDARD_ALPHABET", "BASE62_ALTERNATIVE_ALPHABET"}
 
-# A valid argument for each parameter type, and a variable for each type of result. PROGRAM declares the variables.
-ARGUMENTS = {
-    "char *": "text",
-    "size_t": "sizeof text",
-    "char[62]": "letters",
-    "char[22]": "letters",
-    "char[36]": "letters",
-    "base62_alphabet *": "&alphabet",
-    "unsigned char[16]": "uuid",
-    "base62_number": "number",
-    "base62_number *": "&number",
-    "base62_range *": "&range",
-    "base62_bad_byte": "bad",
-    "base62_bad_byte *": "&bad",
-    "base62_status": "status",
-    "base62_u128": "wide",
-    "uint64_t": "half",
-    "uint64_t *": "&half",
-}
-RESULTS = {"base62_number": "number", "base62_status": "status", "base62_u128": "wide", "size_t": "size"}
-RESULTS |= {"uint32_t": "version"}
+# Each line gets the warning behind it: clang has only those of results and of null pointers.
 PROGRAM = """#include <base62.h>
-char text[5], letters[BASE62_ALPHABET_LENGTH];
-unsigned char uuid[BASE62_UUID_LENGTH];
+char text[5];
 base62_number number;
-base62_range range;
-base62_alphabet alphabet;
 base62_bad_byte bad;
 base62_status status;
-base62_u128 wide;
-uint64_t half;
 size_t size;
-uint32_t version;
 int main(void) {
+size = base62_encode(number, text, sizeof text);
+base62_encode(number, text, sizeof text); // unused-result
+status = base62_decode(text, 5, NULL, &bad); // nonnull
+size = base62_encode(number, text, 6); // stringop-overflow
+status = base62_decode(text, 6, &number, &bad); // stringop-overread
+base62_to_uuid(number, NULL); // nonnull
+}
 """
 
 
@@ -82,72 +60,39 @@ def stack(graph):
 
     def deepest(name):
         # A call pushes its return address.
-        return 8 + sizes[name] + max((deepest(to) for of, to in calls if of == name), default=0)
+        return 8 + sizes[name] + max((deepest(to) for caller, to in calls if caller == name), default=0)
 
     return {name: deepest(name) for name in sizes if name.startswith("base62_")}
 
 
-def macros(source, *options, language="c"):
-    lines = compiled(source, "-E", "-dM", *options, language=language).stdout.splitlines()
-    return {re.sub(r"\(.*", "", line.split()[1]) for line in lines}
-
-
-def text_of_header(*options):
+def text_of_header(*options, language="c"):
     """What the header has beside its includes."""
     # For a compiler that is not GNU glibc defines away what it lacks.
     source = f"{INCLUDES}#undef __attribute__\nit_begins_here\n{HEADER}"
-    return compiled(source, "-E", "-P", *options).stdout.split("it_begins_here")[1]
-
-
-def functions():
-    """The functions of the header: the result of each, and its parameters as they are written."""
-    text = re.sub(r"__attribute__\(\(.*?\)\)(?=\s+[^)])", "", re.sub(r"\s+", " ", text_of_header()))
-    found = re.findall(r"(\w+) (base62_\w+)\(([^()]*)\)(?:;| {)", text)
-    return {name: (result, [] if inner == "void" else inner.split(", ")) for result, name, inner in found}
-
-
-def type_of(parameter):
-    name, star, array = re.fullmatch(r"(?:const )?(.+?) (\*?)\w+(\[\d+\])?", parameter).groups()
-    return name + (array or (" *" if star else ""))
-
-
-def calls(name, result, parameters):
-    """Statements that call a function, each with the warning that it has to get, or None."""
-    types = [type_of(parameter) for parameter in parameters]
-    right = [ARGUMENTS[it] for it in types]
-    put = "" if result == "void" else RESULTS[result] + " = "
-    has_pointers = any(re.search(r"[*\[]", it) for it in types)
-
-    def call(before=put, place=0, argument=None):
-        given = right if argument is None else right[:place] + [argument] + right[place + 1 :]
-        return f"{before}{name}({', '.join(given)});"
-
-    yield call(), None
-    yield call(before=""), "unused-result" if has_pointers and result in ("size_t", "base62_status") else None
-    for place, (it, parameter) in enumerate(zip(types, parameters)):
-        if re.search(r"[*\[]", it):
-            yield call(place=place, argument="NULL"), "nonnull"
-        if it == "char *":
-            reads = parameter.startswith("const")
-            yield call(place=place + 1, argument="sizeof text + 1"), f"stringop-over{'read' if reads else 'flow'}"
+    return compiled(source, "-E", "-P", *options, language=language).stdout.split("it_begins_here")[1]
 
 
 class Header(unittest.TestCase):
     maxDiff = None
 
+    def test_attributes(self):
+        """Each function has those for its pointers, for its result, and for each string and buffer with a length."""
+        text = re.sub(r"/\*.*?\*/", "", (FOLDER / "base62.h").read_text(), flags=re.S)
+        declared = re.findall(r"((?:BASE62_\w+(?:\(\d, \d\))?\s+)*)(\w+) (base62_\w+)\(([^()]*)\)(?:;| \{)", text)
+        self.assertGreater(len(declared), 25)
+        for attributes, result, name, parameters in declared:
+            checked = "CHECK_RESULT" if result in ("size_t", "base62_status") else "NO_NULL"
+            wanted = {checked} if re.search(r"[*\[]", parameters) else set()
+            for place, parameter in enumerate(re.split(r",\s+", parameters), 1):
+                if string := re.fullmatch(r"(const )?char \*\w+", parameter):
+                    wanted.add(f"{'READS' if string[1] else 'WRITES'}({place}, {place + 1})")
+            self.assertEqual({*re.findall(r"BASE62_(?!API|INLINE)(\w+(?:\(.*?\))?)", attributes)}, wanted, name)
+
     def test_warnings(self):
-        """Each null pointer, each result that is dropped, and with gcc each length beyond an array."""
-        wanted = [call for name, function in functions().items() for call in calls(name, *function)]
-        lines = PROGRAM.splitlines() + [statement for statement, _ in wanted] + ["}", ""]
-        is_clang = "__clang__" in macros("")
-        known = "nonnull|unused-result" if is_clang else ".*"
-        said = compiled("\n".join(lines), "-Wall", "-S", "-o/dev/null").stderr
-        warned = re.findall(r"<stdin>:(\d+):\d+: warning: .*\[-W([\w-]+)=?\]", said)
-        self.assertGreater(len(warned), 50)
-        self.assertEqual(
-            {(lines[int(line) - 1], warning) for line, warning in warned},
-            {(statement, warning) for statement, warning in wanted if warning and re.fullmatch(known, warning)},
-        )
+        printed = compiled(PROGRAM, "-Wall", "-S", "-o/dev/null").stderr
+        warned = re.findall(r"<stdin>:(\d+):\d+: warning: .*\[-W([\w-]+)=?\]", printed)
+        wanted = [(str(i), line.split("// ")[1]) for i, line in enumerate(PROGRAM.splitlines(), 1) if "// " in line]
+        self.assertEqual({*warned}, {row for row in wanted if IS_GCC or "stringop" not in row[1]})
 
     def test_unknown_compilers(self):
         """It asks a compiler for nothing that it may lack."""
@@ -157,11 +102,13 @@ class Header(unittest.TestCase):
         self.assertNotRegex(least, "__attribute__|__extension__|int128|u128")
 
     def test_macros(self):
-        for language in ("c", "c++"):
-            for options in ([], ["-DBASE62_BUILD"], ["-D_WIN32", "-DBASE62_SHARED"]):
-                with self.subTest(language=language, options=options):
-                    found = macros(HEADER, *options, language=language) - macros(INCLUDES, *options, language=language)
-                    self.assertEqual(found, MACROS)
+        """It leaves only constants defined."""
+        constants = re.findall(r'(?m)^#define (\w+) ["\d]', (FOLDER / "base62.h").read_text())
+        for language, *options in ("c",), ("c", "-DBASE62_BUILD"), ("c++", "-D_WIN32", "-DBASE62_SHARED"):
+            with self.subTest(language=language, options=options):
+                printed = [compiled(text, "-E", "-dM", *options, language=language).stdout for text in (HEADER, INCLUDES)]
+                defined, others = (set(re.findall(r"(?m)^#define (\w+)", text)) for text in printed)
+                self.assertEqual(defined - others, {"BASE62_H", *constants})
 
     def test_names_of_the_source(self):
         """base62.c may stand behind other headers: they define OK, TEXT, OVERFLOW and the like."""
@@ -173,29 +120,56 @@ class Header(unittest.TestCase):
 
     def test_c_plus_plus(self):
         """A C++20 module exports no static function. In C++98 a constant above a long of 32 bits is an extension."""
-        text = compiled(f"{INCLUDES}it_begins_here\n{HEADER}", "-E", language="c++").stdout.split("it_begins_here")[1]
-        self.assertNotRegex(text, r"\bstatic\b")
+        self.assertNotRegex(text_of_header(language="c++"), r"\bstatic\b")
         if IS_X86_64:
             options = "-mx32 -ffreestanding -std=c++98 -Wall -Wextra -Wpedantic -Wold-style-cast -Wconversion -fsyntax-only"
             self.assertEqual(compiled(HEADER, *options.split(), language="c++").stderr, "")
 
-    @unittest.skipUnless(IS_GCC, "options of gcc")
-    def test_code_behind_the_source(self):
-        """It is compiled as without base62.c before it. Up to GCC 10 a pragma for options would change all of them."""
-        code = "void add(double *two) { two[0] += 1; two[1] += 1; }\n"
-        alone, behind = (
-            re.search(r"^add:\n(.*?)\n\s*\.size\s+add", compiled(text, "-O2", "-S", "-o-").stdout, re.M | re.S)[1]
-            for text in (code, SOURCE + code)
-        )
-        self.assertEqual(re.sub(r"\.L\w+", "", alone), re.sub(r"\.L\w+", "", behind))
-        self.assertIn("GCC optimize", compiled(SOURCE, "-E").stdout)
-        self.assertNotIn("GCC optimize", compiled(SOURCE, "-E", "-U__GNUC__", "-D__GNUC__=10").stdout)
+    def test_standards(self):
+        """base62.c in C, and the header in C++98 too, where glibc before 2.18 had no limits of integers."""
+        without_limits = INCLUDES + "#undef UINT32_MAX\n#undef UINT64_MAX\n#undef SIZE_MAX\n"
+        standards = "c99 gnu99 c11 gnu11 c17 gnu17 c2x gnu2x c++98 c++11 c++17 c++20".split()
+        for standard, way in itertools.product(standards, ([], ["-DBASE62_NO_INT128"])):
+            text, flags, language = SOURCE + HEADER, "CFLAGS", "c"
+            if "+" in standard:
+                text, flags, language = without_limits + HEADER + HEADER, "CXXFLAGS", "c++"
+            with self.subTest(standard=standard, way=way):
+                options = [*shlex.split(os.environ.get(flags, "")), f"-std={standard}", *way]
+                compiled(text, *options, "-fsyntax-only", language=language)
 
-    @unittest.skipUnless(IS_GCC, "clang has no other character set")
-    def test_character_set(self):
-        with self.assertRaises(subprocess.CalledProcessError) as raised:
-            compiled(SOURCE, "-fexec-charset=IBM1047", "-fsyntax-only")
-        self.assertIn("ASCII", raised.exception.stderr)
+    @unittest.skipUnless(IS_GCC, "options of gcc")
+    def test_pragmas(self):
+        """Code behind base62.c keeps its options. Up to GCC 10 the second pragma would change all of them."""
+        for options, pragmas in ([], "push_options optimize pop_options"), (["-U__GNUC__", "-D__GNUC__=10"], ""):
+            text = compiled(SOURCE, "-E", *options).stdout
+            self.assertEqual(re.findall(r"#pragma GCC (\w+)", text), pragmas.split())
+
+    def test_errors(self):
+        """What it cannot be compiled for ends in one error that says so, in C++ too."""
+        other = "#include <limits.h>\n#include <stdint.h>\n#undef {0}\n#define {0} {1}\n" + SOURCE
+        rejected = [
+            ("compile base62.c as C", SOURCE, "c++"),
+            ("bytes of 8 bits", other.format("CHAR_BIT", 9), "c"),
+            ("a size_t of 32 bits or more", other.format("SIZE_MAX", "0xfffffffe"), "c"),
+        ]
+        # clang has no other character set.
+        rejected += [("ASCII", SOURCE, "c", "-fexec-charset=IBM1047")] if IS_GCC else []
+        for message, source, language, *options in rejected:
+            with self.assertRaises(subprocess.CalledProcessError, msg=message) as raised:
+                compiled(source, *options, "-fsyntax-only", language=language)
+            self.assertRegex(raised.exception.stderr, rf'error: (#error )?"(base62.c is for .*)?{message}"')
+            self.assertEqual(raised.exception.stderr.count("error: "), 1)
+        compiled(other.format("SIZE_MAX", "0xffffffff"), "-fsyntax-only")
+
+    def test_example(self):
+        """That of its first comment, in C and C++."""
+        example = re.search(r"(?s)\n \*     .*?(?=\n \*\n \* It prints)", (FOLDER / "base62.h").read_text())[0]
+        program = f"{HEADER}#include <stdio.h>\nint main(void) {{{example}\nreturn 0; }}\n".replace("\n *", "\n")
+        with tempfile.TemporaryDirectory() as folder:
+            compiled(SOURCE, "-c", f"-o{folder}/base62.o")
+            for language in ("c", "c++"):
+                compiled(program, f"{folder}/base62.o", f"-o{folder}/example", language=language)
+                self.assertEqual(subprocess.check_output(f"{folder}/example"), b"LZ\nbyte 45 at 2\n")
 
     def test_includes(self):
         """They stand outside of extern "C": there no template may stand, as some systems' headers have them."""
@@ -214,13 +188,14 @@ class Freestanding(unittest.TestCase):
             with self.subTest(level=level, library=library):
                 names, _ = object_of_source(f"-O{level}", *library)
                 self.assertEqual(names["base62_encode"], "T")
+                self.assertFalse({*names.values()} & {*"BbCDdGgSs"}, "a variable")
                 may_call = of_clang.get(level, set()) if library else {"memcpy", "memmove", "memset"}
                 self.assertLessEqual({name for name, kind in names.items() if kind == "U"}, may_call)
 
     @unittest.skipUnless(IS_X86_64 and IS_GCC, "README speaks of GCC on x86-64")
     def test_stack(self):
         readme = (FOLDER / "README.md").read_text()
-        most, others = (float(it) * 1000 for it in re.findall(r"at most (\d\.\d) kB of stack", readme))
+        most, others = (float(size) * 1000 for size in re.findall(r"at most (\d\.\d) kB of stack", readme))
         for way in [], ["-DBASE62_NO_INT128"]:
             taken = stack(object_of_source("-O2", "-ffreestanding", *way)[1])
             self.assertGreater(len(taken), 20)

@@ -1,33 +1,15 @@
-// What a browser runs once it is bundled with the package: the tests of calls.mjs in a page, which starts the same
-// script as a worker, and posts what fails in each.
-import * as base62 from 'base62-proved';
-import { testsOf } from './calls.mjs';
+// A page that runs the rows of tests/values.tsv, also in a worker, and posts the number of calls or the error of each.
+import * as base62 from '../index.js';
 
-async function run() {
-  const tests = testsOf(base62, await (await fetch('/values.tsv')).text());
-  const failed = [];
-  for (const [name, test] of tests) {
-    try {
-      test();
-    } catch (error) {
-      failed.push(`${name}: ${error}`);
-    }
-  }
-  return { count: tests.length, failed };
-}
+import {Checks} from './calls.mjs';
 
-function runInWorker() {
-  return new Promise((resolve, reject) => {
-    const worker = new Worker('/script.js', { type: 'module' });
-    worker.onmessage = ({ data }) => resolve(data);
-    worker.onerror = ({ message }) => reject(new Error(message));
-  });
-}
-
+const response = await fetch('/tests/values.tsv');
+let result;
+try {
+  result = new Checks(base62, await response.text()).calls;
+} catch (error) { result = `${error}`; }
 if (globalThis.document) {
-  const results = Promise.all([run(), runInWorker()]);
-  const body = await results.then(JSON.stringify, (error) => JSON.stringify(`${error}`));
-  await fetch('/', { method: 'POST', body });
-} else {
-  postMessage(await run());
-}
+  const worker = new Worker(import.meta.url, { type: 'module' });
+  worker.onmessage = worker.onerror = ({ data, message }) =>
+    fetch('/', { method: 'POST', body: JSON.stringify([result, data ?? message]) });
+} else postMessage(result);

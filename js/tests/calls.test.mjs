@@ -1,14 +1,305 @@
-// The tests of calls.mjs, on each form of the installed package.
-import { readFileSync } from 'node:fs';
-import { createRequire } from 'node:module';
-import { test } from 'node:test';
-import * as module from 'base62-proved';
-import { load } from 'base62-proved/module';
-import { testsOf } from './calls.mjs';
+// Tests the functions by tests/values.tsv, by what its rows do not have, and by random calls, a million or CALLS, which
+// return what c/base62.c returns: c/tests/values.c reads their rows.
+import base62 from 'base62-proved';
+import assert from 'node:assert/strict';
+import {execFileSync, spawnSync} from 'node:child_process';
+import {mkdtempSync, readFileSync, rmSync, writeFileSync} from 'node:fs';
+import {tmpdir} from 'node:os';
+import {join} from 'node:path';
+import {test} from 'node:test';
+import {runInNewContext} from 'node:vm';
 
-const require = createRequire(import.meta.url);
+import * as modules from '../index.js';
+
+import {Checks, CODES} from './calls.mjs';
+
+const { Alphabet, decode, decodeFixed, decodeKey, digitCount, encode, encodeFixed, encodeKey, encodeUuid } = base62;
 const file = readFileSync(new URL('../../tests/values.tsv', import.meta.url), 'utf8');
-const given = load(new WebAssembly.Module(readFileSync(require.resolve('base62-proved/base62.wasm'))));
-for (const [form, base62] of Object.entries({ module, CommonJS: require('base62-proved'), given })) {
-  for (const [name, run] of testsOf(base62, file)) test(`${form}: ${name}`, run);
+const custom = new Alphabet('23456789ABCDEFGHJKLMNPQRSTUVWXYZabcdefghijkmnpqrstuvwxyz-_.~!*');
+
+for (const [form, functions] of Object.entries({ modules, commonJs: base62 })) {
+  test(`${form}: the rows of tests/values.tsv`, () => new Checks(functions, file));
 }
+
+test('the rows find a wrong function', () => {
+  const some = file.split('\n').filter((row, i) => row.startsWith('alphabet') || i % 20 === 0).join('\n');
+  for (const name of Object.keys(base62))
+    assert.throws(() => new Checks({...base62, [name]: function() {} }, some), / is not /, name);
+});
+
+// It throws if a call runs its code.
+const trap = new Proxy(() => assert.fail('called'), { get: () => assert.fail('read') });
+const bytes = new Uint8Array(16);
+const named = (pattern) => Object.keys(base62).filter((name) => pattern.test(name)).map((name) => base62[name]);
+const ofWidth = named(/Fixed|prefix/).map((call) => (width) => call('', width));
+
+function rejects(calls, values, code, message) {
+  const expected = code === 'TypeError' ? { name: code, message } : { name: 'Base62Error', code, message };
+  for (const call of calls)
+    for (const value of values) assert.throws(() => call(value), expected);
+}
+
+test('values of wrong types are rejected, and none of their code runs', () => {
+  const convertible = { valueOf: trap, toString: trap, [Symbol.toPrimitive]: trap };
+  const objects = [{}, ['LZ'], Object('LZ'), convertible, new Proxy(bytes, {}), bytes.buffer];
+  const values = [undefined, true, Symbol('LZ'), trap, ...objects].map((value) => [typeof value, value]);
+  values.push(['null', null], ['Int8Array', new Int8Array(16)], ['Uint8ClampedArray', new Uint8ClampedArray(16)]);
+  const ofText = named(/^(decode|key|prefix)/).map((call) => (text) => call(text, 2));
+  for (const [type, value] of values) {
+    rejects([encode, digitCount], [value], 'TypeError', `a number is a Number or a BigInt, not ${type}`);
+    const expected = 'a value is a Number, a BigInt, or a UUID as a string or a Uint8Array';
+    rejects([encodeKey], [value], 'TypeError', `${expected}, not ${type}`);
+  }
+  for (const [type, value] of [...values, ['number', 5], ['bigint', 5n]]) {
+    rejects(ofText, [value], 'TypeError', `an encoded string or a prefix is a string or a Uint8Array, not ${type}`);
+    rejects([encodeUuid], [value], 'TypeError', `a UUID is a string or a Uint8Array, not ${type}`);
+    if (type !== 'number') rejects(ofWidth, [value], 'TypeError', `a width is a Number, not ${type}`);
+  }
+  rejects([encode], ['5'], 'TypeError', "a number is a Number or a BigInt, not string: give BigInt('1337')");
+  rejects(
+    [(characters) => new Alphabet(characters)], [5, trap], 'TypeError', 'the characters of an alphabet are a string');
+});
+
+test('other alphabets are rejected', () => {
+  const calls = [
+    (alphabet) => encode(5, alphabet),
+    ...named(/^(encodeUuid|decode(Number|Uuid)?(Canonical)?)$/).map((call) => (alphabet) => call(bytes, alphabet)),
+    ...named(/Fixed|prefix/).map((call) => (alphabet) => call(bytes, 22, alphabet))
+  ];
+  const likenesses = [Object.create(Alphabet.prototype), Object.create(custom), new Proxy(custom, {})];
+  const expected = 'an alphabet is an Alphabet';
+  rejects(calls, [null, {}, ...likenesses], 'TypeError', `${expected} of this copy of base62-proved`);
+  rejects(calls, ['0'], 'TypeError', `${expected}, not a string: create one with new Alphabet(..)`);
+  rejects(calls, [5], 'TypeError', `${expected}, not 5: give map a function such as (n) => encode(n)`);
+  assert.throws(() => (custom.characters = ''), TypeError);
+});
+
+test('numbers and widths out of range are rejected', () => {
+  const numbers = [2 ** 53, 1.5, 5e-324, NaN, Infinity, -Infinity, -1, -1n, 2n ** 128n, -(2n ** 64n), 2n ** 200n];
+  const outOfRange = 'a number is an integer from 0 to 2**128 - 1, or to 2**53 - 1 as a Number';
+  rejects([encode, digitCount, encodeKey], numbers, 'OUT_OF_RANGE', outOfRange);
+  rejects(ofWidth, [-1, 1.5, NaN, Infinity, 2 ** 53], 'OUT_OF_RANGE', 'a width is an integer from 0 to 2**53 - 1');
+  rejects([(width) => encodeFixed(62, width)], [1], 'OUT_OF_RANGE', 'the number needs more characters than the width');
+  // No string has this width.
+  assert.throws(() => encodeFixed(5, 2 ** 40), (error) => error instanceof RangeError && !('code' in error));
+  for (const end of ['', 'Canonical', 'Fixed']) {
+    const decodeNumber = (text) => base62[`decodeNumber${end}`](text, ...(end === 'Fixed' ? [9] : []));
+    rejects([decodeNumber], ['fFgnDxSe8'], 'UNSAFE_INTEGER', `the number is above 2**53 - 1: use decode${end}`);
+  }
+});
+
+test('invalid UUIDs, characters and lengths are rejected', () => {
+  const uuids = ['5', new Uint8Array(0), new Uint8Array(15), new Uint8Array(17)];
+  // No string has the width.
+  const ofUuid = [encodeUuid, encodeKey, (value) => encodeFixed(value, 2 ** 40)];
+  const forms = 'with hyphens or without, in braces or after urn:uuid:, or 16 bytes';
+  rejects(ofUuid, uuids, 'INVALID_UUID', `a UUID is 32 hexadecimal digits, ${forms}`);
+  const create = (characters) => new Alphabet(characters);
+  rejects([create], [''], 'INVALID_ALPHABET', 'the alphabet has 0 characters, not 62');
+  rejects([create], ['0'], 'INVALID_ALPHABET', 'the alphabet has 1 character, not 62');
+  const wide = ['\u00e9', `${custom.characters.slice(2)}\u{1f600}`];
+  rejects([create], wide, 'INVALID_ALPHABET', 'the alphabet has a non-ASCII character');
+  rejects([decodeKey], ['0'], 'WRONG_LENGTH', 'Encoded input has 1 byte, not 22');
+  // A lone surrogate has three bytes.
+  rejects([decodeKey], ['\ud800'], 'WRONG_LENGTH', 'Encoded input has 3 bytes, not 22');
+  const invalid = "Encoded input contains the invalid byte b'\\xed' at index 1";
+  rejects([decode, (text) => decodeFixed(text, 4)], ['0\ud800', '0\udfff'], 'INVALID_BYTE', invalid);
+  rejects([decode], ['\ud800'.repeat(8)], 'OVERFLOW', 'Decoded number is 2^128 or more');
+  // After other calls too.
+  encodeUuid('550e8400-e29b-41d4-a716-446655440000');
+  rejects([decode], ['LZ-', 'LZ-'], 'INVALID_BYTE', "Encoded input contains the invalid byte b'-' at index 2");
+});
+
+test('100 MB are decoded and encoded without a copy, and strings of 10 MB are read', () => {
+  const many = new Uint8Array(1e8).fill(48);
+  const { maxRSS } = process.resourceUsage();
+  assert.equal(decode(many), 0n);
+  assert.equal(encodeFixed(1337, 1e8).length, 1e8);
+  assert.ok(process.resourceUsage().maxRSS - maxRSS < 20_000);
+  const zeros = '0'.repeat(1e7);
+  for (const form of [String, Buffer.from]) {
+    assert.equal(decode(form(`${zeros}LZ`)), 1337n);
+    assert.equal(decodeFixed(form(`${zeros}LZ`), 10_000_002), 1337n);
+    assert.deepEqual(base62.prefixRange(form(zeros), 10_000_001), [0n, 61n]);
+    assert.throws(() => decode(form(`${zeros}-`)), { byte: 45, index: 1e7 });
+    rejects([decode], [form('\u00e9'.repeat(5e6))], 'OVERFLOW', 'Decoded number is 2^128 or more');
+    assert.throws(() => decodeFixed(form('\u00e9'.repeat(5e6)), 5e6), { code: 'WRONG_LENGTH' });
+  }
+});
+
+test('functions of one argument work with map', () => {
+  const numbers = [0n, 1337n, 2n ** 128n - 1n];
+  const keys = numbers.map(encodeKey);
+  assert.deepEqual(keys.map(decodeKey), numbers);
+  for (const call of named(/^key|UuidKey/)) assert.deepEqual(keys.map(call), keys.map((key) => call(key)));
+});
+
+test('any Uint8Array is read, by its own length', () => {
+  class Trapped extends Uint8Array {}
+  for (const name of ['buffer', 'byteLength', 'byteOffset', 'length', Symbol.toStringTag])
+    Object.defineProperty(Trapped.prototype, name, { get: trap });
+  for (const Bytes of [Trapped, runInNewContext('Uint8Array')]) {
+    for (const size of [2, 22, 20_000]) {
+      const text = new Bytes(Buffer.from('LZ'.padStart(size, '0')));
+      assert.equal(decode(text), 1337n);
+      assert.equal(decodeFixed(text, size), 1337n);
+      assert.deepEqual(base62.prefixRange(text, size), [1337n, 1337n]);
+    }
+    assert.equal(encodeUuid(new Bytes([...new Uint8Array(14), 5, 57])), 'LZ');
+  }
+  assert.equal(decode(Buffer.from('-LZ-').subarray(1, -1)), 1337n);
+  assert.equal(decode(new Uint8Array(new SharedArrayBuffer(2)).fill(48)), 0n);
+  // A detached one is not read as an empty text.
+  const sent = new Uint8Array(2);
+  structuredClone(sent.buffer, { transfer: [sent.buffer] });
+  for (const call of [decode, base62.keyRange]) assert.throws(() => call(sent), TypeError);
+});
+
+function heapUsed() {
+  globalThis.gc();
+  return process.memoryUsage().heapUsed;
+}
+
+// No number is passed twice.
+let next = 0n;
+
+// Each result takes so many bytes. Code that the runtime compiles in between is in the heap too.
+function checkSize(most, call) {
+  const sizes = Array.from({ length: 8 }, () => {
+    const results = new Array(5000).fill('');
+    const before = heapUsed();
+    for (let i = 0; i < results.length; i++) results[i] = call(next++);
+    return (heapUsed() - before) / results.length;
+  });
+  assert.ok(Math.min(...sizes) < most + 4, `${call}: ${sizes}`);
+}
+
+test('a string takes the memory of its characters alone, and a call keeps no other', () => {
+  for (let length = 4; length <= 22; length++) {
+    const least = 62n ** BigInt(length - 1);
+    checkSize(16 + 8 * Math.ceil(length / 8), (i) => encode(least + i));
+  }
+  checkSize(0, () => assert.throws(() => decode('LZ-')));
+  checkSize(0, (i) => void encode(i));
+  checkSize(0, (i) => void decode(`LZ${i}`));
+  checkSize(0, () => void encodeUuid(new Uint8Array(16), custom));
+  checkSize(0, () => void base62.keyBounds('L'));
+  checkSize(0, () => void new Alphabet(custom.characters));
+});
+
+test('calls go on after the stack has run out in one', () => {
+  const calls = [
+    () => encode(2n ** 127n), () => encode(1337, custom), () => decode('7n42DGM5Tflk9n8mt7Fhc7'),
+    () => decode('Pd'.padStart(30, '2'), custom), () => base62.decodeUuid('2aUyqjCzEIiEcYMKj7TZtw'),
+    () => encodeUuid('{550E8400-E29B-41D4-A716-446655440000}'), () => base62.keyRange('zz')
+  ];
+  const expected = calls.map((call) => call());
+  const failures = new Set();
+  // An assertion that fails would need more stack than is left.
+  const attempt = (call, i) => {
+    try {
+      if (call() !== expected[i]) failures.add(`${call}`);
+    } catch ({ name, code }) { failures.add(`${name} ${code}`); }
+  };
+  const dive = () => {
+    try {
+      dive();
+    } catch {
+      // The frames above have room for the calls.
+    }
+    calls.forEach(attempt);
+  };
+  // The stack begins at many places.
+  for (let i = 0; i < 100; i++) Reflect.apply(dive, undefined, new Array(i));
+  assert.deepEqual(calls.map((call) => call()), expected);
+  assert.deepEqual([...failures], ['RangeError undefined']);
+});
+
+const ASCII = Array.from({ length: 128 }, (_, code) => String.fromCharCode(code));
+const OTHERS = [...ASCII, ...'\x80\u0141\u07ff\u0800\uffff\u{10000}\u{10ffff}'];
+const below = (end) => Math.floor(Math.random() * end);
+const pick = (list) => list[below(list.length)];
+const fieldOf = (text) => Buffer.from(text).toString('hex').replace(/../g, '%$&');
+
+// Of any length. In a base of the library or of its arithmetic, runs of digits at both ends, or of any; then near it.
+function drawNumber() {
+  const base = pick([2n, 62n, 256n, 2n ** 24n, 2n ** 32n, 62n ** 4n, 62n ** 8n]);
+  const limit = 2n ** BigInt(below(129));
+  let digit = 1n;
+  let number = 0n;
+  do {
+    if (below(3) === 0) digit = pick([0n, 1n, base - 2n, base - 1n, BigInt(below(Number(base)))]);
+    number = number * base + digit;
+  } while (number < limit);
+  return BigInt.asUintN(128, number + BigInt(below(5) - 2));
+}
+
+// Zeros and the string of a number or any characters of the alphabet, with one other character or several anywhere.
+function drawText(alphabet) {
+  const { characters } = alphabet;
+  const any = Array.from({ length: below(25) }, () => pick(characters));
+  const digits = [...characters[0].repeat(pick([0, 1, below(30)])), ...pick([any, encode(drawNumber(), alphabet)])];
+  digits.splice(below(digits.length + 1), 0, pick(OTHERS).repeat(pick([0, 0, 1, below(9)])));
+  return Buffer.from(digits.join(''), pick(['latin1', 'utf8']));
+}
+
+// What a call returns or throws, in the words of the rows.
+function resultOf(call) {
+  try {
+    const result = call();
+    if (result === null) return 'none';
+    return typeof result === 'bigint' ? `number\t${result}` : `numbers\t${result.join('\t')}`;
+  } catch ({ code, byte, index }) {
+    const word = Object.keys(CODES).find((key) => CODES[key] === code);
+    return byte === undefined ? word : `${word}\t${byte}\t${index}`;
+  }
+}
+
+// Rows of what the functions return for drawn arguments.
+function drawRows(name, alphabet) {
+  const number = drawNumber();
+  const text = drawText(alphabet);
+  const width = pick([22, text.length, below(60)]);
+  const field = fieldOf(text);
+  const encoded = fieldOf(encode(number, alphabet));
+  const isNarrow = digitCount(number) > width;
+  const fixed = isNarrow ? '' : fieldOf(encodeFixed(number, width, alphabet));
+  const any = resultOf(() => decode(text, alphabet));
+  const [kind, value] = any.split('\t');
+  const isSame = any === resultOf(() => base62.decodeCanonical(text, alphabet));
+  const canonical = kind === 'number' ? `encode\t${name}\t${value}\t${field}` : `refused\t${name}\t${field}\t${any}`;
+  return [
+    `encode\t${name}\t${number}\t${encoded}`,
+    isNarrow ? `narrow\t${name}\t${number}\t${width}` : `fixed\t${name}\t${number}\t${width}\t${fixed}`,
+    isSame ? canonical : `zeros\t${name}\t${field}\t${value}`,
+    `exact\t${name}\t${width}\t${field}\t${resultOf(() => decodeFixed(text, width, alphabet))}`,
+    `range\t${name}\t${width}\t${field}\t${resultOf(() => base62.prefixRange(text, width, alphabet))}`
+  ];
+}
+
+const skip = spawnSync('cc', ['--version']).status !== 0 && 'install a C compiler';
+const wanted = Number(process.env.CALLS ?? 1e6);
+
+test(`${wanted} random calls return what c/base62.c returns`, { skip }, () => {
+  const folder = mkdtempSync(join(tmpdir(), 'base62-'));
+  const [program, path] = [join(folder, 'values'), join(folder, 'rows.tsv')];
+  const first = file.match(/^(alphabet|message)\t.*/gm);
+  const checks = new Checks(base62, file);
+  checks.called.clear();
+  Error.stackTraceLimit = 0;  // so that errors take less time
+  try {
+    execFileSync(
+      'cc', ['-O1', '-I.', '-o', program, 'tests/values.c', 'base62.c'], { cwd: new URL('../../c', import.meta.url) });
+    for (const end = checks.calls + wanted; checks.calls < end;) {
+      const others = [...ASCII];
+      const characters = Array.from({ length: 62 }, () => others.splice(below(others.length), 1)[0]).join('');
+      const alphabets = [['standard', Alphabet.standard], ['drawn', new Alphabet(characters)]];
+      const rows = Array.from({ length: 1000 }, () => drawRows(...pick(alphabets))).flat();
+      rows.unshift(`alphabet\tdrawn\t${fieldOf(characters)}\t1`);
+      for (const row of rows) checks.check(row);
+      writeFileSync(path, [...first, ...rows].join('\n'));
+      execFileSync(program, [path]);
+    }
+  } finally { rmSync(folder, { recursive: true }); }
+  assert.deepEqual([...checks.called, 'Base62Error'].sort(), Object.keys(base62));
+});

@@ -1,77 +1,110 @@
-// Tests of the files of the package, in a clone of the repository.
+// Tests of the package's files, in a clone of the repository, and of its copies and what a runtime may lack.
+import base62 from 'base62-proved';
 import assert from 'node:assert/strict';
-import { execFileSync } from 'node:child_process';
-import { readFileSync } from 'node:fs';
-import { createRequire } from 'node:module';
-import { test } from 'node:test';
-import { fileURLToPath } from 'node:url';
-import * as module from '../index.js';
-import { load } from '../module.js';
+import {execFileSync, spawnSync} from 'node:child_process';
+import {readFileSync} from 'node:fs';
+import {createRequire} from 'node:module';
+import {test} from 'node:test';
+import {fileURLToPath} from 'node:url';
+import {format, inspect} from 'node:util';
+import {createContext, runInContext, runInNewContext} from 'node:vm';
 
-const require = createRequire(import.meta.url);
-const bytes = readFileSync(new URL('../base62.wasm', import.meta.url));
-const compiled = new WebAssembly.Module(bytes);
-const options = { cwd: fileURLToPath(new URL('..', import.meta.url)), encoding: 'utf8' };
-const read = (name) => readFileSync(new URL(`../${name}`, import.meta.url), 'utf8');
+import * as modules from '../index.js';
 
-test('npm packs these files alone', () => {
+const pathOf = (name) => fileURLToPath(new URL(`../${name}`, import.meta.url));
+const read = (name) => readFileSync(pathOf(name), 'utf8');
+const cwd = pathOf('.');
+
+test('npm packs these files alone, in at most 15 kB', () => {
   // A list, or from npm 12 on an object by the names of packages.
-  const [{ files }] = Object.values(JSON.parse(execFileSync('npm', ['pack', '--dry-run', '--json'], options)));
-  const entries = ['index', 'module'].flatMap((it) => ['cjs', 'd.cts', 'd.ts', 'js'].map((end) => `${it}.${end}`));
-  const code = ['base62.wasm', 'compile.js', 'constants.js', 'wasm.js'];
-  const wanted = ['LICENSE', 'README.md', 'package.json', ...code, ...entries];
-  assert.deepEqual(files.map(({ path }) => path).sort(), wanted.sort());
+  const [{ files, size }] = Object.values(JSON.parse(execFileSync('npm', ['pack', '--dry-run', '--json'], { cwd })));
+  const code = ['commonjs/index.js', 'commonjs/package.json', 'digits.js', 'index.js', 'strings.js', 'uuid.js'];
+  const expected = ['LICENSE', 'README.md', 'index.d.cts', 'index.d.ts', 'package.json', ...code];
+  assert.deepEqual(files.map(({ path }) => path).sort(), expected.sort());
+  assert.ok(size <= 15_000, `${size}`);
 });
 
-test('each form has the same calls', () => {
-  for (const base62 of [require('../index.cjs'), load(compiled), require('../module.cjs').load(compiled)]) {
-    assert.deepEqual(Object.keys(base62).sort(), Object.keys(module));
-    assert.equal(base62.encode(1337), 'LZ');
-  }
+test('commonjs/index.js is generated from the modules', () => {
+  const generated = execFileSync(process.execPath, [pathOf('commonjs.mjs'), '-'], { encoding: 'utf8' });
+  assert.equal(read('commonjs/index.js'), generated);
 });
 
-test('the examples of the types print what they say', () => {
+test('each path in package.json leads to a file', () => {
+  const { exports, main, module, types } = JSON.parse(read('package.json'));
+  const { import: forImport, require: forRequire } = exports['.'];
+  // What reads no exports reads these.
+  assert.deepEqual([main, module, types], [forRequire.default, forImport.default, forImport.types]);
+  for (const name of [...Object.values(forImport), ...Object.values(forRequire), exports['./package.json']]) read(name);
+});
+
+test('README has the oldest Node and the codes of the types', () => {
+  const readme = read('README.md');
+  const { engines } = JSON.parse(read('package.json'));
+  assert.equal(/for Node (\d+) and later/.exec(readme)[1], engines.node.slice('>='.length));
+  const [, union] = /readonly code:([^;]+);/.exec(read('index.d.cts'));
+  assert.deepEqual(readme.match(/(?<=^\| `)[A-Z_]+(?=`)/gm).sort(), union.match(/\w+/g).sort());
+});
+
+test('calls return and throw what the examples of the types and README say', () => {
+  const call = (code) => runInNewContext(code, {...modules });
   const types = read('index.d.cts');
-  const examples = [...types.matchAll(/^ \* @example\n \* (console\.log.+) \/\/ (.+)$/gm)];
+  const examples = [...types.matchAll(/@example\n \* console\.log\((.+)\); \/\/ (.+)$/gm)];
   assert.equal(examples.length, types.split('@example').length - 1);
-  const program = `import { ${Object.keys(module)} } from 'base62-proved'; ${examples.map(([, it]) => it).join('')}`;
-  const printed = execFileSync(process.execPath, ['--input-type=module', '--eval', program], options);
-  assert.deepEqual(printed.trim().split('\n'), examples.map(([, , it]) => it));
-});
-
-test('each subpath can be imported and required', async () => {
-  const { exports } = JSON.parse(read('package.json'));
-  const pathOf = (file) => fileURLToPath(new URL(`../${file}`, import.meta.url));
-  assert.deepEqual(Object.keys(exports), ['.', './module', './base62.wasm', './package.json']);
-  for (const file of ['base62.wasm', 'package.json']) {
-    assert.equal(require.resolve(`base62-proved/${file}`), pathOf(file));
-  }
-  for (const [subpath, file] of [['.', 'index'], ['./module', 'module']]) {
-    const name = subpath.replace('.', 'base62-proved');
-    assert.equal(require.resolve(name), pathOf(`${file}.cjs`));
-    assert.equal(await import(name), await import(`../${file}.js`));
-    assert.equal(exports[subpath].import.types, `./${file}.d.ts`);
-    assert.equal(exports[subpath].require.types, `./${file}.d.cts`);
+  for (const [, code, printed] of examples) assert.equal(format(call(code)), printed);
+  const claims = [...read('README.md').matchAll(/`(\w+\([^`]+)` (returns|throws) `([^`]+)`/g)];
+  assert.deepEqual(claims.map(([, , verb]) => verb).sort(), ['returns', 'returns', 'throws']);
+  for (const [, code, verb, expected] of claims) {
+    if (verb === 'throws') assert.throws(() => call(code), { code: expected });
+    else assert.equal(inspect(call(code)), expected);
   }
 });
 
-test('package.json and README name the same version of Node', () => {
-  const [, oldest] = /^>=(\d+)$/.exec(JSON.parse(read('package.json')).engines.node);
-  assert.match(read('README.md'), new RegExp(`for Node ${oldest} and later`));
+const skip = spawnSync('esbuild', ['--version']).status !== 0 && 'install esbuild';
+
+test('a bundle has one copy, and no more than 12 kB, or nothing if no function is used', { skip }, () => {
+  const bundle = (input) => execFileSync('esbuild', ['--bundle', '--minify'], { cwd, encoding: 'utf8', input });
+  const all = bundle("import { encode } from 'base62-proved'; console.log(encode, require('base62-proved').decode);");
+  assert.ok(all.length < 12_000, `${all.length}`);
+  assert.equal(all.split('Encoded input has a leading zero').length, 2);
+  assert.ok(bundle("import { encode } from 'base62-proved';").length < 100);
 });
 
-test('the WebAssembly is small, imports nothing, and has room for the longest piece of a text', () => {
-  assert.ok(bytes.length <= 14_000, `${bytes.length}`);
-  const { exports: library } = new WebAssembly.Instance(compiled);
-  // NUMBER of module.js, above which are the arguments and results of a call.
-  assert.ok(library.__heap_base.value <= 0x18000);
-  assert.equal(library.memory.buffer.byteLength, 0x20000);
-  assert.deepEqual(WebAssembly.Module.imports(compiled), []);
+test('import and require give one copy, whose alphabets and errors work in both', () => {
+  const { Alphabet, Base62Error } = createRequire(import.meta.url)('base62-proved');
+  assert.equal(base62.encode(1337, Alphabet.alternative), 'lz');
+  assert.throws(() => base62.decode('LZ-'), (error) => error instanceof Base62Error && error instanceof RangeError);
+  assert.throws(() => base62.encode(1337, new modules.Alphabet(Alphabet.standard.characters)), TypeError);
 });
 
-test('a stack overflow of the WebAssembly is an error, and overwrites no tables', () => {
-  const { exports: library } = new WebAssembly.Instance(compiled);
-  // No byte of the stack is left.
-  library.__stack_pointer.value -= 65536;
-  assert.throws(() => library.base62_encode_with(0x18100, 0x18000, 0x18400, 22), WebAssembly.RuntimeError);
+// Runs code, and then the script of the package twice, in a page without WebAssembly and code generation.
+function pageAfter(code) {
+  const page = createContext({}, { codeGeneration: { strings: false, wasm: false } });
+  const script = read('commonjs/index.js');
+  for (const part of [`delete globalThis.WebAssembly; ${code}`, script, script]) runInContext(part, page);
+  return page;
+}
+
+test('a script of a page has one name, inherits nothing from Object.prototype, and needs little-endian words', () => {
+  const expected = { value: 2, writable: false, enumerable: true, configurable: false };
+  for (const name of ['configurable', 'get', 'set', 'writable']) {
+    const page = pageAfter(`const decode = 1; Object.prototype.${name} = true`);
+    assert.deepEqual(Object.keys(page), ['base62']);
+    assert.throws(() => page.base62.decode('LZ-'), (error) => {
+      assert.deepEqual(Object.getOwnPropertyDescriptor(error, 'index'), expected);
+      error.name = 'Other';
+      return error instanceof page.base62.Base62Error && `${error}`.startsWith('Other: ');
+    });
+  }
+  assert.throws(
+    () => pageAfter('Uint16Array.of = () => Uint8Array.of(0, 1)'), /base62-proved needs a little-endian processor$/);
+});
+
+test('a runtime without WebAssembly and without a compiler has all functions', () => {
+  const run = (option, ...others) => spawnSync(process.execPath, [option, ...others], { env: {}, encoding: 'utf8' });
+  // Some versions of Node have no such option, but --jitless leaves WebAssembly out too.
+  const hasOption = run('--no-expose-wasm', '--version').status === 0;
+  for (const option of hasOption ? ['--no-expose-wasm', '--jitless'] : ['--jitless']) {
+    const { status, stdout } = run(option, '--test-name-pattern=commonJs', pathOf('tests/calls.test.mjs'));
+    assert.equal(status, 0, stdout);
+  }
 });

@@ -2,12 +2,6 @@
 # Copyright (c) 2026 the maintainers of base62 for Rattle
 """Encodes unsigned integers below 2**128, and UUIDs, as short strings in base 62, and decodes them.
 
->>> import base62
->>> base62.encode(1337)
-'LZ'
->>> base62.decode("LZ")
-1337
-
 The functions call a C library that Frama-C proves.
 """
 
@@ -21,6 +15,7 @@ from base62._base62 import (
     decode_uuid,
     decode_uuid_canonical,
     decode_uuid_fixed,
+    decode_uuid_key,
     digit_count,
     encode,
     encode_fixed,
@@ -31,13 +26,13 @@ from base62._base62 import (
 )
 from base62._types import (
     AlphabetError,
-    AnyUUID as AnyUUID,
+    AnyUUID,
     DecodeError,
     EmptyInputError,
-    EncodedString as EncodedString,
+    EncodedString,
     InvalidByteError,
     NotCanonicalError,
-    Number as Number,
+    Number,
     OutOfRangeError,
     TooLargeError,
     WrongLengthError,
@@ -48,10 +43,14 @@ AnyAlphabet = Alphabet | str | bytes
 __all__ = [
     "Alphabet",
     "AlphabetError",
+    "AnyAlphabet",
+    "AnyUUID",
     "DecodeError",
     "EmptyInputError",
+    "EncodedString",
     "InvalidByteError",
     "NotCanonicalError",
+    "Number",
     "OutOfRangeError",
     "TooLargeError",
     "WrongLengthError",
@@ -62,6 +61,7 @@ __all__ = [
     "decode_uuid",
     "decode_uuid_canonical",
     "decode_uuid_fixed",
+    "decode_uuid_key",
     "digit_count",
     "encode",
     "encode_fixed",

@@ -19,8 +19,7 @@ static int init_alphabet_or_raise(struct state *state, struct text characters, s
     }
     alphabet->is_ascii = 1;
     for (int i = 0; i < BASE62_ALPHABET_LENGTH; i++)
-        if ((unsigned char)characters.bytes[i] > 127)
-            alphabet->is_ascii = 0;
+        if ((unsigned char)characters.bytes[i] > 127) alphabet->is_ascii = 0;
     return 0;
 }
 
@@ -28,10 +27,8 @@ static int init_alphabet_or_raise(struct state *state, struct text characters, s
 PyObject *characters_or_raise(struct state *state, PyObject *argument, struct alphabet *alphabet) {
     struct text characters;
     PyObject *bytes = PyBytes_Check(argument) ? new_ref(argument) : convert(state, TO_CHARACTERS, argument);
-    if (steal_bytes_or_raise(bytes, &characters) != 0)
-        return NULL;
-    if (init_alphabet_or_raise(state, characters, alphabet) == 0)
-        return bytes;
+    if (steal_bytes_or_raise(bytes, &characters) != 0) return NULL;
+    if (init_alphabet_or_raise(state, characters, alphabet) == 0) return bytes;
     Py_DecRef(bytes);
     return NULL;
 }
@@ -47,11 +44,9 @@ static PyObject *new_alphabet_of(struct state *state, PyTypeObject *type, PyObje
     PyObject *tuple = bytes_new == NULL ? NULL : Py_BuildValue("(N)", new_bytes(characters));
     PyObject *object = tuple == NULL ? NULL : bytes_new(type, tuple, NULL);
     Py_DecRef(tuple);
-    if (object == NULL)
-        return NULL;
+    if (object == NULL) return NULL;
     state->has_fields = (char *)fields_of(state, object) == PyBytes_AsString(object) + BASE62_ALPHABET_LENGTH + 1;
-    if (state->has_fields)
-        *fields_of(state, object) = *fields;
+    if (state->has_fields) *fields_of(state, object) = *fields;
     return object;
 }
 
@@ -95,45 +90,37 @@ static const char *name_of(PyObject *self) {
 
 static PyObject *alphabet_repr(PyObject *self) {
     const char *name = name_of(self);
-    if (name != NULL)
-        return PyUnicode_FromString(name);
-    PyObject *characters = new_bytes(self), *repr = characters == NULL ? NULL : PyUnicode_FromFormat("Alphabet(%R)", characters);
+    if (name != NULL) return PyUnicode_FromString(name);
+    PyObject *characters = new_bytes(self),
+             *repr = characters == NULL ? NULL : PyUnicode_FromFormat("Alphabet(%R)", characters);
     Py_DecRef(characters);
     return repr;
 }
 
-PyDoc_STRVAR(reduce_doc, "__reduce__($self, /)\n--\n\n"
-                         "Return the name of a built-in alphabet, or how to create another one.");
-
+/* For pickle and copy: the name of a built-in alphabet, or how to create another one. */
 static PyObject *alphabet_reduce(PyObject *self, PyObject *unused) {
     (void)unused;
     const char *name = name_of(self);
-    if (name != NULL)
-        return PyUnicode_FromString(name);
+    if (name != NULL) return PyUnicode_FromString(name);
     return Py_BuildValue("O(N)", Py_TYPE(self), new_bytes(self));
 }
 
 static PyMethodDef alphabet_methods[] = {
-    {"__reduce__", alphabet_reduce, METH_NOARGS, reduce_doc},
+    {"__reduce__", alphabet_reduce, METH_NOARGS, NULL},
     {NULL, NULL, 0, NULL},
 };
 
 static PyType_Slot alphabet_slots[] = {
-    {Py_tp_doc, (void *)DOC_Alphabet},
-    {Py_tp_new, alphabet_new},
-    {Py_tp_dealloc, alphabet_dealloc},
-    {Py_tp_traverse, alphabet_traverse},
-    {Py_tp_repr, alphabet_repr},
-    {Py_tp_str, alphabet_repr},
-    {Py_tp_methods, alphabet_methods},
-    {0, NULL},
+    {Py_tp_doc, (void *)DOC_Alphabet}, {Py_tp_new, alphabet_new},
+    {Py_tp_dealloc, alphabet_dealloc}, {Py_tp_traverse, alphabet_traverse},
+    {Py_tp_repr, alphabet_repr},       {Py_tp_str, alphabet_repr},
+    {Py_tp_methods, alphabet_methods}, {0, NULL},
 };
 
 static int add_type(PyObject *module) {
     struct state *state = PyModule_GetState(module);
     state->bytes_basicsize = PyLong_AsSsize_t(state->objects[BYTES_SIZE]);
-    if (state->bytes_basicsize < 0)
-        return 0;
+    if (state->bytes_basicsize < 0) return 0;
     PyType_Spec spec = {
         .name = "base62.Alphabet",
         .basicsize = (int)(state->bytes_basicsize + (Py_ssize_t)sizeof(struct alphabet)),
@@ -143,10 +130,8 @@ static int add_type(PyObject *module) {
     };
     state->objects[ALPHABET] = PyType_FromModuleAndSpec(module, &spec, (PyObject *)&PyBytes_Type);
     /* 3.11 does not always report that an allocation failed. */
-    if (state->objects[ALPHABET] == NULL && PyErr_Occurred() == NULL)
-        PyErr_NoMemory();
-    return state->objects[ALPHABET] != NULL &&
-           PyModule_AddObjectRef(module, "Alphabet", state->objects[ALPHABET]) == 0;
+    if (state->objects[ALPHABET] == NULL && PyErr_Occurred() == NULL) PyErr_NoMemory();
+    return state->objects[ALPHABET] != NULL && PyModule_AddObjectRef(module, "Alphabet", state->objects[ALPHABET]) == 0;
 }
 
 /* Setting an attribute of an immutable type raises TypeError, so it is stored in the type's __dict__. */

@@ -8,8 +8,7 @@
 
 PyObject *borrow(struct state *state, int which) {
     PyObject *object = state->objects[which];
-    if (object == NULL)
-        PyErr_SetString(PyExc_SystemError, "the module is cleared");
+    if (object == NULL) PyErr_SetString(PyExc_SystemError, "the module is cleared");
     return object;
 }
 
@@ -27,11 +26,8 @@ static PyThreadState *release_gil_if_long(size_t length) {
 }
 
 static void restore_gil(PyThreadState *saved) {
-    if (saved != NULL)
-        PyEval_RestoreThread(saved);
+    if (saved != NULL) PyEval_RestoreThread(saved);
 }
-
-/* Arguments */
 
 struct parameters {
     const char *format, *names[4];
@@ -40,19 +36,18 @@ struct parameters {
 
 /* PyArg_ParseTupleAndKeywords handles keywords and wrong argument counts, and raises the exceptions. */
 static int parse(const struct parameters *signature, PyObject *const *args, Py_ssize_t nargs, PyObject *kwnames,
-                 PyObject *found[3]) {
+                 PyObject *arguments[3]) {
     Py_ssize_t named = kwnames == NULL ? 0 : PyTuple_Size(kwnames);
     PyObject *tuple = named < 0 ? NULL : PyTuple_New(nargs), *dict = tuple == NULL ? NULL : PyDict_New();
     int ok = dict != NULL;
-    for (Py_ssize_t i = 0; ok && i < nargs; i++)
-        ok = PyTuple_SetItem(tuple, i, new_ref(args[i])) == 0;
+    for (Py_ssize_t i = 0; ok && i < nargs; i++) ok = PyTuple_SetItem(tuple, i, new_ref(args[i])) == 0;
     for (Py_ssize_t i = 0; ok && i < named; i++) {
         PyObject *name = PyTuple_GetItem(kwnames, i);
         ok = name != NULL && PyDict_SetItem(dict, name, args[nargs + i]) == 0;
     }
-    found[0] = found[1] = found[2] = NULL;
-    ok = ok && PyArg_ParseTupleAndKeywords(tuple, dict, signature->format, (char **)signature->names, &found[0],
-                                           &found[1], &found[2]);
+    arguments[0] = arguments[1] = arguments[2] = NULL;
+    ok = ok && PyArg_ParseTupleAndKeywords(tuple, dict, signature->format, (char **)signature->names, &arguments[0],
+                                           &arguments[1], &arguments[2]);
     Py_DecRef(tuple);
     Py_DecRef(dict);
     return ok ? 0 : -1;
@@ -60,20 +55,24 @@ static int parse(const struct parameters *signature, PyObject *const *args, Py_s
 
 /* Borrows the arguments from the caller. */
 static inline int unpack(const struct parameters *signature, PyObject *const *args, Py_ssize_t nargs, PyObject *kwnames,
-                         PyObject *found[3]) {
+                         PyObject *arguments[3]) {
     if (kwnames != NULL || nargs < signature->least || nargs > signature->most)
-        return parse(signature, args, nargs, kwnames, found);
-    found[0] = args[0];
-    found[1] = nargs > 1 ? args[1] : NULL;
-    found[2] = nargs > 2 ? args[2] : NULL;
+        return parse(signature, args, nargs, kwnames, arguments);
+    arguments[0] = args[0];
+    arguments[1] = nargs > 1 ? args[1] : NULL;
+    arguments[2] = nargs > 2 ? args[2] : NULL;
     return 0;
 }
 
+/* Raises an exception with a message, or with a tuple of arguments, to which it steals the reference. It may be NULL. */
+static void raise_error(struct state *state, int error, PyObject *arguments) {
+    PyObject *type = arguments == NULL ? NULL : borrow(state, error);
+    if (type != NULL) PyErr_SetObject(type, arguments);
+    Py_DecRef(arguments);
+}
+
 static int raise_out_of_range(struct state *state, const char *message) {
-    PyObject *text = PyUnicode_FromString(message), *type = text == NULL ? NULL : borrow(state, OUT_OF_RANGE_ERROR);
-    if (type != NULL)
-        PyErr_SetObject(type, text);
-    Py_DecRef(text);
+    raise_error(state, OUT_OF_RANGE_ERROR, PyUnicode_FromString(message));
     return -1;
 }
 
@@ -81,13 +80,11 @@ static int raise_out_of_range(struct state *state, const char *message) {
 static int split_int(PyObject *integer, base62_number *number) {
     PyObject *bits = PyLong_FromLong(64), *high = bits == NULL ? NULL : PyNumber_Rshift(integer, bits);
     Py_DecRef(bits);
-    if (high == NULL)
-        return -1;
+    if (high == NULL) return -1;
     number->high = PyLong_AsUnsignedLongLong(high);
     Py_DecRef(high);
     if (number->high == UINT64_MAX && PyErr_Occurred() != NULL) {
-        if (!PyErr_ExceptionMatches(PyExc_OverflowError))
-            return -1;
+        if (!PyErr_ExceptionMatches(PyExc_OverflowError)) return -1;
         PyErr_Clear();
         return 1;
     }
@@ -104,21 +101,16 @@ static int number_of_int_or_raise(struct state *state, PyObject *integer, base62
     return failed > 0 ? raise_out_of_range(state, "the number is not from 0 to 2**128 - 1") : failed;
 }
 
-/* The int of an argument that is not exactly an int. */
 static PyObject *int_or_raise(struct state *state, PyObject *argument) {
     PyTypeObject *type = Py_TYPE(argument), *uuid = (PyTypeObject *)borrow(state, UUID);
-    if (uuid == NULL)
-        return NULL;
-    if (type == uuid)
-        return int_of_uuid(state, argument);
-    if (PyIndex_Check(argument) && !PyType_IsSubtype(type, uuid))
-        return PyNumber_Index(argument);
+    if (uuid == NULL) return NULL;
+    if (type == uuid) return int_of_uuid(state, argument);
+    if (PyIndex_Check(argument) && !PyType_IsSubtype(type, uuid)) return PyNumber_Index(argument);
     return convert(state, TO_INT, argument);
 }
 
 int number_or_raise(struct state *state, PyObject *argument, base62_number *number) {
-    if (PyLong_CheckExact(argument))
-        return number_of_int_or_raise(state, argument, number);
+    if (PyLong_CheckExact(argument)) return number_of_int_or_raise(state, argument, number);
     PyObject *integer = int_or_raise(state, argument);
     int failed = integer == NULL ? -1 : number_of_int_or_raise(state, integer, number);
     Py_DecRef(integer);
@@ -128,14 +120,12 @@ int number_or_raise(struct state *state, PyObject *argument, base62_number *numb
 /* A width above PY_SSIZE_T_MAX becomes PY_SSIZE_T_MAX: no string is so long, so no call has another result. */
 static inline Py_ALWAYS_INLINE int width_or_raise(PyObject *argument, size_t *width) {
     int overflow = 0;
-    long long found = PyLong_CheckExact(argument) ? PyLong_AsLongLongAndOverflow(argument, &overflow)
-                                                  : PyNumber_AsSsize_t(argument, NULL);
-    if (overflow > 0 || found > PY_SSIZE_T_MAX)
-        found = PY_SSIZE_T_MAX;
-    *width = (size_t)found;
-    if (found < 0 && PyErr_Occurred() == NULL)
-        PyErr_SetString(PyExc_ValueError, "the width is negative");
-    return found < 0 ? -1 : 0;
+    long long number = PyLong_CheckExact(argument) ? PyLong_AsLongLongAndOverflow(argument, &overflow)
+                                                   : PyNumber_AsSsize_t(argument, NULL);
+    if (overflow > 0 || number > PY_SSIZE_T_MAX) number = PY_SSIZE_T_MAX;
+    *width = (size_t)number;
+    if (number < 0 && PyErr_Occurred() == NULL) PyErr_SetString(PyExc_ValueError, "the width is negative");
+    return number < 0 ? -1 : 0;
 }
 
 /* Steals the reference to a bytes object. It may be NULL. */
@@ -143,38 +133,32 @@ int steal_bytes_or_raise(PyObject *bytes, struct text *text) {
     text->owner = bytes;
     text->bytes = bytes == NULL ? NULL : PyBytes_AsString(bytes);
     text->length = text->bytes == NULL ? -1 : PyBytes_Size(bytes);
-    if (text->length >= 0)
-        return 0;
+    if (text->length >= 0) return 0;
     Py_DecRef(bytes);
     return -1;
 }
 
 /* The bytes must not change until the library has read them, so to_bytes copies what a thread or a process can write to.
-   An ASCII str is its own UTF-8. PyUnicode_AsUTF8AndSize caches a UTF-8 copy in a non-ASCII str, so such a str is encoded
-   separately. */
+   An ASCII str is its own UTF-8, and another one keeps it. One with a lone surrogate, which is an invalid character too,
+   has none. */
 int text_or_raise(struct state *state, PyObject *argument, struct text *text) {
     if (!PyUnicode_Check(argument)) {
         PyObject *bytes = PyBytes_Check(argument) ? new_ref(argument) : convert(state, TO_BYTES, argument);
         return steal_bytes_or_raise(bytes, text);
     }
-    PyObject *is_ascii = state->str_isascii == NULL ? new_ref(Py_False) : state->str_isascii(argument, NULL);
-    if (is_ascii == NULL)
-        return -1;
-    Py_DecRef(is_ascii);
-    if (is_ascii != Py_True)
-        return steal_bytes_or_raise(convert(state, TO_BYTES, argument), text);
     text->owner = NULL;
     text->bytes = PyUnicode_AsUTF8AndSize(argument, &text->length);
-    return text->bytes == NULL ? -1 : 0;
+    if (text->bytes != NULL) return 0;
+    if (!PyErr_ExceptionMatches(PyExc_UnicodeEncodeError)) return -1;
+    PyErr_Clear();
+    return steal_bytes_or_raise(PyUnicode_AsEncodedString(argument, "utf-8", "surrogatepass"), text);
 }
 
 /* Borrows the fields of an Alphabet. From characters it creates such fields in *storage. */
 const struct alphabet *alphabet_or_raise(struct state *state, PyObject *argument, struct alphabet *storage) {
     PyObject *object = argument == NULL ? borrow(state, STANDARD) : argument;
-    if (object == NULL)
-        return NULL;
-    if ((PyObject *)Py_TYPE(object) == state->objects[ALPHABET] && state->has_fields)
-        return fields_of(state, object);
+    if (object == NULL) return NULL;
+    if ((PyObject *)Py_TYPE(object) == state->objects[ALPHABET] && state->has_fields) return fields_of(state, object);
     PyObject *characters = characters_or_raise(state, object, storage);
     Py_DecRef(characters);
     return characters == NULL ? NULL : storage;
@@ -183,18 +167,14 @@ const struct alphabet *alphabet_or_raise(struct state *state, PyObject *argument
 static const struct alphabet *ascii_alphabet_or_raise(struct state *state, PyObject *argument,
                                                       struct alphabet *storage) {
     const struct alphabet *alphabet = alphabet_or_raise(state, argument, storage);
-    if (alphabet == NULL || alphabet->is_ascii)
-        return alphabet;
+    if (alphabet == NULL || alphabet->is_ascii) return alphabet;
     PyErr_SetString(PyExc_ValueError, "an alphabet for encoding has ASCII characters");
     return NULL;
 }
 
-/* Results */
-
 PyObject *new_int(struct state *state, base62_number number) {
     (void)state;
-    if (number.high == 0)
-        return PyLong_FromUnsignedLongLong(number.low);
+    if (number.high == 0) return PyLong_FromUnsignedLongLong(number.low);
     PyObject *high = PyLong_FromUnsignedLongLong(number.high), *low = PyLong_FromUnsignedLongLong(number.low);
     PyObject *bits = PyLong_FromLong(64);
     PyObject *shifted = high == NULL || low == NULL || bits == NULL ? NULL : PyNumber_Lshift(high, bits);
@@ -208,61 +188,56 @@ PyObject *new_int(struct state *state, base62_number number) {
 
 PyObject *raise_status(struct state *state, base62_status status, base62_bad_byte bad) {
     static const int errors[] = {
-        [BASE62_EMPTY_INPUT] = EMPTY_INPUT_ERROR,
-        [BASE62_INVALID_BYTE] = INVALID_BYTE_ERROR,
-        [BASE62_OVERFLOW] = TOO_LARGE_ERROR,
-        [BASE62_REPEATED_CHARACTER] = ALPHABET_ERROR,
+        [BASE62_EMPTY_INPUT] = EMPTY_INPUT_ERROR,     [BASE62_INVALID_BYTE] = INVALID_BYTE_ERROR,
+        [BASE62_OVERFLOW] = TOO_LARGE_ERROR,          [BASE62_REPEATED_CHARACTER] = ALPHABET_ERROR,
         [BASE62_NOT_CANONICAL] = NOT_CANONICAL_ERROR,
-        [BASE62_WRONG_LENGTH] = WRONG_LENGTH_ERROR,
     };
     char message[BASE62_MAX_ERROR_MESSAGE];
     size_t length = base62_error_message(status, bad, message, sizeof message);
     int error = errors[status], has_byte = error == INVALID_BYTE_ERROR || error == ALPHABET_ERROR;
     PyObject *text = PyUnicode_DecodeASCII(message, (Py_ssize_t)length, NULL);
     const char *format = has_byte ? "(NBn)" : "(N)";
-    PyObject *arguments = text == NULL ? NULL : Py_BuildValue(format, text, bad.byte, (Py_ssize_t)bad.index);
-    PyObject *type = arguments == NULL ? NULL : borrow(state, error);
-    if (type != NULL)
-        PyErr_SetObject(type, arguments);
-    Py_DecRef(arguments);
+    raise_error(state, error, text == NULL ? NULL : Py_BuildValue(format, text, bad.byte, (Py_ssize_t)bad.index));
     return NULL;
 }
 
-/* Calls */
+static PyObject *raise_wrong_length(struct state *state, size_t length, size_t width) {
+    const char *plural = length == 1 ? "" : "s";
+    PyObject *text = PyUnicode_FromFormat("Encoded input has %zu byte%s, not %zu", length, plural, width);
+    PyObject *arguments = text == NULL ? NULL : Py_BuildValue("(Nnn)", text, (Py_ssize_t)length, (Py_ssize_t)width);
+    raise_error(state, WRONG_LENGTH_ERROR, arguments);
+    return NULL;
+}
 
-/* Defines a call with these parameters. The expression of its result has the state and the arguments that are found. */
+/* Defines a call with these parameters. The expression of its result has the state and the arguments. */
 #define DEFINE_CALL(name, format, least, most, result, ...)                                                            \
     static PyObject *name(PyObject *module, PyObject *const *args, Py_ssize_t nargs, PyObject *kwnames) {              \
         static const struct parameters signature = {format ":" #name, {__VA_ARGS__, NULL}, least, most};               \
         struct state *state = PyModule_GetState(module);                                                               \
-        PyObject *found[3];                                                                                            \
-        return unpack(&signature, args, nargs, kwnames, found) == 0 ? result : NULL;                                   \
+        PyObject *arguments[3];                                                                                        \
+        return unpack(&signature, args, nargs, kwnames, arguments) == 0 ? result : NULL;                               \
     }
 
 typedef int read_number(struct state *, PyObject *, base62_number *);
 
-/* Encodes the argument of a call, which a function converts to a number. */
-static inline PyObject *encode_or_raise(read_number *read, struct state *state, PyObject *const found[3]) {
+static inline PyObject *encode_or_raise(read_number *read, struct state *state, PyObject *const arguments[3]) {
     base62_number number;
     struct alphabet storage;
-    if (read(state, found[0], &number) != 0)
-        return NULL;
-    const struct alphabet *alphabet = ascii_alphabet_or_raise(state, found[1], &storage);
-    if (alphabet == NULL)
-        return NULL;
+    if (read(state, arguments[0], &number) != 0) return NULL;
+    const struct alphabet *alphabet = ascii_alphabet_or_raise(state, arguments[1], &storage);
+    if (alphabet == NULL) return NULL;
     char text[BASE62_MAX_DIGITS];
     size_t length = base62_encode_with(&alphabet->tables, number, text, sizeof text);
     return PyUnicode_DecodeASCII(text, (Py_ssize_t)length, NULL);
 }
 
-DEFINE_CALL(encode, "O|O", 1, 2, encode_or_raise(number_or_raise, state, found), "number", "alphabet")
-DEFINE_CALL(encode_uuid, "O|O", 1, 2, encode_or_raise(uuid_or_raise, state, found), "value", "alphabet")
+DEFINE_CALL(encode, "O|O", 1, 2, encode_or_raise(number_or_raise, state, arguments), "number", "alphabet")
+DEFINE_CALL(encode_uuid, "O|O", 1, 2, encode_or_raise(uuid_or_raise, state, arguments), "value", "alphabet")
 
 static PyObject *new_fixed_or_raise(struct state *state, const base62_alphabet *tables, base62_number number,
                                     size_t width) {
     char small[64], *buffer = width <= sizeof small ? small : PyMem_Malloc(width);
-    if (buffer == NULL)
-        return PyErr_NoMemory();
+    if (buffer == NULL) return PyErr_NoMemory();
     PyObject *result = NULL;
     PyThreadState *saved = release_gil_if_long(width);
     size_t length = base62_encode_fixed_with(tables, number, buffer, width);
@@ -271,50 +246,47 @@ static PyObject *new_fixed_or_raise(struct state *state, const base62_alphabet *
         raise_out_of_range(state, "the number needs more characters than the width");
     else
         result = PyUnicode_DecodeASCII(buffer, (Py_ssize_t)length, NULL);
-    if (buffer != small)
-        PyMem_Free(buffer);
+    if (buffer != small) PyMem_Free(buffer);
     return result;
 }
 
-static PyObject *fixed_or_raise(struct state *state, PyObject *const found[3]) {
+static PyObject *fixed_or_raise(struct state *state, PyObject *const arguments[3]) {
     base62_number number;
     size_t width;
     struct alphabet storage;
-    if (number_or_raise(state, found[0], &number) != 0 || width_or_raise(found[1], &width) != 0)
-        return NULL;
-    const struct alphabet *alphabet = ascii_alphabet_or_raise(state, found[2], &storage);
+    if (number_or_raise(state, arguments[0], &number) != 0 || width_or_raise(arguments[1], &width) != 0) return NULL;
+    const struct alphabet *alphabet = ascii_alphabet_or_raise(state, arguments[2], &storage);
     return alphabet == NULL ? NULL : new_fixed_or_raise(state, &alphabet->tables, number, width);
 }
 
-DEFINE_CALL(encode_fixed, "OO|O", 2, 3, fixed_or_raise(state, found), "number", "width", "alphabet")
+DEFINE_CALL(encode_fixed, "OO|O", 2, 3, fixed_or_raise(state, arguments), "number", "width", "alphabet")
 
 static PyObject *key_or_raise(struct state *state, PyObject *argument) {
     base62_number number;
-    if (number_or_raise(state, argument, &number) != 0)
-        return NULL;
+    if (number_or_raise(state, argument, &number) != 0) return NULL;
     char key[BASE62_KEY_LENGTH];
     base62_encode_key(number, key);
     return PyUnicode_DecodeASCII(key, sizeof key, NULL);
 }
 
-DEFINE_CALL(encode_key, "O", 1, 1, key_or_raise(state, found[0]), "number")
+DEFINE_CALL(encode_key, "O", 1, 1, key_or_raise(state, arguments[0]), "number")
 
 static PyObject *digit_count_or_raise(struct state *state, PyObject *argument) {
     base62_number number;
     return number_or_raise(state, argument, &number) == 0 ? PyLong_FromSize_t(base62_digit_count(number)) : NULL;
 }
 
-DEFINE_CALL(digit_count, "O", 1, 1, digit_count_or_raise(state, found[0]), "number")
+DEFINE_CALL(digit_count, "O", 1, 1, digit_count_or_raise(state, arguments[0]), "number")
 
 typedef PyObject *new_result(struct state *, base62_number);
 
 /* Decodes a text, and returns the number as an object. If decode is NULL, base62_decode_fixed_with decodes it, which alone
    has a width. Inlined, a call has its decoder as a constant. */
 static inline Py_ALWAYS_INLINE PyObject *decode_or_raise(decode_with *decode, size_t width, new_result *new,
-                                                         struct state *state, PyObject *argument, PyObject *characters) {
+                                                         struct state *state, PyObject *argument,
+                                                         PyObject *characters) {
     struct text text;
-    if (text_or_raise(state, argument, &text) != 0)
-        return NULL;
+    if (text_or_raise(state, argument, &text) != 0) return NULL;
     base62_number number;
     base62_bad_byte bad = {0, 0};
     base62_status status = BASE62_OK;
@@ -328,21 +300,26 @@ static inline Py_ALWAYS_INLINE PyObject *decode_or_raise(decode_with *decode, si
         restore_gil(saved);
     }
     Py_DecRef(text.owner);
-    if (alphabet == NULL)
-        return NULL;
-    return status == BASE62_OK ? new(state, number) : raise_status(state, status, bad);
+    if (alphabet == NULL) return NULL;
+    if (status == BASE62_WRONG_LENGTH) return raise_wrong_length(state, (size_t)text.length, width);
+    return status == BASE62_OK ? new (state, number) : raise_status(state, status, bad);
 }
 
 static inline Py_ALWAYS_INLINE PyObject *decode_fixed_or_raise(new_result *new, struct state *state,
-                                                               PyObject *const found[3]) {
+                                                               PyObject *const arguments[3]) {
     size_t width;
-    return width_or_raise(found[1], &width) == 0 ? decode_or_raise(NULL, width, new, state, found[0], found[2]) : NULL;
+    return width_or_raise(arguments[1], &width) == 0
+               ? decode_or_raise(NULL, width, new, state, arguments[0], arguments[2])
+               : NULL;
 }
 
 #define DEFINE_DECODER(name, decode, new)                                                                              \
-    DEFINE_CALL(name, "O|O", 1, 2, decode_or_raise(decode, 0, new, state, found[0], found[1]), "text", "alphabet")
+    DEFINE_CALL(name, "O|O", 1, 2, decode_or_raise(decode, 0, new, state, arguments[0], arguments[1]), "text",         \
+                "alphabet")
 #define DEFINE_FIXED_DECODER(name, new)                                                                                \
-    DEFINE_CALL(name, "OO|O", 2, 3, decode_fixed_or_raise(new, state, found), "text", "width", "alphabet")
+    DEFINE_CALL(name, "OO|O", 2, 3, decode_fixed_or_raise(new, state, arguments), "text", "width", "alphabet")
+#define DEFINE_KEY_DECODER(name, new)                                                                                  \
+    DEFINE_CALL(name, "O", 1, 1, decode_or_raise(NULL, BASE62_KEY_LENGTH, new, state, arguments[0], NULL), "text")
 
 DEFINE_DECODER(decode, base62_decode_with, new_int)
 DEFINE_DECODER(decode_canonical, base62_decode_canonical_with, new_int)
@@ -350,12 +327,12 @@ DEFINE_DECODER(decode_uuid, base62_decode_with, new_uuid)
 DEFINE_DECODER(decode_uuid_canonical, base62_decode_canonical_with, new_uuid)
 DEFINE_FIXED_DECODER(decode_fixed, new_int)
 DEFINE_FIXED_DECODER(decode_uuid_fixed, new_uuid)
-DEFINE_CALL(decode_key, "O", 1, 1, decode_or_raise(NULL, BASE62_KEY_LENGTH, new_int, state, found[0], NULL), "text")
+DEFINE_KEY_DECODER(decode_key, new_int)
+DEFINE_KEY_DECODER(decode_uuid_key, new_uuid)
 
 static PyObject *range_or_raise(struct state *state, PyObject *argument, size_t width, PyObject *characters) {
     struct text prefix;
-    if (text_or_raise(state, argument, &prefix) != 0)
-        return NULL;
+    if (text_or_raise(state, argument, &prefix) != 0) return NULL;
     base62_range range = {{0, 0}, {0, 0}};
     base62_bad_byte bad = {0, 0};
     base62_status status = BASE62_OK;
@@ -367,43 +344,28 @@ static PyObject *range_or_raise(struct state *state, PyObject *argument, size_t 
         restore_gil(saved);
     }
     Py_DecRef(prefix.owner);
-    if (alphabet == NULL)
-        return NULL;
-    if (status == BASE62_NO_MATCH)
-        return new_ref(Py_None);
-    if (status != BASE62_OK)
-        return raise_status(state, status, bad);
+    if (alphabet == NULL) return NULL;
+    if (status == BASE62_NO_MATCH) return new_ref(Py_None);
+    if (status != BASE62_OK) return raise_status(state, status, bad);
     return Py_BuildValue("NN", new_int(state, range.least), new_int(state, range.greatest));
 }
 
-static PyObject *prefix_range_or_raise(struct state *state, PyObject *const found[3]) {
+static PyObject *prefix_range_or_raise(struct state *state, PyObject *const arguments[3]) {
     size_t width;
-    return width_or_raise(found[1], &width) == 0 ? range_or_raise(state, found[0], width, found[2]) : NULL;
+    return width_or_raise(arguments[1], &width) == 0 ? range_or_raise(state, arguments[0], width, arguments[2]) : NULL;
 }
 
-DEFINE_CALL(prefix_range, "OO|O", 2, 3, prefix_range_or_raise(state, found), "prefix", "width", "alphabet")
-DEFINE_CALL(key_range, "O", 1, 1, range_or_raise(state, found[0], BASE62_KEY_LENGTH, NULL), "prefix")
+DEFINE_CALL(prefix_range, "OO|O", 2, 3, prefix_range_or_raise(state, arguments), "prefix", "width", "alphabet")
+DEFINE_CALL(key_range, "O", 1, 1, range_or_raise(state, arguments[0], BASE62_KEY_LENGTH, NULL), "prefix")
 
-/* The module */
-
-#define CALL(name) {#name, (PyCFunction)(void (*)(void))name, METH_FASTCALL | METH_KEYWORDS, DOC_##name}
+#define CALL(name)                                                                                                     \
+    { #name, (PyCFunction)(void (*)(void))name, METH_FASTCALL | METH_KEYWORDS, DOC_##name }
 
 static PyMethodDef calls[] = {
-    CALL(encode),
-    CALL(encode_uuid),
-    CALL(encode_fixed),
-    CALL(encode_key),
-    CALL(digit_count),
-    CALL(decode),
-    CALL(decode_canonical),
-    CALL(decode_fixed),
-    CALL(decode_key),
-    CALL(decode_uuid),
-    CALL(decode_uuid_canonical),
-    CALL(decode_uuid_fixed),
-    CALL(key_range),
-    CALL(prefix_range),
-    {NULL, NULL, 0, NULL},
+    CALL(encode),          CALL(encode_uuid), CALL(encode_fixed),          CALL(encode_key),
+    CALL(digit_count),     CALL(decode),      CALL(decode_canonical),      CALL(decode_fixed),
+    CALL(decode_key),      CALL(decode_uuid), CALL(decode_uuid_canonical), CALL(decode_uuid_fixed),
+    CALL(decode_uuid_key), CALL(key_range),   CALL(prefix_range),          {NULL, NULL, 0, NULL},
 };
 
 /* The calls name base62 as their module, since callers find them there. */
@@ -433,19 +395,14 @@ static int import_types(PyObject **objects) {
 
 static int execute(PyObject *module) {
     struct state *state = PyModule_GetState(module);
-    if (state == NULL || !import_types(state->objects))
-        return -1;
-    PyObject *isascii = state->objects[ISASCII];
-    if (PyCFunction_Check(isascii) && PyCFunction_GetFlags(isascii) == METH_NOARGS)
-        state->str_isascii = PyCFunction_GetFunction(isascii);
+    if (state == NULL || !import_types(state->objects)) return -1;
     int ok = add_uuid_names(state) && add_alphabets(module) && add_calls(module);
     return ok ? PyModule_AddStringConstant(module, "__version__", BASE62_VERSION) : -1;
 }
 
 static int traverse(PyObject *module, visitproc visit, void *arg) {
     struct state *state = PyModule_GetState(module);
-    for (int i = 0; i < OBJECT_COUNT; i++)
-        Py_VISIT(state->objects[i]);
+    for (int i = 0; i < OBJECT_COUNT; i++) Py_VISIT(state->objects[i]);
     return 0;
 }
 
@@ -459,18 +416,16 @@ static int clear(PyObject *module) {
     return 0;
 }
 
-static void free_module(void *module) {
-    clear(module);
-}
+static void free_module(void *module) { clear(module); }
 
 /* Py_mod_multiple_interpreters (3) = Py_MOD_PER_INTERPRETER_GIL_SUPPORTED (2). An interpreter with its own GIL needs
    it, from 3.12 on; 3.11 rejects it, and the limited API of 3.11 does not have the names. */
 static PyModuleDef_Slot slots[] = {{3, (void *)2}, {Py_mod_exec, execute}, {0, NULL}};
 
-/* For base62.columns. */
 static PyMethodDef row_calls[] = {
     {"encode_rows", encode_rows, METH_VARARGS, DOC_encode_rows},
     {"decode_rows", decode_rows, METH_VARARGS, DOC_decode_rows},
+    {"pack_rows", pack_rows, METH_VARARGS, DOC_pack_rows},
     {NULL, NULL, 0, NULL},
 };
 
@@ -483,6 +438,4 @@ static PyMethodDef row_calls[] = {
 
 static struct PyModuleDef since_3_12 = DEFINITION(slots), of_3_11 = DEFINITION(slots + 1);
 
-PyMODINIT_FUNC PyInit__base62(void) {
-    return PyModuleDef_Init(Py_Version >= 0x030c0000 ? &since_3_12 : &of_3_11);
-}
+PyMODINIT_FUNC PyInit__base62(void) { return PyModuleDef_Init(Py_Version >= 0x030c0000 ? &since_3_12 : &of_3_11); }

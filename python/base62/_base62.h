@@ -24,7 +24,6 @@
     DO(INT_TO_UUID, "int_to_uuid")                                                                                     \
     DO(UUID, "UUID")                                                                                                   \
     DO(UNKNOWN, "UNKNOWN")                                                                                             \
-    DO(ISASCII, "ISASCII")                                                                                             \
     DO(BYTES_SIZE, "BYTES_SIZE")                                                                                       \
     DO(EMPTY_INPUT_ERROR, "EmptyInputError")                                                                           \
     DO(INVALID_BYTE_ERROR, "InvalidByteError")                                                                         \
@@ -39,8 +38,7 @@
 
 /* The objects that the module owns. */
 enum {
-    FOR_EACH_TYPE(CONSTANT_OF_TYPE)
-    TYPES_END,
+    FOR_EACH_TYPE(CONSTANT_OF_TYPE) TYPES_END,
     /* The names of the attributes of a UUID. */
     INT = TYPES_END,
     IS_SAFE,
@@ -55,8 +53,6 @@ struct state {
     /* The size of a bytes object without its items, and whether the fields of an Alphabet follow them. */
     Py_ssize_t bytes_basicsize;
     int has_fields;
-    /* The C function of str.isascii, or NULL. */
-    PyCFunction str_isascii;
 };
 
 /* Bytes, and a reference to the object that contains them. It is NULL if this is a str that the caller owns. */
@@ -102,6 +98,7 @@ int add_alphabets(PyObject *module);
 /* In _columns.c. */
 PyObject *encode_rows(PyObject *module, PyObject *args);
 PyObject *decode_rows(PyObject *module, PyObject *args);
+PyObject *pack_rows(PyObject *module, PyObject *args);
 
 /* In _uuid.c. */
 int read_uuid(struct text text, int is_string, base62_number *number);

@@ -6,8 +6,10 @@
    is a letter of Arrow's C data interface: uint64 L, int64 l, decimal128 d, fixed_size_binary(16) w, string u,
    binary z, large_string U, large_binary Z. */
 #include "_base62.h"
+#include <math.h>
 
-/* An array to read: so many rows, from an offset on. A buffer that it lacks is NULL. */
+/* An array to read: so many rows, from an offset on. An index counts from the start of the buffers. A buffer that it
+   lacks is NULL. */
 struct source {
     int type;
     Py_ssize_t offset, count;
@@ -32,6 +34,8 @@ struct conversion {
     /* Of decoding: the function, NULL if there is a width, and the greatest number of the type of the result. */
     decode_with *decode;
     base62_number greatest;
+    /* The bytes that a row of the result needs at most. */
+    Py_ssize_t most;
     /* Invalid rows become null. Otherwise the first one ends the conversion. */
     int coerces;
     /* The rows that are converted. */
@@ -46,15 +50,9 @@ enum { ANY_WIDTH = -1, CANONICAL = -2 };
 /* 2^64 - 1 has so many. */
 enum { MAX_DIGITS_OF_64_BITS = 11 };
 
-/* Reading. An index counts from the start of the buffers. */
+static int is_text(int type) { return type == 'u' || type == 'z' || type == 'U' || type == 'Z'; }
 
-static int is_text(int type) {
-    return type == 'u' || type == 'z' || type == 'U' || type == 'Z';
-}
-
-static int has_large_offsets(int type) {
-    return type == 'U' || type == 'Z';
-}
+static int has_large_offsets(int type) { return type == 'U' || type == 'Z'; }
 
 /* The size of a value, or of an offset. */
 static Py_ssize_t size_of(int type) {
@@ -65,6 +63,8 @@ static int is_null(const struct source *source, Py_ssize_t index) {
     const unsigned char *bits = source->validity.buf;
     return bits != NULL && (bits[index / 8] >> index % 8 & 1) == 0;
 }
+
+static int has(const Py_buffer *buffer, Py_ssize_t count, Py_ssize_t size) { return count <= buffer->len / size; }
 
 static unsigned char *place_at(const Py_buffer *buffer, Py_ssize_t index, Py_ssize_t size) {
     return (unsigned char *)buffer->buf + index * size;
@@ -80,8 +80,7 @@ static inline enum outcome read_text(const struct source *source, Py_ssize_t ind
         ends[0] = small[0];
         ends[1] = small[1];
     }
-    if (ends[0] < 0 || ends[1] < ends[0] || ends[1] > source->characters.len)
-        return MALFORMED;
+    if (ends[0] < 0 || ends[1] < ends[0] || ends[1] > source->characters.len) return MALFORMED;
     text->bytes = (const char *)source->characters.buf + ends[0];
     text->length = (Py_ssize_t)(ends[1] - ends[0]);
     return VALID;
@@ -90,8 +89,7 @@ static inline enum outcome read_text(const struct source *source, Py_ssize_t ind
 static enum outcome read_uuid_text(const struct source *source, Py_ssize_t index, base62_number *number) {
     struct text text;
     enum outcome outcome = read_text(source, index, has_large_offsets(source->type), &text);
-    if (outcome != VALID)
-        return outcome;
+    if (outcome != VALID) return outcome;
     return read_uuid(text, source->type == 'u' || source->type == 'U', number) == 0 ? VALID : INVALID;
 }
 
@@ -115,8 +113,6 @@ static enum outcome read_number(const struct source *source, Py_ssize_t index, b
         return read_uuid_text(source, index, number);
     }
 }
-
-/* Writing */
 
 static void store_offset(const struct result *result, Py_ssize_t row) {
     int64_t large = result->used;
@@ -158,24 +154,19 @@ static inline Py_ALWAYS_INLINE void store_number(struct result *result, Py_ssize
 
 /* Makes a row null. Returns 0 if it ends the conversion instead. */
 static int set_null(struct conversion *conversion, Py_ssize_t row, enum outcome outcome) {
-    if (outcome == MALFORMED || (outcome == INVALID && !conversion->coerces))
-        return 0;
+    if (outcome == MALFORMED || (outcome == INVALID && !conversion->coerces)) return 0;
     ((unsigned char *)conversion->result.validity.buf)[row / 8] &= (unsigned char)~(1 << row % 8);
     conversion->result.nulls++;
     return 1;
 }
 
-/* Rows */
-
 static enum outcome encode_row(struct conversion *conversion, Py_ssize_t row) {
     const struct source *source = &conversion->source;
     struct result *result = &conversion->result;
     base62_number number;
-    if (is_null(source, source->offset + row))
-        return MISSING;
+    if (is_null(source, source->offset + row)) return MISSING;
     enum outcome outcome = read_number(source, source->offset + row, &number);
-    if (outcome != VALID)
-        return outcome;
+    if (outcome != VALID) return outcome;
     char *place = (char *)result->values.buf + result->used;
     size_t left = (size_t)(result->values.len - result->used), width = (size_t)conversion->width;
     size_t length = conversion->width < 0 ? base62_encode_with(conversion->alphabet, number, place, left)
@@ -188,8 +179,7 @@ static enum outcome encode_row(struct conversion *conversion, Py_ssize_t row) {
 static enum outcome encode_until(struct conversion *conversion, Py_ssize_t end) {
     for (; conversion->row < end; conversion->row++) {
         enum outcome outcome = encode_row(conversion, conversion->row);
-        if (outcome != VALID && !set_null(conversion, conversion->row, outcome))
-            return outcome;
+        if (outcome != VALID && !set_null(conversion, conversion->row, outcome)) return outcome;
         store_offset(&conversion->result, conversion->row + 1);
     }
     return VALID;
@@ -198,27 +188,21 @@ static enum outcome encode_until(struct conversion *conversion, Py_ssize_t end) 
 static inline base62_status decode_text(const struct conversion *conversion, struct text text, base62_number *number) {
     base62_bad_byte bad;
     size_t length = (size_t)text.length, width = (size_t)conversion->width;
-    if (conversion->decode != NULL)
-        return conversion->decode(conversion->alphabet, text.bytes, length, number, &bad);
+    if (conversion->decode != NULL) return conversion->decode(conversion->alphabet, text.bytes, length, number, &bad);
     return base62_decode_fixed_with(conversion->alphabet, text.bytes, length, width, number, &bad);
 }
 
-static inline Py_ALWAYS_INLINE enum outcome decode_row(const struct conversion *conversion, Py_ssize_t row, int is_large,
-                                                       int type, base62_number *number) {
+static inline Py_ALWAYS_INLINE enum outcome decode_row(const struct conversion *conversion, Py_ssize_t row,
+                                                       int is_large, int type, base62_number *number) {
     const struct source *source = &conversion->source;
     struct text text;
-    if (is_null(source, source->offset + row))
-        return MISSING;
+    if (is_null(source, source->offset + row)) return MISSING;
     enum outcome outcome = read_text(source, source->offset + row, is_large, &text);
-    if (outcome != VALID)
-        return outcome;
-    if (decode_text(conversion, text, number) != BASE62_OK)
-        return INVALID;
-    if (type == 'w')
-        return VALID;
+    if (outcome != VALID) return outcome;
+    if (decode_text(conversion, text, number) != BASE62_OK) return INVALID;
+    if (type == 'w') return VALID;
     const base62_number *most = &conversion->greatest;
-    if (type == 'l')
-        return number->high != 0 || number->low > most->low ? INVALID : VALID;
+    if (type == 'l') return number->high != 0 || number->low > most->low ? INVALID : VALID;
     return number->high > most->high || (number->high == most->high && number->low > most->low) ? INVALID : VALID;
 }
 
@@ -230,8 +214,7 @@ static inline Py_ALWAYS_INLINE enum outcome decode_loop(struct conversion *conve
         enum outcome outcome = decode_row(conversion, row, is_large, type, &number);
         if (outcome != VALID) {
             conversion->row = row;
-            if (!set_null(conversion, row, outcome))
-                return outcome;
+            if (!set_null(conversion, row, outcome)) return outcome;
             number = base62_from_u64(0);
         }
         store_number(&conversion->result, row, type, number, outcome == VALID);
@@ -253,56 +236,97 @@ static enum outcome decode_until(struct conversion *conversion, Py_ssize_t end) 
     return is_large ? decode_loop(conversion, end, 1, 0) : decode_loop(conversion, end, 0, 0);
 }
 
-/* Calls */
+static int is_missing(PyObject *object, PyObject *missing) {
+    return object == Py_None || object == missing || (PyFloat_CheckExact(object) && isnan(PyFloat_AsDouble(object)));
+}
+
+/* Stores the numbers of a list as 16 bytes each, and the bits of the rows that are not missing. Returns how many are. */
+PyObject *pack_rows(PyObject *module, PyObject *args) {
+    struct state *state = PyModule_GetState(module);
+    PyObject *rows, *missing;
+    Py_buffer validity, values;
+    int are_uuids, failed = 0;
+    if (!PyArg_ParseTuple(args, "O!Opw*w*", &PyList_Type, &rows, &missing, &are_uuids, &validity, &values)) return NULL;
+    Py_ssize_t nulls = 0;
+    /* What converts an object can change the list. */
+    for (Py_ssize_t row = 0; !failed && row < PyList_Size(rows) && has(&values, row + 1, BASE62_UUID_LENGTH) &&
+                             has(&validity, row / 8 + 1, 1);
+         row++) {
+        PyObject *object = new_ref(PyList_GetItem(rows, row));
+        base62_number number = base62_from_u64(0);
+        if (is_missing(object, missing)) {
+            nulls++;
+        } else {
+            failed = are_uuids ? uuid_or_raise(state, object, &number) : number_or_raise(state, object, &number);
+            *place_at(&validity, row / 8, 1) |= (unsigned char)(1 << row % 8);
+            base62_to_uuid(number, place_at(&values, row, BASE62_UUID_LENGTH));
+        }
+        Py_DecRef(object);
+    }
+    PyBuffer_Release(&validity);
+    PyBuffer_Release(&values);
+    return failed ? NULL : PyLong_FromSsize_t(nulls);
+}
 
 /* strchr would cut another number to a letter. */
-static int is_type(int type, const char *types) {
-    return type > 0 && type < 128 && strchr(types, type) != NULL;
-}
+static int is_type(int type, const char *types) { return type > 0 && type < 128 && strchr(types, type) != NULL; }
 
 static base62_number greatest_of(int type) {
     static const base62_number of_decimal128 = {.high = 0x4b3b4ca85a86c47a, .low = 0x098a223fffffffff}; /* 10^38 - 1 */
-    if (type == 'L' || type == 'l')
-        return base62_from_u64(type == 'l' ? INT64_MAX : UINT64_MAX);
+    if (type == 'L' || type == 'l') return base62_from_u64(type == 'l' ? INT64_MAX : UINT64_MAX);
     return type == 'd' ? of_decimal128 : (base62_number){.high = UINT64_MAX, .low = UINT64_MAX};
 }
 
-static int has(const Py_buffer *buffer, Py_ssize_t count, Py_ssize_t size) {
-    return count <= buffer->len / size;
-}
-
-/* Whether the buffers have the rows, each of which needs so many bytes in the result at most. */
-static int has_rows(const struct conversion *conversion, Py_ssize_t most) {
+/* Whether the buffers have the rows. */
+static int has_rows(const struct conversion *conversion) {
     const struct source *source = &conversion->source;
     const struct result *result = &conversion->result;
-    if (source->offset < 0 || source->count < 0 || source->offset > PY_SSIZE_T_MAX - 8 - source->count)
-        return 0;
+    if (source->offset < 0 || source->count < 0 || source->offset > PY_SSIZE_T_MAX - 8 - source->count) return 0;
     Py_ssize_t count = source->count, last = source->offset + count;
     /* Offsets have one more, for the end of the last string. */
     return has(&source->values, last + is_text(source->type), size_of(source->type)) &&
            (source->validity.buf == NULL || has(&source->validity, (last + 7) / 8, 1)) &&
-           has(&result->validity, (count + 7) / 8, 1) && (most == 0 || has(&result->values, count, most)) &&
+           has(&result->validity, (count + 7) / 8, 1) &&
+           (conversion->most == 0 || has(&result->values, count, conversion->most)) &&
            (!is_text(result->type) || has(&result->offsets, count + 1, size_of(result->type))) &&
            (result->type != 'u' || result->values.len <= INT32_MAX);
 }
 
-/* Signals are handled between so many rows. It is a multiple of 8, so that no byte of a bitmap is begun twice. */
-enum { RUN_ROWS = 1 << 16 };
+/* Signals are handled between runs of at most so many rows, or bytes. The rows are a multiple of 8, so that no byte of a
+   bitmap is begun twice. */
+enum { RUN_ROWS = 1 << 16, RUN_BYTES = 1 << 24 };
+
+/* How much the next rows read and write. For malformed strings it is any number. */
+static uint64_t bytes_of(const struct conversion *conversion, Py_ssize_t rows) {
+    const struct source *source = &conversion->source;
+    Py_ssize_t first_index = source->offset + conversion->row;
+    int is_large = has_large_offsets(source->type);
+    struct text first, last;
+    uint64_t size = (uint64_t)rows * (uint64_t)conversion->most;
+    if (is_text(source->type) && read_text(source, first_index, is_large, &first) == VALID &&
+        read_text(source, first_index + rows - 1, is_large, &last) == VALID)
+        size += (uint64_t)(last.bytes - first.bytes) + (uint64_t)last.length;
+    return size;
+}
+
+static Py_ssize_t rows_of_run(const struct conversion *conversion) {
+    Py_ssize_t left = conversion->source.count - conversion->row, rows = left < RUN_ROWS ? left : RUN_ROWS;
+    while (rows > 8 && bytes_of(conversion, rows) > RUN_BYTES) rows = (rows / 2 + 7) / 8 * 8;
+    return rows;
+}
 
 /* The GIL is free while rows are converted. */
 static enum outcome convert_rows(struct conversion *conversion,
                                  enum outcome (*convert_until)(struct conversion *, Py_ssize_t)) {
     Py_ssize_t count = conversion->source.count;
-    if (is_text(conversion->result.type))
-        store_offset(&conversion->result, 0);
+    if (is_text(conversion->result.type)) store_offset(&conversion->result, 0);
     while (conversion->row < count) {
-        Py_ssize_t rows = count - conversion->row < RUN_ROWS ? count - conversion->row : RUN_ROWS;
+        Py_ssize_t rows = rows_of_run(conversion);
         PyThreadState *saved = PyEval_SaveThread();
         memset((char *)conversion->result.validity.buf + conversion->row / 8, 0xff, (size_t)(rows + 7) / 8);
         enum outcome outcome = convert_until(conversion, conversion->row + rows);
         PyEval_RestoreThread(saved);
-        if (outcome != VALID || PyErr_CheckSignals() != 0)
-            return outcome;
+        if (outcome != VALID || PyErr_CheckSignals() != 0) return outcome;
     }
     return VALID;
 }
@@ -320,8 +344,7 @@ static int parse_conversion(PyObject *module, PyObject *args, struct conversion 
                           &result->type, &result->validity, &result->offsets, &result->values, &conversion->coerces))
         return -1;
     conversion->alphabet = &fields->tables;
-    if (source->characters.buf == NULL)
-        source->characters.buf = (char *)"";
+    if (source->characters.buf == NULL) source->characters.buf = (char *)"";
     return 0;
 }
 
@@ -333,38 +356,33 @@ static PyObject *finish(struct conversion *conversion, enum outcome outcome) {
     PyBuffer_Release(&conversion->result.validity);
     PyBuffer_Release(&conversion->result.offsets);
     PyBuffer_Release(&conversion->result.values);
-    if (outcome == MALFORMED)
-        PyErr_SetString(PyExc_ValueError, "the array is malformed");
-    if (PyErr_Occurred() != NULL)
-        return NULL;
+    if (outcome == MALFORMED) PyErr_SetString(PyExc_ValueError, "the array is malformed");
+    if (PyErr_Occurred() != NULL) return NULL;
     return Py_BuildValue("nnn", conversion->row, conversion->result.used, conversion->result.nulls);
 }
 
 PyObject *encode_rows(PyObject *module, PyObject *args) {
     struct conversion conversion;
-    if (parse_conversion(module, args, &conversion) != 0)
-        return NULL;
+    if (parse_conversion(module, args, &conversion) != 0) return NULL;
     int type = conversion.source.type;
-    Py_ssize_t most = type == 'L' || type == 'l' ? MAX_DIGITS_OF_64_BITS : BASE62_MAX_DIGITS;
-    if (conversion.width >= 0)
-        most = conversion.width;
+    conversion.most = type == 'L' || type == 'l' ? MAX_DIGITS_OF_64_BITS : BASE62_MAX_DIGITS;
+    if (conversion.width >= 0) conversion.most = conversion.width;
     enum outcome outcome = MALFORMED;
-    if (is_type(type, "LldwuzUZ") && is_type(conversion.result.type, "uU") && has_rows(&conversion, most))
+    if (is_type(type, "LldwuzUZ") && is_type(conversion.result.type, "uU") && has_rows(&conversion))
         outcome = convert_rows(&conversion, encode_until);
     return finish(&conversion, outcome);
 }
 
 PyObject *decode_rows(PyObject *module, PyObject *args) {
     struct conversion conversion;
-    if (parse_conversion(module, args, &conversion) != 0)
-        return NULL;
+    if (parse_conversion(module, args, &conversion) != 0) return NULL;
     int type = conversion.result.type;
     if (conversion.width < 0)
         conversion.decode = conversion.width == CANONICAL ? base62_decode_canonical_with : base62_decode_with;
     conversion.greatest = greatest_of(type);
+    conversion.most = is_text(type) ? BASE62_UUID_STRING_LENGTH : size_of(type);
     enum outcome outcome = MALFORMED;
-    if (is_type(conversion.source.type, "uzUZ") && is_type(type, "LldwuU") &&
-        has_rows(&conversion, is_text(type) ? BASE62_UUID_STRING_LENGTH : size_of(type)))
+    if (is_type(conversion.source.type, "uzUZ") && is_type(type, "LldwuU") && has_rows(&conversion))
         outcome = convert_rows(&conversion, decode_until);
     return finish(&conversion, outcome);
 }

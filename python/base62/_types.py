@@ -13,9 +13,7 @@ AnyUUID = UUID | str | bytes
 # What UUID(int=..) stores in is_safe, if a UUID has no other attributes. Then the extension creates it by setting them.
 _SLOTS = getattr(UUID, "__slots__", None)
 UNKNOWN = SafeUUID.unknown if _SLOTS == ("int", "is_safe", "__weakref__") else None
-# Where a Python calls ISASCII in another way, to_bytes converts each str. Where it has the fields that a subclass adds to
-# bytes in another place, an Alphabet is checked on each call.
-ISASCII = "".isascii
+# Where a Python has the fields that a subclass adds to bytes in another place, an Alphabet is checked on each call.
 BYTES_SIZE = bytes.__basicsize__
 
 
@@ -27,13 +25,7 @@ class _BadByteError(ValueError):
 
 
 class AlphabetError(_BadByteError):
-    """An alphabet repeats a character.
-
-    >>> import base62
-    >>> base62.Alphabet("0" * 62)
-    Traceback (most recent call last):
-    base62.AlphabetError: Alphabet repeats the byte b'0' at index 1
-    """
+    """An alphabet repeats a character."""
 
     byte: int
     """The first byte that equals an earlier one."""
@@ -64,6 +56,17 @@ class NotCanonicalError(DecodeError):
 class WrongLengthError(DecodeError):
     """A string does not have the given width."""
 
+    length: int
+    """The length of the string in bytes. Those of a str are of its UTF-8."""
+
+    width: int
+    """The length that it has to have, or sys.maxsize for a greater one."""
+
+    def __init__(self, message: str = "", length: int = 0, width: int = 0) -> None:
+        super().__init__(message)
+        self.length = length
+        self.width = width
+
 
 class InvalidByteError(_BadByteError, DecodeError):
     """A byte of a string is not a character of the alphabet."""
@@ -84,23 +87,19 @@ for _error in (*DecodeError.__subclasses__(), DecodeError, AlphabetError, OutOfR
     _error.__module__ = "base62"
 
 
-def _type_of(value: object) -> str:
-    return type(value).__name__
-
-
 def to_int(number: Number) -> int:
     """Return the int of a number that is not exactly an int."""
     if isinstance(number, UUID):
         return operator.index(number.int)
     if not hasattr(type(number), "__index__"):
-        raise TypeError(f"a number is an int, has __index__, or is a uuid.UUID, not {_type_of(number)}")
+        raise TypeError(f"a number is an int, has __index__, or is a uuid.UUID, not {type(number).__name__}")
     return operator.index(number)
 
 
 def uuid_to_int(value: AnyUUID) -> int:
     """Return the int of a UUID that is neither exactly a uuid.UUID, nor a str nor bytes."""
     if not isinstance(value, UUID):
-        raise TypeError(f"a UUID is a uuid.UUID, a str or 16 bytes, not {_type_of(value)}")
+        raise TypeError(f"a UUID is a uuid.UUID, a str or 16 bytes, not {type(value).__name__}")
     return operator.index(value.int)
 
 
@@ -110,13 +109,10 @@ def int_to_uuid(number: int) -> UUID:
 
 
 def to_bytes(text: EncodedString) -> bytes:
-    """Return the bytes of an encoded string that is neither bytes nor an ASCII str."""
-    if isinstance(text, str):
-        # A lone surrogate is an invalid character too. A subclass may override encode.
-        return str.encode(text, "utf-8", "surrogatepass")
+    """Return the bytes of an encoded string that is neither bytes nor a str."""
     # Scalars of NumPy have buffers too.
     if not isinstance(text, (bytearray, memoryview)):
-        raise TypeError(f"an encoded string is a str, bytes, bytearray or memoryview, not {_type_of(text)}")
+        raise TypeError(f"an encoded string is a str, bytes, bytearray or memoryview, not {type(text).__name__}")
     view = memoryview(text)
     if view.itemsize != 1 or view.ndim != 1:
         raise TypeError("a memoryview of an encoded string has one dimension, of single bytes")
@@ -126,5 +122,5 @@ def to_bytes(text: EncodedString) -> bytes:
 def to_characters(alphabet: object) -> bytes:
     """Return the characters of an alphabet that is neither an Alphabet nor bytes."""
     if not isinstance(alphabet, str):
-        raise TypeError(f"an alphabet is an Alphabet, a str or bytes, not {_type_of(alphabet)}")
+        raise TypeError(f"an alphabet is an Alphabet, a str or bytes, not {type(alphabet).__name__}")
     return str.encode(alphabet, "ascii")

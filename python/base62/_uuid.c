@@ -17,8 +17,7 @@ int read_uuid(struct text text, int is_string, base62_number *number) {
 
 static int number_of_text_or_raise(struct state *state, PyObject *argument, base62_number *number) {
     struct text text;
-    if (text_or_raise(state, argument, &text) != 0)
-        return -1;
+    if (text_or_raise(state, argument, &text) != 0) return -1;
     int failed = read_uuid(text, PyUnicode_Check(argument), number);
     Py_DecRef(text.owner);
     if (failed != 0)
@@ -29,15 +28,14 @@ static int number_of_text_or_raise(struct state *state, PyObject *argument, base
 
 /* UUID.int is an int, but a program can store any object there. */
 PyObject *int_of_uuid(struct state *state, PyObject *uuid) {
-    PyObject *name = borrow(state, INT), *found = name == NULL ? NULL : PyObject_GetAttr(uuid, name);
-    PyObject *integer = found == NULL ? NULL : PyNumber_Index(found);
-    Py_DecRef(found);
+    PyObject *name = borrow(state, INT), *attribute = name == NULL ? NULL : PyObject_GetAttr(uuid, name);
+    PyObject *integer = attribute == NULL ? NULL : PyNumber_Index(attribute);
+    Py_DecRef(attribute);
     return integer;
 }
 
 int uuid_or_raise(struct state *state, PyObject *argument, base62_number *number) {
-    if (PyUnicode_Check(argument) || PyBytes_Check(argument))
-        return number_of_text_or_raise(state, argument, number);
+    if (PyUnicode_Check(argument) || PyBytes_Check(argument)) return number_of_text_or_raise(state, argument, number);
     int is_uuid = (PyObject *)Py_TYPE(argument) == state->objects[UUID];
     PyObject *integer = is_uuid ? int_of_uuid(state, argument) : convert(state, UUID_TO_INT, argument);
     int failed = integer == NULL ? -1 : number_or_raise(state, integer, number);
@@ -48,8 +46,7 @@ int uuid_or_raise(struct state *state, PyObject *argument, base62_number *number
 /* Sets the attributes that UUID.__init__ sets after its checks. */
 static PyObject *uuid_of_int(struct state *state, PyObject *integer, PyObject *unknown) {
     PyObject *type = borrow(state, UUID), *name = borrow(state, INT), *is_safe = borrow(state, IS_SAFE);
-    if (type == NULL || name == NULL || is_safe == NULL)
-        return NULL;
+    if (type == NULL || name == NULL || is_safe == NULL) return NULL;
     PyObject *uuid = PyType_GenericAlloc((PyTypeObject *)type, 0);
     if (uuid != NULL && PyObject_GenericSetAttr(uuid, name, integer) == 0 &&
         PyObject_GenericSetAttr(uuid, is_safe, unknown) == 0)

@@ -2,12 +2,6 @@
 # Copyright (c) 2026 the maintainers of base62 for Rattle
 """Encodes and decodes whole columns, by pyarrow.
 
->>> from base62 import columns
->>> columns.encode([0, 61, None, 1337]).to_pylist()
-['0', 'z', None, 'LZ']
->>> columns.decode(["LZ", None]).to_pylist()
-[1337, None]
-
 A column is what pyarrow.array or pyarrow.chunked_array takes: an array of pyarrow or of another Arrow library, a Series
 or an Index of pandas, an array of NumPy, a list; also a table or DataFrame of one column, without its index. The result
 is a pyarrow.ChunkedArray for a table, a stream or several chunks, and otherwise a pyarrow.Array.
@@ -26,7 +20,6 @@ from collections.abc import Mapping
 from dataclasses import dataclass, replace
 from decimal import Decimal
 from functools import partial
-from itertools import repeat
 from typing import TYPE_CHECKING, Any, Literal, NamedTuple, SupportsIndex, TypeAlias
 from uuid import UUID
 
@@ -45,9 +38,11 @@ __all__ = [
     "decode",
     "decode_canonical",
     "decode_fixed",
+    "decode_key",
     "decode_uuid",
     "decode_uuid_canonical",
     "decode_uuid_fixed",
+    "decode_uuid_key",
     "encode",
     "encode_fixed",
     "encode_key",
@@ -61,7 +56,9 @@ if TYPE_CHECKING:
     _Decoded: TypeAlias = "dict[_Type, tuple[int, Callable[[Any], object]]]"
     _Array: TypeAlias = "pa.Array | pa.ChunkedArray"
     _Errors = Literal["raise", "coerce"]
+    _Options: TypeAlias = tuple[AnyAlphabet, _Errors, _Type]
 
+_STANDARD = Alphabet.STANDARD
 # The types that the extension reads and writes, by their letters.
 _LETTERS = {
     **{pa.uint64(): "L", pa.int64(): "l", pa.decimal128(38): "d", pa.binary(16): "w", pa.uuid(): "w"},
@@ -69,20 +66,20 @@ _LETTERS = {
 }
 
 
-def _check_below(limit: int, shown: str, number: int) -> int:
+def _check_below(limit: int, shown: str, other: str, number: int) -> int:
     if number >= limit:
-        raise OutOfRangeError(f"the number is not from 0 to {shown} - 1")
+        raise OutOfRangeError(f"the number is not from 0 to {shown} - 1: {other}")
     return number
 
 
 # The types of decoded numbers and UUIDs: the bytes of a row, and the row of what the function for one value returns.
 _DECODED_NUMBERS: _Decoded = {
-    pa.int64(): (8, partial(_check_below, 2**63, "2**63")),
-    pa.uint64(): (8, partial(_check_below, 2**64, "2**64")),
-    pa.decimal128(38): (16, partial(_check_below, 10**38, "10**38")),
+    pa.int64(): (8, partial(_check_below, 2**63, "2**63", "pass type=pyarrow.uint64()")),
+    pa.uint64(): (8, partial(_check_below, 2**64, "2**64", "pass type=pyarrow.decimal128(38)")),
+    pa.decimal128(38): (16, partial(_check_below, 10**38, "10**38", "call decode_uuid")),
 }
 _DECODED_UUIDS: _Decoded = {
-    pa.uuid(): (16, lambda it: it),
+    pa.uuid(): (16, lambda name: name),
     pa.binary(16): (16, operator.attrgetter("bytes")),
     pa.string(): (36, str),
     pa.large_string(): (36, str),
@@ -104,7 +101,7 @@ def _is_own(of_type: _Type) -> bool:
 
 _OTHER_HINTS = [
     (pa.types.is_run_end_encoded, "decode it by pyarrow.compute.run_end_decode"),
-    (lambda it: "uhugeint" in str(it), "cast it to UBIGINT, HUGEINT or UUID in DuckDB"),
+    (lambda given: "uhugeint" in str(given), "cast it to UBIGINT, HUGEINT or UUID in DuckDB"),
     (_is_own, "pass its storage"),
 ]
 _STRINGS = _Kind(
@@ -116,10 +113,9 @@ _STRINGS = _Kind(
     [(pa.types.is_fixed_size_binary, "cast it to binary"), (pa.types.is_primitive, "read strings"), *_OTHER_HINTS],
 )
 _SIXTEEN_BYTES = dict.fromkeys((pa.uuid(), pa.binary(16)), pa.binary(16))
-_UUIDS = _Kind(
-    "uuid, binary or strings", _STRINGS.types | _SIXTEEN_BYTES,
-    [(pa.types.is_integer, "encode takes integers"), *_OTHER_HINTS],
-)
+_UUID_HINTS = [(pa.types.is_integer, "encode takes integers"), *_OTHER_HINTS]
+_UUIDS = _Kind("uuid, binary or strings", _STRINGS.types | _SIXTEEN_BYTES, _UUID_HINTS)
+_FLOATS_HINT = 'read it again as integers, by pandas with dtype_backend="pyarrow"; a cast of floats keeps the rounded values'
 _NUMBERS = _Kind(
     "integers, decimal128 of scale 0, uuid or fixed_size_binary[16]",
     {
@@ -129,12 +125,12 @@ _NUMBERS = _Kind(
         **_SIXTEEN_BYTES,
     },
     [
-        (pa.types.is_floating, "read it as integers, in pandas as int64[pyarrow]; floats are rounded above 2**53"),
+        (pa.types.is_floating, _FLOATS_HINT),
         (pa.types.is_decimal, "cast it to decimal128(38, 0), or pass a list of int"),
         (pa.types.is_boolean, "cast it to uint8"),
         (pa.types.is_temporal, "cast it to an integer type"),
         *_OTHER_HINTS,
-        (lambda it: it in _UUIDS.types, "encode_uuid takes UUIDs; cast numbers to uint64 or binary(16)"),
+        (lambda given: given in _UUIDS.types, "encode_uuid takes UUIDs; cast numbers to uint64 or binary(16)"),
     ],
 )
 
@@ -145,32 +141,44 @@ def _only(columns: list[Any]) -> Any:
     return columns[0]
 
 
+def _is_arrow(column: Any) -> bool:
+    return hasattr(column, "__arrow_c_array__") or hasattr(column, "__arrow_c_stream__")
+
+
 def _readable(column: Any, kind: _Kind) -> Any:
     """Return a column as pyarrow takes it as it is meant."""
     if isinstance(column, (str, bytes, bytearray, Mapping)):
         raise TypeError(f"a column is an array or a list, not {type(column).__name__}")
     dimensions = getattr(column, "ndim", 1)
     if dimensions == 2 and hasattr(column, "iloc"):
-        return _readable(_only([column.iloc[:, it] for it in range(column.shape[1])]), kind)
+        return _readable(_only([column.iloc[:, place] for place in range(column.shape[1])]), kind)
     if dimensions != 1:
         raise TypeError(f"a column has one dimension, not {dimensions}")
     if type(column).__name__ == "RangeIndex":
-        return range(column.start, column.stop, column.step)  # pandas converts it by int64 and floats.
+        column = range(column.start, column.stop, column.step)  # pandas converts it by int64 and floats.
+    if isinstance(column, range):
+        numpy: Any = sys.modules.get("numpy")
+        if numpy is None or not all(-(2**63) <= end < 2**63 for end in (column.start, column.stop, column.step)):
+            return column
+        return numpy.arange(len(column), dtype="int64") * column.step + column.start  # Its own steps are floats.
     if type(column).__name__ == "NumpyExtensionArray":
         column = column.__array__()  # Its dtype is not NumPy's.
+    categories: Any = getattr(getattr(column, "dtype", None), "categories", None)
+    if getattr(categories, "dtype", None) == object and len(categories) > len(column) // 2:
+        column = column.astype(object)  # Objects are read faster in the order of the rows.
     dtype: Any = getattr(column, "dtype", None)
-    form = getattr(dtype, "char", "O")
-    if form == "S" and kind is not _STRINGS:
+    code = getattr(dtype, "char", "O")
+    if code == "S" and kind is not _STRINGS:
         # The bytes of numbers, of which NumPy would cut the zeros at the end.
         column = getattr(column, "values", column).view(f"V{dtype.itemsize}")
     # NumPy's strings, which pyarrow would end at their first null character, and types that it does not have.
-    if form in "SUTV":
+    if code in "SUTV":
         objects = column.astype(object)
-        has_sixteen = form in "SV" and dtype.itemsize == 16 and kind is not _STRINGS
+        has_sixteen = code in "SV" and dtype.itemsize == 16 and kind is not _STRINGS
         return pa.array(objects, pa.binary(16), from_pandas=True) if has_sixteen else objects
     if dtype == object and hasattr(column, "to_numpy"):
         column = column.to_numpy()  # An iterator of pandas is slow.
-    if not hasattr(column, "__iter__") or hasattr(column, "__arrow_c_array__") or hasattr(column, "__arrow_c_stream__"):
+    if not hasattr(column, "__iter__") or _is_arrow(column):
         return column
     may_be_read_once = not hasattr(column, "__getitem__") or hasattr(column, "__next__")
     return list(column) if may_be_read_once else column
@@ -180,21 +188,26 @@ def _types_of_objects(column: Any) -> set[type]:
     """Return the types of the objects in a list, an array or a categorical of objects, besides None, NA and floats."""
     objects = getattr(getattr(column, "dtype", None), "categories", column)
     has_objects = hasattr(objects, "__iter__") and getattr(objects, "dtype", object) == object
-    found = set(map(type, objects)) if has_objects else set()
-    return {it for it in found if it.__name__ not in ("NoneType", "NAType", "float")}  # Floats may be NaN.
+    types = set(map(type, getattr(objects, "values", objects))) if has_objects else set()
+    return {each for each in types if each.__name__ not in ("NoneType", "NAType", "float")}  # Floats may be NaN.
 
 
-def _to_sixteen_bytes(column: Any, of_type: _Type) -> pa.Array | None:
-    """Return UUIDs or integers as 16 bytes, or None if one has none, or is missing."""
-    to_int: Any = operator.attrgetter("int") if of_type == pa.uuid() else operator.index
-    try:
-        joined = b"".join(map(int.to_bytes, map(to_int, column), repeat(16)))
-    except (AttributeError, OverflowError, TypeError):
+def _pack_objects(column: Any, kind: _Kind) -> pa.Array | None:
+    """Return a list or an array of objects as 16 bytes, or None if a row is not such a number."""
+    has_objects = hasattr(column, "__iter__") and getattr(column, "dtype", object) == object and not _is_arrow(column)
+    if kind is _STRINGS or not has_objects:
         return None
-    return pa.Array.from_buffers(pa.binary(16), len(joined) // 16, [None, pa.py_buffer(joined)]).cast(of_type)
+    rows = column.tolist() if hasattr(column, "tolist") else list(column)
+    missing = getattr(sys.modules.get("pandas"), "NA", None)
+    buffers = bytearray((len(rows) + 7) // 8), bytearray(16 * len(rows))
+    try:
+        nulls = _base62.pack_rows(rows, missing, kind is _UUIDS, *buffers)
+    except Exception:
+        return None
+    return pa.Array.from_buffers(pa.binary(16), len(rows), [*map(pa.py_buffer, buffers)], nulls)
 
 
-def _to_arrow(column: Any, kind: _Kind) -> _Array | None:
+def _to_arrow(column: Any) -> _Array | None:
     """Return a column as pyarrow has it, or None if it converts values otherwise than base62 does, or not at all."""
     if isinstance(column, (pa.Array, pa.ChunkedArray)):
         return column
@@ -204,24 +217,18 @@ def _to_arrow(column: Any, kind: _Kind) -> _Array | None:
     if hasattr(column, "__arrow_c_stream__") and not hasattr(column, "iloc"):
         return pa.chunked_array(column)
     types = _types_of_objects(column)
-    if types == {UUID}:
-        return _to_sixteen_bytes(column, pa.uuid())
-    are_integers = all(hasattr(it, "__index__") and it is not bool for it in types)
-    if not are_integers and not any(all(issubclass(it, of) for it in types) for of in (str, bytes, Decimal, pa.Scalar)):
+    are_integers = all(hasattr(each, "__index__") and each is not bool for each in types)
+    if not are_integers and not any(all(issubclass(each, base) for each in types) for base in (str, bytes, Decimal, pa.Scalar)):
         return None
-    for wide in (None, pa.uint64()):
-        try:
-            found = pa.array(column, wide, from_pandas=True)
-            return None if types and pa.types.is_floating(found.type) else found
-        except OverflowError:
-            continue  # All values are integers then. Of floats, pyarrow would take the integer parts.
-        except (pa.ArrowException, UnicodeError):
-            return None
-    return _to_sixteen_bytes(column, pa.binary(16)) if kind is _NUMBERS else None
+    try:
+        array = pa.array(column, from_pandas=True)
+    except (pa.ArrowException, OverflowError, UnicodeError):
+        return None
+    return None if types and pa.types.is_floating(array.type) else array
 
 
 def _is_missing(value: Any) -> bool:
-    names = {it.__name__ for it in type(value).__mro__}
+    names = {base.__name__ for base in type(value).__mro__}
     is_float = not names.isdisjoint(("float", "floating"))
     return is_float and value != value or not names.isdisjoint(("NoneType", "NAType", "MaskedConstant"))
 
@@ -247,12 +254,15 @@ class _Conversion:
     width: int
     convert_one: Callable[[Any], object]
     convert_rows: Callable[..., tuple[int, int, int]]
+    # The objects of the column, if they are packed.
+    rows: Any = None
 
     def __call__(self, column: object) -> _Array:
         if self.errors not in ("raise", "coerce"):
             raise ValueError(f"errors is 'raise' or 'coerce', not {self.errors!r}")
         column = _readable(column, self.kind)
-        given = _to_arrow(column, self.kind)
+        packed = _pack_objects(column, self.kind)
+        given = _to_arrow(column) if packed is None else packed
         if given is None:
             return pa.array(self._convert_values(column), self.type)
         if pa.types.is_struct(given.type):
@@ -261,7 +271,8 @@ class _Conversion:
         chunks = given.chunks if isinstance(given, pa.ChunkedArray) else [given]
         width = self.width if self.width >= 0 else 11 if _LETTERS[source_type] in "Ll" else 22
         is_large = self.type == pa.string() and max(map(len, chunks), default=0) * width >= 2**31
-        sized = replace(self, type=pa.large_string() if is_large else self.type, width=width)
+        rows = None if packed is None else column
+        sized = replace(self, type=pa.large_string() if is_large else self.type, width=width, rows=rows)
         convert = sized._convert_dictionary if pa.types.is_dictionary(given.type) else sized._convert_array
         results, first = [], 0
         for chunk in chunks:
@@ -274,11 +285,11 @@ class _Conversion:
         of_values = given.type.value_type if pa.types.is_dictionary(given.type) else given.type
         if pa.types.is_floating(of_values) and given.null_count == len(given):
             of_values = pa.null()  # Such is a column of NumPy with missing values only.
-        found = None if _is_own(of_values) else self.kind.types.get(of_values)
-        if found is None:
+        accepted = None if _is_own(of_values) else self.kind.types.get(of_values)
+        if accepted is None:
             hint = next((f": {hint}" for is_such, hint in self.kind.hints if is_such(of_values)), "")
             raise TypeError(f"the column has the type {of_values}, not {self.kind.accepted}{hint}")
-        return found
+        return accepted
 
     def _convert_dictionary(self, array: pa.DictionaryArray, source_type: _Type, first: int) -> pa.Array:
         """Convert a dictionary by its values, of which those that no row has may be invalid."""
@@ -306,7 +317,7 @@ class _Conversion:
         result = letter, validity, offsets, values
         row, used, nulls = self.convert_rows(source, result, self.errors == "coerce")
         if row < count:
-            self._raise_for(_value_of(chunk[row]), first + row)
+            self._raise_for(_value_of(chunk[row]) if self.rows is None else self.rows[row], first + row)
         buffers = [validity if nulls else None, values]
         if letter in "uU":
             values.resize(used, shrink_to_fit=True)
@@ -339,10 +350,8 @@ def _check_type(of_result: _Type, *types: _Type) -> None:
         raise TypeError(f"the type of the result is pyarrow's {' or '.join(map(str, types))}, not {of_result!r}")
 
 
-def _encode(
-    column: object, call: Callable[..., str], alphabet: AnyAlphabet, errors: _Errors, of_result: _Type,
-    kind: _Kind = _NUMBERS, width: int = -1,
-) -> _Array:
+def _encode(column: object, call: Callable[..., str], options: _Options, kind: _Kind = _NUMBERS, width: int = -1) -> _Array:
+    alphabet, errors, of_result = options
     characters, given = Alphabet(alphabet), () if width < 0 else (width,)
     base62.encode(0, characters)  # Raises an exception for an alphabet that is not ASCII.
     _check_type(of_result, pa.string(), pa.large_string())
@@ -351,11 +360,9 @@ def _encode(
     return _Conversion(kind, of_result, errors, width, convert_one, convert_rows)(column)
 
 
-def _decode(
-    column: object, call: Callable[..., Any], alphabet: AnyAlphabet, errors: _Errors, of_result: _Type,
-    types: _Decoded, width: int = -1,
-) -> _Array:
+def _decode(column: object, call: Callable[..., Any], options: _Options, types: _Decoded, width: int = -1) -> _Array:
     """Decode by the width of _base62.decode_rows, and by the function for one value."""
+    alphabet, errors, of_result = options
     characters, given = Alphabet(alphabet), () if width < 0 else (width,)
     _check_type(of_result, *types)
     size, finish = types[of_result]
@@ -371,9 +378,7 @@ def _places(width: SupportsIndex) -> int:
     return min(places, sys.maxsize)
 
 
-def encode(
-    column: object, alphabet: AnyAlphabet = Alphabet.STANDARD, *, errors: _Errors = "raise", type: _Type = pa.string()
-) -> _Array:
+def encode(column: object, alphabet: AnyAlphabet = _STANDARD, *, errors: _Errors = "raise", type: _Type = pa.string()) -> _Array:
     """Encode a column of numbers, without leading zeros.
 
     The column has integers, decimals of scale 0, or UUIDs; or 16 bytes of any number below 2**128, the most
@@ -386,27 +391,26 @@ def encode(
     >>> columns.encode([1, -1], errors="coerce").to_pylist()
     ['1', None]
     """
-    return _encode(column, base62.encode, alphabet, errors, type)
+    return _encode(column, base62.encode, (alphabet, errors, type))
 
 
 def encode_uuid(
-    column: object, alphabet: AnyAlphabet = Alphabet.STANDARD, *, errors: _Errors = "raise", type: _Type = pa.string()
+    column: object, alphabet: AnyAlphabet = _STANDARD, *, errors: _Errors = "raise", type: _Type = pa.string()
 ) -> _Array:
     """Like encode, but encode UUIDs: uuid.UUID objects, 16 bytes, or strings as base62.encode_uuid takes them."""
-    return _encode(column, base62.encode_uuid, alphabet, errors, type, _UUIDS)
+    return _encode(column, base62.encode_uuid, (alphabet, errors, type), _UUIDS)
 
 
 def encode_fixed(
-    column: object, width: SupportsIndex, alphabet: AnyAlphabet = Alphabet.STANDARD,
-    *, errors: _Errors = "raise", type: _Type = pa.string(),
+    column: object,
+    width: SupportsIndex,
+    alphabet: AnyAlphabet = _STANDARD,
+    *,
+    errors: _Errors = "raise",
+    type: _Type = pa.string(),
 ) -> _Array:
-    """Like encode, but pad each string with leading zeros to exactly width characters.
-
-    >>> from base62 import columns
-    >>> columns.encode_fixed([1337, None], 4).to_pylist()
-    ['00LZ', None]
-    """
-    return _encode(column, base62.encode_fixed, alphabet, errors, type, width=_places(width))
+    """Like encode, but pad each string with leading zeros to exactly width characters."""
+    return _encode(column, base62.encode_fixed, (alphabet, errors, type), width=_places(width))
 
 
 def encode_key(column: object, *, errors: _Errors = "raise", type: _Type = pa.string()) -> _Array:
@@ -414,14 +418,11 @@ def encode_key(column: object, *, errors: _Errors = "raise", type: _Type = pa.st
     return encode_fixed(column, 22, errors=errors, type=type)
 
 
-def decode(
-    column: object, alphabet: AnyAlphabet = Alphabet.STANDARD, *, errors: _Errors = "raise", type: _Type = pa.int64()
-) -> _Array:
+def decode(column: object, alphabet: AnyAlphabet = _STANDARD, *, errors: _Errors = "raise", type: _Type = pa.int64()) -> _Array:
     """Decode a column of strings or bytes to int64, uint64 or decimal128(38). Leading zeros are ignored.
 
-    pandas makes floats of uint64 in a merge with int64, and of any integers beside missing rows, as left and outer
-    merges, reindex, shift, pivot and update do. So it rounds them above 2**53, without an error. A column of
-    pandas.array(columns.decode(codes), "int64[pyarrow]") keeps them as they are.
+    pandas makes floats of uint64 in a merge with int64, and of any integers beside missing rows. So it rounds them above
+    2**53, without an error. A column of pandas.array(columns.decode(codes), "int64[pyarrow]") keeps them as they are.
 
     >>> from base62 import columns
     >>> columns.decode(["LZ", b"00LZ"]).to_pylist()
@@ -431,54 +432,57 @@ def decode(
     base62.InvalidByteError: Encoded input contains the invalid byte b'-' at index 0
     Row 1 of the column is '-'
     """
-    return _decode(column, base62.decode, alphabet, errors, type, _DECODED_NUMBERS)
+    return _decode(column, base62.decode, (alphabet, errors, type), _DECODED_NUMBERS)
 
 
 def decode_canonical(
-    column: object, alphabet: AnyAlphabet = Alphabet.STANDARD, *, errors: _Errors = "raise", type: _Type = pa.int64()
+    column: object, alphabet: AnyAlphabet = _STANDARD, *, errors: _Errors = "raise", type: _Type = pa.int64()
 ) -> _Array:
     """Like decode, but accept only canonical strings: those that encode returns."""
-    return _decode(column, base62.decode_canonical, alphabet, errors, type, _DECODED_NUMBERS, -2)
+    return _decode(column, base62.decode_canonical, (alphabet, errors, type), _DECODED_NUMBERS, -2)
 
 
 def decode_fixed(
-    column: object, width: SupportsIndex, alphabet: AnyAlphabet = Alphabet.STANDARD,
-    *, errors: _Errors = "raise", type: _Type = pa.int64(),
+    column: object,
+    width: SupportsIndex,
+    alphabet: AnyAlphabet = _STANDARD,
+    *,
+    errors: _Errors = "raise",
+    type: _Type = pa.int64(),
 ) -> _Array:
-    """Like decode, but accept only strings of the width: those that encode_fixed returns. For keys it is 22.
+    """Like decode, but accept only strings of the width: those that encode_fixed returns."""
+    return _decode(column, base62.decode_fixed, (alphabet, errors, type), _DECODED_NUMBERS, _places(width))
 
-    >>> from base62 import columns
-    >>> columns.decode_fixed(["00LZ", "LZ"], 4, errors="coerce").to_pylist()
-    [1337, None]
-    """
-    return _decode(column, base62.decode_fixed, alphabet, errors, type, _DECODED_NUMBERS, _places(width))
+
+def decode_key(column: object, *, errors: _Errors = "raise", type: _Type = pa.int64()) -> _Array:
+    """Like decode, but accept only keys: those that encode_key returns."""
+    return decode_fixed(column, 22, errors=errors, type=type)
 
 
 def decode_uuid(
-    column: object, alphabet: AnyAlphabet = Alphabet.STANDARD, *, errors: _Errors = "raise", type: _Type = pa.uuid()
+    column: object, alphabet: AnyAlphabet = _STANDARD, *, errors: _Errors = "raise", type: _Type = pa.uuid()
 ) -> _Array:
     """Like decode, but decode any number below 2**128 to uuid, binary(16), string or large_string.
 
     Strings are lowercase with hyphens.
-
-    >>> from base62 import columns
-    >>> import pyarrow
-    >>> columns.decode_uuid(["YLmNWW2NwaipfRR50HIPA"], type=pyarrow.string()).to_pylist()
-    ['12345678-1234-5678-1234-567812345678']
     """
-    return _decode(column, base62.decode_uuid, alphabet, errors, type, _DECODED_UUIDS)
+    return _decode(column, base62.decode_uuid, (alphabet, errors, type), _DECODED_UUIDS)
 
 
 def decode_uuid_canonical(
-    column: object, alphabet: AnyAlphabet = Alphabet.STANDARD, *, errors: _Errors = "raise", type: _Type = pa.uuid()
+    column: object, alphabet: AnyAlphabet = _STANDARD, *, errors: _Errors = "raise", type: _Type = pa.uuid()
 ) -> _Array:
     """Like decode_uuid, but accept only canonical strings: those that encode_uuid returns."""
-    return _decode(column, base62.decode_uuid_canonical, alphabet, errors, type, _DECODED_UUIDS, -2)
+    return _decode(column, base62.decode_uuid_canonical, (alphabet, errors, type), _DECODED_UUIDS, -2)
 
 
 def decode_uuid_fixed(
-    column: object, width: SupportsIndex, alphabet: AnyAlphabet = Alphabet.STANDARD,
-    *, errors: _Errors = "raise", type: _Type = pa.uuid(),
+    column: object, width: SupportsIndex, alphabet: AnyAlphabet = _STANDARD, *, errors: _Errors = "raise", type: _Type = pa.uuid()
 ) -> _Array:
-    """Like decode_uuid, but accept only strings of the width: those that encode_fixed returns. For keys it is 22."""
-    return _decode(column, base62.decode_uuid_fixed, alphabet, errors, type, _DECODED_UUIDS, _places(width))
+    """Like decode_uuid, but accept only strings of the width: those that encode_fixed returns."""
+    return _decode(column, base62.decode_uuid_fixed, (alphabet, errors, type), _DECODED_UUIDS, _places(width))
+
+
+def decode_uuid_key(column: object, *, errors: _Errors = "raise", type: _Type = pa.uuid()) -> _Array:
+    """Like decode_uuid, but accept only keys: those that encode_key returns."""
+    return decode_uuid_fixed(column, 22, errors=errors, type=type)

@@ -18,6 +18,10 @@ encode them.
 (4, 2000)
 >>> int(frame["key"].map_partitions(decode_partition, meta=("id", "int64")).sum().compute()), sum(range(2_000))
 (1999000, 1999000)
+>>> decode_partition(pandas.Series(["LZ"]))
+Traceback (most recent call last):
+base62.WrongLengthError: Encoded input has 2 bytes, not 22
+Row 0 of the column is 'LZ'
 
 >>> client.close()
 >>> cluster.close()
@@ -40,4 +44,4 @@ def add_key(part: pandas.DataFrame) -> pandas.DataFrame:
 
 def decode_partition(keys: pandas.Series) -> pandas.Series:
     """The ids of a partition of keys, none of which is missing."""
-    return pandas.Series(columns.decode_fixed(keys, 22).to_numpy(), keys.index)
+    return pandas.Series(columns.decode_key(keys).to_numpy(), keys.index)

@@ -10,15 +10,22 @@
 >>> with connection.cursor() as cursor:
 ...     _ = cursor.execute("SELECT id FROM example_link ORDER BY id")
 ...     cursor.fetchall()
+...     _ = cursor.execute("INSERT INTO example_link VALUES ('LZ', 'not a key')")
 [('00000000000000000000LZ',), ('7n42DGM5Tflk9n8mt7Fhc7',)]
+>>> Link.objects.get(target="not a key")
+Traceback (most recent call last):
+base62.WrongLengthError: Encoded input has 2 bytes, not 22
 >>> forms.modelform_factory(Link, fields=["id"])(instance=Link(id=1337)).initial
 {'id': 'LZ'}
 >>> Link(id=2, target="https://example.org/c").full_clean()
 >>> Link(id="00LZ", target="https://example.org/d").full_clean()
 Traceback (most recent call last):
 django.core.exceptions.ValidationError: {'id': ['Encoded input has a leading zero']}
+>>> [KeyField().db_type(SimpleNamespace(vendor=name)) for name in ("postgresql", "mysql")]
+['varchar(22) COLLATE "C"', 'varchar(22) COLLATE utf8mb4_bin']
 """
 
+from types import SimpleNamespace
 from typing import Any
 
 import django
@@ -28,7 +35,6 @@ from django.core.exceptions import ValidationError
 from django.db import NotSupportedError, connection, models
 
 import base62
-
 
 # In these columns strings compare byte by byte, so that keys sort as their numbers. With their default collations, MySQL
 # and MariaDB ignore case: two keys would be one.

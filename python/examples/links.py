@@ -19,8 +19,6 @@ import sqlite3
 import base62
 
 TABLE = "CREATE TABLE IF NOT EXISTS link (id INTEGER PRIMARY KEY, target TEXT NOT NULL)"
-# For a greater parameter sqlite3 raises OverflowError.
-GREATEST = 2**63 - 1
 
 
 def opened(place: str) -> sqlite3.Connection:
@@ -42,7 +40,7 @@ def target(links: sqlite3.Connection, text: str) -> str | None:
         number = base62.decode_canonical(text)
     except base62.DecodeError:
         return None
-    if number > GREATEST:
+    if number >= 2**63:  # For such a parameter sqlite3 raises OverflowError.
         return None
     row = links.execute("SELECT target FROM link WHERE id = ?", (number,)).fetchone()
     return row and str(row[0])

@@ -8,7 +8,7 @@
 >>> for given in ("LZ-", "00LZ", -1, 2**128):
 ...     try:
 ...         Link(id=given)
-...     except pydantic.ValidationError as error:
+...     except ValidationError as error:
 ...         print(error.errors()[0]["msg"])
 Value error, Encoded input contains the invalid byte b'-' at index 2
 Value error, Encoded input has a leading zero
@@ -18,7 +18,7 @@ Value error, the number is not from 0 to 2**128 - 1
 
 from typing import Annotated
 
-import pydantic
+from pydantic import AfterValidator, BaseModel, BeforeValidator, PlainSerializer, ValidationError
 
 import base62
 
@@ -32,13 +32,9 @@ def checked(number: int) -> int:
     return number
 
 
-Id = Annotated[
-    int,
-    pydantic.BeforeValidator(read),
-    pydantic.AfterValidator(checked),
-    pydantic.PlainSerializer(base62.encode, return_type=str, when_used="json"),
-]
+to_json = PlainSerializer(base62.encode, return_type=str, when_used="json")
+Id = Annotated[int, BeforeValidator(read), AfterValidator(checked), to_json]
 
 
-class Link(pydantic.BaseModel):
+class Link(BaseModel):
     id: Id

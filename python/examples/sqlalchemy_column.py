@@ -11,15 +11,22 @@
 ...     print(connection.execute(sqlalchemy.text("SELECT id FROM link ORDER BY id")).all())
 [(1337, 'https://example.org/a')]
 [('00000000000000000000LZ',), ('7n42DGM5Tflk9n8mt7Fhc7',)]
+>>> with engine.begin() as connection:
+...     _ = connection.execute(sqlalchemy.text("INSERT INTO link VALUES ('LZ', 'not a key')"))
+...     connection.execute(sqlalchemy.select(link)).all()
+Traceback (most recent call last):
+base62.WrongLengthError: Encoded input has 2 bytes, not 22
 >>> engine.dispose()
+>>> [str(Key().compile(dialect=database.dialect())) for database in (postgresql, mysql)]
+['VARCHAR(22) COLLATE "C"', 'VARCHAR(22) COLLATE utf8mb4_bin']
 """
 
 from typing import Any
 
 import sqlalchemy
+from sqlalchemy.dialects import mysql, postgresql
 
 import base62
-
 
 # With these strings compare byte by byte, so that keys sort as their numbers. With their default collations, MySQL and
 # MariaDB ignore case: two keys would be one.

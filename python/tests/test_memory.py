@@ -14,9 +14,8 @@ from array import array
 from typing import Any
 
 import base62
-import calls
 from base62 import _types
-from calls import LETTERS, OWNED, WIDE, Call
+from calls import LETTERS, OWNED, WIDE, Call, each_call
 
 # A call has made its allocations if it succeeds although each of the next ones would fail. No call makes so many.
 NEXT_ALLOCATIONS = 25
@@ -51,9 +50,8 @@ def load_extension(name: str) -> Any:
 
 
 @unittest.skipIf(memory is None, "this Python has no _testcapi, by which allocations fail")
-class AllocationTestCase(unittest.TestCase):
-    def setUp(self) -> None:
-        self.failures = 0
+class Allocations(unittest.TestCase):
+    failures = 0
 
     def reports_failure(self, wanted: object, first: int, last: int, call: Call, *given: Any, **named: Any) -> bool:
         """Return whether a call reports that an allocation failed: those from the first to before the last do,
@@ -67,8 +65,8 @@ class AllocationTestCase(unittest.TestCase):
         except MemoryError:
             return True
         except SystemError as error:
-            # CPython raises this if it cannot allocate the frame of a function.
-            self.assertRegex(str(error), "^<function .* returned NULL without setting an exception")
+            # CPython raises this if it cannot allocate the frame of a function or of a traceback.
+            self.assertRegex(str(error), "^(<function .* returned NULL without setting an exception|error return without )")
             return True
         self.assertEqual(result, wanted)
         return False
@@ -90,7 +88,8 @@ class AllocationTestCase(unittest.TestCase):
 
         def state() -> array[int]:
             gc.collect()
-            counts = map(sys.getrefcount, [*BORROWED, *given, *named.values()])
+            listed = (row for value in given if isinstance(value, list) for row in value)
+            counts = map(sys.getrefcount, [*BORROWED, *given, *named.values(), *listed])
             # An array has no block for each count.
             return array("q", [sys.getallocatedblocks(), *counts])
 
@@ -102,19 +101,10 @@ class AllocationTestCase(unittest.TestCase):
                 return
         self.fail(f"{call} of {given} and {named} leaks, or releases what it borrows")
 
-
-class AllocationFailures(AllocationTestCase):
-    def tearDown(self) -> None:
-        self.assertGreater(self.failures, 50)
-
     def test_calls(self) -> None:
-        for it in calls.valid_calls():
-            self.check_no_leak(it.func, *it.args, **it.keywords)
-
-    def test_invalid_calls(self) -> None:
-        for it in calls.invalid_calls():
-            self.assertRaises((TypeError, ValueError), it)
-            self.check_no_leak(it.func, *it.args, **it.keywords)
+        for call in each_call():
+            self.check_no_leak(call.func, *call.args, **call.keywords)
+        self.assertGreater(self.failures, 50)
 
     def test_loading(self) -> None:
         """A module that fails to load releases what it has imported."""
@@ -122,18 +112,16 @@ class AllocationFailures(AllocationTestCase):
         self.sweep(lambda: load_extension("base62._base62").encode(WIDE))
         gc.collect()
         self.assertEqual(sys.getrefcount(_types.to_int), before)
+        self.assertGreater(self.failures, 50)
 
-
-class AllocationCount(AllocationTestCase):
     def test_alphabet(self) -> None:
-        """A call with an Alphabet allocates at most its result, which may be an int of CPython's free lists. It creates
-        no object of letters."""
-        kept: list[Any] = [(base62.encode, 1337), (base62.encode_fixed, 1337, 22), (base62.decode, "LZ")]
-        kept += [(base62.decode_canonical, "LZ"), (base62.decode_fixed, "LZ", 2)]
+        """A call with an Alphabet allocates at most its result, which may be an int of CPython's free lists."""
+        calls: list[tuple[Call, tuple[object, ...]]] = [(base62.encode, (1337,)), (base62.encode_fixed, (1337, 22))]
+        calls += [(base62.decode, ("LZ",))]
         for alphabet in (base62.Alphabet.STANDARD, base62.Alphabet.ALTERNATIVE, LETTERS):
-            for call, *given in kept:
+            for call, given in calls:
                 # The first sweep fills CPython's free lists.
                 self.sweep(call, *given, alphabet)
                 self.failures = 0
                 self.sweep(call, *given, alphabet)
-                self.assertIn(self.failures, (0, 2) if call.__name__.startswith("decode") else (2,), call)
+                self.assertIn(self.failures, (0, 2) if call is base62.decode else (2,), call)

@@ -1,6 +1,6 @@
 # SPDX-License-Identifier: MIT
 # Copyright (c) 2026 the maintainers of base62 for Rattle
-"""Tests of the package: its exports, reimports and subinterpreters."""
+"""Tests of the package: its exports, README and example of links, reimports and subinterpreters."""
 
 import ast
 import ctypes
@@ -11,6 +11,7 @@ import importlib.metadata
 import importlib.util
 import inspect
 import pathlib
+import sqlite3
 import sys
 import types
 import unittest
@@ -21,29 +22,28 @@ from typing import Any
 
 import base62
 from base62 import _base62, _types
-from calls import CUSTOM, OWNED, TEXT
-from paths import PACKAGE, TOP, readme
+from calls import CALLS, CUSTOM, OWNED, PACKAGE, TOP, readme, valid_arguments
 from test_memory import load_extension
+from test_values import rows
 
-# The calls, and the type that is called too.
-CALLS: list[Any] = [getattr(base62, it) for it in base62.__all__ if it == "Alphabet" or it.islower()]
+import links
+
 # The module by which a Python makes others.
 INTERPRETERS = "_interpreters" if sys.version_info >= (3, 13) else "_xxsubinterpreters"
 # The types of the parameters, by name.
 TYPES = {"number": "Number", "value": "AnyUUID", "width": "SupportsIndex", "alphabet": "AnyAlphabet"}
 TYPES |= {"text": "EncodedString", "prefix": "EncodedString", "characters": "str | bytes"}
+# The types of results, by those of Python.
+RETURNS = {str: "str", int: "int", uuid.UUID: "UUID", tuple: "tuple[int, int] | None", base62.Alphabet: "Self"}
 
 
 class Package(unittest.TestCase):
     def test_exports(self) -> None:
-        for name in base62.__all__:
+        names = {name for name in dir(base62) if name[0] != "_"} - {"columns"}
+        self.assertEqual(sorted(names), base62.__all__)
+        for name in names - {"AnyAlphabet", "AnyUUID", "EncodedString", "Number"}:
             self.assertTrue(inspect.getdoc(getattr(base62, name)), name)
             self.assertEqual(getattr(base62, name).__module__, "base62", name)
-        types = ["AnyAlphabet", "AnyUUID", "EncodedString", "Number"]
-        names = {name for name in dir(base62) if name[0] != "_"} - {"columns"}
-        self.assertEqual(sorted(names), sorted(base62.__all__ + types))
-        typed = (PACKAGE / "tests" / "types_of_calls.py").read_text()
-        self.assertEqual([call.__name__ for call in CALLS if f"{call.__name__}(" not in typed], [])
 
     def test_columns_without_pyarrow(self) -> None:
         """What is missing is named, and how it is installed. The package does not need it."""
@@ -53,13 +53,10 @@ class Package(unittest.TestCase):
                 with self.assertRaisesRegex(ImportError, "needs pyarrow: install pyarrow 18 or later$"):
                     reimported("base62.columns")
 
-    def test_version(self) -> None:
-        self.assertEqual(base62.__version__, (TOP / "VERSION").read_text().strip())
-        self.assertEqual(base62.__version__, importlib.metadata.version("base62-proved"))
-
     def test_installed(self) -> None:
         """The files and what they say of themselves: one wheel serves each Python from 3.11 on."""
         package = importlib.metadata.distribution("base62-proved")
+        self.assertEqual((base62.__version__, package.version), ((TOP / "VERSION").read_text().strip(),) * 2)
         files = {file.name: file for file in package.files or () if file.suffix != ".pyc"}
         modules = [file.name for file in files.values() if file.parts[0] == "base62"]
         wanted = ["__init__.py", "_base62.pyi", "_types.py", "columns.py", "py.typed", pathlib.Path(_base62.__file__).name]
@@ -73,31 +70,31 @@ class Package(unittest.TestCase):
 
     def test_signatures(self) -> None:
         """Calls take their parameters by name, in any order."""
-        values: dict[str, object] = {"number": 1337, "text": TEXT, "width": 22, "prefix": "00L", "characters": CUSTOM}
-        values |= {"value": uuid.UUID(int=1337), "alphabet": base62.Alphabet.ALTERNATIVE}
         for call in CALLS:
-            parameters = inspect.signature(call).parameters
-            given = {name: values[name] for name in reversed(parameters)}
+            given = dict(reversed(valid_arguments(call).items()))
             self.assertEqual(call(**given), call(*reversed(given.values())))
             if given.pop("alphabet", None):
-                self.assertIs(parameters["alphabet"].default, base62.Alphabet.STANDARD)
+                self.assertIs(inspect.signature(call).parameters["alphabet"].default, base62.Alphabet.STANDARD)
                 self.assertEqual(call(**given), call(*reversed(given.values()), base62.Alphabet.STANDARD))
 
     def test_stub(self) -> None:
-        """Editors show what help shows. Parameters of one name have one type."""
+        """Editors show what help shows. Parameters of one name have one type, and results that of the stub."""
         stub = ast.parse(pathlib.Path(_base62.__file__).with_name("_base62.pyi").read_text())
         documented = [node for node in stub.body if isinstance(node, (ast.FunctionDef, ast.ClassDef))]
-        self.assertEqual(str(inspect.signature(base62.encode)), "(number, alphabet=Alphabet.STANDARD)")
         told = {node.name: ast.get_docstring(node) for node in documented}
         shown = {name: inspect.getdoc(one) for name, one in vars(_base62).items() if callable(one)}
         self.assertEqual(told, shown)
-        arguments = [it for node in ast.walk(stub) if isinstance(node, ast.FunctionDef) for it in node.args.args]
-        self.assertEqual({(it.arg, ast.unparse(it.annotation)) for it in arguments if it.annotation}, {*TYPES.items()})
+        arguments = [value for node in ast.walk(stub) if isinstance(node, ast.FunctionDef) for value in node.args.args]
+        self.assertEqual({(each.arg, ast.unparse(each.annotation)) for each in arguments if each.annotation}, {*TYPES.items()})
+        for node in documented:
+            if call := getattr(base62, node.name, None):
+                result = call(*valid_arguments(call).values())
+                self.assertIn(f" -> {RETURNS[type(result)]}:\n", ast.unparse(node))
 
     def test_wrong_arguments(self) -> None:
         """Too few or too many, one of another name, and one twice. The call is named."""
         for call in CALLS:
-            names = [*inspect.signature(call).parameters]
+            names = [*valid_arguments(call)]
             least = len(names) - ("alphabet" in names)
             wrong: list[tuple[int, list[str]]] = [(least - 1, []), (len(names) + 1, [])]
             for count, named in (*wrong, (least, ["other"]), (least, names[:1])):
@@ -141,15 +138,8 @@ class Modules(unittest.TestCase):
 
     def test_other_pythons(self) -> None:
         """Where the extension cannot find what it uses of CPython, it converts arguments by Python's own functions."""
-        for isascii in (str.isascii, len):
-            with unittest.mock.patch.multiple(_types, ISASCII=isascii, BYTES_SIZE=bytes.__basicsize__ - 16):
-                again = load_extension("base62._base62")
-            self.assertRaises(base62.InvalidByteError, again.decode, "\ud800")
-            # A call releases what ISASCII returns. From Python 3.12 on nothing counts the references to False.
-            before = sys.getrefcount(False)
-            for _ in range(9):
-                again.decode("LZ")
-            self.assertEqual(sys.getrefcount(False), before)
+        with unittest.mock.patch.multiple(_types, BYTES_SIZE=bytes.__basicsize__ - 16):
+            again = load_extension("base62._base62")
         for alphabet, text in ((again.Alphabet(CUSTOM), "LZ"), (again.Alphabet.ALTERNATIVE, "lz")):
             number = base62.decode(text, bytes(alphabet))
             self.assertEqual((again.decode(text, alphabet), again.encode(number, alphabet)), (number, text))
@@ -157,20 +147,11 @@ class Modules(unittest.TestCase):
             self.assertEqual(again.encode_rows(alphabet, -1, source, ("U", *new), False), (1, 2, 0))
             self.assertEqual(new[2][:2], text.encode())
 
-    def test_gc_traverse(self) -> None:
-        """The collector finds the objects that the module and an alphabet refer to."""
-        found = gc.get_referents(_base62)
-        conversions = [_types.to_int, _types.to_bytes, _types.to_characters]
-        of_uuids = [_types.uuid_to_int, _types.int_to_uuid, uuid.UUID, uuid.SafeUUID.unknown, "int", "is_safe"]
-        for owned in (*OWNED, *conversions, *of_uuids):
-            self.assertTrue(any(one is owned for one in found), owned)
-        self.assertEqual(gc.get_referents(base62.Alphabet(CUSTOM)), [base62.Alphabet])
-
     def test_unload(self) -> None:
         """An unloaded module releases its objects."""
         again = reimported()
-        left = [weakref.ref(one) for one in (again.encode, again.Alphabet, again.InvalidByteError, again.decode_uuid)]
-        self.assertTrue(all(one() for one in left))
+        left = [weakref.ref(value) for value in vars(again).values() if callable(value)]
+        self.assertGreaterEqual(len(left), len(OWNED))
         del again
         gc.collect()
         self.assertEqual([one() for one in left], [None] * len(left))
@@ -191,8 +172,36 @@ class Modules(unittest.TestCase):
         self.assertEqual(base62.encode(1337), "LZ")
 
 
+class Queries(unittest.TestCase):
+    def test_readme(self) -> None:
+        """README's queries find the ids of a string, or of the strings with a prefix, and scan no table."""
+        example = readme()
+        doctest.DocTestRunner().run(example, clear_globs=False)
+        find, find_prefix = example.globs["find"], example.globs["find_prefix"]
+        db = example.globs["db"] = sqlite3.connect(":memory:")
+        self.addCleanup(db.close)
+        texts = {int(number): text for name, number, text in rows("encode") if name == "standard"}
+        ids = [number for number in sorted(texts) if number < 2**63]
+        db.execute("CREATE TABLE item (id INTEGER PRIMARY KEY)")
+        db.executemany("INSERT INTO item VALUES (?)", [(value,) for value in ids])
+        for number, text in texts.items():
+            self.assertEqual(find(text), (number,) if number < 2**63 else None)
+            self.assertRaises(ValueError, find, "0" + text)
+        for prefix in {text[:length] + more for text in texts.values() for length in range(14) for more in ("", "0")}:
+            expected = [(number,) for number in ids if texts[number].startswith(prefix)]
+            self.assertEqual([*find_prefix(prefix)], expected, prefix)
+            self.assertEqual([*find_prefix(prefix.encode())], expected, prefix)
+        statements: list[str] = []
+        db.set_trace_callback(statements.append)
+        find("LZ"), [*find_prefix("L")]
+        db.set_trace_callback(None)
+        plans = [db.execute("EXPLAIN QUERY PLAN " + value).fetchone()[3] for value in statements]
+        self.assertEqual([plan.split("(")[0] for plan in plans], ["SEARCH item USING INTEGER PRIMARY KEY "] * 11)
+
+
 def load_tests(loader: unittest.TestLoader, tests: unittest.TestSuite, pattern: object) -> unittest.TestSuite:
     # Those of _types are found where callers find them. An example can be pasted alone: it has its imports.
     tests.addTests(doctest.DocTestSuite(base62, globs={}))
+    tests.addTests(doctest.DocTestSuite(links))
     tests.addTest(doctest.DocTestCase(readme()))
     return tests

@@ -1,9 +1,6 @@
 # SPDX-License-Identifier: MIT
 # Copyright (c) 2026 the maintainers of base62 for Rattle
-"""Tests of the loops of base62.columns over plain buffers, valid and malformed, by the functions for one value.
-
-`python3 test_rows.py COUNT` calls them with so many other buffers.
-"""
+"""Tests of the loops of base62.columns over plain buffers, valid and malformed, by the functions for one value."""
 
 from __future__ import annotations
 
@@ -12,6 +9,7 @@ import random
 import signal
 import sys
 import unittest
+import unittest.mock
 import uuid
 from array import array
 from itertools import accumulate, pairwise
@@ -19,7 +17,7 @@ from typing import Any
 
 import base62
 from base62 import _base62
-from calls import LETTERS
+from calls import LETTERS, Indexed
 from test_base62 import others_run
 
 SIZES = {"L": 8, "l": 8, "d": 16, "w": 16, "u": 4, "z": 4, "U": 8, "Z": 8}
@@ -28,6 +26,7 @@ TEXTS = "uzUZ"
 # The types of a column and of a result, of encoding and of decoding.
 FORMS = {True: ("LldwuzUZ", "uU"), False: (TEXTS, "LldwuU")}
 GREATEST = {"l": 2**63 - 1, "L": 2**64 - 1, "d": 10**38 - 1}
+LIMITS = [number + more for number in GREATEST.values() for more in (0, 1)]
 ALPHABETS = [base62.Alphabet.STANDARD, LETTERS]
 # No input has more rows than a run of the loop, of which there are tests of their own.
 RUN = 2**16
@@ -45,7 +44,7 @@ def buffer(given: bytes) -> array[int]:
 
 def to_bytes(form: str, *numbers: int) -> bytes:
     """Values of a type, or the offsets of its strings."""
-    return b"".join(it.to_bytes(SIZES[form], ORDERS[form], signed=form not in "Lw") for it in numbers)
+    return b"".join(value.to_bytes(SIZES[form], ORDERS[form], signed=form not in "Lw") for value in numbers)
 
 
 def number_at(form: str, values: array[int], index: int) -> int:
@@ -58,7 +57,7 @@ class Input:
 
     def __init__(self, of: random.Random, encodes: bool) -> None:
         self.of, self.encodes, self.letters = of, encodes, of.choice(ALPHABETS)
-        self.form, self.new_form = (of.choice(it) for it in FORMS[encodes])
+        self.form, self.new_form = (of.choice(value) for value in FORMS[encodes])
         # A width, or -1. To decode canonical strings it is -2.
         self.option = of.choice([-1, -1 if encodes else -2, 0, 5, 22, of.randrange(40)])
         self.offset, self.count, self.coerces = of.choice([0, of.randrange(20)]), of.randrange(20), of.random() < 0.5
@@ -69,7 +68,7 @@ class Input:
         self.characters = buffer(b"".join(rows) if is_text else b"")
         ends = (self.count + 1) * SIZES[self.new_form] if self.new_form in TEXTS else 0
         length = self.most() * self.count + of.choice([0, 0, 0, 0, of.randrange(30)])
-        self.new = [buffer(bytes(size)) for size in ((self.count + 7) // 8, ends, length)]
+        self.new = [buffer(of.randbytes(size)) for size in ((self.count + 7) // 8, ends, length)]
 
     def most(self) -> int:
         """The bytes that a row of the result may need."""
@@ -80,32 +79,35 @@ class Input:
     def row(self) -> Any:
         of = self.of
         bits = {"L": 64, "l": 63, "d": 127}.get(self.form, 128)
-        number = of.getrandbits(of.randint(1, bits))
+        is_limit = of.random() < 0.3
+        number = of.choice([limit for limit in LIMITS if limit < 2**bits]) if is_limit else of.getrandbits(of.randint(1, bits))
         if self.form in "ld" and of.random() < 0.1:
             return ~number
         if self.form not in TEXTS:
             return number
         if not self.encodes:
-            text = base62.encode(number >> of.choice([0, 64]), self.letters).encode()
+            text = base62.encode(number >> of.choice([0, 0 if is_limit else 64]), self.letters).encode()
             padded = text.rjust(max(self.option, 0), self.letters[:1])
             return of.choice([text, text, padded, padded, self.letters[:1] + text, text + b"-", b""])
         name = uuid.UUID(int=number)
         texts = [name.hex, str(name), name.urn, f"{{{name}}}", str(name)[1:], name.hex + "-"]
         sixteen = [name.bytes, name.bytes[1:], name.bytes + b"-"]
-        return of.choice(sixteen if self.form in "zZ" else [it.encode() for it in texts])
+        return of.choice(sixteen if self.form in "zZ" else [value.encode() for value in texts])
 
     def damage(self) -> None:
         """Makes a buffer too short, an offset of its strings wrong, a number negative or too great, or a type another."""
         of = self.of
         place = of.choice(
-            ["option", "offset", "count", "validity", "values", "characters", "new", "ends", "ends", "form", "new_form"])
+            ["option", "offset", "count", "validity", "values", "characters", "new", "ends", "ends", "form", "new_form"]
+        )
         parts: Any = self.new if place == "new" else vars(self)
         key: Any = of.randrange(3) if place == "new" else place
         if place in ("option", "offset", "count"):
             other = of.choice([of.randrange(30), of.getrandbits(64) - 2**63])
             parts[key] = of.choice([-1, -2, -(2**63), 2**63 - 1, 2**62, 2**60, 2**32, other])
         elif place in ("form", "new_form"):
-            parts[key] = of.choice("LldwuzUZ")
+            # Another type, or one of which a char would be the letter of a type, or the end of a string.
+            parts[key] = chr(of.choice([0, 256]) + of.choice(b"LldwuzUZ\0"))
         elif place != "ends":
             # A slice has no byte behind its end either.
             parts[key] = parts[key] and parts[key][: -of.choice([1, 1, 1, of.randint(1, 20)])]
@@ -121,7 +123,9 @@ class Input:
         return (
             self.form in FORMS[self.encodes][0]
             and self.new_form in FORMS[self.encodes][1]
-            and self.offset >= 0 and self.count >= 0 and last <= 2**40
+            and self.offset >= 0
+            and self.count >= 0
+            and last <= 2**40
             and len(self.values) >= (last + (self.form in TEXTS)) * SIZES[self.form]
             and (self.validity is None or len(self.validity) * 8 >= last)
             and len(self.new[0]) * 8 >= self.count
@@ -136,7 +140,7 @@ class Input:
             return None
         if self.form not in TEXTS:
             return number_at(self.form, self.values, i)
-        start, end = (number_at(self.form, self.values, it) for it in (i, i + 1))
+        start, end = (number_at(self.form, self.values, value) for value in (i, i + 1))
         if not 0 <= start <= end <= len(self.characters):
             raise LookupError
         text = self.characters[start:end].tobytes()
@@ -170,29 +174,27 @@ class Input:
                 rows.append(None)
         return rows
 
-    def call(self) -> Any:
-        # An array lacks the buffer of its characters if it has none.
-        source = self.form, self.offset, self.count, self.validity, self.values, self.characters or None
-        call: Any = _base62.encode_rows if self.encodes else _base62.decode_rows
-        return call(self.letters, self.option, source, (self.new_form, *self.new), self.coerces)
-
     def result(self, row: int, used: int, nulls: int) -> list[Any]:
         valid = [bool(self.new[0][i // 8] >> i % 8 & 1) for i in range(row)]
         assert valid.count(False) == nulls, (valid, nulls)
         if self.new_form in TEXTS:
             ends = [number_at(self.new_form, self.new[1], i) for i in range(row + 1)]
             assert (ends[0], ends[row]) == (0, used), (ends, used)
-            found: list[Any] = [self.new[2][start:end].tobytes() for start, end in pairwise(ends)]
-            assert not any(text for text, is_valid in zip(found, valid) if not is_valid)
+            rows: list[Any] = [self.new[2][start:end].tobytes() for start, end in pairwise(ends)]
         else:
-            found = [number_at(self.new_form, self.new[2], i) for i in range(row)]
-        return [text if is_valid else None for text, is_valid in zip(found, valid)]
+            rows = [number_at(self.new_form, self.new[2], i) for i in range(row)]
+        # A null row has no string, or 0.
+        assert not any(value for value, is_valid in zip(rows, valid) if not is_valid), rows
+        return [value if is_valid else None for value, is_valid in zip(rows, valid)]
 
     def check(self) -> bool:
         """Whether the array is well-formed."""
         expected = self.expected()
+        call: Any = _base62.encode_rows if self.encodes else _base62.decode_rows
+        # An array lacks the buffer of its characters if it has none.
+        source = self.form, self.offset, self.count, self.validity, self.values, self.characters or None
         try:
-            row, used, nulls = self.call()
+            row, used, nulls = call(self.letters, self.option, source, (self.new_form, *self.new), self.coerces)
         except ValueError as error:
             assert expected is None and str(error) == MALFORMED, (vars(self), expected, error)
         else:
@@ -204,79 +206,32 @@ class Input:
         return expected is not None
 
 
-def check_inputs(count: int, seed: int) -> int:
-    """Returns how many are well-formed."""
-    of = random.Random(seed)
-    found = 0
-    for _ in range(count):
-        given = Input(of, of.random() < 0.5)
-        for _ in range(of.randrange(3)):
-            given.damage()
-        found += given.check()
-    return found
-
-
 class Inputs(unittest.TestCase):
     def test_random(self) -> None:
-        self.assertLess(3_500, check_inputs(8_000, 62))
-
-    def test_arguments(self) -> None:
-        """No type of which the loop would take another size."""
-        bytes_of = [bytearray(64) for _ in range(5)]
-        calls: list[Any] = [(_base62.encode_rows, FORMS[True]), (_base62.decode_rows, FORMS[False])]
-        for call, (types, new_types) in calls:
-            for form in map(chr, range(512)):
-                for source, result in ((form, new_types[0]), (types[0], form)):
-                    given: Any = ((source, 0, 1, None, *bytes_of[:2]), (result, *bytes_of[2:]), True)
-                    if source in types and result in new_types:
-                        self.assertEqual(call(ALPHABETS[0], 1, *given)[0], 1)
-                    else:
-                        self.assertRaisesRegex(ValueError, MALFORMED, call, ALPHABETS[0], 1, *given)
+        of, well_formed = random.Random(62), 0
+        for _ in range(8_000):
+            given = Input(of, of.random() < 0.5)
+            for _ in range(of.randrange(3)):
+                given.damage()
+            well_formed += given.check()
+        self.assertLess(3_500, well_formed)
 
 
 class Runs(unittest.TestCase):
     """Columns of more than one run of rows. Each third row is null."""
 
-    def encoded(self, rows: list[int], bad: int | None = None) -> Any:
-        """The buffers of the result, and what encodes rows, of which one may be invalid."""
-        values = array("q", rows)
-        if bad is not None:
-            values[bad] = -1
-        new = bytearray((len(rows) + 7) // 8), bytearray(4 * len(rows) + 4), bytearray(11 * len(rows))
-        validity = bitmap([row % 3 != 0 for row in range(24)]) * (len(rows) // 24 + 1)
-        source = "l", 0, len(rows), validity, values, None
+    def encoded(self, count: int) -> Any:
+        """The buffers of the result, and what encodes so many rows."""
+        new = bytearray((count + 7) // 8), bytearray(4 * count + 4), bytearray(11 * count)
+        validity = bitmap([row % 3 != 0 for row in range(24)]) * (count // 24 + 1)
+        source = "l", 0, count, validity, bytes(8 * count), None
         return new, lambda: _base62.encode_rows(ALPHABETS[0], -1, source, ("u", *new), False)
 
-    def test_rows(self) -> None:
-        rows = [row % 100 for row in range(3 * RUN + 9)]
-        new, call = self.encoded(rows)
-        strings = [b"" if row % 3 == 0 else base62.encode(number).encode() for row, number in enumerate(rows)]
-        text, nulls = b"".join(strings), strings.count(b"")
-        self.assertEqual(call(), (len(rows), len(text), nulls))
-        self.assertEqual(new[2][: len(text)], text)
-        values = bytearray(8 * len(rows))
-        source = "u", 0, len(rows), new[0], new[1], new[2]
-        result = "L", bytearray(len(new[0])), bytearray(), values
-        self.assertEqual(_base62.decode_rows(ALPHABETS[0], -2, source, result, False), (len(rows), 0, nulls))
-        self.assertEqual(result[1], new[0])
-        self.assertEqual(values, array("Q", [0 if row % 3 == 0 else it for row, it in enumerate(rows)]).tobytes())
-        result = "u", result[1], bytearray(len(new[1])), bytearray(36 * len(rows))
-        used = 36 * (len(rows) - nulls)
-        self.assertEqual(_base62.decode_rows(ALPHABETS[0], -1, source, result, False), (len(rows), used, nulls))
-        names = [str(uuid.UUID(int=number)) for row, number in enumerate(rows) if row % 3]
-        self.assertEqual(result[3][:used].decode(), "".join(names))
-
-    def test_invalid(self) -> None:
-        for bad in (RUN - 2, RUN, 2 * RUN + 5):
-            nulls = (bad + 2) // 3
-            self.assertEqual(self.encoded([5] * 3 * RUN, bad)[1](), (bad, bad - nulls, nulls))
-
     def test_gil(self) -> None:
-        self.assertTrue(others_run(self.encoded([5] * 3 * RUN)[1]))
+        self.assertTrue(others_run(self.encoded(3 * RUN)[1]))
 
-    def test_signals(self) -> None:
+    def check_interrupted(self, new: Any, call: Any) -> None:
         """A signal is handled between runs: the last one is not begun."""
-        new, call = self.encoded([5] * 60 * RUN)
 
         def interrupt(*unused: object) -> None:
             if new[0][0]:
@@ -291,51 +246,75 @@ class Runs(unittest.TestCase):
                 call()
         finally:
             signal.signal(signal.SIGALRM, before)
-        self.assertEqual((new[0][0], new[0][-1]), (0b10110110, 0))
+        self.assertEqual(new[0][-1], 0)
         # The buffers are released.
         for each in new:
             each.append(0)
 
+    def test_signals(self) -> None:
+        new, call = self.encoded(60 * RUN)
+        self.check_interrupted(new, call)
+        self.assertEqual(new[0][0], 0b10110110)
+
+    def test_signals_of_bytes(self) -> None:
+        """A run of long strings has fewer rows, both of a column and of a result."""
+        length, result = 2**25, (bytearray(4), bytearray(), bytearray(256))
+        source = "U", 0, 32, None, to_bytes("U", *range(0, 33 * length, length)), pages(32 * length)
+        zeros = base62.Alphabet(bytes(range(62)))
+        self.check_interrupted(result, lambda: _base62.decode_rows(zeros, -1, source, ("l", *result), False))
+        result = bytearray(4), bytearray(33 * 8), bytearray(32 * length)
+        call: Any = lambda: _base62.encode_rows(zeros, length, ("l", 0, 32, None, bytes(256), None), ("U", *result), False)
+        self.check_interrupted(result, call)
+
+
+class Objects(unittest.TestCase):
+    def test_short_buffers(self) -> None:
+        """No row is behind the end of either buffer. Each fourth is not missing."""
+        rows: list[object] = [None, float("nan"), "missing", 5] * 4
+        for bits, numbers in ((1, 256), (2, 128)):
+            self.assertEqual(_base62.pack_rows(rows, "missing", False, buffer(bytes(bits)), buffer(bytes(numbers))), 6)
+
+    def test_changed_list(self) -> None:
+        """What converts a row can remove the others."""
+        rows: list[Any] = [5, Indexed(6), 7]
+        with unittest.mock.patch.object(Indexed, "__index__", lambda self: [rows.pop() for _ in range(3)] and 6):
+            validity, values = bytearray(1), bytearray(128)
+            self.assertEqual(_base62.pack_rows(rows, None, False, validity, values), 0)
+        self.assertEqual((validity, values[:48]), (b"\3", to_bytes("w", 5, 6, 0)))
+
+
+def pages(size: int) -> mmap.mmap:
+    """Zeros that take no memory."""
+    private = mmap.MAP_PRIVATE | mmap.MAP_ANONYMOUS
+    try:
+        return mmap.mmap(-1, size, flags=private | getattr(mmap, "MAP_NORESERVE", 0x4000))
+    except OSError as error:
+        raise unittest.SkipTest(f"no {size} bytes of address space: {error}") from error
+
 
 class Far(unittest.TestCase):
-    """Rows whose bytes and bits have indexes of 2^31 and more, among pages of zeros that take no memory."""
-
-    def pages(self, size: int) -> mmap.mmap:
-        private = mmap.MAP_PRIVATE | mmap.MAP_ANONYMOUS
-        try:
-            return mmap.mmap(-1, size, flags=private | getattr(mmap, "MAP_NORESERVE", 0x4000))
-        except OSError as error:
-            self.skipTest(f"no {size} bytes of address space: {error}")
+    """Rows whose bytes and bits have indexes of 2^31 and more."""
 
     def test_offset(self) -> None:
         offset = 2**32 + 2**31 + 11
-        validity = self.pages(offset // 8 + 8)
+        validity = pages(offset // 8 + 8)
         validity[(offset + 1) // 8] = 1 << (offset + 1) % 8
         for form, size in SIZES.items():
-            values = self.pages((offset + 4) * size)
-            new = bytearray(1), bytearray(32), bytearray(64)
-            place = (offset + 1) * size
-            values[place : place + size] = to_bytes(form, 7)
-            is_text = form in TEXTS
-            loop: Any = _base62.decode_rows if is_text else _base62.encode_rows
-            result, characters = ("L" if is_text else "u", *new), b"LZ" if is_text else None
-            call: Any = lambda valid: loop(ALPHABETS[0], -1, (form, offset, 2, valid, values, characters), result, True)
-            # The strings are of 7 characters before the row, and of 7 fewer in it.
-            if is_text:
-                values[place : place + 2 * size] = to_bytes(form, 0, 2)
-                self.assertEqual(call(validity), (2, 0, 1))
-                self.assertEqual(memoryview(new[2]).cast("Q")[1], 1337)
+            values, place = pages((offset + 4) * size), (offset + 1) * size
+            values[place : place + 2 * size] = to_bytes(form, *((0, 1) if form in TEXTS else (7, 0)))
+            source, new = (form, offset, 2, validity, values, b"7"), (bytearray(1), bytearray(32), bytearray(64))
+            if form in TEXTS:
+                self.assertEqual(_base62.decode_rows(ALPHABETS[0], -1, source, ("L", *new), True), (2, 0, 1))
+                self.assertEqual(memoryview(new[2]).cast("Q")[1], 7)
             else:
-                self.assertEqual(call(None), (2, 2, 0))
-                self.assertEqual(new[2][:2], b"07")
-                self.assertEqual(call(validity), (2, 1, 1))
+                self.assertEqual(_base62.encode_rows(ALPHABETS[0], -1, source, ("u", *new), True), (2, 1, 1))
                 self.assertEqual(new[2][:1], b"7")
             values.close()
 
     def test_small_offsets(self) -> None:
         """Offsets of 32 bits are for fewer than 2^31 characters."""
         for size in (2**31 - 1, 2**31):
-            given = ("l", 0, 1, b"\0", bytes(8), None), ("u", bytearray(1), bytearray(8), self.pages(size)), False
+            given = ("l", 0, 1, b"\0", bytes(8), None), ("u", bytearray(1), bytearray(8), pages(size)), False
             if size < 2**31:
                 self.assertEqual(_base62.encode_rows(ALPHABETS[0], -1, *given), (1, 0, 1))
             else:
@@ -344,7 +323,7 @@ class Far(unittest.TestCase):
     def test_characters(self) -> None:
         """The last string has more than 2^31 characters, of which nearly all are the zero of its alphabet."""
         end = 2**32 + 2**31 + 2
-        characters, values = self.pages(end), array("B", bytes(8))
+        characters, values = pages(end), array("B", bytes(8))
         result = "L", bytearray(1), bytearray(), values
         other = base62.Alphabet(bytes(range(62)))
         for letters, text, length, number in ((ALPHABETS[0], b"LZ", 2, 1337), (other, b"\1\2", 2**31 + 2, 64)):
@@ -352,7 +331,3 @@ class Far(unittest.TestCase):
             source = "U", 0, 1, None, to_bytes("U", end - length, end), characters
             self.assertEqual(_base62.decode_rows(letters, -1, source, result, False), (1, 0, 0))
             self.assertEqual(number_at("L", values, 0), number)
-
-
-if __name__ == "__main__":
-    print(check_inputs(int(sys.argv[1]), random.SystemRandom().getrandbits(64)), "arrays are well-formed")

@@ -2,13 +2,14 @@
 # Copyright (c) 2026 the maintainers of base62 for Rattle
 """What mypy finds in calls: exactly these types, and an error in each marked line. Nothing here is run.
 
-Parameters of one name have one type, which test_package.py shows: one function gets each wrong argument."""
+Parameters of one name have one type, and functions return those of the stub, which test_package.py shows: one function gets
+each right and each wrong argument."""
 
 from typing import SupportsIndex, assert_type
 from uuid import UUID
 
 import base62
-from base62 import Alphabet, AlphabetError, DecodeError, InvalidByteError
+from base62 import Alphabet, AlphabetError, DecodeError, InvalidByteError, WrongLengthError
 
 
 Custom = Alphabet | str | bytes
@@ -21,25 +22,16 @@ def right(number: SupportsIndex | UUID, name: Name, text: Text, width: SupportsI
     assert_type((Alphabet(custom), Alphabet.STANDARD, Alphabet.ALTERNATIVE), tuple[Alphabet, Alphabet, Alphabet])
     assert_type(base62.encode(number, custom), str)
     assert_type(base62.encode_uuid(name, custom), str)
-    assert_type(base62.encode_fixed(number, width, custom), str)
-    assert_type(base62.encode_key(number), str)
-    assert_type(base62.digit_count(number), int)
-    assert_type(base62.__version__, str)
-    assert_type(base62.decode(text, custom), int)
-    assert_type(base62.decode_canonical(text, custom), int)
-    assert_type(base62.decode_fixed(text, width, custom), int)
-    assert_type(base62.decode_key(text), int)
-    assert_type(base62.decode_uuid(text, custom), UUID)
-    assert_type(base62.decode_uuid_canonical(text, custom), UUID)
     assert_type(base62.decode_uuid_fixed(text, width, custom), UUID)
-    assert_type(base62.key_range(text), tuple[int, int] | None)
     assert_type(base62.key_bounds(text), tuple[str, str] | None)
     assert_type(base62.prefix_range(text, width, custom), tuple[int, int] | None)
+    assert_type(base62.__version__, str)
 
 
-def attributes(invalid: InvalidByteError, repeated: AlphabetError) -> None:
+def attributes(invalid: InvalidByteError, repeated: AlphabetError, wrong: WrongLengthError) -> None:
     assert_type((invalid.byte, invalid.index), tuple[int, int])
     assert_type((repeated.byte, repeated.index), tuple[int, int])
+    assert_type((wrong.length, wrong.width), tuple[int, int])
     fault: DecodeError = invalid
     fault.byte  # type: ignore[attr-defined]
     fault = repeated  # type: ignore[assignment]
@@ -51,14 +43,11 @@ def wrong(number: int, name: UUID, text: str, custom: Alphabet, view: memoryview
     base62.encode(number, None)  # type: ignore[arg-type]
     base62.encode(number, view)  # type: ignore[arg-type]
     base62.decode(number)  # type: ignore[arg-type]
-    base62.encode_fixed(number, text)  # type: ignore[arg-type]
     base62.encode_fixed(number, name)  # type: ignore[arg-type]
     base62.key_bounds(number)  # type: ignore[arg-type]
     base62.encode_uuid(number)  # type: ignore[arg-type]
     base62.encode_uuid(bytearray(16))  # type: ignore[arg-type]
     base62.encode_uuid(view)  # type: ignore[arg-type]
-    base62.encode_uuid(name, number)  # type: ignore[arg-type]
-    base62.decode_uuid(name)  # type: ignore[arg-type]
     Alphabet(number)  # type: ignore[arg-type]
     custom.characters  # type: ignore[attr-defined]
     custom.name = text  # type: ignore[attr-defined]

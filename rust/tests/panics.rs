@@ -11,7 +11,7 @@ use base62::{Alphabet, encode_fixed_str_with};
 use std::panic::{AssertUnwindSafe, catch_unwind, set_hook};
 use std::sync::Mutex;
 
-static TOLD: Mutex<Option<(String, u32, String)>> = Mutex::new(None);
+static PANIC: Mutex<Option<(String, u32, String)>> = Mutex::new(None);
 
 /// Runs a call that stands in the line of this one.
 #[track_caller]
@@ -19,16 +19,16 @@ fn panics_here<T>(said: &str, call: impl FnOnce() -> T) {
     let line = std::panic::Location::caller().line();
     assert!(catch_unwind(AssertUnwindSafe(call)).is_err());
     // What is compared holds no lock, which the next panic would wait for.
-    let told = TOLD.lock().unwrap().take();
-    assert_eq!(told, Some((file!().into(), line, said.into())));
+    let panicked = PANIC.lock().unwrap().take();
+    assert_eq!(panicked, Some((file!().into(), line, said.into())));
 }
 
 #[test]
-fn the_caller_is_told() {
+fn the_caller_is_reported() {
     set_hook(Box::new(|panic| {
         let place = panic.location().unwrap();
         let said = panic.payload().downcast_ref::<&str>().unwrap_or(&"");
-        *TOLD.lock().unwrap() = Some((place.file().into(), place.line(), (*said).into()));
+        *PANIC.lock().unwrap() = Some((place.file().into(), place.line(), (*said).into()));
     }));
     let highest = support::alphabets()["highest"];
     for place in 1..62 {

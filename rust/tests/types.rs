@@ -7,7 +7,7 @@ mod support;
 
 use base62::{
     Alphabet, AlphabetError, CanonicalError, DecodeError, EncodeError, FixedError,
-    ParseAlphabetError,
+    ParseAlphabetError, UuidError,
 };
 use std::error::Error;
 use std::fmt::{Debug, Display};
@@ -43,8 +43,8 @@ fn types() {
     fn alphabet<T: Copy + Debug + Default + Eq + Hash + Send + Sync + Unpin>() {}
     alphabet::<Alphabet>();
     let _: fn([u8; 62]) -> Result<Alphabet, AlphabetError> = Alphabet::try_from;
-    fn shown(it: impl Copy + Debug + Display + Send + Sync + 'static) -> String {
-        format!("{it:?}")
+    fn shown(value: impl Copy + Debug + Display + Send + Sync + 'static) -> String {
+        format!("{value:?}")
     }
     let own = Alphabet::default();
     assert!(shown(base62::encode_fmt(1337_u16)).contains("\"LZ\""));
@@ -86,6 +86,7 @@ fn errors_have_traits_and_ignore_formats_as_in_base62_2_2_6() {
     check(CanonicalError::LeadingZero);
     check(FixedError::WrongLength);
     check(EncodeError::BufferTooSmall);
+    check(UuidError::InvalidUuid);
     check(AlphabetError::Repeated(b'-', 2));
     check(ParseAlphabetError::InvalidLength(2));
 }
@@ -99,6 +100,7 @@ fn variants() {
         DecodeError::InvalidBase62Byte(_, _) => (),
     }
     let EncodeError::BufferTooSmall = EncodeError::BufferTooSmall;
+    let UuidError::InvalidUuid = UuidError::InvalidUuid;
     let AlphabetError::Repeated(_, _) = AlphabetError::Repeated(0, 1);
     assert!(DecodeError::ArithmeticOverflow < DecodeError::EmptyInput);
     assert!(DecodeError::EmptyInput < DecodeError::InvalidBase62Byte(0, 0));

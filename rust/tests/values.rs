@@ -7,28 +7,32 @@ mod support;
 
 use base62::{
     Alphabet, AlphabetError, CanonicalError, DecodeError, EncodeError, FixedError,
-    ParseAlphabetError,
+    ParseAlphabetError, UuidError,
 };
 use base62::{encode_fixed_str, encode_fixed_str_with, encode_key, encode_key_str};
-use base62::{prefix_range, prefix_range_with};
+use base62::{prefix_range, prefix_range_with, uuid_from_string, uuid_to_string};
 use std::fmt::Display;
 use std::hash::{BuildHasher, RandomState};
 use std::str;
 use support::{alphabets, bytes, decode_error, rows};
 
-/// Makes a call in an alphabet, and if it is a built-in one, also the call for that one. Each time the test gets what the
-/// call returns.
+/// Makes a call in an alphabet, and if it is a built-in one, also the call for that one, if there is one. Each time the
+/// test gets what the call returns.
 macro_rules! calls {
-    ($alphabet:ident: $standard:ident $alternative:ident $with:ident($($argument:expr),*),
-     $it:ident => $test:expr) => {
-        let $it = base62::$with($alphabet, $($argument),*);
-        $test;
-        if *$alphabet == Alphabet::standard() {
-            let $it = base62::$standard($($argument),*);
+    ($alphabet:ident: $standard:ident $alternative:ident, $with:ident($($argument:expr),*),
+     $result:ident => $test:expr) => {
+        calls!($alphabet: $standard, $with($($argument),*), $result => $test);
+        if *$alphabet == Alphabet::alternative() {
+            let $result = base62::$alternative($($argument),*);
             $test;
         }
-        if *$alphabet == Alphabet::alternative() {
-            let $it = base62::$alternative($($argument),*);
+    };
+    ($alphabet:ident: $standard:ident, $with:ident($($argument:expr),*),
+     $result:ident => $test:expr) => {
+        let $result = base62::$with($alphabet, $($argument),*);
+        $test;
+        if *$alphabet == Alphabet::standard() {
+            let $result = base62::$standard($($argument),*);
             $test;
         }
     };
@@ -58,16 +62,14 @@ fn decoding() {
                 _ => (row[0], Err(error()), Err(error().into())),
             };
             let (text, uuid) = (bytes(text), num.map(u128::to_be_bytes));
-            calls!(alphabet: decode decode_alternative decode_with(&text),
-                it => assert_eq!(it, num));
-            calls!(alphabet: decode_uuid decode_alternative_uuid decode_uuid_with(&text),
-                it => assert_eq!(it, uuid));
+            calls!(alphabet: decode decode_alternative, decode_with(&text),
+                result => assert_eq!(result, num));
+            calls!(alphabet: decode_uuid, decode_uuid_with(&text), result => assert_eq!(result, uuid));
             let uuid = canonical.map(u128::to_be_bytes);
-            calls!(alphabet:
-                decode_canonical decode_alternative_canonical decode_canonical_with(&text),
-                it => assert_eq!(it, canonical));
-            calls!(alphabet: decode_uuid_canonical decode_alternative_uuid_canonical
-                decode_uuid_canonical_with(&text), it => assert_eq!(it, uuid));
+            calls!(alphabet: decode_canonical, decode_canonical_with(&text),
+                result => assert_eq!(result, canonical));
+            calls!(alphabet: decode_uuid_canonical, decode_uuid_canonical_with(&text),
+                result => assert_eq!(result, uuid));
         });
     }
 }
@@ -85,9 +87,9 @@ fn encoding() {
                 written = Ok(text.len());
             }
             calls!(alphabet:
-                encode_bytes encode_alternative_bytes encode_bytes_with(num, &mut buf[1..=size]),
-                it => {
-                    assert_eq!((it, buf), (written, expected));
+                encode_bytes encode_alternative_bytes, encode_bytes_with(num, &mut buf[1..=size]),
+                result => {
+                    assert_eq!((result, buf), (written, expected));
                     buf.fill(b'?');
                 }
             );
@@ -109,8 +111,8 @@ fn displays_are_padded_as_strings_are() {
         if alphabet.is_ascii() {
             let (num, text) = (number(row[0]), String::from_utf8(bytes(row[1])).unwrap());
             let expected = formats(text);
-            calls!(alphabet: encode_fmt encode_fmt_alt encode_fmt_with(num),
-                it => assert_eq!(formats(it), expected));
+            calls!(alphabet: encode_fmt encode_fmt_alt, encode_fmt_with(num),
+                result => assert_eq!(formats(result), expected));
         }
     });
 }
@@ -125,10 +127,9 @@ fn strings() {
                 assert_eq!(encoded.as_bytes(), text);
                 assert_eq!(encoded.capacity(), text.len());
             };
-            calls!(alphabet: encode encode_alternative encode_with(num), it => check(it));
+            calls!(alphabet: encode encode_alternative, encode_with(num), result => check(result));
             let uuid = num.to_be_bytes();
-            calls!(alphabet: encode_uuid encode_alternative_uuid encode_uuid_with(uuid),
-                it => check(it));
+            calls!(alphabet: encode_uuid, encode_uuid_with(uuid), result => check(result));
         }
     });
 }
@@ -163,9 +164,9 @@ fn writers() {
         for error in [None, Some(ErrorKind::BrokenPipe)] {
             let (num, written) = (number(row[0]), Vec::new());
             let mut writer = Writer { written, error };
-            calls!(alphabet: encode_io encode_alternative_io encode_io_with(num, &mut writer),
-                it => {
-                    assert_eq!(it.err().map(|it| it.kind()), error);
+            calls!(alphabet: encode_io encode_alternative_io, encode_io_with(num, &mut writer),
+                result => {
+                    assert_eq!(result.err().map(|error| error.kind()), error);
                     assert_eq!(writer.written, [bytes(row[1])]);
                     writer.written.clear();
                 }
@@ -194,9 +195,6 @@ fn fixed_widths() {
             if alphabet.is_ascii() {
                 check(&|buf| encode_fixed_str_with(alphabet, num, buf).map(str::as_bytes));
             }
-            if *alphabet == Alphabet::alternative() {
-                check(&|buf| base62::encode_alternative_fixed(num, buf).map(|()| &*buf));
-            }
             if *alphabet == Alphabet::standard() {
                 check(&|buf| base62::encode_fixed(num, buf).map(|()| &*buf));
                 check(&|buf| encode_fixed_str(num, buf).map(str::as_bytes));
@@ -206,8 +204,8 @@ fn fixed_widths() {
                 }
             }
             if let Ok(text) = expected {
-                calls!(alphabet: decode decode_alternative decode_with(text),
-                    it => assert_eq!(it, Ok(num)));
+                calls!(alphabet: decode decode_alternative, decode_with(text),
+                    result => assert_eq!(result, Ok(num)));
             }
         });
     }
@@ -224,9 +222,8 @@ fn decoding_at_a_width() {
             ["length"] => Err(FixedError::WrongLength),
             _ => Err(decode_error(&row[2..]).unwrap().into()),
         };
-        calls!(alphabet:
-            decode_fixed decode_alternative_fixed decode_fixed_with(&text, width),
-            it => assert_eq!(it, expected));
+        calls!(alphabet: decode_fixed, decode_fixed_with(&text, width),
+            result => assert_eq!(result, expected));
         if width == 22 && *alphabet == Alphabet::standard() {
             assert_eq!(base62::decode_key(&text), expected);
         }
@@ -255,6 +252,21 @@ fn ranges() {
 }
 
 #[test]
+fn strings_of_uuids() {
+    for row in rows("form") {
+        let uuid = uuid_from_string(bytes(row[0]));
+        if row[1] == "none" {
+            assert_eq!(uuid, Err(UuidError::InvalidUuid), "{}", row[0]);
+        } else {
+            let digits = row[1].replace('-', "");
+            let number = u128::from_str_radix(&digits, 16).unwrap();
+            assert_eq!(uuid, Ok(number.to_be_bytes()), "{}", row[0]);
+            assert_eq!(&uuid_to_string(uuid.unwrap())[..], row[1].as_bytes());
+        }
+    }
+}
+
+#[test]
 fn messages() {
     let text_of = |error: DecodeError| {
         let text = error.to_string();
@@ -267,8 +279,9 @@ fn messages() {
     for row in rows("message") {
         let text = match row[1..] {
             // There is no such error, or its text is that of the crate `base62`.
-            ["none" | "uuid" | "overflow"] => continue,
+            ["none" | "wide" | "overflow"] => continue,
             ["length"] => FixedError::WrongLength.to_string(),
+            ["uuid"] => UuidError::InvalidUuid.to_string(),
             ["zero"] => CanonicalError::LeadingZero.to_string(),
             ["narrow"] => EncodeError::BufferTooSmall.to_string(),
             ["repeated", byte, index] => {

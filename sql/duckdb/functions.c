@@ -37,7 +37,8 @@ struct chunk {
 
 static struct column column_of(duckdb_vector vector) {
     duckdb_logical_type type = duckdb_vector_get_column_type(vector);
-    struct column column = {duckdb_get_type_id(type), duckdb_vector_get_data(vector), duckdb_vector_get_validity(vector)};
+    struct column column = {duckdb_get_type_id(type), duckdb_vector_get_data(vector),
+                            duckdb_vector_get_validity(vector)};
     duckdb_destroy_logical_type(&type);
     return column;
 }
@@ -66,8 +67,7 @@ static void set_null(struct chunk *chunk) {
 static bool is_null(const struct chunk *chunk) {
     for (idx_t i = 0; i < chunk->argument_count; i++) {
         uint64_t *validity = chunk->arguments[i].validity;
-        if (validity != NULL && !duckdb_validity_row_is_valid(validity, chunk->row))
-            return true;
+        if (validity != NULL && !duckdb_validity_row_is_valid(validity, chunk->row)) return true;
     }
     return false;
 }
@@ -114,14 +114,13 @@ static bool number_at(const struct chunk *chunk, base62_number *number) {
         return true;
     }
     if (column->type == DUCKDB_TYPE_BIGINT)
-        return number_of_int64((int64_t)*words, number, &error) || set_error(chunk, &error);
+        return number_of_bigint((int64_t)*words, number, &error) || set_error(chunk, &error);
     words += chunk->row;
     /* The upper half has the sign. */
     if (column->type == DUCKDB_TYPE_HUGEINT && (int64_t)words[1] < 0)
         return set_negative(chunk, (duckdb_hugeint){words[0], (int64_t)words[1]});
     *number = (base62_number){words[1], words[0]};
-    if (column->type == DUCKDB_TYPE_UUID)
-        number->high ^= UUID_SIGN;
+    if (column->type == DUCKDB_TYPE_UUID) number->high ^= UUID_SIGN;
     return true;
 }
 
@@ -135,10 +134,8 @@ static const char *text_at(const struct chunk *chunk, idx_t argument, size_t *le
 static bool width_at(const struct chunk *chunk, size_t *width) {
     int64_t given = BASE62_KEY_LENGTH;
     call_error error;
-    if (chunk->argument_count > 1)
-        given = ((const int64_t *)chunk->arguments[1].data)[chunk->row];
-    if (!check_width(given, &error))
-        return set_error(chunk, &error);
+    if (chunk->argument_count > 1) given = ((const int64_t *)chunk->arguments[1].data)[chunk->row];
+    if (!check_width(given, &error)) return set_error(chunk, &error);
     *width = (size_t)given;
     return true;
 }
@@ -149,16 +146,13 @@ static bool alphabet_at(struct chunk *chunk, idx_t argument, const base62_alphab
     const char *characters;
     call_error error;
     *alphabet = NULL;
-    if (argument >= chunk->argument_count)
-        return true;
+    if (argument >= chunk->argument_count) return true;
     *alphabet = &chunk->alphabet;
     characters = text_at(chunk, argument, &length);
-    if (chunk->has_alphabet && length == sizeof chunk->characters &&
-        memcmp(characters, chunk->characters, length) == 0)
+    if (chunk->has_alphabet && length == sizeof chunk->characters && memcmp(characters, chunk->characters, length) == 0)
         return true;
     chunk->has_alphabet = create_alphabet(characters, length, &chunk->alphabet, &error);
-    if (!chunk->has_alphabet)
-        return set_error(chunk, &error);
+    if (!chunk->has_alphabet) return set_error(chunk, &error);
     memcpy(chunk->characters, characters, length);
     return true;
 }
@@ -186,16 +180,14 @@ static void set_text(struct chunk *chunk, const char *text, size_t length) {
 
 static void set_number(struct chunk *chunk, base62_number number) {
     duckdb_uhugeint value = {number.low, number.high};
-    if (chunk->results.type == DUCKDB_TYPE_UUID)
-        value.upper ^= UUID_SIGN;
+    if (chunk->results.type == DUCKDB_TYPE_UUID) value.upper ^= UUID_SIGN;
     ((duckdb_uhugeint *)chunk->results.data)[chunk->row] = value;
 }
 
 static bool set_fixed(struct chunk *chunk, const base62_alphabet *alphabet, base62_number number, size_t width) {
     char text[MAX_WIDTH];
     call_error error;
-    if (!encode_width(alphabet, number, text, width, &error))
-        return set_error(chunk, &error);
+    if (!encode_width(alphabet, number, text, width, &error)) return set_error(chunk, &error);
     set_text(chunk, text, width);
     return true;
 }
@@ -211,8 +203,7 @@ static inline bool encode(struct chunk *chunk) {
     if (!number_at(chunk, &number) || (fixed && !width_at(chunk, &width)) ||
         !alphabet_at(chunk, fixed ? 2 : 1, &alphabet))
         return false;
-    if (fixed)
-        return set_fixed(chunk, alphabet, number, width);
+    if (fixed) return set_fixed(chunk, alphabet, number, width);
     set_text(chunk, text, encode_shortest(alphabet, number, text));
     return true;
 }
@@ -222,14 +213,13 @@ static inline bool decode(struct chunk *chunk) {
     base62_number number;
     bool decoded;
     call_error error;
-    if (!encoded_at(chunk, &given))
-        return false;
+    if (!encoded_at(chunk, &given)) return false;
     if (chunk->results.type == DUCKDB_TYPE_BIGINT)
-        decoded = decode_int64(&given, "base62_decode_uhugeint", (int64_t *)chunk->results.data + chunk->row, &error);
+        decoded =
+            decode_to_bigint(&given, "base62_decode_uhugeint", (int64_t *)chunk->results.data + chunk->row, &error);
     else if ((decoded = decode_text(&given, &number, &error)))
         set_number(chunk, number);
-    if (!decoded && given.flags & TRY)
-        set_null(chunk);
+    if (!decoded && given.flags & TRY) set_null(chunk);
     return decoded || given.flags & TRY || set_error(chunk, &error);
 }
 
@@ -237,8 +227,7 @@ static inline bool is_valid(struct chunk *chunk) {
     encoded given;
     base62_number number;
     call_error error;
-    if (!encoded_at(chunk, &given))
-        return false;
+    if (!encoded_at(chunk, &given)) return false;
     ((bool *)chunk->results.data)[chunk->row] = decode_text(&given, &number, &error);
     return true;
 }
@@ -249,12 +238,9 @@ static bool range_at(struct chunk *chunk, size_t *width, bool *empty, base62_ran
     const char *prefix = text_at(chunk, 0, &length);
     const base62_alphabet *alphabet;
     call_error error;
-    if (!width_at(chunk, width) || !alphabet_at(chunk, 2, &alphabet))
-        return false;
-    if (!range_of_prefix(alphabet, prefix, length, *width, range, empty, &error))
-        return set_error(chunk, &error);
-    if (*empty)
-        set_null(chunk);
+    if (!width_at(chunk, width) || !alphabet_at(chunk, 2, &alphabet)) return false;
+    if (!range_of_prefix(alphabet, prefix, length, *width, range, empty, &error)) return set_error(chunk, &error);
+    if (*empty) set_null(chunk);
     return true;
 }
 
@@ -262,8 +248,7 @@ static inline bool string_bound(struct chunk *chunk) {
     size_t width;
     bool empty;
     base62_range range;
-    if (!range_at(chunk, &width, &empty, &range))
-        return false;
+    if (!range_at(chunk, &width, &empty, &range)) return false;
     return empty || set_fixed(chunk, NULL, chunk->flags & LAST ? range.greatest : range.least, width);
 }
 
@@ -271,13 +256,11 @@ static inline bool number_bound(struct chunk *chunk) {
     size_t width;
     bool empty, last = chunk->flags & LAST;
     base62_range range;
-    if (!range_at(chunk, &width, &empty, &range))
-        return false;
-    if (empty)
-        return true;
+    if (!range_at(chunk, &width, &empty, &range)) return false;
+    if (empty) return true;
     if (chunk->results.type != DUCKDB_TYPE_BIGINT)
         set_number(chunk, last ? range.greatest : range.least);
-    else if (!int64_bound(range, last, (int64_t *)chunk->results.data + chunk->row))
+    else if (!bigint_bound(range, last, (int64_t *)chunk->results.data + chunk->row))
         set_null(chunk);
     return true;
 }
@@ -292,8 +275,7 @@ static inline bool version(struct chunk *chunk) {
         struct chunk chunk;                                                                                            \
         begin(&chunk, info, input, output);                                                                            \
         for (; skip_nulls(&chunk); chunk.row++)                                                                        \
-            if (!function(&chunk))                                                                                     \
-                return;                                                                                                \
+            if (!function(&chunk)) return;                                                                             \
     }
 
 OVER_ROWS(encode)
@@ -328,8 +310,8 @@ static const struct function {
 } functions[] = {
     {"base62_encode", 1, 2, numbers, {TEXT}, TEXT, 0, encode_rows},
     {"base62_encode_uuid", 1, 2, uuids, {TEXT}, TEXT, 0, encode_rows},
-    {"base62_encode_key", 1, 1, numbers, {0}, TEXT, FIXED, encode_rows},
-    {"base62_encode_uuid_key", 1, 1, uuids, {0}, TEXT, FIXED, encode_rows},
+    {"base62_encode_key", 1, 1, numbers, {0}, TEXT, KEY, encode_rows},
+    {"base62_encode_uuid_key", 1, 1, uuids, {0}, TEXT, KEY, encode_rows},
     {"base62_encode_fixed", 2, 3, numbers, {BIGINT, TEXT}, TEXT, FIXED, encode_rows},
     {"base62_encode_uuid_fixed", 2, 3, uuids, {BIGINT, TEXT}, TEXT, FIXED, encode_rows},
     {"base62_decode", 1, 2, texts, {TEXT}, BIGINT, 0, decode_rows},
@@ -341,6 +323,9 @@ static const struct function {
     {"base62_decode_fixed", 2, 3, texts, {BIGINT, TEXT}, BIGINT, FIXED, decode_rows},
     {"base62_decode_uhugeint_fixed", 2, 3, texts, {BIGINT, TEXT}, UHUGEINT, FIXED, decode_rows},
     {"base62_decode_uuid_fixed", 2, 3, texts, {BIGINT, TEXT}, UUID, FIXED, decode_rows},
+    {"base62_decode_key", 1, 1, texts, {0}, BIGINT, KEY, decode_rows},
+    {"base62_decode_uhugeint_key", 1, 1, texts, {0}, UHUGEINT, KEY, decode_rows},
+    {"base62_decode_uuid_key", 1, 1, texts, {0}, UUID, KEY, decode_rows},
     {"base62_try_decode", 1, 2, texts, {TEXT}, BIGINT, TRY, decode_rows},
     {"base62_try_decode_uhugeint", 1, 2, texts, {TEXT}, UHUGEINT, TRY, decode_rows},
     {"base62_try_decode_uuid", 1, 2, texts, {TEXT}, UUID, TRY, decode_rows},
@@ -350,6 +335,9 @@ static const struct function {
     {"base62_try_decode_fixed", 2, 3, texts, {BIGINT, TEXT}, BIGINT, FIXED | TRY, decode_rows},
     {"base62_try_decode_uhugeint_fixed", 2, 3, texts, {BIGINT, TEXT}, UHUGEINT, FIXED | TRY, decode_rows},
     {"base62_try_decode_uuid_fixed", 2, 3, texts, {BIGINT, TEXT}, UUID, FIXED | TRY, decode_rows},
+    {"base62_try_decode_key", 1, 1, texts, {0}, BIGINT, KEY | TRY, decode_rows},
+    {"base62_try_decode_uhugeint_key", 1, 1, texts, {0}, UHUGEINT, KEY | TRY, decode_rows},
+    {"base62_try_decode_uuid_key", 1, 1, texts, {0}, UUID, KEY | TRY, decode_rows},
     {"base62_is_valid", 1, 2, texts, {TEXT}, BOOLEAN, TRY, is_valid_rows},
     {"base62_is_canonical", 1, 2, texts, {TEXT}, BOOLEAN, CANONICAL | TRY, is_valid_rows},
     {"base62_first_string", 1, 2, texts, {BIGINT}, TEXT, 0, string_bound_rows},

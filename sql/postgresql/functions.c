@@ -21,10 +21,8 @@ StaticAssertDecl(UUID_LEN == BASE62_UUID_LENGTH, "a UUID has 16 bytes");
 
 static void raise_error(const call_error *error) {
     int code = ERRCODE_INVALID_TEXT_REPRESENTATION;
-    if (error->kind == OUT_OF_RANGE)
-        code = ERRCODE_NUMERIC_VALUE_OUT_OF_RANGE;
-    if (error->kind == INVALID_PARAMETER)
-        code = ERRCODE_INVALID_PARAMETER_VALUE;
+    if (error->kind == OUT_OF_RANGE) code = ERRCODE_NUMERIC_VALUE_OUT_OF_RANGE;
+    if (error->kind == INVALID_PARAMETER) code = ERRCODE_INVALID_PARAMETER_VALUE;
     ereport(ERROR, (errcode(code), errmsg("%s", error->message)));
 }
 
@@ -39,8 +37,7 @@ static bool append_digit(base62_number *number, unsigned digit) {
     uint64_t low = (number->low & UINT32_MAX) * 10 + digit;
     uint64_t middle = (number->low >> 32) * 10 + (low >> 32);
     uint64_t carry = middle >> 32;
-    if (number->high > (UINT64_MAX - carry) / 10)
-        return false;
+    if (number->high > (UINT64_MAX - carry) / 10) return false;
     number->high = number->high * 10 + carry;
     number->low = middle << 32 | (low & UINT32_MAX);
     return true;
@@ -61,19 +58,17 @@ static Datum numeric_of_number(base62_number number) {
     *first = '\0';
     do {
         uint64_t group = divide_by_10_9(&number);
-        for (int i = 0; i < DIGITS_PER_GROUP; i++, group /= 10)
-            *--first = (char)('0' + group % 10);
+        for (int i = 0; i < DIGITS_PER_GROUP; i++, group /= 10) *--first = (char)('0' + group % 10);
     } while (number.high != 0 || number.low != 0);
     return DirectFunctionCall3(numeric_in, CStringGetDatum(first), ObjectIdGetDatum(InvalidOid), Int32GetDatum(-1));
 }
 
 /* Arguments */
 
-static base62_number get_int8(FunctionCallInfo fcinfo, int argument) {
+static base62_number get_bigint(FunctionCallInfo fcinfo, int argument) {
     base62_number number;
     call_error error;
-    if (!number_of_int64(PG_GETARG_INT64(argument), &number, &error))
-        raise_error(&error);
+    if (!number_of_bigint(PG_GETARG_INT64(argument), &number, &error)) raise_error(&error);
     return number;
 }
 
@@ -86,8 +81,7 @@ static base62_number get_numeric(FunctionCallInfo fcinfo, int argument) {
     char *digits = numeric_normalize(PG_GETARG_NUMERIC(argument)), *next = digits;
     base62_number number = {0, 0};
     call_error error;
-    while ('0' <= *next && *next <= '9' && append_digit(&number, (unsigned)(*next - '0')))
-        next++;
+    while ('0' <= *next && *next <= '9' && append_digit(&number, (unsigned)(*next - '0'))) next++;
     if (*next != '\0') {
         fail_with(&error, OUT_OF_RANGE, "the number is not an integer from 0 to 2^128 - 1");
         show(&error, "", digits, strlen(digits));
@@ -99,9 +93,7 @@ static base62_number get_numeric(FunctionCallInfo fcinfo, int argument) {
 /* The bytes of a text. PostgreSQL 17's macro mixes int and size_t. */
 #pragma GCC diagnostic push
 #pragma GCC diagnostic ignored "-Wsign-conversion"
-static size_t text_length(const text *value) {
-    return VARSIZE_ANY_EXHDR(value);
-}
+static size_t text_length(const text *value) { return VARSIZE_ANY_EXHDR(value); }
 #pragma GCC diagnostic pop
 
 typedef struct {
@@ -118,20 +110,16 @@ static const base62_alphabet *get_alphabet(FunctionCallInfo fcinfo, int argument
     const text *given;
     const char *characters;
     size_t length;
-    if (argument >= PG_NARGS())
-        return NULL;
+    if (argument >= PG_NARGS()) return NULL;
     cached = function->fn_extra;
     given = PG_GETARG_TEXT_PP(argument);
     characters = VARDATA_ANY(given);
     length = text_length(given);
-    if (cached == NULL || length != sizeof cached->characters ||
-        memcmp(cached->characters, characters, length) != 0) {
+    if (cached == NULL || length != sizeof cached->characters || memcmp(cached->characters, characters, length) != 0) {
         base62_alphabet alphabet;
         call_error error;
-        if (!create_alphabet(characters, length, &alphabet, &error))
-            raise_error(&error);
-        if (cached == NULL)
-            cached = function->fn_extra = MemoryContextAlloc(function->fn_mcxt, sizeof *cached);
+        if (!create_alphabet(characters, length, &alphabet, &error)) raise_error(&error);
+        if (cached == NULL) cached = function->fn_extra = MemoryContextAlloc(function->fn_mcxt, sizeof *cached);
         memcpy(cached->characters, characters, sizeof cached->characters);
         cached->alphabet = alphabet;
         elog(DEBUG1, "base62 created an alphabet");
@@ -143,8 +131,7 @@ static const base62_alphabet *get_alphabet(FunctionCallInfo fcinfo, int argument
 static size_t get_width(FunctionCallInfo fcinfo, int argument) {
     int32 width = argument < PG_NARGS() ? PG_GETARG_INT32(argument) : BASE62_KEY_LENGTH;
     call_error error;
-    if (!check_width(width, &error))
-        raise_error(&error);
+    if (!check_width(width, &error)) raise_error(&error);
     return (size_t)width;
 }
 
@@ -160,8 +147,7 @@ static Datum encode_with_width(base62_number number, size_t width, const base62_
     text *result = palloc(VARHDRSZ + width);
     call_error error;
     SET_VARSIZE(result, VARHDRSZ + width);
-    if (!encode_width(alphabet, number, VARDATA(result), width, &error))
-        raise_error(&error);
+    if (!encode_width(alphabet, number, VARDATA(result), width, &error)) raise_error(&error);
     PG_RETURN_TEXT_P(result);
 }
 
@@ -181,17 +167,15 @@ static encoded get_encoded(FunctionCallInfo fcinfo, int flags) {
 }
 
 static Datum raise_or_null(FunctionCallInfo fcinfo, int flags, const call_error *error) {
-    if (!(flags & TRY))
-        raise_error(error);
+    if (!(flags & TRY)) raise_error(error);
     PG_RETURN_NULL();
 }
 
-static Datum decode_int8(FunctionCallInfo fcinfo, int flags) {
+static Datum decode_bigint(FunctionCallInfo fcinfo, int flags) {
     encoded given = get_encoded(fcinfo, flags);
     int64_t value;
     call_error error;
-    if (decode_int64(&given, "base62_decode_numeric", &value, &error))
-        PG_RETURN_INT64(value);
+    if (decode_to_bigint(&given, "base62_decode_numeric", &value, &error)) PG_RETURN_INT64(value);
     return raise_or_null(fcinfo, flags, &error);
 }
 
@@ -200,8 +184,7 @@ static Datum decode_uuid(FunctionCallInfo fcinfo, int flags) {
     base62_number number;
     pg_uuid_t *result;
     call_error error;
-    if (!decode_text(&given, &number, &error))
-        return raise_or_null(fcinfo, flags, &error);
+    if (!decode_text(&given, &number, &error)) return raise_or_null(fcinfo, flags, &error);
     result = palloc(sizeof *result);
     base62_to_uuid(number, result->data);
     PG_RETURN_UUID_P(result);
@@ -237,59 +220,77 @@ static bool get_range(FunctionCallInfo fcinfo, base62_range *range) {
 
 static Datum string_bound(FunctionCallInfo fcinfo, int flags) {
     base62_range range;
-    if (!get_range(fcinfo, &range))
-        PG_RETURN_NULL();
+    if (!get_range(fcinfo, &range)) PG_RETURN_NULL();
     return encode_with_width(flags & LAST ? range.greatest : range.least, get_width(fcinfo, 1), NULL);
 }
 
-static Datum number_bound_int8(FunctionCallInfo fcinfo, int flags) {
+static Datum number_bound(FunctionCallInfo fcinfo, int flags) {
     base62_range range;
     int64_t value;
-    if (!get_range(fcinfo, &range) || !int64_bound(range, flags & LAST, &value))
-        PG_RETURN_NULL();
+    if (!get_range(fcinfo, &range) || !bigint_bound(range, flags & LAST, &value)) PG_RETURN_NULL();
     PG_RETURN_INT64(value);
 }
 
-static Datum number_bound_numeric(FunctionCallInfo fcinfo, int flags) {
+static Datum numeric_bound(FunctionCallInfo fcinfo, int flags) {
     base62_range range;
-    if (!get_range(fcinfo, &range))
-        PG_RETURN_NULL();
+    if (!get_range(fcinfo, &range)) PG_RETURN_NULL();
     return numeric_of_number(flags & LAST ? range.greatest : range.least);
 }
 
-/* The functions that the SQL script names, each with its result. Some functions of the library, such as base62_encode,
- * have the name of a function in SQL. So the names here begin with pg_. */
+/* The functions that the SQL script names, each with its result: pg_ and the name in SQL, since some functions of the
+ * library, such as base62_encode, have that name. */
 
-#define SQL_FUNCTION(name, result) \
-    PG_FUNCTION_INFO_V1(name);     \
-    Datum name(PG_FUNCTION_ARGS) { \
-        (void)fcinfo;              \
-        return result;             \
+#define SQL_FUNCTION(name, result)                                                                                     \
+    PG_FUNCTION_INFO_V1(name);                                                                                         \
+    Datum name(PG_FUNCTION_ARGS) {                                                                                     \
+        (void)fcinfo;                                                                                                  \
+        return result;                                                                                                 \
     }
 
-/* Those that encode and decode a type. */
-#define FUNCTIONS_OF(type)                                                                          \
-    SQL_FUNCTION(pg_base62_encode_##type, encode(fcinfo, get_##type(fcinfo, 0)))                    \
-    SQL_FUNCTION(pg_base62_encode_##type##_fixed, encode_fixed(fcinfo, get_##type(fcinfo, 0)))      \
-    SQL_FUNCTION(pg_base62_decode_##type, decode_##type(fcinfo, 0))                                 \
-    SQL_FUNCTION(pg_base62_decode_##type##_canonical, decode_##type(fcinfo, CANONICAL))             \
-    SQL_FUNCTION(pg_base62_decode_##type##_fixed, decode_##type(fcinfo, FIXED))                     \
-    SQL_FUNCTION(pg_base62_try_decode_##type, decode_##type(fcinfo, TRY))                           \
-    SQL_FUNCTION(pg_base62_try_decode_##type##_canonical, decode_##type(fcinfo, CANONICAL | TRY))   \
-    SQL_FUNCTION(pg_base62_try_decode_##type##_fixed, decode_##type(fcinfo, FIXED | TRY))
+SQL_FUNCTION(pg_base62_encode, encode(fcinfo, get_bigint(fcinfo, 0)))
+SQL_FUNCTION(pg_base62_encode_uuid, encode(fcinfo, get_uuid(fcinfo, 0)))
+SQL_FUNCTION(pg_base62_encode_numeric, encode(fcinfo, get_numeric(fcinfo, 0)))
+SQL_FUNCTION(pg_base62_encode_fixed, encode_fixed(fcinfo, get_bigint(fcinfo, 0)))
+SQL_FUNCTION(pg_base62_encode_uuid_fixed, encode_fixed(fcinfo, get_uuid(fcinfo, 0)))
+SQL_FUNCTION(pg_base62_encode_numeric_fixed, encode_fixed(fcinfo, get_numeric(fcinfo, 0)))
+SQL_FUNCTION(pg_base62_encode_key, encode_fixed(fcinfo, get_bigint(fcinfo, 0)))
+SQL_FUNCTION(pg_base62_encode_uuid_key, encode_fixed(fcinfo, get_uuid(fcinfo, 0)))
+SQL_FUNCTION(pg_base62_encode_numeric_key, encode_fixed(fcinfo, get_numeric(fcinfo, 0)))
 
-FUNCTIONS_OF(int8)
-FUNCTIONS_OF(uuid)
-FUNCTIONS_OF(numeric)
+SQL_FUNCTION(pg_base62_decode, decode_bigint(fcinfo, 0))
+SQL_FUNCTION(pg_base62_decode_uuid, decode_uuid(fcinfo, 0))
+SQL_FUNCTION(pg_base62_decode_numeric, decode_numeric(fcinfo, 0))
+SQL_FUNCTION(pg_base62_decode_canonical, decode_bigint(fcinfo, CANONICAL))
+SQL_FUNCTION(pg_base62_decode_uuid_canonical, decode_uuid(fcinfo, CANONICAL))
+SQL_FUNCTION(pg_base62_decode_numeric_canonical, decode_numeric(fcinfo, CANONICAL))
+SQL_FUNCTION(pg_base62_decode_fixed, decode_bigint(fcinfo, FIXED))
+SQL_FUNCTION(pg_base62_decode_uuid_fixed, decode_uuid(fcinfo, FIXED))
+SQL_FUNCTION(pg_base62_decode_numeric_fixed, decode_numeric(fcinfo, FIXED))
+SQL_FUNCTION(pg_base62_decode_key, decode_bigint(fcinfo, KEY))
+SQL_FUNCTION(pg_base62_decode_uuid_key, decode_uuid(fcinfo, KEY))
+SQL_FUNCTION(pg_base62_decode_numeric_key, decode_numeric(fcinfo, KEY))
+
+SQL_FUNCTION(pg_base62_try_decode, decode_bigint(fcinfo, TRY))
+SQL_FUNCTION(pg_base62_try_decode_uuid, decode_uuid(fcinfo, TRY))
+SQL_FUNCTION(pg_base62_try_decode_numeric, decode_numeric(fcinfo, TRY))
+SQL_FUNCTION(pg_base62_try_decode_canonical, decode_bigint(fcinfo, CANONICAL | TRY))
+SQL_FUNCTION(pg_base62_try_decode_uuid_canonical, decode_uuid(fcinfo, CANONICAL | TRY))
+SQL_FUNCTION(pg_base62_try_decode_numeric_canonical, decode_numeric(fcinfo, CANONICAL | TRY))
+SQL_FUNCTION(pg_base62_try_decode_fixed, decode_bigint(fcinfo, FIXED | TRY))
+SQL_FUNCTION(pg_base62_try_decode_uuid_fixed, decode_uuid(fcinfo, FIXED | TRY))
+SQL_FUNCTION(pg_base62_try_decode_numeric_fixed, decode_numeric(fcinfo, FIXED | TRY))
+SQL_FUNCTION(pg_base62_try_decode_key, decode_bigint(fcinfo, KEY | TRY))
+SQL_FUNCTION(pg_base62_try_decode_uuid_key, decode_uuid(fcinfo, KEY | TRY))
+SQL_FUNCTION(pg_base62_try_decode_numeric_key, decode_numeric(fcinfo, KEY | TRY))
 
 SQL_FUNCTION(pg_base62_is_valid, is_valid(fcinfo, TRY))
 SQL_FUNCTION(pg_base62_is_canonical, is_valid(fcinfo, CANONICAL | TRY))
 
 SQL_FUNCTION(pg_base62_first_string, string_bound(fcinfo, 0))
 SQL_FUNCTION(pg_base62_last_string, string_bound(fcinfo, LAST))
-SQL_FUNCTION(pg_base62_first_int8, number_bound_int8(fcinfo, 0))
-SQL_FUNCTION(pg_base62_last_int8, number_bound_int8(fcinfo, LAST))
-SQL_FUNCTION(pg_base62_first_numeric, number_bound_numeric(fcinfo, 0))
-SQL_FUNCTION(pg_base62_last_numeric, number_bound_numeric(fcinfo, LAST))
+SQL_FUNCTION(pg_base62_first_number, number_bound(fcinfo, 0))
+SQL_FUNCTION(pg_base62_last_number, number_bound(fcinfo, LAST))
+SQL_FUNCTION(pg_base62_first_numeric, numeric_bound(fcinfo, 0))
+SQL_FUNCTION(pg_base62_last_numeric, numeric_bound(fcinfo, LAST))
 
 SQL_FUNCTION(pg_base62_version, CStringGetTextDatum(BASE62_VERSION))

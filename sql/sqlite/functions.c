@@ -9,9 +9,7 @@
 SQLITE_EXTENSION_INIT1
 
 /* The flags of the function, which are its user data. */
-static int flags_of(sqlite3_context *context) {
-    return (int)(intptr_t)sqlite3_user_data(context);
-}
+static int flags_of(sqlite3_context *context) { return (int)(intptr_t)sqlite3_user_data(context); }
 
 /* Errors. Each function sets the error of the context, and returns 0. */
 
@@ -43,8 +41,7 @@ static int set_wrong_value(sqlite3_context *context, const char *message, sqlite
     const char *bytes;
     size_t length;
     call_error error;
-    if (!read_bytes(context, value, type, &bytes, &length))
-        return 0;
+    if (!read_bytes(context, value, type, &bytes, &length)) return 0;
     fail_with(&error, INVALID_PARAMETER, "%s", message);
     show(&error, type == SQLITE_TEXT ? "'" : type == SQLITE_BLOB ? "x'" : "", bytes, length);
     return set_error(context, &error);
@@ -52,8 +49,7 @@ static int set_wrong_value(sqlite3_context *context, const char *message, sqlite
 
 static int any_null(int argc, sqlite3_value **argv) {
     for (int i = 0; i < argc; i++)
-        if (sqlite3_value_type(argv[i]) == SQLITE_NULL)
-            return 1;
+        if (sqlite3_value_type(argv[i]) == SQLITE_NULL) return 1;
     return 0;
 }
 
@@ -63,8 +59,7 @@ static int read_uuid(sqlite3_context *context, sqlite3_value *value, base62_numb
     unsigned char uuid[BASE62_UUID_LENGTH];
     const char *bytes;
     size_t length;
-    if ((type == SQLITE_TEXT || type == SQLITE_BLOB) && !read_bytes(context, value, type, &bytes, &length))
-        return 0;
+    if ((type == SQLITE_TEXT || type == SQLITE_BLOB) && !read_bytes(context, value, type, &bytes, &length)) return 0;
     if (type == SQLITE_BLOB && length == sizeof uuid)
         memcpy(uuid, bytes, sizeof uuid);
     else if (type != SQLITE_TEXT || base62_uuid_from_string(bytes, length, uuid) != BASE62_OK)
@@ -76,19 +71,17 @@ static int read_uuid(sqlite3_context *context, sqlite3_value *value, base62_numb
 /* The number or the UUID that a function encodes. */
 static int read_number(sqlite3_context *context, sqlite3_value *value, base62_number *number) {
     call_error error;
-    if (flags_of(context) & OF_UUID)
-        return read_uuid(context, value, number);
+    if (flags_of(context) & OF_UUID) return read_uuid(context, value, number);
     if (sqlite3_value_type(value) != SQLITE_INTEGER)
         return set_wrong_value(context, "the number is not an integer", value);
-    return number_of_int64(sqlite3_value_int64(value), number, &error) || set_error(context, &error);
+    return number_of_bigint(sqlite3_value_int64(value), number, &error) || set_error(context, &error);
 }
 
 /* Converts no other type. This catches columns declared STRING, which have NUMERIC affinity: they store the text 1E5 as
  * 100000. */
 static int read_text(sqlite3_context *context, const char *message, sqlite3_value *value, const char **text,
                      size_t *length) {
-    if (sqlite3_value_type(value) != SQLITE_TEXT)
-        return set_wrong_value(context, message, value);
+    if (sqlite3_value_type(value) != SQLITE_TEXT) return set_wrong_value(context, message, value);
     return read_bytes(context, value, SQLITE_TEXT, text, length);
 }
 
@@ -101,18 +94,13 @@ static int read_alphabet(sqlite3_context *context, int index, int argc, sqlite3_
     base62_alphabet *cached;
     call_error error;
     *alphabet = NULL;
-    if (index >= argc)
-        return 1;
+    if (index >= argc) return 1;
     *alphabet = sqlite3_get_auxdata(context, index);
-    if (*alphabet != NULL)
-        return 1;
-    if (!read_text(context, "the alphabet is not text", argv[index], &characters, &length))
-        return 0;
-    if (!create_alphabet(characters, length, copy, &error))
-        return set_error(context, &error);
+    if (*alphabet != NULL) return 1;
+    if (!read_text(context, "the alphabet is not text", argv[index], &characters, &length)) return 0;
+    if (!create_alphabet(characters, length, copy, &error)) return set_error(context, &error);
     cached = sqlite3_malloc(sizeof *cached);
-    if (cached == NULL)
-        return set_out_of_memory(context);
+    if (cached == NULL) return set_out_of_memory(context);
     *cached = *copy;
     sqlite3_set_auxdata(context, index, cached, sqlite3_free);
     *alphabet = copy;
@@ -177,9 +165,8 @@ static void decode(sqlite3_context *context, int argc, sqlite3_value **argv) {
     encoded given;
     int64_t value;
     call_error error;
-    if (!read_encoded(context, argc, argv, &copy, &given))
-        return;
-    if (decode_int64(&given, "base62_decode_uuid", &value, &error))
+    if (!read_encoded(context, argc, argv, &copy, &given)) return;
+    if (decode_to_bigint(&given, "base62_decode_uuid", &value, &error))
         sqlite3_result_int64(context, value);
     else if (!(given.flags & TRY))
         set_error(context, &error);
@@ -193,11 +180,9 @@ static void decode_bytes(sqlite3_context *context, int argc, sqlite3_value **arg
     unsigned char uuid[BASE62_UUID_LENGTH];
     char string[BASE62_UUID_STRING_LENGTH];
     call_error error;
-    if (!read_encoded(context, argc, argv, &copy, &given))
-        return;
+    if (!read_encoded(context, argc, argv, &copy, &given)) return;
     if (!decode_text(&given, &number, &error)) {
-        if (!(given.flags & TRY))
-            set_error(context, &error);
+        if (!(given.flags & TRY)) set_error(context, &error);
         return;
     }
     base62_to_uuid(number, uuid);
@@ -215,8 +200,7 @@ static void is_valid(sqlite3_context *context, int argc, sqlite3_value **argv) {
     base62_number number;
     call_error error;
     given.flags = flags_of(context);
-    if (any_null(argc, argv) || !read_alphabet(context, 1, argc, argv, &copy, &given.alphabet))
-        return;
+    if (any_null(argc, argv) || !read_alphabet(context, 1, argc, argv, &copy, &given.alphabet)) return;
     if (sqlite3_value_type(argv[0]) != SQLITE_TEXT)
         sqlite3_result_int(context, 0);
     else if (read_text(context, "", argv[0], &given.text, &given.length))
@@ -235,8 +219,7 @@ static int read_range(sqlite3_context *context, int argc, sqlite3_value **argv, 
         !read_alphabet(context, 2, argc, argv, &copy, &alphabet) ||
         !read_text(context, "the prefix is not text", argv[0], &prefix, &length))
         return 0;
-    if (!range_of_prefix(alphabet, prefix, length, *width, range, &empty, &error))
-        return set_error(context, &error);
+    if (!range_of_prefix(alphabet, prefix, length, *width, range, &empty, &error)) return set_error(context, &error);
     return !empty;
 }
 
@@ -251,7 +234,7 @@ static void number_bound(sqlite3_context *context, int argc, sqlite3_value **arg
     size_t width;
     base62_range range;
     int64_t value;
-    if (read_range(context, argc, argv, &width, &range) && int64_bound(range, flags_of(context) & LAST, &value))
+    if (read_range(context, argc, argv, &width, &range) && bigint_bound(range, flags_of(context) & LAST, &value))
         sqlite3_result_int64(context, value);
 }
 
@@ -271,8 +254,8 @@ static int create_functions(sqlite3 *db) {
     } functions[] = {
         {"base62_encode", 1, 2, 0, encode},
         {"base62_encode_uuid", 1, 2, OF_UUID, encode},
-        {"base62_encode_key", 1, 1, FIXED, encode},
-        {"base62_encode_uuid_key", 1, 1, OF_UUID | FIXED, encode},
+        {"base62_encode_key", 1, 1, KEY, encode},
+        {"base62_encode_uuid_key", 1, 1, OF_UUID | KEY, encode},
         {"base62_encode_fixed", 2, 3, FIXED, encode},
         {"base62_encode_uuid_fixed", 2, 3, OF_UUID | FIXED, encode},
         {"base62_decode", 1, 2, 0, decode},
@@ -284,6 +267,9 @@ static int create_functions(sqlite3 *db) {
         {"base62_decode_fixed", 2, 3, FIXED, decode},
         {"base62_decode_uuid_fixed", 2, 3, OF_UUID | FIXED, decode_bytes},
         {"base62_decode_blob_fixed", 2, 3, FIXED, decode_bytes},
+        {"base62_decode_key", 1, 1, KEY, decode},
+        {"base62_decode_uuid_key", 1, 1, OF_UUID | KEY, decode_bytes},
+        {"base62_decode_blob_key", 1, 1, KEY, decode_bytes},
         {"base62_try_decode", 1, 2, TRY, decode},
         {"base62_try_decode_uuid", 1, 2, OF_UUID | TRY, decode_bytes},
         {"base62_try_decode_blob", 1, 2, TRY, decode_bytes},
@@ -293,6 +279,9 @@ static int create_functions(sqlite3 *db) {
         {"base62_try_decode_fixed", 2, 3, FIXED | TRY, decode},
         {"base62_try_decode_uuid_fixed", 2, 3, OF_UUID | FIXED | TRY, decode_bytes},
         {"base62_try_decode_blob_fixed", 2, 3, FIXED | TRY, decode_bytes},
+        {"base62_try_decode_key", 1, 1, KEY | TRY, decode},
+        {"base62_try_decode_uuid_key", 1, 1, OF_UUID | KEY | TRY, decode_bytes},
+        {"base62_try_decode_blob_key", 1, 1, KEY | TRY, decode_bytes},
         {"base62_is_valid", 1, 2, TRY, is_valid},
         {"base62_is_canonical", 1, 2, CANONICAL | TRY, is_valid},
         {"base62_first_string", 1, 2, 0, string_bound},

@@ -1,17 +1,65 @@
 # SPDX-License-Identifier: MIT
 # Copyright (c) 2026 the maintainers of base62 for Rattle
-"""The values that all packages are tested with, as tests of SQL need them."""
+"""Calls of the functions with the results that they have to return, by the values that all packages are tested with."""
 
 import re
+from collections.abc import Callable, Iterator
 from pathlib import Path
-from typing import Any
+from typing import Any, NamedTuple
 from urllib.parse import unquote_to_bytes
+from uuid import UUID
 
 # The file of values is in the repository's tests, and beside this one in an archive of the functions.
 HERE = Path(__file__).resolve().parent
 FOLDERS = HERE, HERE.parents[1] / "tests"
 VALUES = next(folder / "values.tsv" for folder in FOLDERS if (folder / "values.tsv").exists())
 ROWS = [line.split("\t") for line in VALUES.read_text().split("\n") if line and not line.startswith("#")]
+README = (HERE.parent / "README.md").read_text()
+HEADER = next(path for path in (HERE.parent / "base62.h", HERE.parents[1] / "c/base62.h") if path.exists()).read_text()
+
+
+class Text(bytes):
+    """The bytes of an argument that is a text, which may contain a null byte and need not be UTF-8."""
+
+
+class Error(NamedTuple):
+    code: str
+    message: str
+
+
+class Call(NamedTuple):
+    """The name is that of the function without base62_. Its last argument, if it is a str, is an alphabet."""
+
+    name: str
+    arguments: tuple[Any, ...]
+    result: Any
+
+
+class Database(NamedTuple):
+    """Parts of names of functions, each with what a number is for them, or None if they do not take it."""
+
+    encoded: list[tuple[str, Callable[[int], Any]]]
+    decoded: dict[str, Callable[[int], Any]]
+    # The part for numbers of 2^63 or more.
+    wide: str
+    # By the part for numbers, those with an error.
+    invalid_numbers: dict[str, dict[Any, Error]]
+    invalid_widths: tuple[int, ...]
+
+
+def bigint(number: int) -> int | None:
+    return number if number <= BIGINT else None
+
+
+def uuid(number: int) -> UUID:
+    return UUID(int=number)
+
+
+def text_of(value: Any) -> str:
+    """An argument or a result as SQL casts it to a text, or the code and the message of an error."""
+    if isinstance(value, (Text, Error)):
+        return value.decode() if isinstance(value, Text) else " ".join(value)
+    return str(value).lower() if isinstance(value, bool) else str(value)
 
 
 def rows(kind: str) -> list[list[str]]:
@@ -20,15 +68,15 @@ def rows(kind: str) -> list[list[str]]:
 
 def of_ascii(kind: str) -> list[list[str]]:
     """The rows whose alphabet has ASCII characters, which stand in place of its name."""
-    found = [[ALPHABETS[row[0]], *row[1:]] for row in rows(kind) if row[0] in ALPHABETS]
-    assert len(found) > 50, kind
-    return found
+    table = [[ALPHABETS[row[0]], *row[1:]] for row in rows(kind) if row[0] in ALPHABETS]
+    assert len(table) > 50, kind
+    return table
 
 
 def of_widths(kind: str) -> list[tuple[Any, ...]]:
-    """Such rows with a width that SQL has. Their string or prefix is bytes."""
+    """Such rows with a width that SQL has. Their string or prefix is a Text."""
     given = ((row, int(row[1])) for row in of_ascii(kind))
-    return [(row[0], width, unquote_to_bytes(row[2]), *row[3:]) for row, width in given if 0 < width <= WIDEST]
+    return [(row[0], width, Text(unquote_to_bytes(row[2])), *row[3:]) for row, width in given if 0 < width <= WIDEST]
 
 
 # Alphabets of ASCII characters other than a null byte.
@@ -39,6 +87,7 @@ ALPHABETS = {
 }
 STANDARD, OWN = ALPHABETS["standard"], ALPHABETS["reversed"]
 BIGINT = 2**63 - 1
+KEY = 22
 WIDEST = 1000
 # The message of each error and of each byte. The index follows.
 MESSAGES = {tuple(row[1:3]): re.sub(r"\d+$", "", unquote_to_bytes(row[0]).decode()) for row in rows("message")}
@@ -52,56 +101,181 @@ def shown(value: bytes) -> str:
     return f": '{characters}{'...' * (len(value) > 40)}'"
 
 
-def message(error: list[str], value: bytes) -> str:
-    """The message of an error of the file, for a value."""
-    return "base62: " + MESSAGES[tuple(error[:2])] + "".join(error[2:]) + shown(value)
+def error_of(fields: list[str], text: bytes, width: int | None = None) -> Error:
+    """An error of the file, for a string, a prefix or an alphabet."""
+    code = {"overflow": "22003", "repeated": "22023"}.get(fields[0], "22P02")
+    if fields[0] == "length":
+        return Error(code, f"Encoded input has {len(text)} byte{'s' * (len(text) != 1)}, not {width}" + shown(text))
+    return Error(code, MESSAGES[tuple(fields[:2])] + "".join(fields[2:]) + shown(text))
 
 
-# The errors that the file has no rows for.
-def is_large(value: str | bytes, wider: str) -> str:
-    given = value if isinstance(value, bytes) else value.encode()
-    return f"base62: the number is 2^63 or more; use base62_{wider}" + shown(given)
+def negative(*numbers: int) -> dict[Any, Error]:
+    return {number: Error("22003", f"the number is negative: {number}") for number in numbers}
 
 
-def narrow(number: int, width: int) -> str:
-    return f"base62: the number needs {len(TEXTS[number])} characters, and the width is {width}"
+def no_width(width: int) -> Error:
+    return Error("22023", f"the width is not from 1 to 1000: {width}")
 
 
-# Calls with several errors, and what the error is about that is raised.
-ORDER = {
-    "encode(-1, '01')": "number", "encode_fixed(-1, 0, '01')": "number", "encode_fixed(62, 0, '01')": "width",
-    "decode_fixed('-', 0, '01')": "width", "try_decode_uuid_fixed('--', 0, '01')": "width",
-    "first_number('-', 0, '01')": "width", "last_string('-', 0)": "width", "encode_fixed(62, 1, '01')": "alphabet",
-    "decode('-', '01')": "alphabet", "decode_uuid('-', '01')": "alphabet", "try_decode('-', '01')": "alphabet",
-    "try_decode_uuid_fixed('--', 1, '01')": "alphabet", "is_valid('-', '01')": "alphabet",
-    "first_number('-', 1, '01')": "alphabet",
-}
-NEGATIVE = "base62: the number is negative: {}"
-WIDTH = "base62: the width is not from 1 to 1000: {}"
-ALPHABET = "base62: the alphabet has "
-NO_ALPHABETS = {
-    value: ALPHABET + said + shown(value.encode())
-    for value, said in {
-        "": "0 characters, not 62",
-        "01": "2 characters, not 62",
-        STANDARD[:61]: "61 characters, not 62",
-        STANDARD + "-": "63 characters, not 62",
-        "é" + STANDARD[2:]: "a non-ASCII character",
-        STANDARD[2:] + "é": "a non-ASCII character",
-        "é" * 31: "a non-ASCII character",
-        "\0" + STANDARD[1:]: "a null character",
-    }.items()
-}
-for field, *error in rows("repeated"):
-    letters = unquote_to_bytes(field)
+def no_alphabet(letters: bytes) -> Error:
+    mistake = f"{len(letters)} characters, not 62" if b"\0" not in letters else "a null character"
+    return Error("22023", f"the alphabet has {mistake if letters.isascii() else 'a non-ASCII character'}" + shown(letters))
+
+
+# The alphabets of the least and of the greatest characters.
+EDGES = [bytes(range(last - 61, last + 1)) for last in (62, 127)]
+INVALID = [b"", *(f"{OWN}-"[:length].encode() for length in (2, 61, 63))]
+INVALID += [letters.encode() for letters in ("é" + OWN[2:], OWN[2:] + "é", "é" * 31)]
+INVALID += [letters for edge in EDGES for byte in (b"\0", b"\x80", b"\xff") for letters in (byte + edge[1:], edge[:61] + byte)]
+NO_ALPHABETS = {Text(letters): no_alphabet(letters) for letters in INVALID}
+for field, *fields in rows("repeated"):
+    letters = Text(unquote_to_bytes(field))
     if letters.isascii() and b"\0" not in letters:
-        NO_ALPHABETS[letters.decode()] = message(["repeated", *error], letters)
-README = (HERE.parent / "README.md").read_text()
-HEADER = next(it for it in (HERE.parent / "base62.h", HERE.parents[1] / "c/base62.h") if it.exists()).read_text()
+        NO_ALPHABETS[letters] = error_of(["repeated", *fields], letters)
 
 
-def functions_of(database: str) -> set[str]:
-    """Those that the table in README has for all databases, and for this one."""
-    table = [line.split("|") for line in README.splitlines() if line.startswith("| ")]
-    column = next(line.index(f" only {database} ") for line in table if f" only {database} " in line)
-    return set(re.findall(r"base62_\w+", "".join(line[2] + line[column] for line in table if len(line) > column)))
+def string_of(number: int, width: int) -> str:
+    digits = ""
+    while number:
+        number, digit = divmod(number, 62)
+        digits = STANDARD[digit] + digits
+    return digits.rjust(width, "0")
+
+
+def encoding(database: Database, form: str, number: int, result: Any, *others: Any) -> Iterator[Call]:
+    """Calls of the functions of a form that encode the number."""
+    for kind, convert in database.encoded:
+        if (given := convert(number)) is not None:
+            yield Call(f"encode{kind}{form}", (given, *others), result)
+
+
+def decoding(database: Database, form: str, result: int | Error, text: Text, *others: Any) -> Iterator[Call]:
+    """Calls of the functions of a form that decode a string, with a number or an error."""
+    for kind, convert in database.decoded.items():
+        expected = result if isinstance(result, Error) else convert(result)
+        if expected is None:
+            wider = f"the number is 2^63 or more; use base62_decode_{database.wide}{form}"
+            expected = Error("22003", wider + shown(text))
+        yield Call(f"decode{kind}{form}", (text, *others), expected)
+        yield Call(f"try_decode{kind}{form}", (text, *others), None if isinstance(expected, Error) else expected)
+
+
+def encoded_calls(database: Database) -> Iterator[Call]:
+    """Of canonical strings, and of strings with leading zeros."""
+    strings = [(letters, int(digits), encoded, None) for letters, digits, encoded in of_ascii("encode")]
+    strings += [(letters, int(digits), encoded, ["zero"]) for letters, encoded, digits in of_ascii("zeros")]
+    for letters, number, encoded, fields in strings:
+        text = Text(encoded.encode())
+        if not fields:
+            yield from encoding(database, "", number, encoded, letters)
+        yield from decoding(database, "", number, text, letters)
+        yield from decoding(database, "_fixed", number, text, len(text), letters)
+        yield from decoding(database, "_canonical", error_of(fields, text) if fields else number, text, letters)
+        yield Call("is_valid", (text, letters), True)
+        yield Call("is_canonical", (text, letters), not fields)
+
+
+def invalid_calls(database: Database) -> Iterator[Call]:
+    for letters, field, *fields in of_ascii("refused"):
+        text = Text(unquote_to_bytes(field))
+        for form in ("", "_canonical"):
+            yield from decoding(database, form, error_of(fields, text), text, letters)
+        for name in ("is_valid", "is_canonical"):
+            yield Call(name, (text, letters), False)
+
+
+def width_calls(database: Database) -> Iterator[Call]:
+    """Of strings of a width, and of keys."""
+    for letters, width, text, *fields in of_widths("exact"):
+        result = int(fields[1]) if fields[0] == "number" else error_of(fields, text, width)
+        yield from decoding(database, "_fixed", result, text, width, letters)
+        if (letters, width) == (STANDARD, KEY):
+            yield from decoding(database, "_key", result, text)
+    for letters, digits, width, encoded in of_ascii("fixed"):
+        yield from encoding(database, "_fixed", int(digits), encoded, int(width), letters)
+        if (letters, int(width)) == (STANDARD, KEY):
+            yield from encoding(database, "_key", int(digits), encoded)
+    for letters, digits, width in of_ascii("narrow"):
+        narrow = f"the number needs {len(TEXTS[int(digits)])} characters, and the width is {width}"
+        error = Error("22003", narrow) if int(width) else no_width(0)
+        yield from encoding(database, "_fixed", int(digits), error, int(width), letters)
+
+
+def range_calls(database: Database) -> Iterator[Call]:
+    """Of the first and the last string and number of a prefix."""
+    for letters, width, prefix, kind, *fields in of_widths("range"):
+        numbers = [int(field) for field in fields] if kind == "numbers" else [None, None]
+        error = error_of([kind, *fields], prefix) if kind == "byte" else None
+        for end, number in zip(("first", "last"), numbers):
+            bigint = error if number is None else min(number, BIGINT) if numbers[0] <= BIGINT else None
+            yield Call(f"{end}_number", (prefix, width, letters), bigint)
+            if database.wide != "uuid":
+                yield Call(f"{end}_{database.wide}", (prefix, width, letters), error if number is None else number)
+            if letters == STANDARD:
+                string = error if number is None else string_of(number, width)
+                yield Call(f"{end}_string", (prefix, width), string)
+                if width == KEY:
+                    yield Call(f"{end}_string", (prefix,), string)
+
+
+def arguments_by_result(calls: list[Call]) -> dict[tuple[str, int], dict[Any, tuple[Any, ...]]]:
+    """Of each function, with each count of arguments: some for each of its results."""
+    found: dict[tuple[str, int], dict[Any, tuple[Any, ...]]] = {}
+    for name, arguments, result in calls:
+        if result is not None and not isinstance(result, Error):
+            found.setdefault((name, len(arguments)), {}).setdefault(result, arguments)
+    return found
+
+
+def argument_calls(database: Database, name: str, given: tuple[Any, ...]) -> Iterator[Call]:
+    """With each argument null or invalid in turn, beside others that are invalid. The error is that of the number or UUID,
+    or else that of the width, of the alphabet, or of the string."""
+    kind = re.sub("^encode|_fixed$|_key$", "", name)
+    first = Text(b"-") if isinstance(given[0], Text) else dict(database.encoded)[kind](62)
+    with_width, with_alphabet = len(given) > 1 and isinstance(given[1], int), isinstance(given[-1], str)
+    width, alphabet = [1] * with_width, ["01"] * with_alphabet
+    for place in range(len(given)):
+        for others in (given, (first, *width, *alphabet)):
+            yield Call(name, (*others[:place], None, *others[place + 1 :]), None)
+    if with_alphabet:
+        for letters, error in NO_ALPHABETS.items():
+            yield Call(name, (first, *width, letters), error)
+    if with_width:
+        for value in (0, -1, WIDEST + 1, *database.invalid_widths):
+            yield Call(name, (first, value, *alphabet), no_width(value))
+    if not isinstance(first, Text):
+        for number, error in database.invalid_numbers.get(kind, {}).items():
+            yield Call(name, (number, *[0] * with_width, *alphabet), error)
+
+
+def calls_of(database: Database) -> list[Call]:
+    """The calls of all functions but base62_version. Over the standard alphabet they are also without it."""
+    calls: list[Call] = []
+    for kind in (encoded_calls, invalid_calls, width_calls, range_calls):
+        calls += kind(database)
+    calls += [Call(name, given[:-1], result) for name, given, result in calls if given[-1] == STANDARD]
+    calls += [Call("encode", (61, Text(edge)), chr(edge[-1])) for edge in EDGES]
+    calls.append(Call("encode_fixed", (1337, WIDEST), "LZ".rjust(WIDEST, "0")))
+    calls.append(Call("decode", (Text(b"0\xc3\xa9"),), error_of(["byte", "195", "1"], b"0\xc3\xa9")))
+    for (name, _), results in arguments_by_result(calls).items():
+        calls += argument_calls(database, name, next(iter(results.values())))
+    return calls
+
+
+def by_prefix(strings: list[str], *others: str) -> dict[str, list[str]]:
+    """For prefixes of some lengths, and others, the strings that begin so."""
+    prefixes = {text[:length] for text in strings for length in (0, 1, 2, 11)} | {*others}
+    return {prefix: sorted(text for text in strings if text.startswith(prefix)) for prefix in prefixes}
+
+
+# README's queries for a prefix, ?1, and what they find: of shortest strings in a table link of the ids in TEXTS, and of keys in
+# a table named of these as UUIDs.
+(QUERY,) = re.findall(r"(?s)\n(WITH given .*?);", README.replace("'L'", "?1").replace(", target", ""))
+(BETWEEN,) = re.findall(r"\nSELECT name FROM item\n(WHERE id BETWEEN .*?);", README.replace("'2aU'", "?1"))
+SEARCHES = [
+    (QUERY, by_prefix([text for number, text in TEXTS.items() if number <= BIGINT], "00", "01", "-", "L-", "é")),
+    (
+        "SELECT base62_encode_uuid_key(id) FROM named " + BETWEEN,
+        by_prefix([text.rjust(KEY, "0") for text in TEXTS.values()], "x"),
+    ),
+]

@@ -8,7 +8,7 @@ function(add_machine name triple qemu)
     endif()
     foreach(level IN ITEMS ${ARGN})
         set(options -DCMAKE_SYSTEM_NAME=Linux -DCMAKE_SYSTEM_PROCESSOR=${name} -DCMAKE_C_COMPILER=${triple}-gcc
-            -DCMAKE_CROSSCOMPILING_EMULATOR=${qemu} -DBASE62_PAIRS=10000)
+            -DCMAKE_CROSSCOMPILING_EMULATOR=${qemu})
         if(NOT level STREQUAL "-O2")
             list(APPEND options -DBUILD_SHARED_LIBS=OFF)
         endif()

@@ -1,20 +1,15 @@
-# The compilers of this machine: optimizations, integers of 128 bits or not, standards of C, sanitizers, analyzers.
+# The compilers of this machine: optimizations, integers of 128 bits or not, sanitizers, analyzers.
 set(sanitized "-g -O1 -fno-sanitize-recover=all -fsanitize=")
 set(without "-DBASE62_NO_INT128")
 
-foreach(pair IN ITEMS gcc:g++ clang:clang++)
-    string(REPLACE ":" ";" pair "${pair}")
-    list(GET pair 0 compiler)
-    list(GET pair 1 of_c++)
+foreach(compiler IN ITEMS gcc clang)
     look_for(${compiler} ${compiler})
-    look_for(${of_c++} ${of_c++})
     if(NOT ${compiler})
         continue()
     endif()
-    set(by -DCMAKE_C_COMPILER=${compiler} -DCMAKE_CXX_COMPILER=${PROGRAM_${of_c++}})
-    set(static_by ${by} -DBUILD_SHARED_LIBS=OFF)
-    add_build(${compiler} "${c}" -O2 ${by})
-    add_build(${compiler}-standards "${tests}/standards" -O0 ${by})
+    # The test `compiling`, in Python, asks for no more than one build by each compiler.
+    set(static_by -DCMAKE_C_COMPILER=${compiler} -DBUILD_SHARED_LIBS=OFF -DCMAKE_DISABLE_FIND_PACKAGE_Python3=ON)
+    add_build(${compiler} "${c}" -O2 -DCMAKE_C_COMPILER=${compiler})
     add_build(${compiler}-O2-without-int128 "${c}" "-O2 ${without}" ${static_by})
     foreach(level IN ITEMS -O0 -O3)
         add_build(${compiler}${level} "${c}" ${level} ${static_by})
@@ -41,7 +36,7 @@ if(clang)
     add_build(clang-integers "${c}"
         "${sanitized}undefined,unsigned-integer-overflow,implicit-conversion,local-bounds ${ignored}" ${static_by})
     # No byte that is not set is read.
-    add_build(clang-memory "${c}" "-g -O0 -fno-sanitize-recover=all -fsanitize=memory" ${static_by} -DBASE62_PAIRS=10000)
+    add_build(clang-memory "${c}" "-g -O0 -fno-sanitize-recover=all -fsanitize=memory" ${static_by})
 endif()
 look_for(clang-tidy clang-tidy)
 if(clang AND clang-tidy)

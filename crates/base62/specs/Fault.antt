@@ -1,4 +1,4 @@
--- The messages of errors, which the code calls faults, and their order.
+-- The messages of errors, and their order.
 use Rattle.std.specs.Prelude.{ℕ, ◌==◌, ◌&&◌, nat_le, if◌then◌else◌, List, [], ◌∷◌, ◌++◌, codes, decimal}
 use Rattle.std.specs.Char.Escape.{hex_digit_at}
 use Rattle.std.specs.Ordering.{nat_cmp, ordering_then}
@@ -14,6 +14,8 @@ use Rattle.base62.specs.declared.fault.EncodeError.{EncodeError}
 use Rattle.base62.specs.declared.fault.EncodeError.TheVariants.{BufferTooSmall}
 use Rattle.base62.specs.declared.fault.FixedError.{FixedError}
 use Rattle.base62.specs.declared.fault.FixedError.TheVariants.{WrongLength, Decode as FixedDecode}
+use Rattle.base62.specs.declared.fault.UuidError.{UuidError}
+use Rattle.base62.specs.declared.fault.UuidError.TheVariants.{InvalidUuid}
 
 -- A byte escaped as by `std::ascii::escape_default`. A tab, a line feed, a carriage return, a quote
 -- of either kind and a backslash become a backslash and one character. Any other byte from 32 to
@@ -58,6 +60,10 @@ encode_error_text BufferTooSmall = codes "Buffer too small to encode the number"
 unfoldable pub alphabet_error_text : AlphabetError → List ℕ
 alphabet_error_text (Repeated byte index) =
     codes "Alphabet repeats the " ++ byte_at_index byte index
+
+-- the message of an error of decoding the string of a UUID
+unfoldable pub uuid_error_text : UuidError → List ℕ
+uuid_error_text InvalidUuid = codes "Not a UUID"
 
 -- a byte and its index compare with others by the byte, and then by the index
 abbrev pub byte_then_index : ℕ → ℕ → ℕ → ℕ → Ordering

@@ -16,5 +16,6 @@ pub mod Case
 pub mod Laws
 pub mod Order
 pub mod Uuid
+pub mod UuidString
 pub mod Range
 pub mod Key

@@ -33,15 +33,10 @@ pub use work::Work;
 ///
 /// [`decode`]: crate::decode
 /// [`decode_with`]: crate::decode_with
-// Its size is part of the interface of the library for C, whose callers own alphabets and pass
-// pointers to them.
-#[repr(C)]
 #[derive(Clone, Copy)]
 pub struct Alphabet {
     tables: Tables,
 }
-
-const _: () = prove!(size_of::<Alphabet>() == 318);
 
 // In contracts the value of an alphabet is the list of its letters.
 impl Model for Alphabet {

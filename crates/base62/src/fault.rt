@@ -1,4 +1,4 @@
-//! The errors of decoding, encoding, and creating an alphabet. The code calls an error a fault.
+//! The errors of decoding, encoding, and creating an alphabet.
 
 ghost use Rattle.std.specs.Prelude.{◌≡◌, ◌+◌, ◌<◌, ◌≤◌, ◌++◌, Some, decimal, length};
 ghost use Rattle.std.specs.Char.{digit_char};
@@ -8,7 +8,7 @@ ghost use Rattle.std.specs.Fmt.InlineText.{inline_text};
 ghost use Rattle.base62.specs.declared.fault.CanonicalError.TheVariants.{Decode};
 ghost use Rattle.base62.specs.declared.fault.FixedError.TheVariants.{Decode as FixedDecode};
 ghost use Rattle.base62.specs.declared.fault.TheConstants.{MAX_FAULT_TEXT};
-ghost use Rattle.base62.specs.Fault.{alphabet_error_text, byte_at_index, canonical_error_text, decode_error_text, encode_error_text, escaped, fixed_error_text};
+ghost use Rattle.base62.specs.Fault.{alphabet_error_text, byte_at_index, canonical_error_text, decode_error_text, encode_error_text, escaped, fixed_error_text, uuid_error_text};
 
 use std::fmt::InlineText;
 use std::{error, fmt, str};
@@ -57,6 +57,13 @@ pub enum EncodeError {
 pub enum AlphabetError {
     /// A byte is repeated: the first byte that is also at an earlier index, and its index, 1 to 61.
     Repeated(u8, usize),
+}
+
+/// An error that can be returned when decoding the hexadecimal string of a UUID.
+#[derive(Clone, Copy, Debug, PartialEq, Eq, PartialOrd, Ord, Hash)]
+pub enum UuidError {
+    /// The string has none of the forms of a UUID.
+    InvalidUuid,
 }
 
 /// The maximum length of an error's message: a byte has up to four characters, its index up to
@@ -263,6 +270,36 @@ impl fmt::Display for AlphabetError {
 
 impl error::Error for AlphabetError {}
 
+impl UuidError {
+    /// Returns the error's message, 10 ASCII characters. Never fails, and does not allocate.
+    ///
+    /// ```rust
+    /// let error = base62::uuid_from_string(b"550e8400").unwrap_err();
+    /// assert_eq!(rt; error.text().as_str(), "Not a UUID");
+    /// ```
+    #[tactic(auto, unfolding(crate::specs::Fault::uuid_error_text))]
+    pub fn text(&self) -> InlineText<MAX_FAULT_TEXT>
+        ensures { inline_text result ≡ uuid_error_text self.now }
+    {
+        match *self {
+            UuidError::InvalidUuid => append(InlineText::new(), "Not a UUID"),
+        }
+    }
+}
+
+/// Writes the error's message, and ignores the formatter's options.
+impl fmt::Display for UuidError {
+    ghost output = { λ e. Some (uuid_error_text e) };
+
+    ghost styled_output = { λ e _. Some (uuid_error_text e) };
+
+    fn fmt<W: fmt::Write>(&self, f: &mut fmt::Formatter<W>) -> fmt::Result {
+        write_unpadded(self.text(), f)
+    }
+}
+
+impl error::Error for UuidError {}
+
 // Writes the text unpadded, whatever options the formatter has.
 fn write_unpadded<W: fmt::Write>(
     text: InlineText<MAX_FAULT_TEXT>,
@@ -309,7 +346,8 @@ fn append_escaped(text: InlineText<MAX_FAULT_TEXT>, byte: u8) -> InlineText<MAX_
     }
 }
 
-fn hex_digit(digit: u8) -> u8
+// Returns the character of a hexadecimal digit, in lowercase.
+pub(crate) fn hex_digit(digit: u8) -> u8
     requires { digit < 16 }
     ensures value { result ≡ digit_char digit }
     ensures ascii { result < 128 }

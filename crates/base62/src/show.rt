@@ -13,7 +13,8 @@ use crate::text::Text;
 use std::fmt;
 use std::marker::Model;
 
-/// The result of [`encode_fmt`]: a value that contains the encoded string, and displays as it.
+/// The result of [`encode_fmt`], [`encode_fmt_alt`] and [`encode_fmt_with`]: a value that contains
+/// the encoded string, and displays as it.
 #[derive(Drop)]
 pub struct Fmt {
     text: Text,
@@ -34,57 +35,6 @@ impl fmt::Display for Fmt {
 
     ghost styled_output = { λ text options. displayed (spec_precision options) (spec_width options)
         (spec_fill options) options.align text };
-
-    fn fmt<W: fmt::Write>(&self, f: &mut fmt::Formatter<W>) -> fmt::Result {
-        pad(&self.text, f)
-    }
-}
-
-/// The result of [`encode_fmt_alt`]: like [`Fmt`], but of the alternative alphabet.
-#[derive(Drop)]
-pub struct FmtAlternative {
-    text: Text,
-}
-
-impl Model for FmtAlternative {
-    ghost Value = { List ℕ };
-
-    ghost view = { λ f. f.text };
-
-    ghost invariant = { λ f. IsAscii f.text };
-}
-
-/// Writes the encoded string, padded as [`encode_fmt`] says.
-impl fmt::Display for FmtAlternative {
-    ghost output = { ⟦<Fmt as fmt::Display>⟧.output };
-
-    ghost styled_output = { ⟦<Fmt as fmt::Display>⟧.styled_output };
-
-    fn fmt<W: fmt::Write>(&self, f: &mut fmt::Formatter<W>) -> fmt::Result {
-        pad(&self.text, f)
-    }
-}
-
-/// The result of [`encode_fmt_with`]: like [`Fmt`], but in a custom alphabet. It neither borrows nor
-/// copies the alphabet.
-#[derive(Drop)]
-pub struct FmtWith {
-    text: Text,
-}
-
-impl Model for FmtWith {
-    ghost Value = { List ℕ };
-
-    ghost view = { λ f. f.text };
-
-    ghost invariant = { λ f. IsAscii f.text };
-}
-
-/// Writes the encoded string, padded as [`encode_fmt`] says.
-impl fmt::Display for FmtWith {
-    ghost output = { ⟦<Fmt as fmt::Display>⟧.output };
-
-    ghost styled_output = { ⟦<Fmt as fmt::Display>⟧.styled_output };
 
     fn fmt<W: fmt::Write>(&self, f: &mut fmt::Formatter<W>) -> fmt::Result {
         pad(&self.text, f)
@@ -131,10 +81,10 @@ pub fn encode_fmt<T: Number>(num: T) -> Fmt
 /// println!(rt; "{:0>5}", base62::encode_fmt_alt(1337_u64))?; // 000lz
 /// ```
 #[tactic(auto, using(crate::proofs::CanonicalLemmas::ascii_texts))]
-pub fn encode_fmt_alt<T: Number>(num: T) -> FmtAlternative
+pub fn encode_fmt_alt<T: Number>(num: T) -> Fmt
     ensures { IsCanonical alternative result (T.meaning num) }
 {
-    FmtAlternative {
+    Fmt {
         text: Text::over(alternative_tables(), num),
     }
 }
@@ -150,11 +100,11 @@ pub fn encode_fmt_alt<T: Number>(num: T) -> FmtAlternative
 /// }
 /// ```
 #[tactic(auto, using(crate::proofs::CanonicalLemmas::ascii_texts))]
-pub fn encode_fmt_with<T: Number>(alphabet: &Alphabet, num: T) -> FmtWith
+pub fn encode_fmt_with<T: Number>(alphabet: &Alphabet, num: T) -> Fmt
     requires { IsAscii alphabet.now }
     ensures { IsCanonical alphabet.now result (T.meaning num) }
 {
-    FmtWith {
+    Fmt {
         text: Text::over(alphabet.as_tables(), num),
     }
 }

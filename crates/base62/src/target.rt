@@ -9,7 +9,7 @@ ghost use Rattle.base62.specs.Uuid.{uuid_number};
 
 use crate::alphabet::{Alphabet, Tables, Work, alternative_tables, standard_tables};
 use crate::codec::encoder::write_text;
-use crate::count::{MAX_DIGITS, digit_count};
+use crate::count::digit_count;
 use crate::number::Number;
 use crate::text::Text;
 use std::alloc::{AllocError, Global};
@@ -88,21 +88,6 @@ pub fn encode_uuid(alloc: Global, uuid: [u8; 16]) -> Result<String, AllocError>
     ensures { AnswersCanonical standard (uuid_number uuid) result }
 {
     string_over(alloc, standard_tables(), number_of_uuid(uuid))
-}
-
-/// Like [`encode_uuid`], but uses the alternative alphabet.
-///
-/// ```rust
-/// let uuid = [0, 0, 0, 0, 0, 0, 0, 0, 0, 0, 0, 0, 0, 0, 5, 57];
-/// let text = base62::encode_alternative_uuid(rt.alloc(), uuid)?;
-/// assert_eq!(rt; text.as_str(), "lz");
-/// ```
-#[inline]
-#[tactic(auto, using(crate::proofs::CanonicalLemmas::ascii_texts))]
-pub fn encode_alternative_uuid(alloc: Global, uuid: [u8; 16]) -> Result<String, AllocError>
-    ensures { AnswersCanonical alternative (uuid_number uuid) result }
-{
-    string_over(alloc, alternative_tables(), number_of_uuid(uuid))
 }
 
 /// Like [`encode_uuid`], but uses a custom alphabet, which has to be ASCII.
@@ -194,9 +179,6 @@ fn number_of_uuid(uuid: [u8; 16]) -> u128
     u128::from_be_bytes(uuid)
 }
 
-// As many zeros as the longest text has letters.
-static ZEROS: [u8; MAX_DIGITS] = [0; MAX_DIGITS];
-
 // Returns the text over the alphabet of the tables as a string. It is written in place, not copied.
 #[inline]
 #[tactic(auto, using(crate::proofs::CanonicalLemmas::ascii_texts))]
@@ -209,7 +191,7 @@ fn string_over<T: Number>(alloc: Global, tables: &Tables, num: T) -> Result<Stri
     let len = digit_count(n);
     let mut bytes = Vec::with_capacity(alloc, len)?;
     // The capacity is enough now.
-    bytes.extend_from_slice(&ZEROS[..len]).unwrap();
+    bytes.resize_with(len, || 0).unwrap();
     write_text(tables, n, len, bytes.as_mut_slice(), &mut Work::new());
     // SAFETY: the letters are ASCII.
     Ok(unsafe { String::from_utf8_unchecked(bytes) })

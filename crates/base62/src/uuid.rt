@@ -1,13 +1,13 @@
 //! Decoding to UUIDs, whose sixteen bytes are one number.
 
 ghost use Rattle.std.specs.Prelude.{◌≡◌, ℕ, List};
-ghost use Rattle.base62.specs.Alphabet.{IsAlphabet, standard, alternative};
+ghost use Rattle.base62.specs.Alphabet.{IsAlphabet, standard};
 ghost use Rattle.base62.specs.Decoding.{decoding, DecodesCanonical};
 ghost use Rattle.base62.specs.Uuid.{DecodesUuid, DecodesUuidCanonical};
 
 use crate::alphabet::Alphabet;
-use crate::canonical::{decode_alternative_canonical, decode_canonical, decode_canonical_with};
-use crate::codec::{decode, decode_alternative, decode_with};
+use crate::canonical::{decode_canonical, decode_canonical_with};
+use crate::codec::{decode, decode_with};
 use crate::fault::{CanonicalError, DecodeError};
 use crate::laws::letters_are_distinct;
 
@@ -31,23 +31,6 @@ pub fn decode_uuid(input: &[u8]) -> Result<[u8; 16], DecodeError>
     ensures { DecodesUuid standard input.now result }
 {
     bytes_of(decode(input))
-}
-
-/// Like [`decode_uuid`], but uses the alternative alphabet.
-///
-/// ```rust
-/// let uuid = base62::decode_alternative_uuid(b"lz").unwrap();
-/// assert_eq!(rt; uuid, [0, 0, 0, 0, 0, 0, 0, 0, 0, 0, 0, 0, 0, 0, 5, 57]);
-/// ```
-///
-/// # Errors
-///
-/// Returns the errors of [`decode`](crate::decode).
-#[tactic(auto, using(crate::proofs::AlphabetLemmas::alternative_is_alphabet))]
-pub fn decode_alternative_uuid(input: &[u8]) -> Result<[u8; 16], DecodeError>
-    ensures { DecodesUuid alternative input.now result }
-{
-    bytes_of(decode_alternative(input))
 }
 
 /// Like [`decode_uuid`], but uses a custom alphabet.
@@ -94,22 +77,6 @@ pub fn decode_uuid_canonical(input: &[u8]) -> Result<[u8; 16], CanonicalError>
     bytes_of_canonical(decode_canonical(input))
 }
 
-/// Like [`decode_uuid_canonical`], but uses the alternative alphabet.
-///
-/// ```rust
-/// let uuid = base62::decode_alternative_uuid_canonical(b"lz").unwrap();
-/// assert_eq!(rt; uuid, [0, 0, 0, 0, 0, 0, 0, 0, 0, 0, 0, 0, 0, 0, 5, 57]);
-/// ```
-///
-/// # Errors
-///
-/// Returns the errors of [`decode_canonical`](crate::decode_canonical).
-pub fn decode_alternative_uuid_canonical(input: &[u8]) -> Result<[u8; 16], CanonicalError>
-    ensures { DecodesUuidCanonical alternative input.now result }
-{
-    bytes_of_canonical(decode_alternative_canonical(input))
-}
-
 /// Like [`decode_uuid_canonical`], but uses a custom alphabet.
 ///
 /// ```rust
@@ -138,7 +105,7 @@ fn bytes_of(decoded: Result<u128, DecodeError>) -> Result<[u8; 16], DecodeError>
 {
     match decoded {
         Ok(number) => Ok(number.to_be_bytes()),
-        Err(fault) => Err(fault),
+        Err(error) => Err(error),
     }
 }
 
@@ -150,6 +117,6 @@ fn bytes_of_canonical(decoded: Result<u128, CanonicalError>) -> Result<[u8; 16],
 {
     match decoded {
         Ok(value) => Ok(value.to_be_bytes()),
-        Err(fault) => Err(fault),
+        Err(error) => Err(error),
     }
 }

@@ -1,31 +1,14 @@
-//! Scans and counts.
+//! Keys between two bounds, and a bound on the work of a request.
 
 ghost use Rattle.std.specs.Prelude.{◌≡◌, ◌<◌, ◌≤◌, ◌+◌, ◌*◌, ◌^◌, ◌↔◌, ℕ, List, length, Some, None, IsTrue, count_by};
 ghost use Rattle.std.specs.Result.{is_ok};
-ghost use Rattle.base62.specs.Alphabet.{AreLetters, standard};
+ghost use Rattle.base62.specs.Alphabet.{standard};
 ghost use Rattle.base62.specs.Decoding.{decoding};
 ghost use Rattle.base62.specs.Key.{IsKey};
 ghost use Rattle.base62.specs.Range.{BeginsWith};
 ghost use Rattle.base62.specs.Order.{IsNotAfter};
 
 use base62::{Alphabet, Work};
-
-/// Returns whether a scan of a table includes the row of a key. The scan is for the rows whose keys
-/// begin with a prefix, and goes from the key of the least number to that of the greatest. If there
-/// is no number, it includes no row.
-pub fn is_scanned(prefix: &[u8], key: &[u8; 22]) -> bool
-    ensures { (n : ℕ) → n < 2 ^ 128 → IsKey standard key.now n
-        → (IsTrue result ↔ BeginsWith prefix.now key.now) }
-{
-    base62::laws::built_in_alphabets();
-    let Ok(Some(ends)) = base62::key_range(prefix) else {
-        return false;
-    };
-    let low = base62::encode_key(ends.0);
-    let high = base62::encode_key(ends.1);
-    base62::laws::scan_of_front(&Alphabet::standard(), 22, prefix, ends, &low, &high);
-    low.cmp(key).is_le() && key.cmp(&high).is_le()
-}
 
 /// Returns the first and the last key of a database scan for the rows whose keys begin with a
 /// prefix, or `None` if there are no such rows.
@@ -49,11 +32,17 @@ pub fn scan_ends(prefix: &[u8]) -> Option<([u8; 22], [u8; 22])>
     Some((low, high))
 }
 
-/// Returns whether a prefix that a user typed has only letters.
-pub fn is_prefix(prefix: &[u8]) -> bool
-    ensures { IsTrue result ↔ AreLetters standard prefix.now }
+/// Returns whether a key is on the page of the keys from that of one id to that of another, by their
+/// bytes, as a database compares them.
+pub fn is_on_page(first: u128, last: u128, key: &[u8; 22]) -> bool
+    ensures { (n : ℕ) → n < 2 ^ 128 → IsKey standard key.now n
+        → (IsTrue result ↔ ((first ≤ n) × (n ≤ last))) }
 {
-    base62::prefix_range(prefix, 22).is_ok()
+    base62::laws::built_in_alphabets();
+    base62::laws::order_of_texts();
+    let low = base62::encode_key(first);
+    let high = base62::encode_key(last);
+    low.cmp(key).is_le() && key.cmp(&high).is_le()
 }
 
 /// Returns how many texts of a request denote an id, for a server that has to bound its work. Each

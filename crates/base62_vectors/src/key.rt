@@ -3,8 +3,10 @@
 use crate::support::alphabets::symbols;
 use base62::DecodeError::{ArithmeticOverflow, InvalidBase62Byte};
 use base62::FixedError::{Decode, WrongLength};
+use base62::UuidError::InvalidUuid;
 use base62::{
-    decode_alternative_fixed, decode_fixed, decode_fixed_with, decode_key, encode_key, key_range,
+    decode_fixed, decode_fixed_with, decode_key, encode_key, key_range, uuid_from_string,
+    uuid_to_string,
 };
 use std::process::Abort;
 
@@ -49,10 +51,30 @@ fn keys_of_uuids(rt: HostRuntime) {
     );
 }
 
+// The UUID of an example in RFC 4122, in each form.
+#[test]
+fn strings_of_uuids(rt: HostRuntime) {
+    let uuid = *b"\xf8\x1d\x4f\xae\x7d\xec\x11\xd0\xa7\x65\x00\xa0\xc9\x1e\x6b\xf6";
+    let is_written = uuid_to_string(uuid) == *b"f81d4fae-7dec-11d0-a765-00a0c91e6bf6";
+    assert!(rt; is_written, "the string of a UUID");
+    let strings = [
+        ("f81d4fae-7dec-11d0-a765-00a0c91e6bf6", Ok(uuid)),
+        ("F81D4FAE7DEC11D0A76500A0C91E6BF6", Ok(uuid)),
+        ("{f81d4fae-7dec-11d0-a765-00a0c91e6bf6}", Ok(uuid)),
+        ("URN:uuid:f81d4fae7dec11d0a76500a0c91e6bf6", Ok(uuid)),
+        ("", Err(InvalidUuid)),
+        ("f81d4fae-7dec11d0-a765-00a0c91e6bf6", Err(InvalidUuid)),
+        ("g81d4fae-7dec-11d0-a765-00a0c91e6bf6", Err(InvalidUuid)),
+    ];
+    for (string, answer) in strings {
+        let is_answer = uuid_from_string(string.as_bytes()) == answer;
+        assert!(rt; is_answer, "the UUID of {string}");
+    }
+}
+
 #[test]
 fn numbers_of_widths(rt: HostRuntime) {
     let are_numbers = decode_fixed(b"000LZ", 5) == Ok(1337)
-        && decode_alternative_fixed(b"000lz", 5) == Ok(1337)
         && decode_fixed_with(&symbols(), b"!!!6D", 5) == Ok(1337)
         && decode_fixed(b"LZ", 5) == Err(WrongLength)
         && decode_fixed(b"!LZ", 5) == Err(WrongLength)

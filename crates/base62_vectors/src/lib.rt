@@ -1,5 +1,5 @@
-//! Tests of `base62` with values from outside and a reference implementation, of counted calls, whose contracts state
-//! the result and the steps, and of the callers in `base62_uses` that allocate or write.
+//! Tests of `base62` with values from outside and a reference implementation, and of counted calls, whose contracts state
+//! the result and the steps.
 #![tactic(auto)]
 
 #[cfg(test)]
@@ -27,5 +27,3 @@ pub mod steps;
 mod support;
 #[cfg(test)]
 mod target;
-#[cfg(test)]
-mod uses;

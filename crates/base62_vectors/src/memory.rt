@@ -9,7 +9,7 @@ use std::test::Fail;
 // The calls that return a string, by their alphabets.
 const TEXT_CALLS: [&str; 3] = ["encode", "encode_alternative", "encode_with"];
 
-const UUID_CALLS: [&str; 3] = ["encode_uuid", "encode_alternative_uuid", "encode_uuid_with"];
+const UUID_CALLS: [&str; 3] = ["encode_uuid", "encode_uuid_with", "encode_uuid_with"];
 
 // Numbers with their texts over each alphabet.
 const TEXTS: [(u128, [&str; 3]); 2] = [

@@ -28,8 +28,8 @@ pub fn zeros_on_the_same_counter() -> (Result<u128, DecodeError>, Work)
     (answer, work)
 }
 
-/// Rejects 1337, whose text has two letters, for a buffer of one byte, with a new counter. It takes no step.
-pub fn two_letters_in_one_byte() -> (Result<usize, EncodeError>, Work)
+/// Rejects 1337, whose string has two characters, for a buffer of one byte, with a new counter. It takes no step.
+pub fn two_characters_in_one_byte() -> (Result<usize, EncodeError>, Work)
     ensures answer { result.0 ≡ Err BufferTooSmall }
     ensures steps { result.1 ≡ 0 }
 {
@@ -40,20 +40,8 @@ pub fn two_letters_in_one_byte() -> (Result<usize, EncodeError>, Work)
     (answer, work)
 }
 
-/// Encodes 0 with a new counter, in one step, and returns the length.
-pub fn zero_in_22_bytes() -> (Result<usize, EncodeError>, Work)
-    ensures answer { result.0 ≡ Ok 1 }
-    ensures steps { result.1 ≡ 1 }
-{
-    built_in_alphabets();
-    one_text();
-    let mut work = Work::new();
-    let answer = encode_bytes_counted(0_u8, &mut [0; 22], &mut work);
-    (answer, work)
-}
-
-/// Encodes 62^9, the least number of ten letters, with a new counter, in seven steps, and returns the length.
-pub fn ten_letters_in_22_bytes() -> (Result<usize, EncodeError>, Work)
+/// Encodes 62^9, the least number of ten characters, with a new counter, in seven steps, and returns the length.
+pub fn ten_characters_in_22_bytes() -> (Result<usize, EncodeError>, Work)
     ensures answer { result.0 ≡ Ok 10 }
     ensures steps { result.1 ≡ 7 }
 {

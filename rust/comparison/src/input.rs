@@ -31,17 +31,13 @@ impl Random {
         b"0123456789ABCDEFGHIJKLMNOPQRSTUVWXYZabcdefghijklmnopqrstuvwxyz"[self.below(62)]
     }
 
-    /// The text of a number with leading zeros, any letters, or one that is nearly 2^128, in either built-in alphabet;
+    /// The text of a number with leading zeros, any letters, or 2^128 - 1, in either built-in alphabet;
     /// with some bytes changed.
     fn text(&mut self, number: u128) -> Vec<u8> {
         let mut text = match self.below(3) {
             0 => ("0".repeat(self.below(12)) + &proved::encode(number)).into(),
             1 => (0..self.below(26)).map(|_| self.letter()).collect(),
-            _ => {
-                let mut text = b"7n42DGM5Tflk9n8mt7Fhc7".to_vec();
-                text[self.below(22)] = self.letter();
-                text
-            }
+            _ => b"7n42DGM5Tflk9n8mt7Fhc7".to_vec(),
         };
         if self.below(2) == 0 {
             // The same number in the alternative alphabet.
@@ -51,14 +47,35 @@ impl Random {
         }
         for _ in 0..self.below(3).min(text.len()) {
             let index = self.below(text.len());
-            text[index] = self.word() as u8;
+            text[index] = [self.letter(), self.word() as u8][self.below(2)];
         }
         text
     }
 
-    /// Any bytes, and the same with one of them put in another place.
+    /// A string for a UUID in each form, or one that has another byte than such a string.
+    fn uuid_string(&mut self, uuid: u128) -> Vec<u8> {
+        let hyphenated = proved::uuid_to_string(uuid.to_be_bytes());
+        let string = match self.below(2) {
+            0 => format!("{uuid:032x}"),
+            _ => String::from_utf8(hyphenated.to_vec()).unwrap(),
+        };
+        let string = match self.below(4) {
+            0 => format!("{{{string}}}"),
+            1 => format!("urn:uuid:{string}"),
+            _ => string,
+        };
+        let cases = |byte: u8| [byte, byte.to_ascii_uppercase()][self.below(2)];
+        let mut string: Vec<u8> = string.bytes().map(cases).collect();
+        if self.below(3) == 0 {
+            let index = self.below(string.len());
+            string[index] = b"-{}:gU0"[self.below(7)];
+        }
+        string
+    }
+
+    /// Any bytes or ASCII ones, and the same with one of them put in another place.
     fn letters(&mut self) -> ([u8; 62], [u8; 62]) {
-        let mut bytes: Vec<u8> = (0..=255).collect();
+        let mut bytes: Vec<u8> = (0..=[127, 255][self.below(2)]).collect();
         let letters = std::array::from_fn(|_| bytes.swap_remove(self.below(bytes.len())));
         let mut repeated = letters;
         repeated[self.below(62)] = letters[self.below(62)];
@@ -71,6 +88,7 @@ impl Random {
 pub struct Input {
     pub number: u128,
     pub text: Vec<u8>,
+    pub uuid_string: Vec<u8>,
     /// Those of an alphabet, and of none.
     pub letters: ([u8; 62], [u8; 62]),
     pub width: usize,
@@ -86,6 +104,7 @@ impl Input {
         Input {
             number,
             text: random.text(number),
+            uuid_string: random.uuid_string(number),
             letters: random.letters(),
             width: random.below(30),
             fill: random.word() as u8,

@@ -1,6 +1,6 @@
-//! The calls of a library for C, with the names and types of this crate.
+//! The calls of the C library, with the names and types of this crate.
 
-use proved::{AlphabetError, CanonicalError, DecodeError, EncodeError, FixedError};
+use proved::EncodeError;
 use std::ops::RangeInclusive;
 
 #[repr(C)]
@@ -10,12 +10,14 @@ struct Number {
     low: u64,
 }
 
-impl Number {
-    fn new(num: u128) -> Self {
+impl From<u128> for Number {
+    fn from(num: u128) -> Self {
         let (high, low) = ((num >> 64) as u64, num as u64);
         Number { high, low }
     }
+}
 
+impl Number {
     fn value(self) -> u128 {
         u128::from(self.high) << 64 | u128::from(self.low)
     }
@@ -32,117 +34,133 @@ struct BadByte {
 pub struct Alphabet([u8; 318]);
 
 // scripts/check-compare tells the linker where it is.
-#[link(name = "base62_c", kind = "static")]
-extern "C" {
-    fn base62_encode_key(number: Number, key: &mut [u8; 22]);
-    fn base62_alphabet_init(alphabet: &mut Alphabet, characters: &[u8; 62], bad: &mut BadByte) -> u32;
+#[link(name = "base62")]
+// SAFETY: the safe ones take references to all that they access.
+unsafe extern "C" {
+    safe fn base62_encode_key(number: Number, key: &mut [u8; 22]);
+    safe fn base62_digit_count(number: Number) -> usize;
+    safe fn base62_alphabet_init(own: &mut Alphabet, letters: &[u8; 62], bad: &mut BadByte) -> u32;
+    safe fn base62_from_uuid(uuid: &[u8; 16]) -> Number;
+    safe fn base62_to_uuid(number: Number, uuid: &mut [u8; 16]);
+    fn base62_error_message(status: u32, bad: BadByte, start: *mut u8, size: usize) -> usize;
+    fn base62_uuid_from_string(start: *const u8, length: usize, uuid: &mut [u8; 16]) -> u32;
+    safe fn base62_uuid_to_string(uuid: &[u8; 16], string: &mut [u8; 36]);
 }
 
-/// Calls with a buffer. They answer how many bytes they wrote, or 0 if it is too small.
+/// Calls with a buffer. They return how many bytes they wrote, or 0 if it is too small.
 macro_rules! encoders {
-    ($type:ty: $answer:expr; $($call:ident $name:ident $($own:ident)?,)*) => {
+    ($($call:ident $name:ident $($own:ident)?,)*) => {
         extern "C" {
             $(fn $name($($own: &Alphabet,)? number: Number, start: *mut u8, size: usize) -> usize;)*
         }
-        $(pub fn $call($($own: &Alphabet,)? num: u128, buf: &mut [u8]) -> Result<$type, EncodeError> {
+        $(pub fn $call($($own: &Alphabet,)? num: u128, buf: &mut [u8]) -> Result<usize, EncodeError> {
             // SAFETY: a slice is valid for writes of its length, and `Alphabet::new` has made each alphabet.
-            match unsafe { $name($($own,)? Number::new(num), buf.as_mut_ptr(), buf.len()) } {
-                0 => Err(EncodeError::BufferTooSmall),
-                written => Ok($answer(written, buf.len())),
-            }
+            let written = unsafe { $name($($own,)? num.into(), buf.as_mut_ptr(), buf.len()) };
+            if written == 0 { Err(EncodeError::BufferTooSmall) } else { Ok(written) }
         })*
     };
 }
 
 encoders! {
-    usize: |written, _| written;
     encode_bytes base62_encode,
     encode_alternative_bytes base62_encode_alternative,
     encode_bytes_with base62_encode_with own,
-}
-
-encoders! {
-    (): |written, width| assert_eq!(written, width);
     encode_fixed base62_encode_fixed,
-    encode_alternative_fixed base62_encode_alternative_fixed,
     encode_fixed_with base62_encode_fixed_with own,
 }
 
-/// Calls with a text, and in `$width` what follows it. They write a number or a range, and answer a status.
+/// The message of an error.
+fn message(status: u32, bad: BadByte) -> String {
+    let mut text = [0; 100];
+    // SAFETY: an array is valid for writes of its length.
+    let length = unsafe { base62_error_message(status, bad, text.as_mut_ptr(), text.len()) };
+    String::from_utf8_lossy(&text[..length]).into()
+}
+
+/// Calls with a text, and in `$width` what follows it. They store a number or a range, of which `$value` makes the result.
 macro_rules! decoders {
-    ($type:ty: $found:ty, $answer:expr; $($call:ident $name:ident $($own:ident)? $(($width:ident))?,)*) => {
+    ($stored:ty => $type:ty: $value:expr; $($call:ident $name:ident $($own:ident)? $(($width:ident))?,)*) => {
         extern "C" {
             $(fn $name(
-                $($own: &Alphabet,)? start: *const u8, length: usize, $($width: usize,)? found: &mut $found,
+                $($own: &Alphabet,)? start: *const u8, length: usize, $($width: usize,)? stored: &mut $stored,
                 bad: &mut BadByte,
             ) -> u32;)*
         }
-        $(pub fn $call($($own: &Alphabet,)? text: &[u8] $(, $width: usize)?) -> $type {
-            let (mut found, mut bad) = (<$found>::default(), BadByte::default());
+        $(pub fn $call($($own: &Alphabet,)? text: &[u8] $(, $width: usize)?) -> Result<$type, String> {
+            let (mut stored, mut bad) = (<$stored>::default(), BadByte::default());
             let (start, length) = (text.as_ptr(), text.len());
             // SAFETY: a slice is valid for reads of its length, and `Alphabet::new` has made each alphabet.
-            match unsafe { $name($($own,)? start, length, $($width,)? &mut found, &mut bad) } {
-                2 => Err(DecodeError::EmptyInput.into()),
-                3 => Err(DecodeError::InvalidBase62Byte(bad.byte, bad.index).into()),
-                4 => Err(DecodeError::ArithmeticOverflow.into()),
-                status => $answer(status, found),
-            }
+            let status = unsafe { $name($($own,)? start, length, $($width,)? &mut stored, &mut bad) };
+            $value(status, stored).ok_or_else(|| message(status, bad))
         })*
     };
 }
 
 decoders! {
-    Result<u128, DecodeError>: Number, |status, number: Number| (status == 0).then(|| Ok(number.value())).unwrap();
+    Number => u128: |status, number: Number| (status == 0).then(|| number.value());
     decode base62_decode,
     decode_alternative base62_decode_alternative,
     decode_with base62_decode_with own,
-}
-
-decoders! {
-    Result<u128, CanonicalError>: Number,
-    |status, number: Number| found(status, 7, number.value()).ok_or(CanonicalError::LeadingZero);
     decode_canonical base62_decode_canonical,
-    decode_alternative_canonical base62_decode_alternative_canonical,
     decode_canonical_with base62_decode_canonical_with own,
-}
-
-decoders! {
-    Result<u128, FixedError>: Number,
-    |status, number: Number| found(status, 8, number.value()).ok_or(FixedError::WrongLength);
     decode_fixed base62_decode_fixed (width),
-    decode_alternative_fixed base62_decode_alternative_fixed (width),
     decode_fixed_with base62_decode_fixed_with own (width),
     decode_key base62_decode_key,
 }
 
 decoders! {
-    Result<Option<RangeInclusive<u128>>, DecodeError>: [Number; 2],
-    |status, [least, greatest]: [Number; 2]| Ok(found(status, 5, least.value()..=greatest.value()));
+    [Number; 2] => Option<RangeInclusive<u128>>: |status, [least, greatest]: [Number; 2]| match status {
+        0 => Some(Some(least.value()..=greatest.value())),
+        5 => Some(None),
+        _ => None,
+    };
     key_range base62_key_range,
     prefix_range base62_prefix_range (width),
     prefix_range_with base62_prefix_range_with own (width),
 }
 
-/// What was found, by a status that may say that there is none.
-fn found<T>(status: u32, none: u32, found: T) -> Option<T> {
-    assert!(status == 0 || status == none, "the status {status}");
-    (status == 0).then_some(found)
+/// What a call writes to an array.
+fn written<const N: usize>(call: impl FnOnce(&mut [u8; N])) -> [u8; N] {
+    let mut bytes = [0; N];
+    call(&mut bytes);
+    bytes
 }
 
 pub fn encode_key(num: u128) -> [u8; 22] {
-    let mut key = [0; 22];
-    // SAFETY: the key is here.
-    unsafe { base62_encode_key(Number::new(num), &mut key) };
-    key
+    written(|key| base62_encode_key(num.into(), key))
+}
+
+pub fn digit_count(num: u128) -> usize {
+    base62_digit_count(num.into())
+}
+
+pub fn from_uuid(uuid: [u8; 16]) -> u128 {
+    base62_from_uuid(&uuid).value()
+}
+
+pub fn to_uuid(num: u128) -> [u8; 16] {
+    written(|uuid| base62_to_uuid(num.into(), uuid))
+}
+
+pub fn uuid_from_string(string: &[u8]) -> Result<[u8; 16], String> {
+    let mut uuid = [0; 16];
+    // SAFETY: a slice is valid for reads of its length.
+    match unsafe { base62_uuid_from_string(string.as_ptr(), string.len(), &mut uuid) } {
+        0 => Ok(uuid),
+        status => Err(message(status, BadByte::default())),
+    }
+}
+
+pub fn uuid_to_string(uuid: [u8; 16]) -> [u8; 36] {
+    written(|string| base62_uuid_to_string(&uuid, string))
 }
 
 impl Alphabet {
-    pub fn new(characters: [u8; 62]) -> Result<Self, AlphabetError> {
-        let (mut made, mut bad) = (Alphabet([0; 318]), BadByte::default());
-        // SAFETY: all three are here.
-        match unsafe { base62_alphabet_init(&mut made, &characters, &mut bad) } {
-            0 => Ok(made),
-            _ => Err(AlphabetError::Repeated(bad.byte, bad.index)),
+    pub fn new(characters: [u8; 62]) -> Result<Self, String> {
+        let (mut own, mut bad) = (Alphabet([0; 318]), BadByte::default());
+        match base62_alphabet_init(&mut own, &characters, &mut bad) {
+            0 => Ok(own),
+            status => Err(message(status, bad)),
         }
     }
 }

@@ -27,15 +27,10 @@ pub(crate) use tables::{Tables, alternative_tables, standard_tables};
 ///
 /// [`decode`]: crate::decode
 /// [`decode_with`]: crate::decode_with
-// Its size is part of the interface of the library for C, whose callers own alphabets and pass
-// pointers to them.
-#[repr(C)]
 #[derive(Clone, Copy)]
 pub struct Alphabet {
     tables: Tables,
 }
-
-const _: () = assert!(core::mem::size_of::<Alphabet>() == 318);
 
 impl Alphabet {
     /// Creates an alphabet from 62 bytes, ASCII or not.

@@ -6,7 +6,7 @@
 
 //! Canonical decoding.
 
-use crate::alphabet::{Alphabet, Tables, alternative_tables, standard_tables};
+use crate::alphabet::{Alphabet, Tables, standard_tables};
 use crate::codec::decoder::{count_zeros, decode_after};
 use crate::fault::{CanonicalError, DecodeError};
 
@@ -36,19 +36,6 @@ use crate::fault::{CanonicalError, DecodeError};
 /// characters follow, and `Decode` with the error of [`decode`] if that returns one.
 pub fn decode_canonical<T: AsRef<[u8]>>(input: T) -> Result<u128, CanonicalError> {
     read_canonical(standard_tables(), input.as_ref())
-}
-
-/// Like [`decode_canonical`], but uses the alternative alphabet.
-///
-/// ```rust
-/// assert_eq!(base62::decode_alternative_canonical(b"lz"), Ok(1337));
-/// ```
-///
-/// # Errors
-///
-/// Returns the errors of [`decode_canonical`].
-pub fn decode_alternative_canonical<T: AsRef<[u8]>>(input: T) -> Result<u128, CanonicalError> {
-    read_canonical(alternative_tables(), input.as_ref())
 }
 
 /// Like [`decode_canonical`], but uses a custom alphabet.

@@ -6,7 +6,7 @@
 
 //! Strings of a fixed width, with leading zeros: encoding, decoding, and the ranges of prefixes.
 
-use crate::alphabet::{Alphabet, Tables, alternative_tables, standard_tables};
+use crate::alphabet::{Alphabet, Tables, standard_tables};
 use crate::codec::decoder::decode_over;
 use crate::codec::encoder::write_text;
 use crate::count::digit_count;
@@ -34,26 +34,6 @@ use core::str;
 /// empty, and never for 22 bytes or more. `places` is then left unchanged.
 pub fn encode_fixed<T: Into<u128>>(num: T, places: &mut [u8]) -> Result<(), EncodeError> {
     fill_places(standard_tables(), num.into(), places)
-}
-
-/// Like [`encode_fixed`], but uses the alternative alphabet.
-///
-/// The strings do not sort in the order of their numbers.
-///
-/// ```rust
-/// let mut places = [0u8; 5];
-/// assert_eq!(base62::encode_alternative_fixed(1337_u64, &mut places), Ok(()));
-/// assert_eq!(&places, b"000lz");
-/// ```
-///
-/// # Errors
-///
-/// Returns the errors of [`encode_fixed`].
-pub fn encode_alternative_fixed<T: Into<u128>>(
-    num: T,
-    places: &mut [u8],
-) -> Result<(), EncodeError> {
-    fill_places(alternative_tables(), num.into(), places)
 }
 
 /// Like [`encode_fixed`], but uses a custom alphabet, and pads with its first character.
@@ -171,22 +151,6 @@ pub fn decode_fixed<T: AsRef<[u8]>>(input: T, width: usize) -> Result<u128, Fixe
     read_fixed(standard_tables(), input.as_ref(), width)
 }
 
-/// Like [`decode_fixed`], but uses the alternative alphabet.
-///
-/// ```rust
-/// assert_eq!(base62::decode_alternative_fixed(b"000lz", 5), Ok(1337));
-/// ```
-///
-/// # Errors
-///
-/// Returns the errors of [`decode_fixed`].
-pub fn decode_alternative_fixed<T: AsRef<[u8]>>(
-    input: T,
-    width: usize,
-) -> Result<u128, FixedError> {
-    read_fixed(alternative_tables(), input.as_ref(), width)
-}
-
 /// Like [`decode_fixed`], but uses a custom alphabet.
 ///
 /// ```rust
@@ -211,8 +175,7 @@ fn read_fixed(tables: &Tables, input: &[u8], width: usize) -> Result<u128, Fixed
     if input.len() != width {
         return Err(FixedError::WrongLength);
     }
-    let number = decode_over(tables, input)?;
-    Ok(number)
+    Ok(decode_over(tables, input)?)
 }
 
 /// Returns the least and the greatest number below 2^128 whose string of `width` characters begins
@@ -264,19 +227,8 @@ pub fn prefix_range_with<T: AsRef<[u8]>>(
     range_over(alphabet.as_tables(), prefix.as_ref(), width)
 }
 
-// Returns the range over the alphabet of the tables, by `range_found`. It is apart for the proof:
-// in the source its contract says what the range means, and that of `range_found` how it is
-// computed.
+// Returns the range over the alphabet of the tables, by the result of decoding the prefix.
 fn range_over(
-    tables: &Tables,
-    prefix: &[u8],
-    width: usize,
-) -> Result<Option<core::ops::RangeInclusive<u128>>, DecodeError> {
-    range_found(tables, prefix, width)
-}
-
-// Returns the range, by the result of decoding the prefix.
-fn range_found(
     tables: &Tables,
     prefix: &[u8],
     width: usize,
@@ -290,7 +242,7 @@ fn range_found(
             check_letters(tables, prefix)?;
             Ok(None)
         }
-        Err(fault) => Err(fault),
+        Err(error) => Err(error),
     }
 }
 

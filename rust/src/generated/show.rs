@@ -10,7 +10,8 @@ use crate::alphabet::{Alphabet, alternative_tables, standard_tables};
 use crate::text::Text;
 use core::fmt;
 
-/// The result of [`encode_fmt`]: a value that contains the encoded string, and displays as it.
+/// The result of [`encode_fmt`], [`encode_fmt_alt`] and [`encode_fmt_with`]: a value that contains
+/// the encoded string, and displays as it.
 #[derive(Clone, Copy, Debug)]
 pub struct Fmt {
     text: Text,
@@ -18,33 +19,6 @@ pub struct Fmt {
 
 /// Writes the encoded string, padded as [`encode_fmt`] says.
 impl fmt::Display for Fmt {
-    fn fmt(&self, f: &mut fmt::Formatter<'_>) -> fmt::Result {
-        pad(&self.text, f)
-    }
-}
-
-/// The result of [`encode_fmt_alt`]: like [`Fmt`], but of the alternative alphabet.
-#[derive(Clone, Copy, Debug)]
-pub struct FmtAlternative {
-    text: Text,
-}
-
-/// Writes the encoded string, padded as [`encode_fmt`] says.
-impl fmt::Display for FmtAlternative {
-    fn fmt(&self, f: &mut fmt::Formatter<'_>) -> fmt::Result {
-        pad(&self.text, f)
-    }
-}
-
-/// The result of [`encode_fmt_with`]: like [`Fmt`], but in a custom alphabet. It neither borrows nor
-/// copies the alphabet.
-#[derive(Clone, Copy, Debug)]
-pub struct FmtWith {
-    text: Text,
-}
-
-/// Writes the encoded string, padded as [`encode_fmt`] says.
-impl fmt::Display for FmtWith {
     fn fmt(&self, f: &mut fmt::Formatter<'_>) -> fmt::Result {
         pad(&self.text, f)
     }
@@ -82,7 +56,7 @@ pub fn encode_fmt<T: Into<u128>>(num: T) -> impl fmt::Display + fmt::Debug + Cop
 /// ```
 #[must_use]
 pub fn encode_fmt_alt<T: Into<u128>>(num: T) -> impl fmt::Display + fmt::Debug + Copy {
-    FmtAlternative {
+    Fmt {
         text: Text::over(alternative_tables(), num),
     }
 }
@@ -108,7 +82,7 @@ pub fn encode_fmt_with<T: Into<u128>>(
     num: T,
 ) -> impl fmt::Display + fmt::Debug + Copy {
     crate::support::contract::assert_ascii(alphabet);
-    FmtWith {
+    Fmt {
         text: Text::over(alphabet.as_tables(), num),
     }
 }

@@ -8,7 +8,7 @@
 
 use crate::alphabet::{Alphabet, Tables, alternative_tables, standard_tables};
 use crate::codec::encoder::write_text;
-use crate::count::{MAX_DIGITS, digit_count};
+use crate::count::digit_count;
 use crate::text::Text;
 use alloc::{string::String, vec::Vec};
 #[cfg(feature = "std")]
@@ -80,19 +80,6 @@ pub fn encode_with<T: Into<u128>>(alphabet: &Alphabet, num: T) -> String {
 #[must_use = "this allocates a new `String`"]
 pub fn encode_uuid(uuid: [u8; 16]) -> String {
     string_over(standard_tables(), number_of_uuid(uuid))
-}
-
-/// Like [`encode_uuid`], but uses the alternative alphabet.
-///
-/// ```rust
-/// let uuid = [0, 0, 0, 0, 0, 0, 0, 0, 0, 0, 0, 0, 0, 0, 5, 57];
-/// let text = base62::encode_alternative_uuid(uuid);
-/// assert_eq!(text.as_str(), "lz");
-/// ```
-#[inline]
-#[must_use = "this allocates a new `String`"]
-pub fn encode_alternative_uuid(uuid: [u8; 16]) -> String {
-    string_over(alternative_tables(), number_of_uuid(uuid))
 }
 
 /// Like [`encode_uuid`], but uses a custom alphabet, which has to be ASCII.
@@ -172,9 +159,6 @@ fn number_of_uuid(uuid: [u8; 16]) -> u128 {
     u128::from_be_bytes(uuid)
 }
 
-// As many zeros as the longest text has letters.
-static ZEROS: [u8; MAX_DIGITS] = [0; MAX_DIGITS];
-
 // Returns the text over the alphabet of the tables as a string. It is written in place, not copied.
 #[inline]
 fn string_over<T: Into<u128>>(tables: &Tables, num: T) -> String {
@@ -182,7 +166,7 @@ fn string_over<T: Into<u128>>(tables: &Tables, num: T) -> String {
     let len = digit_count(n);
     let mut bytes = Vec::with_capacity(len);
     // The capacity is enough now.
-    append_zeros!(bytes, ZEROS, len);
+    append_zeros!(bytes, len);
     write_text(tables, n, len, bytes.as_mut_slice());
     // SAFETY: the letters are ASCII.
     proved!(String::from_utf8(bytes))

@@ -7,8 +7,8 @@
 //! Decoding to UUIDs, whose sixteen bytes are one number.
 
 use crate::alphabet::Alphabet;
-use crate::canonical::{decode_alternative_canonical, decode_canonical, decode_canonical_with};
-use crate::codec::{decode, decode_alternative, decode_with};
+use crate::canonical::{decode_canonical, decode_canonical_with};
+use crate::codec::{decode, decode_with};
 use crate::fault::{CanonicalError, DecodeError};
 
 /// Decodes `input` in the standard alphabet, and returns the number as the sixteen bytes of a UUID.
@@ -28,20 +28,6 @@ use crate::fault::{CanonicalError, DecodeError};
 /// Returns the errors of [`decode`].
 pub fn decode_uuid<T: AsRef<[u8]>>(input: T) -> Result<[u8; 16], DecodeError> {
     bytes_of(decode(input.as_ref()))
-}
-
-/// Like [`decode_uuid`], but uses the alternative alphabet.
-///
-/// ```rust
-/// let uuid = base62::decode_alternative_uuid(b"lz").unwrap();
-/// assert_eq!(uuid, [0, 0, 0, 0, 0, 0, 0, 0, 0, 0, 0, 0, 0, 0, 5, 57]);
-/// ```
-///
-/// # Errors
-///
-/// Returns the errors of [`decode`](crate::decode).
-pub fn decode_alternative_uuid<T: AsRef<[u8]>>(input: T) -> Result<[u8; 16], DecodeError> {
-    bytes_of(decode_alternative(input.as_ref()))
 }
 
 /// Like [`decode_uuid`], but uses a custom alphabet.
@@ -86,22 +72,6 @@ pub fn decode_uuid_canonical<T: AsRef<[u8]>>(input: T) -> Result<[u8; 16], Canon
     bytes_of_canonical(decode_canonical(input.as_ref()))
 }
 
-/// Like [`decode_uuid_canonical`], but uses the alternative alphabet.
-///
-/// ```rust
-/// let uuid = base62::decode_alternative_uuid_canonical(b"lz").unwrap();
-/// assert_eq!(uuid, [0, 0, 0, 0, 0, 0, 0, 0, 0, 0, 0, 0, 0, 0, 5, 57]);
-/// ```
-///
-/// # Errors
-///
-/// Returns the errors of [`decode_canonical`](crate::decode_canonical).
-pub fn decode_alternative_uuid_canonical<T: AsRef<[u8]>>(
-    input: T,
-) -> Result<[u8; 16], CanonicalError> {
-    bytes_of_canonical(decode_alternative_canonical(input.as_ref()))
-}
-
 /// Like [`decode_uuid_canonical`], but uses a custom alphabet.
 ///
 /// ```rust
@@ -124,7 +94,7 @@ pub fn decode_uuid_canonical_with<T: AsRef<[u8]>>(
 fn bytes_of(decoded: Result<u128, DecodeError>) -> Result<[u8; 16], DecodeError> {
     match decoded {
         Ok(number) => Ok(number.to_be_bytes()),
-        Err(fault) => Err(fault),
+        Err(error) => Err(error),
     }
 }
 
@@ -132,6 +102,6 @@ fn bytes_of(decoded: Result<u128, DecodeError>) -> Result<[u8; 16], DecodeError>
 fn bytes_of_canonical(decoded: Result<u128, CanonicalError>) -> Result<[u8; 16], CanonicalError> {
     match decoded {
         Ok(value) => Ok(value.to_be_bytes()),
-        Err(fault) => Err(fault),
+        Err(error) => Err(error),
     }
 }

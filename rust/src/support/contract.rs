@@ -20,13 +20,13 @@ macro_rules! requires {
 
 /// A string of bytes that are ASCII. The source has the same `unsafe`, and proves it.
 macro_rules! proved {
-    ($of:ident::from_utf8($bytes:expr)) => {{
+    ($kind:ident::from_utf8($bytes:expr)) => {{
         debug_assert!($bytes.is_ascii());
         // SAFETY: the bytes are proved to be ASCII in the source.
         #[cfg(not(feature = "checked"))]
-        let text = unsafe { $of::from_utf8_unchecked($bytes) };
+        let text = unsafe { $kind::from_utf8_unchecked($bytes) };
         #[cfg(feature = "checked")]
-        let text = $of::from_utf8($bytes).unwrap();
+        let text = $kind::from_utf8($bytes).unwrap();
         text
     }};
 }
@@ -55,13 +55,13 @@ macro_rules! in_place {
 /// call. These are a few stores.
 #[cfg(feature = "alloc")]
 macro_rules! append_zeros {
-    ($bytes:ident, $zeros:ident, $len:ident) => {
+    ($bytes:ident, $len:ident) => {
         #[cfg(feature = "checked")]
-        $bytes.extend_from_slice(&$zeros[..$len]);
+        $bytes.resize($len, 0);
         #[cfg(not(feature = "checked"))]
         {
-            // In the source this index is proved to be in bounds.
-            requires!($len <= $zeros.len());
+            // In the source this length is proved to be one of a text.
+            requires!($len <= crate::MAX_DIGITS);
             let places = &mut $bytes.spare_capacity_mut()[..$len];
             crate::support::contract::fill(places, core::mem::MaybeUninit::new(0));
             // SAFETY: the capacity is enough, and `fill` has written each of these bytes.

@@ -16,7 +16,7 @@ impl<const N: usize> InlineText<N> {
     }
 
     /// Appends a part. In the source, each part is proved to fit.
-    pub(crate) fn and_str(mut self, part: &str, _max_len: usize) -> InlineText<N> {
+    pub(crate) fn and_str(mut self, part: &str) -> InlineText<N> {
         let end = self.len + part.len();
         self.bytes[self.len..end].copy_from_slice(part.as_bytes());
         self.len = end;

@@ -79,14 +79,6 @@ impl TryFrom<&[u8]> for Alphabet {
 }
 
 /// Like [`Alphabet::new`], but for the bytes of a string.
-///
-/// ```
-/// use base62::{Alphabet, ParseAlphabetError};
-///
-/// let characters = "0123456789abcdefghijklmnopqrstuvwxyzABCDEFGHIJKLMNOPQRSTUVWXYZ";
-/// assert_eq!(characters.parse(), Ok(Alphabet::alternative()));
-/// assert_eq!("01".parse::<Alphabet>(), Err(ParseAlphabetError::InvalidLength(2)));
-/// ```
 impl FromStr for Alphabet {
     type Err = ParseAlphabetError;
 

@@ -4,42 +4,36 @@
 //! Values from outside this code.
 #![allow(dead_code)]
 
-#[cfg(all(feature = "std", unix))]
-pub mod shell;
-
 use base62::{Alphabet, DecodeError};
 use std::collections::HashMap;
 use std::fs;
-use std::path::Path;
 use std::sync::LazyLock;
 
 pub const STANDARD: &[u8; 62] = b"0123456789ABCDEFGHIJKLMNOPQRSTUVWXYZabcdefghijklmnopqrstuvwxyz";
 
-/// The values that the tests of all packages share. `make dist` packs them beside the tests.
+/// The values that the tests of all packages share.
 static VALUES: LazyLock<String> = LazyLock::new(|| {
-    let read = |file| fs::read_to_string(Path::new(env!("CARGO_MANIFEST_DIR")).join(file));
-    let shared = read("../tests/values.tsv");
-    shared.or_else(|_| read("tests/values.tsv")).unwrap()
+    fs::read_to_string(concat!(env!("CARGO_MANIFEST_DIR"), "/../tests/values.tsv")).unwrap()
 });
 
 /// The rows of a kind in tests/values.tsv, whose head tells of them, without the kind.
 pub fn rows(kind: &str) -> Vec<Vec<&'static str>> {
     let start = format!("{kind}\t");
-    let found = VALUES.lines().filter_map(|line| line.strip_prefix(&start));
-    let found: Vec<Vec<_>> = found.map(|row| row.split('\t').collect()).collect();
-    assert!(!found.is_empty(), "no row of {kind}");
-    found
+    let lines = VALUES.lines().filter_map(|line| line.strip_prefix(&start));
+    let rows: Vec<Vec<_>> = lines.map(|line| line.split('\t').collect()).collect();
+    assert!(!rows.is_empty(), "no row of {kind}");
+    rows
 }
 
 /// The bytes of a text there.
 pub fn bytes(text: &str) -> Vec<u8> {
     let mut parts = text.split('%');
-    let mut found = parts.next().unwrap().as_bytes().to_vec();
+    let mut bytes = parts.next().unwrap().as_bytes().to_vec();
     for part in parts {
-        found.push(u8::from_str_radix(&part[..2], 16).unwrap());
-        found.extend(part[2..].bytes());
+        bytes.push(u8::from_str_radix(&part[..2], 16).unwrap());
+        bytes.extend(part[2..].bytes());
     }
-    found
+    bytes
 }
 
 /// The alphabets there, by their names.
@@ -49,7 +43,7 @@ pub fn alphabets() -> HashMap<&'static str, Alphabet> {
     rows.map(|row| (row[0], alphabet(row[1]))).collect()
 }
 
-/// The fault that the last fields of a row name. None if this machine has no such index.
+/// The error that the last fields of a row name. None if this machine has no such index.
 pub fn decode_error(fields: &[&str]) -> Option<DecodeError> {
     match fields {
         ["empty"] => Some(DecodeError::EmptyInput),
@@ -58,6 +52,6 @@ pub fn decode_error(fields: &[&str]) -> Option<DecodeError> {
             let (byte, index) = (byte.parse().unwrap(), index.parse().ok()?);
             Some(DecodeError::InvalidBase62Byte(byte, index))
         }
-        _ => panic!("no fault of decoding: {fields:?}"),
+        _ => panic!("no error of decoding: {fields:?}"),
     }
 }

@@ -7,7 +7,6 @@ ghost use Rattle.base62.specs.Tables.{AreTables, digit_or_255};
 use super::Work;
 
 // The letters of an alphabet by their digits, and the digit of each byte, 255 if it has none.
-#[repr(C)]
 #[derive(Clone, Copy)]
 pub(crate) struct Tables {
     pub(super) letters: [u8; 62],

@@ -104,7 +104,8 @@ fn write_wide(tables: &Tables, n: u128, count: usize, buf: &mut [u8], work: &mut
 #[inline(always)]
 fn divide_by_62_20(n: u128) -> (u32, u64, u64)
     ensures quotient { result.0 ≡ n / 62 ^ 20 }
-    ensures remainder { result.1 * 62 ^ 10 / 2 ^ 64 * 62 ^ 10 + result.2 * 62 ^ 10 / 2 ^ 64 ≡ n % 62 ^ 20 }
+    ensures remainder { result.1 * 62 ^ 10 / 2 ^ 64 * 62 ^ 10 + result.2 * 62 ^ 10 / 2 ^ 64
+        ≡ n % 62 ^ 20 }
 {
     let low = last_10(n);
     let (top, high) = whole_and_fraction(scaled_by_20(n) - (low >> 60) as u128);
@@ -286,7 +287,8 @@ fn write_20(tables: &Tables, high: u64, low: u64, buf: &mut [u8], work: &mut Wor
 #[inline(always)]
 fn write_10(tables: &Tables, fraction: u64, buf: &mut [u8], work: &mut Work)
     requires room { 10 ≤ length buf.old }
-    ensures written { WritesFixed tables.now.letters 10 (fraction * 62 ^ 10 / 2 ^ 64) buf.old buf.new }
+    ensures written { WritesFixed tables.now.letters 10 (fraction * 62 ^ 10 / 2 ^ 64)
+        buf.old buf.new }
     ensures steps { work.new ≡ work.old + 6 }
 {
     write_5(tables, fraction, buf, work);
@@ -297,7 +299,8 @@ fn write_10(tables: &Tables, fraction: u64, buf: &mut [u8], work: &mut Work)
 #[inline(always)]
 fn write_5(tables: &Tables, fraction: u64, buf: &mut [u8], work: &mut Work)
     requires room { 5 ≤ length buf.old }
-    ensures written { WritesFixed tables.now.letters 5 (fraction * 62 ^ 5 / 2 ^ 64) buf.old buf.new }
+    ensures written { WritesFixed tables.now.letters 5 (fraction * 62 ^ 5 / 2 ^ 64)
+        buf.old buf.new }
     ensures steps { work.new ≡ work.old + 3 }
 {
     let (first, after_1) = next_digit(fraction);

@@ -10,6 +10,7 @@ ghost use Rattle.base62.specs.declared.fault.CanonicalError.{CanonicalError};
 ghost use Rattle.base62.specs.declared.fault.DecodeError.{DecodeError};
 ghost use Rattle.base62.specs.declared.fault.EncodeError.{EncodeError};
 ghost use Rattle.base62.specs.declared.fault.FixedError.{FixedError};
+ghost use Rattle.base62.specs.declared.fault.UuidError.{UuidError};
 
 use crate::fault;
 use std::hash::Hash;
@@ -71,6 +72,16 @@ pub fn order_of_encode_errors()
         ≡ ⟦<fault::EncodeError as Hash>⟧.hash_input e }
 {}
 
+/// There is one error of the strings of UUIDs. It is equal to itself, compares as equal and has one
+/// hash.
+pub fn order_of_uuid_errors()
+    ensures equal { (d e : UuidError) → ⟦<fault::UuidError as PartialEq>⟧.eq d e ≡ true }
+    ensures compare_equal { (d e : UuidError) → ⟦<fault::UuidError as Ord>⟧.cmp d e ≡ Equal }
+    ensures hashed_alike { (d e : UuidError)
+        → ⟦<fault::UuidError as Hash>⟧.hash_input d
+        ≡ ⟦<fault::UuidError as Hash>⟧.hash_input e }
+{}
+
 /// The order of errors of alphabets: by byte and then by index. Two are equal, and compare as
 /// equal, exactly if they are the same value. Equal errors have equal hashes.
 pub fn order_of_alphabet_errors()
@@ -108,4 +119,6 @@ pub fn clones_of_errors()
         → e ≡ d }
     ensures alphabet_error_always { (d : AlphabetError)
         → ⟦<fault::AlphabetError as Clone>⟧.is_infallible d }
+    ensures uuid_error { (d e : UuidError) → ⟦<fault::UuidError as Clone>⟧.is_clone d e → e ≡ d }
+    ensures uuid_error_always { (d : UuidError) → ⟦<fault::UuidError as Clone>⟧.is_infallible d }
 {}

@@ -1,15 +1,22 @@
 //! The laws on texts and their numbers.
 
-ghost use Rattle.std.specs.Prelude.{◌≡◌, ◌+◌, ◌*◌, ◌<◌, ◌≤◌, ◌^◌, [], ◌∷◌, ◌++◌, ℕ, List, length, Ok};
+ghost use Rattle.std.specs.Prelude.{◌≡◌, ◌+◌, ◌*◌, ◌<◌, ◌≤◌, ◌^◌, [], ◌∷◌, ◌++◌, ℕ, List, length, take, Result, Ok, IsOk};
 ghost use Rattle.std.specs.Int.{w128, to_be_bytes};
+ghost use Rattle.std.specs.String.{string_bytes};
+ghost use Rattle.std.specs.declared.alloc.Global.{Global};
+ghost use Rattle.std.specs.declared.string.String.{String};
 ghost use Rattle.base62.specs.Alphabet.{IsAlphabet, zero_letter, standard, alternative};
 ghost use Rattle.base62.specs.Places.{sum_over_places};
 ghost use Rattle.base62.specs.Uuid.{IsUuid, uuid_number};
+ghost use Rattle.base62.specs.UuidString.{IsUuidString, digits, hyphenated};
 ghost use Rattle.base62.specs.Value.{value};
 ghost use Rattle.base62.specs.Canonical.{Denotes, IsCanonical, CanonicalFits};
-ghost use Rattle.base62.specs.Decoding.{decoding};
+ghost use Rattle.base62.specs.Decoding.{decoding, DecodesCanonical};
+ghost use Rattle.base62.specs.Encoding.{AnswersCanonical, EncodesInto};
 ghost use Rattle.base62.specs.Case.{exchange_case};
 ghost use Rattle.base62.specs.Laws.{HasNoLeadingZero, AnswerTells, number_or_overflow, one_place_on, without_zeros};
+ghost use Rattle.base62.specs.declared.fault.CanonicalError.{CanonicalError};
+ghost use Rattle.base62.specs.declared.fault.EncodeError.{EncodeError};
 
 use crate::alphabet::Alphabet;
 use crate::laws::alphabets::letters_are_distinct;
@@ -54,6 +61,36 @@ pub fn text_of_number(alphabet: &Alphabet, text: &[u8], number: u128)
     accepted_and_refused();
     one_text();
 }
+
+/// The string that is written for a UUID is one of its strings, and no string is for two UUIDs.
+#[tactic(auto, using(crate::proofs::UuidStringLemmas::written_back))]
+pub fn uuid_strings()
+    ensures back { (uuid : List ℕ) → IsUuid uuid → IsUuidString (hyphenated (digits uuid)) uuid }
+    ensures only { (text a b : List ℕ) → IsUuidString text a → IsUuidString text b → a ≡ b }
+{}
+
+/// Over any alphabet, canonical decoding of a text returns `Ok` of a number exactly if encoding the
+/// number into a buffer or a string, where it succeeds, writes this text. All of this follows from
+/// the contracts of the calls alone.
+pub fn canonical_round_trip()
+    ensures back { (B : List ℕ) (n : ℕ) → n < 2 ^ 128 → (old new : List ℕ) (len : ℕ)
+        → EncodesInto B n old new (Ok len) → (decoded : Result ℕ CanonicalError)
+        → DecodesCanonical B (take len new) decoded → decoded ≡ Ok n }
+    ensures written { (B : List ℕ) → IsAlphabet B → (n : ℕ) (old new text : List ℕ) (len : ℕ)
+        → (decoded : Result ℕ CanonicalError) → DecodesCanonical B text decoded → decoded ≡ Ok n
+        → EncodesInto B n old new (Ok len) → take len new ≡ text }
+    ensures fits { (B : List ℕ) (n : ℕ) (old new text : List ℕ)
+        → (decoded : Result ℕ CanonicalError) → DecodesCanonical B text decoded → decoded ≡ Ok n
+        → (written : Result ℕ EncodeError) → EncodesInto B n old new written
+        → length text ≤ length old → IsOk written }
+    ensures string_back { (B : List ℕ) (n : ℕ) → n < 2 ^ 128 → (string : String Global)
+        → AnswersCanonical B n (Ok string) → (decoded : Result ℕ CanonicalError)
+        → DecodesCanonical B (string_bytes string) decoded → decoded ≡ Ok n }
+    ensures string_written { (B : List ℕ) → IsAlphabet B → (n : ℕ) (text : List ℕ)
+        → (decoded : Result ℕ CanonicalError) → DecodesCanonical B text decoded → decoded ≡ Ok n
+        → (string : String Global) → AnswersCanonical B n (Ok string)
+        → string_bytes string ≡ text }
+{}
 
 /// Over any alphabet the canonical text of a number below 2^128 decodes to the number. No text is
 /// the canonical text of two numbers.

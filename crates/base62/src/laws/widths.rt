@@ -64,7 +64,8 @@ pub fn of_text(alphabet: &Alphabet, width: usize, text: &[u8])
 /// is the number's key. All of this follows from the contracts of the calls alone.
 pub fn fixed_round_trip()
     ensures back { (B : List ℕ) → IsAlphabet B → (n : ℕ) → n < 2 ^ 128 → (old text : List ℕ)
-        → (written : Result (Unit {0}) EncodeError) → FillsPlaces B n old text written → IsOk written
+        → (written : Result (Unit {0}) EncodeError) → FillsPlaces B n old text written
+        → IsOk written
         → (decoded : Result ℕ FixedError) → DecodesFixed B (length old) text decoded
         → decoded ≡ Ok n }
     ensures written { (B : List ℕ) → IsAlphabet B → (n : ℕ) (old new text : List ℕ)

@@ -9,6 +9,7 @@ ghost use Rattle.base62.specs.declared.fault.CanonicalError.TheVariants.{Leading
 ghost use Rattle.base62.specs.declared.fault.DecodeError.TheVariants.{ArithmeticOverflow, EmptyInput, InvalidBase62Byte};
 ghost use Rattle.base62.specs.declared.fault.EncodeError.TheVariants.{BufferTooSmall};
 ghost use Rattle.base62.specs.declared.fault.FixedError.TheVariants.{WrongLength};
+ghost use Rattle.base62.specs.declared.fault.UuidError.TheVariants.{InvalidUuid};
 
 use crate::{fault, show};
 use std::fmt;
@@ -37,12 +38,9 @@ pub fn paddings_by_example()
     ensures no_text { padded_to (Some 2) 32 Left [] ≡ codes "  " }
 {}
 
-/// What `Display` writes for `LZ` without options, over each alphabet.
-pub fn plain_displays_by_example()
-    ensures standard { ⟦<show::Fmt as fmt::Display>⟧.output (codes "LZ") ≡ Some (codes "LZ") }
-    ensures alternative { ⟦<show::FmtAlternative as fmt::Display>⟧.output (codes "LZ")
-        ≡ Some (codes "LZ") }
-    ensures own { ⟦<show::FmtWith as fmt::Display>⟧.output (codes "LZ") ≡ Some (codes "LZ") }
+/// What `Display` writes for `LZ` without options.
+pub fn plain_display_by_example()
+    ensures { ⟦<show::Fmt as fmt::Display>⟧.output (codes "LZ") ≡ Some (codes "LZ") }
 {}
 
 /// What `Display` writes for errors with any options, such as `{:.3}` and `{:>100}`: the message.
@@ -65,6 +63,9 @@ pub fn faults_by_example()
     ensures small_buffer { (options : _)
         → ⟦<fault::EncodeError as fmt::Display>⟧.styled_output BufferTooSmall options
         ≡ Some (codes "Buffer too small to encode the number") }
+    ensures invalid_uuid { (options : _)
+        → ⟦<fault::UuidError as fmt::Display>⟧.styled_output InvalidUuid options
+        ≡ Some (codes "Not a UUID") }
     ensures repeated { (options : _)
         → ⟦<fault::AlphabetError as fmt::Display>⟧.styled_output (Repeated 33 7) options
         ≡ Some (codes "Alphabet repeats the byte b'!' at index 7") }

@@ -3,13 +3,14 @@
 
 ghost use Rattle.std.specs.Prelude.{◌≡◌, ◌^◌, ◌-◌, codes};
 ghost use Rattle.std.specs.declared.cmp.Ordering.TheVariants.{Less, Equal, Greater};
-ghost use Rattle.base62.specs.Fault.{escaped, decode_error_text, canonical_error_text, fixed_error_text, encode_error_text, alphabet_error_text};
+ghost use Rattle.base62.specs.Fault.{escaped, decode_error_text, canonical_error_text, fixed_error_text, encode_error_text, alphabet_error_text, uuid_error_text};
 ghost use Rattle.base62.specs.Fault.{decode_error_order, canonical_error_order, fixed_error_order, alphabet_error_order};
 ghost use Rattle.base62.specs.declared.fault.AlphabetError.TheVariants.{Repeated};
 ghost use Rattle.base62.specs.declared.fault.CanonicalError.TheVariants.{LeadingZero, Decode};
 ghost use Rattle.base62.specs.declared.fault.DecodeError.TheVariants.{ArithmeticOverflow, EmptyInput, InvalidBase62Byte};
 ghost use Rattle.base62.specs.declared.fault.EncodeError.TheVariants.{BufferTooSmall};
 ghost use Rattle.base62.specs.declared.fault.FixedError.TheVariants.{WrongLength, Decode as FixedDecode};
+ghost use Rattle.base62.specs.declared.fault.UuidError.TheVariants.{InvalidUuid};
 
 /// The bytes with an escape of a backslash and a character.
 pub fn escapes_by_example()
@@ -74,6 +75,7 @@ pub fn texts_by_example()
         ≡ codes "Alphabet repeats the byte b'!' at index 7" }
     ensures repeated_last { alphabet_error_text (Repeated 39 61)
         ≡ codes "Alphabet repeats the byte b'\\'' at index 61" }
+    ensures invalid_uuid { uuid_error_text InvalidUuid ≡ codes "Not a UUID" }
 {}
 
 /// The order of errors of decoding.
@@ -112,9 +114,9 @@ pub fn canonical_orders_by_example()
 pub fn fixed_orders_by_example()
     ensures same { fixed_error_order WrongLength WrongLength ≡ Equal }
     ensures length_first { fixed_error_order WrongLength (FixedDecode ArithmeticOverflow) ≡ Less }
-    ensures length_after { fixed_error_order (FixedDecode ArithmeticOverflow) WrongLength ≡ Greater }
-    ensures as_decoding { fixed_error_order (FixedDecode ArithmeticOverflow) (FixedDecode EmptyInput)
-        ≡ Less }
+    ensures length_after { fixed_error_order (FixedDecode ArithmeticOverflow) WrongLength
+        ≡ Greater }
+    ensures as_decoding { fixed_error_order (FixedDecode ArithmeticOverflow) (FixedDecode EmptyInput) ≡ Less }
 {}
 
 /// The order of errors of alphabets.

@@ -2,11 +2,12 @@
 
 ghost use Rattle.std.specs.Str.{IsAscii};
 
+use base62::laws::texts_of_ascii;
 use base62::{
     Alphabet, DecodeError, EncodeError, Number, decode, decode_alternative, decode_with, encode,
     encode_alternative, encode_alternative_buf, encode_alternative_bytes, encode_alternative_io,
-    encode_alternative_uuid, encode_buf, encode_buf_with, encode_bytes, encode_bytes_with,
-    encode_io, encode_io_with, encode_uuid, encode_uuid_with, encode_with,
+    encode_buf, encode_buf_with, encode_bytes, encode_bytes_with, encode_io, encode_io_with,
+    encode_uuid, encode_uuid_with, encode_with,
 };
 use std::alloc::{AllocError, Global};
 use std::io::{self, Write};
@@ -89,7 +90,10 @@ impl Letters {
     pub(crate) fn uuid_text(self, alloc: Global, uuid: [u8; 16]) -> Result<String, AllocError> {
         match self {
             Letters::Standard => encode_uuid(alloc, uuid),
-            Letters::Alternative => encode_alternative_uuid(alloc, uuid),
+            Letters::Alternative => {
+                texts_of_ascii();
+                encode_uuid_with(alloc, &Alphabet::alternative(), uuid)
+            }
             Letters::Symbols => encode_uuid_with(alloc, &symbols(), uuid),
         }
     }

@@ -7,7 +7,6 @@
 //! Lookup tables of an alphabet: the letters of digits, and the digits of bytes.
 
 // The letters of an alphabet by their digits, and the digit of each byte, 255 if it has none.
-#[repr(C)]
 #[derive(Clone, Copy)]
 pub(crate) struct Tables {
     pub(super) letters: [u8; 62],

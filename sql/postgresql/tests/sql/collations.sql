@@ -32,7 +32,7 @@ SELECT count(*) FROM (SELECT u, lag(u) OVER (ORDER BY key) p FROM item) i WHERE 
 SELECT p FROM item, unnest(ARRAY['2', '7n', '1a', '0000000', '']) p, starts_with(key, p) has GROUP BY p
     HAVING NOT bool_or(has) OR bool_or(has <> (key BETWEEN base62_first_string(p) AND base62_last_string(p)))
         OR bool_or(has <> (key LIKE p || '%')) OR bool_or(has <>
-            (u BETWEEN base62_decode_uuid(base62_first_string(p)) AND base62_decode_uuid(base62_last_string(p))));
+            (u BETWEEN base62_decode_uuid_key(base62_first_string(p)) AND base62_decode_uuid_key(base62_last_string(p))));
 
 \echo Variables and results of functions with a text parameter, and with a parameter of the type
 CREATE FUNCTION of_text(p text, OUT bare boolean, OUT declared boolean) LANGUAGE plpgsql AS $$

@@ -11,17 +11,20 @@ SELECT provolatile, proisstrict, proparallel, proleakproof, prosecdef, count(*) 
 SELECT proname FROM functions GROUP BY proname, pronargs HAVING count(*) > 1;
 SELECT count(DISTINCT obj_description(oid, 'pg_proc')), obj_description('base62_key'::regtype, 'pg_type')
     FROM functions;
+-- Each has calls in values.sql.
+SELECT proname, pronargs FROM functions WHERE proname <> 'base62_version' EXCEPT SELECT name, arguments FROM call;
 SELECT extversion, extrelocatable FROM pg_extension WHERE extname = 'base62';
 SELECT string_agg(DISTINCT proargnames::text, ' ') FROM functions;
 -- A key has the collation of no argument that is a text.
 SELECT oid::regprocedure FROM functions WHERE prorettype = 'base62_key'::regtype AND 'text'::regtype = ANY (proargtypes);
 
-\echo Arguments of no type, of a smaller one, and by their names
+\echo Arguments of no type, of a smaller one, by their names, and of other types
 \set own '\'zyxwvutsrqponmlkjihgfedcbaZYXWVUTSRQPONMLKJIHGFEDCBA9876543210\''
 \set alternative '\'0123456789abcdefghijklmnopqrstuvwxyzABCDEFGHIJKLMNOPQRSTUVWXYZ\''
 PREPARE untyped AS SELECT base62_encode_fixed('1337', $1), base62_encode(1337::smallint),
     base62_last_number(width => $1, alphabet => :own, prefix => $2);
 EXECUTE untyped (3, 'e');
+SELECT left(result_of(call), 5) FROM unnest(ARRAY['base62_encode(1.5)', $$base62_encode('LZ'::text)$$]) call;
 -- Divided by 10^9 it is 2^64, of which 64 bits are zero.
 SELECT base62_decode_numeric(base62_encode_numeric(18446744073709551616000000000));
 SELECT base62_version() ~ '^[0-9]+\.[0-9]+\.[0-9]+$' version;
@@ -32,7 +35,7 @@ INSERT INTO long VALUES (repeat('0', 1000000) || 'LZ');
 SELECT pg_column_size(t) < 100000 compressed, base62_decode(t), base62_decode_uuid(t), base62_first_string(t),
     base62_is_valid(t) FROM long;
 
-\echo Alphabets that change from call to call, and after an error
+\echo Alphabets that change from call to call, and after an error, after which PL/pgSQL caches nothing
 CREATE FUNCTION with_each(VARIADIC given text[]) RETURNS SETOF text LANGUAGE plpgsql AS $$
 DECLARE
     one text;
@@ -46,7 +49,8 @@ BEGIN
     END LOOP;
 END $$;
 SELECT string_agg(each, ' ')
-    FROM with_each(:own, :alternative, :own, repeat('0', 62), :own, left(:own, 61), :alternative) each;
+    FROM with_each(:own, :alternative, :own, left(:own, 61), :own, repeat('0', 62), :alternative) each;
+SELECT string_agg(base62_encode(61, a), '') FROM unnest(ARRAY[:own, left(:own, 61) || '-']) a;
 \echo A constant alphabet is created once for all rows
 SET client_min_messages = debug1;
 SELECT count(base62_encode_fixed(n, 22, :own)) FROM generate_series(1, 1000) n;
@@ -59,6 +63,18 @@ WITH taken AS MATERIALIZED (SELECT base62_encode(n, CASE n % 2 WHEN 0 THEN :own 
             WHEN 10000 THEN (SELECT sum(used_bytes) FROM pg_backend_memory_contexts WHERE n > 0) END bytes
         FROM generate_series(1, 10000) n)
     SELECT count(t), count(bytes), max(bytes) - min(bytes) < 2000000 FROM taken;
+
+\echo Two results of each function in one row, if they are the same, or not those of two rows
+CREATE TABLE pair AS SELECT i, 1337 + i number, lpad(to_hex(i), 32, '0')::uuid id, '111111' || i encoded, i::text prefix
+    FROM generate_series(1, 2) i;
+SELECT format('SELECT %1$L FROM pair one, pair other WHERE one.i < other.i
+        AND (%1$s = %2$s OR ARRAY[%1$s, %2$s] <> ARRAY[%1$s] || ARRAY[%2$s])', call, replace(call, 'one.', 'other.'))
+    FROM functions, LATERAL (SELECT proname || '(' || string_agg(CASE WHEN given = 'width' THEN '7'
+            WHEN given = 'alphabet' THEN quote_literal(:own) WHEN given = 'encoded' AND proname ~ '_key$'
+            THEN 'lpad(one.encoded, 22, ''0'')' ELSE 'one.' || given END, ', ' ORDER BY i) || ')'
+        FROM unnest(proargnames) WITH ORDINALITY names (given, i)) calls (call)
+    WHERE prorettype <> 'boolean'::regtype AND pronargs > 0
+\gexec
 
 \echo In a schema of its own
 CREATE SCHEMA tools;

@@ -27,25 +27,26 @@ EXPLAIN (COSTS off) SELECT * FROM item WHERE key ^@ '2aU';
 EXPLAIN (COSTS off) SELECT * FROM item
     WHERE key BETWEEN base62_first_string('2aU') AND base62_last_string('2aU') ORDER BY key;
 EXPLAIN (COSTS off) SELECT * FROM item
-    WHERE u BETWEEN base62_decode_uuid(base62_first_string('2aU')) AND base62_decode_uuid(base62_last_string('2aU'));
+    WHERE u BETWEEN base62_decode_uuid_key(base62_first_string('2aU')) AND base62_decode_uuid_key(base62_last_string('2aU'));
 EXPLAIN (COSTS off) SELECT * FROM link WHERE id BETWEEN base62_first_number('Az', 11) AND base62_last_number('Az', 11);
 EXPLAIN (COSTS off) SELECT * FROM wide
     WHERE id BETWEEN base62_first_numeric('7n4', 22) AND base62_last_numeric('7n4', 22);
-PREPARE from_outside (text) AS
-    SELECT * FROM link WHERE id > CASE WHEN base62_is_valid($1) THEN base62_first_number($1, 11) END;
+PREPARE between_bounds (text) AS SELECT * FROM item WHERE key BETWEEN base62_first_string($1) AND base62_last_string($1);
+PREPARE like_prefix (text) AS SELECT * FROM item WHERE key LIKE $1 || '%';
+PREPARE starting_with (text) AS SELECT * FROM item WHERE key ^@ $1;
 SET plan_cache_mode = force_generic_plan;
-EXPLAIN (COSTS off) EXECUTE from_outside ('L-');
-EXECUTE from_outside ('L-');
+EXPLAIN (COSTS off) EXECUTE between_bounds ('2aU');
+EXPLAIN (COSTS off) EXECUTE like_prefix ('2aU');
+EXPLAIN (COSTS off) EXECUTE starting_with ('2aU');
+\echo The query of the README for strings with a prefix, and those for which it finds other rows
+\set page `cat ../README.md`
+SELECT format('PREPARE with_prefix (text) AS %1$s; CREATE FUNCTION with_prefix(text) RETURNS SETOF text LANGUAGE sql AS %1$L',
+    replace(replace(substring(:'page' FROM '\nWITH given .*?;'), $$'L'$$, '$1'), ', target', ''))
+\gexec
+EXPLAIN (COSTS off) EXECUTE with_prefix ('L-');
 RESET plan_cache_mode;
-\echo Prefixes of shortest strings, by one range for each length, and those for which it finds other rows
-CREATE FUNCTION with_prefix(p text) RETURNS SETOF text STABLE LANGUAGE sql AS $$
-    WITH width (w) AS (VALUES (1), (2), (3), (4), (5), (6), (7), (8), (9), (10), (11))
-    SELECT slug FROM width JOIN link ON id BETWEEN base62_first_number(p, w) AND base62_last_number(p, w)
-    WHERE w = 1 OR p NOT LIKE '0%'
-$$;
-EXPLAIN (COSTS off) SELECT * FROM with_prefix('L');
-SELECT p FROM unnest(ARRAY['0', '00', '2', 'A', 'Az', 'z']) p WHERE ARRAY(SELECT * FROM with_prefix(p) s ORDER BY s)
-    <> ARRAY(SELECT slug FROM link WHERE starts_with(slug, p) ORDER BY slug);
+SELECT p FROM unnest(ARRAY['', '0', '00', '2', 'A', 'Az', 'z', '-', 'L-']) p
+    WHERE ARRAY(SELECT * FROM with_prefix(p)) <> ARRAY(SELECT slug FROM link WHERE starts_with(slug, p) ORDER BY id);
 SELECT pg_typeof(sum(id)) FROM link;
 
 \echo Partitions without such keys are pruned
@@ -59,13 +60,3 @@ RESET enable_indexscan;
 RESET enable_bitmapscan;
 \set VERBOSITY terse
 CREATE PUBLICATION filtered FOR TABLE link WHERE (base62_encode(id) <> 'LZ');
-
-\echo In parallel
-SET parallel_setup_cost = 0;
-SET parallel_tuple_cost = 0;
-SET min_parallel_table_scan_size = 0;
-SET parallel_leader_participation = off;
-EXPLAIN (COSTS off) SELECT count(*) FROM item WHERE base62_decode_uuid(base62_encode_uuid(u)) = u
-    AND base62_encode_uuid_key(u) BETWEEN base62_first_string(left(key, 3)) AND base62_last_string(left(key, 3));
-SELECT count(*) FROM item WHERE base62_decode_uuid(base62_encode_uuid(u)) = u
-    AND base62_encode_uuid_key(u) BETWEEN base62_first_string(left(key, 3)) AND base62_last_string(left(key, 3));

@@ -1,0 +1,119 @@
+// SPDX-License-Identifier: MIT
+// Copyright (c) 2026 the maintainers of base62 for Rattle
+
+//! Prints the results for operands, or for the lines of standard input.
+
+use crate::arguments::Task;
+use crate::conversion::ConversionError;
+use crate::escape::Escaped;
+use crate::fault::ToolFault;
+use crate::line_end::line_end;
+use crate::memory::Bytes;
+use crate::numbers::append;
+use crate::streams::{print, read_uninterrupted, report};
+use std::io::{self, IsTerminal};
+use std::process::ExitCode;
+
+/// How many bytes are read at a time, and collected before they are written.
+const CHUNK_LEN: usize = 32768;
+
+/// Prints the result for each operand, or for each line if there is no operand.
+pub(crate) fn print_all(task: &Task) -> Result<ExitCode, ToolFault> {
+    let is_terminal = io::stdout().is_terminal();
+    let mut printer = Printer {
+        task,
+        buffer: Bytes::new(),
+        limit: if is_terminal { 0 } else { CHUNK_LEN },
+        status: ExitCode::SUCCESS,
+    };
+    if task.operands.is_empty() {
+        printer.print_lines()?;
+    }
+    for operand in &task.operands {
+        printer.print(operand, None)?;
+    }
+    printer.flush()?;
+    Ok(printer.status)
+}
+
+struct Printer<'a> {
+    task: &'a Task,
+    /// The results that are not yet written.
+    buffer: Bytes,
+    /// How many bytes it may keep: none for a terminal.
+    limit: usize,
+    status: ExitCode,
+}
+
+impl Printer<'_> {
+    /// Prints the result for an operand, or for the line of this number. If the input is invalid, first prints the
+    /// results so far and reports the error. Then the line of output is empty.
+    fn print(&mut self, input: &[u8], line: Option<u64>) -> Result<(), ToolFault> {
+        let settings = &self.task.settings;
+        let result = if input.is_empty() && settings.keeps_empty {
+            Ok(())
+        } else {
+            (self.task.subcommand.convert)(settings, input, &mut self.buffer)
+        };
+        if let Err(error) = result {
+            if let ConversionError::Failure(failure) = error {
+                return Err(failure);
+            }
+            self.flush()?;
+            self.report(input, line, &error);
+            self.status = ExitCode::FAILURE;
+        }
+        append(b"\n", &mut self.buffer)?;
+        if self.buffer.as_slice().len() > self.limit {
+            return self.flush();
+        }
+        Ok(())
+    }
+
+    fn report(&self, input: &[u8], line: Option<u64>, error: &ConversionError) {
+        let (name, shown) = (self.task.subcommand.name, Escaped(input));
+        match line {
+            Some(number) => report(format_args!("line {number}: {shown}: {error}")),
+            None if input == b"-" => {
+                report(format_args!("{shown}: {error}: try base62 {name} <FILE"))
+            }
+            None => report(format_args!("{shown}: {error}")),
+        }
+    }
+
+    fn flush(&mut self) -> Result<(), ToolFault> {
+        print(self.buffer.as_slice()).or(Err(ToolFault::Write))?;
+        self.buffer.clear();
+        Ok(())
+    }
+
+    /// Prints the result for each line of standard input. Writes the results so far before a read, which may block.
+    fn print_lines(&mut self) -> Result<(), ToolFault> {
+        let (mut chunk, mut start, mut number) = ([0; CHUNK_LEN], Bytes::new(), 0);
+        loop {
+            self.flush()?;
+            let read = read_uninterrupted(&mut io::stdin(), &mut chunk);
+            let count = read.or(Err(ToolFault::Read))?;
+            if count == 0 {
+                // The last line needs no line feed.
+                return match start.as_slice() {
+                    [] => Ok(()),
+                    line => self.print(line, Some(number + 1)),
+                };
+            }
+            let mut rest = &chunk[..count];
+            while let Some(end) = line_end(rest) {
+                let mut line = &rest[..end];
+                if !start.as_slice().is_empty() {
+                    append(line, &mut start)?;
+                    line = start.as_slice();
+                }
+                number += 1;
+                self.print(line.strip_suffix(b"\r").unwrap_or(line), Some(number))?;
+                start.clear();
+                rest = &rest[end + 1..];
+            }
+            append(rest, &mut start)?;
+        }
+    }
+}

@@ -1,0 +1,13 @@
+use Rattle.std.proofs.Common.{codes, refl, inr, arith}
+use Rattle.base62.proofs.OnLiterals.{base62_on_literals}
+use Rattle.base62_vectors.proofs.CountedLemmas.{uncounted}
+use Rattle.base62_vectors.proofs.steps.two_characters_in_one_byte.Goals as goal
+
+pub returns : goal.returns
+unfolding base62_on_literals
+returns c =
+    let law = c.one_text.ensures in
+    let call = c.encode_bytes_counted-answer in
+    let known = uncounted c.built_in_alphabets.ensures.standard law.only law.plain (codes "LZ") refl (omega arith, inr (λ e. omega arith)) in
+    let both = known _ _ _ _ c.new-work.ensures call.result (omega arith) call.ensures in
+    record { answer = both.0; steps = both.1 }

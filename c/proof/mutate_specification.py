@@ -54,20 +54,29 @@ POINTER = re.compile("letters|text|prefix|buffer|places|bad|range|BYTES|[A-Z]+_L
 # Changes after which base62.acsl says no less, by their lines.
 SAME = {
     # It contradicts itself where it says something else: entries tell equal letters apart, 62 letters are not distinct
-    # if one is repeated, 64 bits hold no 2^64, no number is 2^128, no byte is 256, and two texts at one place are one.
-    r"&& \forall integer k; 0 <= k < 16 ==> hexadecimal_value(text[start + pair_index(k, places)]) <= 16",
+    # if one is repeated, 64 bits hold no 2^64, no number is 2^128, no byte is 256, two texts at one place are one, and a
+    # string is not read and rejected.
+    r"ensures \result == BASE62_OK && are_digits_of{Pre, Post}(BYTES(string), (1 - 1), length - 2, uuid);",
+    r"assumes is_in_braces(BYTES(string), length) && \true;",
+    r"assumes has_urn(BYTES(string), length) && \true;",
     r"\forall integer i, j; 0 <= i < j < n ==> \true;",
     r"&& \exists integer i; 0 < i < index && letters[i] == letters[index];",
     "predicate is_alphabet{L}(unsigned char *letters) = are_distinct(letters, (62 - 1));",
     r"\true && are_distinct(letters, index)", "index <= 62 && are_distinct(letters, index)",
     r": width == 0 || n > width || \false ? BASE62_NO_MATCH",
     ": width == 0 || n > width || least_of(letters, prefix, n, width) > ACSL_2_128 ? BASE62_NO_MATCH",
-    *(f"n {bound} : uuid_value(uuid, n - 1) * 256 + uuid[n - 1];" for bound in ("< 0 ? 0", "<= 0 ? 1")),
     r"ensures \result == (number_of(number) <= ACSL_2_64 ? BASE62_OK : BASE62_OUT_OF_RANGE);",
     "(ACSL_HAS(text, start, byte_text, 7) && ACSL_ESCAPED(text, start + (7 - 1), byte) \\",
     "ACSL_HAS(text, 1, invalid_text, 35) && ACSL_BYTE_AT_INDEX(text, 35, bad.byte, bad.index)) \\",
     "ACSL_HAS(text, 1, repeated_text, 21) && ACSL_BYTE_AT_INDEX(text, 21, bad.byte, bad.index)) \\",
     "ACSL_HAS(text, 0, repeated_text, 21) && ACSL_BYTE_AT_INDEX(text, (21 - 1), bad.byte, bad.index)) \\",
+    # Neither a digit nor urn:uuid: has a '`' or a 'z'. One character is not two braces. 36 is just not 32.
+    "logic integer lowercase(integer byte) = ('A' - 1) <= byte <= 'Z' ? byte + 32 : byte;",
+    "logic integer lowercase(integer byte) = 'A' <= byte < 'Z' ? byte + 32 : byte;",
+    "logic integer lowercase(integer byte) = 'A' <= byte <= ('Z' - 1) ? byte + 32 : byte;",
+    "predicate is_in_braces{L}(unsigned char *text, integer n) = n >= 1 && text[0] == '{' && text[n - 1] == '}';",
+    r"ensures \forall integer k; 0 <= k < 16 ==> BYTES(string)[pair_index(k, (36 - 1))] == hexadecimal(uuid[k] / 16)",
+    "&& BYTES(string)[pair_index(k, (36 - 1)) + 1] == hexadecimal(uuid[k] % 16);",
     # It says more of a text that is not written, and no text has one byte.
     *(rf"ensures ACSL_MESSAGE(BYTES(buffer), \result {bound}, status, bad);" for bound in (">= 0", "> 1")),
     # The first bad byte of n bytes is at n at most.

@@ -146,10 +146,12 @@ static void same_digits(const unsigned char *p, size_t start, size_t places, con
     }
 }
 
-/* Behind braces or urn:uuid: the digits do not begin at once. */
+/* Behind braces or urn:uuid: the digits do not begin at once. So no string is of two kinds, and none that is read is another one. */
 /*@ requires TEXT_VALID(p, n); assigns \nothing;
     ensures braces: is_in_braces(p, n) ==> !are_uuid_digits(p, 0, n) && !has_urn(p, n);
     ensures urn: has_urn(p, n) ==> !are_uuid_digits(p, 0, n);
+    ensures read: are_uuid_digits(p, 0, n) || (is_in_braces(p, n) && are_uuid_digits(p, 1, n - 2))
+        || (has_urn(p, n) && are_uuid_digits(p, 9, n - 9)) ==> is_uuid_string(p, n);
 */
 static void one_kind(const unsigned char *p, size_t n) {
     begins_with_urn(p, n);

@@ -55,7 +55,7 @@ fn main() -> ExitCode {
         Some(b"-h" | b"--help") => print(HELP.as_bytes()).or(Err(ToolFault::Write)),
         Some(b"-V" | b"--version") => print(VERSION.as_bytes()).or(Err(ToolFault::Write)),
         Some(_) => {
-            report("it reads standard input, and has no operands: try base62_cli --help");
+            report("It reads standard input, and has no operands: try base62_cli --help");
             return ExitCode::from(2);
         }
     };

@@ -21,7 +21,7 @@ impl HintingInput {
 
     fn report_hint(&mut self) {
         self.0 = None;
-        report("it replies to lines such as `enc 1337` and `dec LZ`: try base62_cli --help");
+        report("It replies to lines such as `enc 1337` and `dec LZ`: try base62_cli --help");
     }
 }
 

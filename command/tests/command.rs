@@ -277,7 +277,7 @@ fn a_terminal() {
     if !is_installed("script") {
         return;
     }
-    let help = "base62_cli: it replies to lines such as `enc 1337` and `dec LZ`: try base62_cli --help\r\n";
+    let help = "base62_cli: It replies to lines such as `enc 1337` and `dec LZ`: try base62_cli --help\r\n";
     // A terminal shows what is typed, too.
     let shown = at_terminal("base62_cli", "<<<'enc 1337'");
     assert!(shown.contains(help) && shown.ends_with("LZ\r\n"), "{shown}");

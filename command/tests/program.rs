@@ -46,7 +46,7 @@ fn arguments() {
     prints("base62_cli -h", &help);
     let example = "  $ echo enc 1337 | base62_cli\n  LZ\n";
     assert!(help.contains(example), "{help}");
-    let error = "base62_cli: it reads standard input, and has no operands: try base62_cli --help\n";
+    let error = "base62_cli: It reads standard input, and has no operands: try base62_cli --help\n";
     for argument in ["enc", "''", "--", "-x"] {
         let line = format!("{{ base62_cli {argument}; status=$?; cat; exit $status; }} <<<unread");
         ends(&line, 2, "unread\n", error);
@@ -60,7 +60,7 @@ fn lines_of_no_command() {
         return;
     }
     let hint =
-        "base62_cli: it replies to lines such as `enc 1337` and `dec LZ`: try base62_cli --help\n";
+        "base62_cli: It replies to lines such as `enc 1337` and `dec LZ`: try base62_cli --help\n";
     let fault = "fault: unknown command\n";
     for line in ["", "enc", "ENC 5", "\\xff"] {
         ends(&format!(r"printf '{line}\n' | base62_cli"), 0, fault, hint);

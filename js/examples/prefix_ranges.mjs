@@ -11,7 +11,7 @@ const MAX_ID = 2n ** 63n - 1n;
 export function rangesOf(prefix) {
   prefixRange(prefix, 0);  // throws an error if a character is invalid
   const ranges = [];
-  for (let width = prefix.length || 11; width <= (prefix[0] === '0' ? 1 : 11); width++) {
+  for (let width = prefix.length || 11; width <= (['0', 48].includes(prefix[0]) ? 1 : 11); width++) {
     const [least, greatest] = prefixRange(prefix, width);
     if (least <= MAX_ID) ranges.push([least, greatest <= MAX_ID ? greatest : MAX_ID]);
   }

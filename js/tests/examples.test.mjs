@@ -14,7 +14,7 @@ const noPostgresql = !existsSync('/usr/bin/pg_virtualenv') && 'install postgresq
 test('a route of Express accepts the strings that it returns', { skip: noExpress }, async () => {
   const { createApp } = await import('../examples/express_route.mjs');
   const ids = [1337n, 0n, 2n ** 53n, 2n ** 63n - 1n];
-  // Stands for a Pool of pg, with a table of these ids. PostgreSQL rejects a parameter that is no bigint.
+  // Stands for a Pool of pg, with a table of these ids. PostgreSQL rejects a parameter that is not a bigint.
   const query = async (_, [id]) => {
     if (id >= 2n ** 63n || id === 1338n) throw new Error('rejected, or the connection is lost');
     return { rows: ids.includes(id) ? [{ item: `tea ${id}` }] : [] };
@@ -44,7 +44,8 @@ test('PostgreSQL finds the ids of a prefix by the index', { skip: noPostgresql }
   assert.deepEqual(rangesOf('0'), [[0n, 0n]]);
   // 2**63 is AzL8n0Y58m8.
   assert.deepEqual(rangesOf('AzL8n0Y58m').at(-1), [9223372036854775800n, 2n ** 63n - 1n]);
-  for (const prefix of ['00', '0L', 'zzzzzzzzzzz', '111111111111']) assert.deepEqual(rangesOf(prefix), []);
+  for (const prefix of ['00', '0L', Uint8Array.of(48, 76), 'zzzzzzzzzzz', '111111111111'])
+    assert.deepEqual(rangesOf(prefix), []);
   for (const invalid of ['0-', '111111111111-']) assert.throws(() => rangesOf(invalid), { code: 'INVALID_BYTE' });
   const [query, ends] = findLinks({ query: (...given) => given }, 'LZ');
   const input = `CREATE TABLE link (id bigint PRIMARY KEY);

@@ -115,7 +115,10 @@ _STRINGS = _Kind(
 _SIXTEEN_BYTES = dict.fromkeys((pa.uuid(), pa.binary(16)), pa.binary(16))
 _UUID_HINTS = [(pa.types.is_integer, "encode takes integers"), *_OTHER_HINTS]
 _UUIDS = _Kind("uuid, binary or strings", _STRINGS.types | _SIXTEEN_BYTES, _UUID_HINTS)
-_FLOATS_HINT = 'read it again as integers, by pandas with dtype_backend="pyarrow"; a cast of floats keeps the rounded values'
+_FLOATS_HINT = (
+    'read it again as integers, by pandas with dtype_backend="pyarrow", in read_json with engine="pyarrow" too; '
+    "a cast of floats keeps the rounded values"
+)
 _NUMBERS = _Kind(
     "integers, decimal128 of scale 0, uuid or fixed_size_binary[16]",
     {
@@ -160,12 +163,16 @@ def _readable(column: Any, kind: _Kind) -> Any:
         numpy: Any = sys.modules.get("numpy")
         if numpy is None or not all(-(2**63) <= end < 2**63 for end in (column.start, column.stop, column.step)):
             return column
-        return numpy.arange(len(column), dtype="int64") * column.step + column.start  # Its own steps are floats.
+        rows = numpy.arange(len(column), dtype="int64")  # Its own steps are floats.
+        rows *= column.step
+        rows += column.start
+        return rows
     if type(column).__name__ == "NumpyExtensionArray":
         column = column.__array__()  # Its dtype is not NumPy's.
     categories: Any = getattr(getattr(column, "dtype", None), "categories", None)
-    if getattr(categories, "dtype", None) == object and len(categories) > len(column) // 2:
-        column = column.astype(object)  # Objects are read faster in the order of the rows.
+    name = getattr(getattr(categories, "dtype", None), "name", None)
+    if name in ("object", "string", "str") and len(categories) > len(column) // 2:
+        column = column.to_numpy()  # Objects are read faster in the order of the rows.
     dtype: Any = getattr(column, "dtype", None)
     code = getattr(dtype, "char", "O")
     if code == "S" and kind is not _STRINGS:

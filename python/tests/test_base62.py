@@ -254,7 +254,7 @@ class Faults(RaisesTestCase):
             error = self.raised(base62.InvalidByteError, call, OtherStr("0" * 19 + "\ud800"))
             self.assertEqual((error.byte, error.index), (0xED, 19))
             self.assertEqual(str(error), "Encoded input contains the invalid byte b'\\xed' at index 19")
-        # Over letters that are no ASCII the bad byte may be within a character.
+        # Over letters that are not ASCII the bad byte may be within a character.
         error = self.raised(base62.InvalidByteError, base62.decode, "é", HIGH)
         self.assertEqual((error.byte, error.index), (0xA9, 1))
         # A lone surrogate has bytes too, which may be characters of such an alphabet.

@@ -419,7 +419,10 @@ OTHERS: list[Any] = ["LZ", "not-a-uuid-here!", str(NAME), b"LZ", NAME.bytes, byt
 OTHERS += [memoryview(NAME.bytes), memoryview(b"LZLZ").cast("I"), np.str_("LZ"), np.bytes_(b"LZ"), np.void(bytes(16))]
 OTHERS += [np.datetime64("2026-01-01", "ns"), np.datetime64("2026-01-01", "D"), np.timedelta64(5, "ns"), pd.NaT]
 OTHERS += [pd.Timestamp("2026-01-01"), types.SimpleNamespace(int=5)]
-FLOATS_HINT = 'read it again as integers, by pandas with dtype_backend="pyarrow"; a cast of floats keeps the rounded values'
+FLOATS_HINT = (
+    'read it again as integers, by pandas with dtype_backend="pyarrow", in read_json with engine="pyarrow" too; '
+    "a cast of floats keeps the rounded values"
+)
 # Each function, and that for one value, with what they take besides. A valid value, an invalid one, and one of a type
 # that is wrong.
 FUNCTIONS: list[tuple[Call, Call, tuple[int, ...], Any, Any, Any]] = [

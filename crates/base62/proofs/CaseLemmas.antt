@@ -133,7 +133,7 @@ after_zeros_exchanged : (text : List ℕ)
     → exchange_case (after_zeros alternative text) ≡ after_zeros standard (exchange_case text)
 after_zeros_exchanged text = sym (drop-map other_case (leading_zeros alternative text) text) ∙ ap (λ z. drop z (exchange_case text)) (zeros_exchanged text)
 
--- a byte that is no letter has no other case
+-- a byte that is not a letter has no other case
 stays : (b : ℕ) → is_letter alternative b ≡ false → other_case b ≡ b
 unfolding alternative digit_of other_case
 stays b bad = elim (cases_lt b 128) [
@@ -151,7 +151,7 @@ no_letter_past : is_letter alternative 0 ≡ false
 unfolding alternative digit_of
 no_letter_past = refl
 
--- the byte after the leading letters is no letter
+-- the byte after the leading letters is not a letter
 bad_or_past : (text : List ℕ)
     → is_letter alternative (get_or text (invalid_index alternative text) 0) ≡ false
 bad_or_past text =

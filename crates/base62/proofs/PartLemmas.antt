@@ -68,7 +68,7 @@ reads_on B a b start old mid new number (Err fault) front back =
       steps = rw place (omega (arith, front.steps, back.steps));
     }
 
--- bytes after the first that is no letter are not read
+-- bytes after the first that is not a letter are not read
 refuses_before : (B a b : List ℕ) (start old new : ℕ) (fault : DecodeError)
     → HasRefused B a start old new fault → HasRefused B (a ++ b) start old new fault
 refuses_before B a b start old new fault front =

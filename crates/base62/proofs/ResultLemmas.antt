@@ -74,13 +74,13 @@ first_invalid_named B text byte index b i is first =
     let index_same : index ≡ i = cc in
     subst (λ x. IsFirstInvalid B text x i) byte_same (subst (IsFirstInvalid B text byte) index_same first)
 
--- a byte that is no letter is not in a text of letters
+-- a byte that is not a letter is not in a text of letters
 no_letters : (B text : List ℕ) (byte index : ℕ) → IsFirstInvalid B text byte index
     → AreLetters B text → ⊥
 no_letters B text byte index first letters =
     false≢true (sym first.no_letter ∙ ap (is_letter B) first.byte_is ∙ letters index 0 first.within)
 
--- a text has one first byte that is no letter
+-- a text has one first byte that is not a letter
 same_invalid : (B text : List ℕ) (byte index b i : ℕ) → IsFirstInvalid B text byte index
     → IsFirstInvalid B text b i → InvalidBase62Byte byte index ≡ InvalidBase62Byte b i
 same_invalid B text byte index b i p q = elim (cases_order index i) [
@@ -179,7 +179,7 @@ module _ (B : List ℕ) (ok : IsAlphabet B) where
       (λ letters big e. let less = value-lt_most B ok (after_zeros B text) 21 rest in omega (arith, less))
       (λ some letters small e. cc)
 
-  -- so their first byte that is no letter is reported
+  -- so their first byte that is not a letter is reported
   short_invalid : (text : List ℕ) (byte index : ℕ) → length text ≤ 21
       → IsFirstInvalid B text byte index → decoding B text ≡ Err (InvalidBase62Byte byte index)
   short_invalid text byte index short first =
@@ -190,7 +190,7 @@ module _ (B : List ℕ) (ok : IsAlphabet B) where
       (λ denotes small fits. absurd (no_letters B text byte index first denotes.letters))
       (short_fits text short)
 
-  -- an error has the first byte that is no letter
+  -- an error has the first byte that is not a letter
   pub names_first : (text : List ℕ) → IfErr (decoding B text) (NamesFirst B text)
   names_first text = answer_cases text (λ r. IfErr r (NamesFirst B text)) (λ e. tt) (λ some over. tt) (λ byte index first. first) (λ denotes small. tt)
 

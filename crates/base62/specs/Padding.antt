@@ -35,7 +35,7 @@ alignment_of number =
     else if number == 2 then Some Center else if number == 3 then Some Right else None
 
 -- what `Display` writes for the text: the padded text; nothing is said if a precision is stated, or
--- for a number that is no alignment
+-- for a number that is not an alignment
 unfoldable pub displayed : Option ℕ → Option ℕ → ℕ → ℕ → List ℕ → Option (List ℕ)
 displayed precision width fill number text =
     if is_none precision

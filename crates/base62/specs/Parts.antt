@@ -1,4 +1,4 @@
--- The result of reading a part of a text: its value, or its first byte that is no letter.
+-- The result of reading a part of a text: its value, or its first byte that is not a letter.
 use Rattle.std.specs.Prelude.{◌≡◌, ℕ, ◌+◌, ◌*◌, ◌^◌, ◌<◌, List, length, slice_index, Result, Ok, Err}
 use Rattle.base62.specs.declared.fault.DecodeError.{DecodeError}
 use Rattle.base62.specs.declared.fault.DecodeError.TheVariants.{InvalidBase62Byte}
@@ -12,8 +12,8 @@ pub record HasRead (B part : List ℕ) (old new number : ℕ) : Type 0 where
   pub value_is : number ≡ value B part
   pub steps : new ≡ old + length part
 
--- the error has the first byte of the part that is no letter, and its index in the text; the part
--- begins at `start`, and that byte and each before it took a step
+-- the error has the first byte of the part that is not a letter, and its index in the text; the
+-- part begins at `start`, and that byte and each before it took a step
 pub record HasRefused (B part : List ℕ) (start old new : ℕ) (fault : DecodeError) : Type 0 where
   pub within : invalid_index B part < length part
   pub names : fault

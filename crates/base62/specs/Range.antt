@@ -53,7 +53,8 @@ interval_ends B w prefix =
     else Some
     (value B prefix * span w prefix, min ((value B prefix + 1) * span w prefix - 1) (2 ^ 128 - 1))
 
--- the range of a prefix: the ends of its interval, or the error of its first byte that is no letter
+-- the range of a prefix: the ends of its interval, or the error of its first byte that is not
+-- a letter
 abbrev pub range_of : List ℕ → ℕ → List ℕ → Result (Option (ℕ × ℕ)) DecodeError
 range_of B w prefix =
     if list_all (is_letter B) prefix then Ok (interval_ends B w prefix)
@@ -63,7 +64,7 @@ range_of B w prefix =
 -- below 2^128 from the one to the other are those whose texts of w letters begin with it. If the
 -- alphabet ascends, these texts are those from the one end's text to the other's in lexicographic
 -- order. If a prefix has no ends, no text begins with it. Any other prefix is rejected with its
--- first byte that is no letter, and no text begins with it.
+-- first byte that is not a letter, and no text begins with it.
 pub record TellsRange
     (B : List ℕ) (w : ℕ) (prefix : List ℕ) (result : Result (Option (ℕ × ℕ)) DecodeError)
     : Type 0 where

@@ -8,7 +8,7 @@ use Rattle.base62.specs.Alphabet.{is_letter}
 use Rattle.base62.specs.Decoding.{decoding, leading_zeros, after_zeros, first_ten, invalid_index, shows_overflow}
 use Rattle.base62.specs.Encoding.{EncodesInto}
 
--- one for each byte after the leading zeros, up to and including the first that is no letter
+-- one for each byte after the leading zeros, up to and including the first that is not a letter
 abbrev pub steps_to_invalid : List ℕ → List ℕ → ℕ
 steps_to_invalid B text = invalid_index B text - leading_zeros B text + 1
 

@@ -81,7 +81,7 @@ module _ (text reply : List ℕ) where
   unfolding IsReply
   reply_to_adc h = h
 
--- a line that is no text behind a command does not begin with it
+-- a line that is not a text behind a command does not begin with it
 begins_not : (line command : List ℕ) → ((text : List ℕ) → line ≢ command ++ text)
     → begins line command ≡ false
 begins_not line command none = false_from_ne_true (begins line command) (λ e. none _ ((starts_is Decides-eqb line command (begins line command) refl).0 e))
@@ -96,7 +96,7 @@ unfolding IsReply
 reply_to_other line enc alt dec adc =
     rw (begins_not line (codes "enc ") enc, begins_not line (codes "alt ") alt, begins_not line (codes "dec ") dec, begins_not line (codes "adc ") adc) refl
 
--- if `number_of` gave nothing, the text is no number
+-- if `number_of` gave nothing, the text is not a number
 pub not_a_number : (test : Bool) (n : ℕ) (P Q : Type 0) → (if test then Some n else None) ≡ None
     → Q → MatchBool test P Q
 not_a_number true n P Q e q = absurd (none-some n (sym e))

@@ -263,7 +263,7 @@ fn ends_of(number: u128, len: usize, width: usize) -> Option<core::ops::RangeInc
     Some(least..=least.saturating_add(last))
 }
 
-// Returns an error with the first byte of the prefix that is no letter, if there is one.
+// Returns an error with the first byte of the prefix that is not a letter, if there is one.
 fn check_letters(tables: &Tables, prefix: &[u8]) -> Result<(), DecodeError> {
     for (index, byte) in prefix.iter().enumerate() {
         if tables.digit(*byte) > 61 {

@@ -123,8 +123,8 @@ pub fn texts_of_two(alphabet: &Alphabet, first: &[u8], second: &[u8], m: u128, n
 
 /// Over any alphabet decoding accepts exactly the nonempty texts of letters whose value is below
 /// 2^128. The canonical text of that value is the text without its leading zeros. If an error has
-/// a byte, it is the first that is no letter. If a text overflows, and a letter follows its leading
-/// zeros, it denotes 2^128 or more whatever letters replace its bad bytes.
+/// a byte, it is the first that is not a letter. If a text overflows, and a letter follows its
+/// leading zeros, it denotes 2^128 or more whatever letters replace its bad bytes.
 pub fn accepted_and_refused()
     ensures { (B : List ℕ) → IsAlphabet B → (text : List ℕ) → AnswerTells B text }
 {}

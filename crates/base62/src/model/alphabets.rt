@@ -24,7 +24,7 @@ pub fn alphabets_by_example()
     ensures from_33_decoded { decoding (range_with_len 33 62) (codes "!!6D") ≡ Ok 1337 }
 {}
 
-/// Lists that are no alphabet: 61 and 63 distinct bytes; 62 bytes of which two are equal, at
+/// Lists that are not an alphabet: 61 and 63 distinct bytes; 62 bytes of which two are equal, at
 /// several places; and 62 numbers, of which the last is 256 and no byte.
 pub fn no_alphabets_by_example()
     ensures one_fewer { IsAlphabet (range_with_len 33 61) → ⊥ }

@@ -11,7 +11,7 @@ ghost use Rattle.base62.specs.declared.fault.CanonicalError.TheVariants.{Leading
 ghost use Rattle.base62.specs.declared.fault.DecodeError.TheVariants.{ArithmeticOverflow, EmptyInput, InvalidBase62Byte};
 ghost use Rattle.base62.specs.declared.fault.FixedError.TheVariants.{WrongLength, Decode as FixedDecode};
 
-/// The results of decoding some texts; 33 is `!`, which is no letter.
+/// The results of decoding some texts; 33 is `!`, which is not a letter.
 pub fn decodings_by_example()
     ensures empty { decoding standard [] ≡ Err EmptyInput }
     ensures zeros_alone { decoding standard (codes "000") ≡ Ok 0 }
@@ -41,7 +41,7 @@ pub fn decodings_by_example()
     ensures other_alphabet { decoding alternative (codes "lz") ≡ Ok 1337 }
 {}
 
-/// The first byte that is no letter: 33, 48 and 63 are `!`, `0` and `?`.
+/// The first byte that is not a letter: 33, 48 and 63 are `!`, `0` and `?`.
 pub fn first_bad_bytes_by_example()
     ensures in_front { IsFirstInvalid standard (codes "!?") 33 0 }
     ensures after_letters { IsFirstInvalid standard (codes "0!z?") 33 1 }
@@ -85,7 +85,7 @@ pub fn counted_by_example()
     ensures other_answer { DecodesCounted standard (codes "LZ") 5 7 (Err EmptyInput) → ⊥ }
 {}
 
-/// Results of canonical decoding for some texts, and others; 33 is `!`, which is no letter.
+/// Results of canonical decoding for some texts, and others; 33 is `!`, which is not a letter.
 pub fn decodes_canonical_by_example()
     ensures number { DecodesCanonical standard (codes "LZ") (Ok 1337) }
     ensures one_zero { DecodesCanonical standard (codes "0") (Ok 0) }
@@ -111,7 +111,7 @@ pub fn decodes_canonical_of_any_result()
         → IsOk (decoding B text) }
 {}
 
-/// Results of fixed decoding for some widths and texts, and others; 33 is `!`, which is no letter.
+/// Results of fixed decoding for some widths and texts, and others; 33 is `!`, not a letter.
 pub fn decodes_fixed_by_example()
     ensures number { DecodesFixed standard 5 (codes "000LZ") (Ok 1337) }
     ensures shorter { DecodesFixed standard 5 (codes "LZ") (Err WrongLength) }
@@ -142,7 +142,7 @@ pub fn decodes_by_example()
         (Err ArithmeticOverflow) → ⊥ }
 {}
 
-/// Errors with the first byte that is no letter, and others.
+/// Errors with the first byte that is not a letter, and others.
 pub fn names_by_example()
     ensures first { NamesFirst standard (codes "0!?") (InvalidBase62Byte 33 1) }
     ensures no_byte { NamesFirst standard (codes "0!?") ArithmeticOverflow }

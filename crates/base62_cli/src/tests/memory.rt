@@ -82,7 +82,7 @@ fn refused_memory(rt: HostRuntime) -> Result<(), Fail> {
     let mut long_line = [b'0'; CHUNK_LEN + 8];
     long_line[..4].copy_from_slice(b"dec ");
     let cases: [(&str, &[u8], &str); 6] = [
-        // None: there is no line.
+        // None: there is not a line.
         ("empty", b"", ""),
         // One for the gathered replies. The gathered line is empty.
         ("empty_line", b"\n", "fault: unknown command\n"),

@@ -104,7 +104,7 @@ fn is_line_answered(alloc: Global, line: &[u8], reply: &str) -> Result<bool, Fai
     push_line(&mut input, line)?;
     push_line(&mut output, reply.as_bytes())?;
     let is_so = is_answered(alloc, input.as_slice(), output.as_slice())?;
-    // An empty line without its end is no line.
+    // An empty line without its end is not a line.
     Ok(is_so && (line.is_empty() || is_answered(alloc, line, output.as_slice())?))
 }
 

@@ -47,7 +47,7 @@ impl Letters {
         }
     }
 
-    // Converts a standard text to these letters. A byte that is no letter is left unchanged.
+    // Converts a standard text to these letters. A byte that is not a letter is left unchanged.
     pub(crate) fn of_standard(self, alloc: Global, text: &[u8]) -> Result<Vec<u8>, AllocError> {
         let letters = self.letters();
         text.iter()

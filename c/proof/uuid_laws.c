@@ -146,7 +146,7 @@ static void same_digits(const unsigned char *p, size_t start, size_t places, con
     }
 }
 
-/* Behind braces or urn:uuid: the digits do not begin at once. So no string is of two kinds, and none that is read is another one. */
+/* Behind braces or urn:uuid: the digits do not begin at once, so no string is of two kinds. None that is read is rejected. */
 /*@ requires TEXT_VALID(p, n); assigns \nothing;
     ensures braces: is_in_braces(p, n) ==> !are_uuid_digits(p, 0, n) && !has_urn(p, n);
     ensures urn: has_urn(p, n) ==> !are_uuid_digits(p, 0, n);

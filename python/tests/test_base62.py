@@ -219,6 +219,7 @@ class Alphabets(RaisesTestCase):
         for alphabet in (HIGH, Alphabet(HIGH), mixed, Alphabet(mixed)):
             for call in (lambda custom: base62.encode(1, custom), lambda custom: base62.encode_fixed(1, 5, custom)):
                 self.says("an alphabet for encoding has ASCII characters", ValueError, call, alphabet)
+        self.assertEqual(base62.encode(61, bytes(range(66, 128))), "\x7f")
 
 
 class Widths(RaisesTestCase):

@@ -184,9 +184,10 @@ class Arrays(ColumnsTestCase):
         chunks = pa.chunked_array([[None]] * 2, pa.uint8())
         for column in (chunks, pa.DictionaryArray.from_arrays(pa.nulls(1, pa.int8()), [1, 2])):
             self.check(lambda array: columns.encode_fixed(array, 2**30), column, [None] * len(column), pa.string())
-        # Of int64 a string has at most 11 characters, and of UUIDs 36. The type is chosen before rows are converted.
+        # Of 64 bits a string has at most 11 characters, and of UUIDs 36. The type is chosen before rows are converted.
         large = columns.decode_uuid, "1", 2**26, pa.large_string()
-        for call, value, count, of_result in ((columns.encode, 1, 10**8, pa.string()), large):
+        small = [(columns.encode, one(1), 10**8, pa.string()) for one in (int, np.uint64)]
+        for call, value, count, of_result in (*small, large):
             nulls = pa.DictionaryArray.from_arrays(pa.nulls(count, pa.int8()), [value])
             with unittest.mock.patch.object(columns._Conversion, "_convert_dictionary", lambda self, *_: pa.nulls(0, self.type)):
                 self.assertEqual(call(nulls, type=pa.string()).type, of_result)
@@ -227,7 +228,12 @@ class Objects(ColumnsTestCase):
         self.check(columns.encode, pd.Index([61, 62]), ["z", "10"])
         # Steps of which the count is not exact in floats, and ends that int64 does not have.
         narrow = range(60, 63), range(2**62, -1, -(2**60)), range(0, 2**62 + 1, 2**60), range(0), range(3, -9, -1)[:4]
-        wide = range(2**63 - 1, 2**63 + 3, 2), range(0, 2**70, 2**69), range(5, 2**63 - 1, 2**63 + 1)
+        wide = (
+            range(2**63 - 1, 2**63 + 3, 2),
+            range(2**63, 2**63 - 3, -1),
+            range(0, 2**70, 2**69),
+            range(5, 2**63 - 1, 2**63 + 1),
+        )
         for row_ids in (*narrow, *wide):
             self.check(columns.encode, row_ids, [base62.encode(number) for number in row_ids])
             if row_ids.step < 2**63 and row_ids.stop < 2**64:
@@ -489,7 +495,13 @@ class Arguments(ColumnsTestCase):
             expected = caught.exception
             rows = [None, *[value] * 300, bad, bad]
             chunks = pa.chunked_array([rows[:7], rows[7:9], rows[9:]])
-            for column in (rows, pd.Series(rows, dtype=object), chunks, np.array(rows, object), dictionary(pa.array(rows))):
+            for column in (
+                rows,
+                pd.Series(rows, range(len(rows), 0, -1), object),
+                chunks,
+                np.array(rows, object),
+                dictionary(pa.array(rows)),
+            ):
                 error = self.raised(type(expected), call, column, *given)
                 notes = {"row": 301, "__notes__": [f"Row 301 of the column is {bad!r}"]}
                 self.assertEqual((str(error), vars(error)), (str(expected), vars(expected) | notes))
@@ -511,8 +523,9 @@ class Arguments(ColumnsTestCase):
             for column in ([below, text], [below, bytearray(text, "ascii")], [below, text, "\ud800"]):
                 error = self.raised(base62.OutOfRangeError, columns.decode, column, type=of_type)
                 self.assertEqual((str(error), error.row), (f"the number is not from 0 to {shown} - 1: {other}", 1))
-        error = self.raised(base62.TooLargeError, columns.decode, ["LZ", "-" * 78])
-        self.assertEqual(error.__notes__, ["Row 1 of the column is '" + 74 * "-" + "..."])
+        for length, shown in ((77, f"'{77 * '-'}'"), (78, f"'{74 * '-'}...")):
+            error = self.raised(base62.TooLargeError, columns.decode, ["LZ", "-" * length])
+            self.assertEqual(error.__notes__, [f"Row 1 of the column is {shown}"])
 
     def test_mixed(self) -> None:
         """Lists of two objects, of which pyarrow converts some otherwise, and ends the process for some."""
@@ -537,6 +550,7 @@ class Arguments(ColumnsTestCase):
             tables = {0: value}, UserDict({0: value}), [{"a": value}], pd.DataFrame(), pd.DataFrame(two), pa.table(two)
             for column in (5, None, object(), "LZ", b"LZ", bytearray(b"LZ"), *tables):
                 self.raised(TypeError, call, column, *given)
+            self.says("a table has one column here, not 2", TypeError, call, pa.table(two), *given)
             for column in (np.array(5), np.array([[76, 90]], np.uint8)):
                 self.says(f"a column has one dimension, not {column.ndim}", TypeError, call, column, *given)
             for errors in ("null", "ignore", None, True):
@@ -550,6 +564,8 @@ class Arguments(ColumnsTestCase):
             others = {*UUID_TYPES, *LIMITS} - {*types_of(call)}
             for of_type in (None, "string", "uint64", pa.int32(), pa.binary(), pa.decimal128(37), OWN, *others):
                 self.raised(TypeError, call, [], *given, type=of_type)
+        message = "the type of the result is pyarrow's string or large_string, not 'string'"
+        self.says(message, TypeError, columns.encode, [], type="string")
         for call in (columns.encode, columns.encode_uuid, lambda array, letters: columns.encode_fixed(array, 5, letters)):
             self.says("an alphabet for encoding has ASCII characters", ValueError, call, [NAME], HIGH)
         self.check(lambda array: columns.decode(array, HIGH), [HIGH[5:6]], [5])

@@ -66,6 +66,7 @@ class Package(unittest.TestCase):
         self.assertEqual(package.metadata["Description"].strip(), (PACKAGE / "README.md").read_text().strip())
         self.assertEqual(package.metadata["License"], "MIT")
         self.assertEqual(package.metadata["Requires-Python"], ">=3.11")
+        self.assertRegex(package.metadata["Requires-Dist"], r"^pyarrow\W*>=18\W*extra == .columns.$")
         self.assertRegex(package.read_text("WHEEL") or "", "(?m)^Tag: cp311-abi3-")
 
     def test_signatures(self) -> None:

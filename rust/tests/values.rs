@@ -341,6 +341,8 @@ fn wrong_number_of_letters() {
         let fault = ParseAlphabetError::InvalidLength(length);
         assert_eq!(Alphabet::try_from(&vec![b'a'; length][..]), Err(fault));
         assert_eq!("a".repeat(length).parse::<Alphabet>(), Err(fault));
+        let fault_of_bytes = ParseAlphabetError::InvalidLength(2 * length);
+        assert_eq!("é".repeat(length).parse::<Alphabet>(), Err(fault_of_bytes));
         let text = format!("Alphabet has {length} bytes instead of 62");
         assert_eq!(fault.to_string(), text);
     }

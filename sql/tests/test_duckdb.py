@@ -97,8 +97,11 @@ class Case(unittest.TestCase):
 
 class Functions(Case):
     def test_functions(self) -> None:
-        """Each is deterministic, and has calls."""
+        """Each is deterministic, and has calls. A text is a VARCHAR or a BLOB."""
         listed = rows("SELECT * FROM duckdb_functions() WHERE function_name LIKE 'base62%';")
+        texts = [(row["function_name"], kind, others) for row in listed for kind, *others in [row["parameter_types"] or [""]]]
+        blobs = [(name, others) for name, kind, others in texts if kind == "BLOB"]
+        self.assertEqual(blobs, [(name, others) for name, kind, others in texts if kind == "VARCHAR"])
         self.assertEqual({row["stability"] for row in listed}, {"CONSISTENT"})
         counted = {(row["function_name"].removeprefix("base62_"), len(row["parameter_types"])) for row in listed}
         self.assertEqual(counted, {*FUNCTIONS, ("version", 0)})

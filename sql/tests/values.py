@@ -88,7 +88,10 @@ ALPHABETS = {
 STANDARD, OWN = ALPHABETS["standard"], ALPHABETS["reversed"]
 BIGINT = 2**63 - 1
 KEY = 22
-WIDEST = 1000
+# README has the greatest width, and how many bytes of a string a message shows.
+(WIDEST,), (MOST_SHOWN,) = (
+    map(int, re.findall(words, README)) for words in (r"A width goes up to (\d+)", r"at most (\d+) bytes")
+)
 # The message of each error and of each byte. The index follows.
 MESSAGES = {tuple(row[1:3]): re.sub(r"\d+$", "", unquote_to_bytes(row[0]).decode()) for row in rows("message")}
 # Canonical standard texts by their numbers.
@@ -96,9 +99,9 @@ TEXTS = {int(number): text for alphabet, number, text in rows("encode") if alpha
 
 
 def shown(value: bytes) -> str:
-    """What a message shows of a string: 40 bytes, of which each that is not printable ASCII is \\xff."""
-    characters = "".join(chr(byte) if 32 <= byte < 127 else f"\\x{byte:02x}" for byte in value[:40])
-    return f": '{characters}{'...' * (len(value) > 40)}'"
+    """What a message shows of a string: MOST_SHOWN bytes, of which each that is not printable ASCII is \\xff."""
+    characters = "".join(chr(byte) if 32 <= byte < 127 else f"\\x{byte:02x}" for byte in value[:MOST_SHOWN])
+    return f": '{characters}{'...' * (len(value) > MOST_SHOWN)}'"
 
 
 def error_of(fields: list[str], text: bytes, width: int | None = None) -> Error:

@@ -60,6 +60,7 @@ CHANGES = [
     ("../rust-toolchain.toml", "", '[toolchain]\nchannel = "nightly"\n'),
     ("../../rust-toolchain", "", "nightly\n"),
     ("../.cargo", "", "Its file config.toml gives flags to rustc.\n"),
+    ("../../.cargo", "", "Its file config.toml gives flags to rustc.\n"),
     # What one token is, and their order.
     ("generated/fixed.rs", "width == 0 || len", "width == 0 | | len"),
     (TABLES, "* 4229) >> 18", "* 4229) > > 18"),

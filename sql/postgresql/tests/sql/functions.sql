@@ -13,6 +13,7 @@ SELECT count(DISTINCT obj_description(oid, 'pg_proc')), obj_description('base62_
     FROM functions;
 SELECT oid::regprocedure FROM functions WHERE obj_description(oid, 'pg_proc') !~ CASE WHEN proname ~ '_uuid' THEN 'UUID'
     WHEN proname ~ 'numeric' THEN 'numeric' WHEN proname ~ 'code|number' THEN 'number' ELSE '' END;
+SELECT oid::regprocedure FROM functions WHERE obj_description(oid, 'pg_proc') !~ substring(proname, 'first|last');
 -- Each has calls in values.sql.
 SELECT proname, pronargs FROM functions WHERE proname <> 'base62_version' EXCEPT SELECT name, arguments FROM call;
 SELECT extversion, extrelocatable FROM pg_extension WHERE extname = 'base62';
@@ -51,7 +52,7 @@ BEGIN
     END LOOP;
 END $$;
 SELECT string_agg(each, ' ')
-    FROM with_each(:own, :alternative, :own, left(:own, 61), :own, repeat('0', 62), :alternative) each;
+    FROM with_each(:own, :alternative, :own, left(:own, 61), :own, :own || '-', :own, repeat('0', 62), :alternative) each;
 SELECT string_agg(base62_encode(61, a), '') FROM unnest(ARRAY[:own, left(:own, 61) || '-']) a;
 \echo A constant alphabet is created once for all rows
 SET client_min_messages = debug1;

@@ -129,10 +129,10 @@ def each_call() -> Iterator[partial[Any]]:
     yield partial(encoding.func, "letters", *given[1:], new, coerces)
 
 
-def rows_of(call: Call, form: str, count: int, new_form: str, values: bytes = bytes(32)) -> partial[Any]:
+def rows_of(call: Call, format: str, count: int, new_format: str, values: bytes = bytes(32)) -> partial[Any]:
     """A call of the loops for columns, with buffers for two rows."""
     new = bytearray(1), bytearray(32), bytearray(44)
-    return partial(call, LETTERS, 1, (form, 0, count, b"\3", values, b"LZ"), (new_form, *new), True)
+    return partial(call, LETTERS, 1, (format, 0, count, b"\3", values, b"LZ"), (new_format, *new), True)
 
 
 def readme(of_columns: bool = False) -> doctest.DocTest:

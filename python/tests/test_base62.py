@@ -93,10 +93,10 @@ def others_run(call: Call) -> bool:
         sys.setswitchinterval(interval)
 
 
-def copies(of: Any) -> list[Any]:
+def copies(value: Any) -> list[Any]:
     """What copy makes of an object, and each protocol of pickle."""
-    pickled = [pickle.dumps(of, protocol) for protocol in range(pickle.HIGHEST_PROTOCOL + 1)]
-    return [copy.copy(of), copy.deepcopy(of), *map(pickle.loads, pickled)]
+    pickled = [pickle.dumps(value, protocol) for protocol in range(pickle.HIGHEST_PROTOCOL + 1)]
+    return [copy.copy(value), copy.deepcopy(value), *map(pickle.loads, pickled)]
 
 
 class OtherStr(str):

@@ -92,8 +92,8 @@ class Arrays(ColumnsTestCase):
 
     def some(self, bits: int, count: int = 200) -> list[Any]:
         maker = random.Random(bits)
-        found = [maker.getrandbits(maker.randint(1, bits)) for _ in range(count)]
-        return [2**bits - 1, 0, *(None if maker.random() < 0.3 else value for value in found)]
+        numbers = [maker.getrandbits(maker.randint(1, bits)) for _ in range(count)]
+        return [2**bits - 1, 0, *(None if maker.random() < 0.3 else number for number in numbers)]
 
     def each(self, call: Call, rows: list[Any], *given: Any) -> list[Any]:
         return [None if row is None else call(row, *given) for row in rows]
@@ -120,8 +120,8 @@ class Arrays(ColumnsTestCase):
                 self.check_forms(pa.array(sixteen, pa.binary(16)).cast(of_type), texts, call)
         for of_type in TEXT_TYPES[3:]:
             self.check_forms(pa.array(sixteen, of_type), texts, columns.encode_uuid)
-        for of_type, (of_result, form) in product(TEXT_TYPES, UUID_TYPES.items()):
-            self.check_forms(pa.array(texts).cast(of_type), self.each(form, names), columns.decode_uuid, of_result)
+        for of_type, (of_result, as_result) in product(TEXT_TYPES, UUID_TYPES.items()):
+            self.check_forms(pa.array(texts).cast(of_type), self.each(as_result, names), columns.decode_uuid, of_result)
 
     def test_strings(self) -> None:
         numbers = self.some(63)
@@ -265,8 +265,8 @@ class Objects(ColumnsTestCase):
         self.check(lambda array: columns.encode_uuid(array, errors="coerce"), [NAME, "5", b"5"], [TEXT, None, None])
         # NumPy cuts zeros at the end of S16.
         zeros = bytes([1]) + bytes(15)
-        for form in ("S16", "V16"):
-            column = np.array([NAME.bytes, zeros], form)
+        for dtype in ("S16", "V16"):
+            column = np.array([NAME.bytes, zeros], dtype)
             for array in (column, np.ma.array(column), pd.Series(column), pd.Series(column).array):
                 for call in (columns.encode_uuid, columns.encode):
                     with warnings.catch_warnings(action="error"):
@@ -285,8 +285,8 @@ class Objects(ColumnsTestCase):
         ):
             self.assertEqual(columns.decode(column).to_pylist(), [1337, None, 61], column)
         self.check(columns.decode, pd.Categorical(texts * 9), [1337, None, 61] * 9)
-        for form in ("U", "S", "S16", np.dtypes.StringDType()):
-            column = np.array(["LZ", "0", "z\0z"], form)
+        for dtype in ("U", "S", "S16", np.dtypes.StringDType()):
+            column = np.array(["LZ", "0", "z\0z"], dtype)
             self.check(columns.decode, column[:2], [1337, 0])
             self.assertEqual(self.raised(base62.InvalidByteError, columns.decode, column).row, 2)
         error = self.raised(base62.InvalidByteError, columns.decode, ["LZ", "\ud800"])
@@ -322,20 +322,20 @@ class Recipes(ColumnsTestCase):
             added, updated = frame[["row"]].copy(), frame.copy()
             added.loc[:0, "id"] = decode(codes[:1])
             updated.update(pd.DataFrame({"id": decode(codes[2:])}))
-            found = [pd.Series(decode(codes)), added["id"], updated["id"], frame["id"].reindex([0, 2]), frame["id"].shift()]
-            found += [frame.pivot(columns="row", values="id")[0]]
-            found += [more.merge(frame, value)["id"] for value in ("left", "outer")]
-            self.assertEqual({int(value.dropna().iloc[0]) in ids for value in found}, {decode is recipe})
+            series = [pd.Series(decode(codes)), added["id"], updated["id"], frame["id"].reindex([0, 2]), frame["id"].shift()]
+            series += [frame.pivot(columns="row", values="id")[0]]
+            series += [more.merge(frame, value)["id"] for value in ("left", "outer")]
+            self.assertEqual({int(value.dropna().iloc[0]) in ids for value in series}, {decode is recipe})
         column = pd.Series(recipe(codes), name="id")
         for used, is_exact in ((column, False), (column.dropna(), True)):
-            found = [used.map(same), used.apply(same), used.to_numpy(), used.to_frame().to_dict("list")["id"]]
-            exact = [int(value[0]) == ids[0] for value in found] + [used.astype(str)[0] == str(ids[0])]
+            converted = [used.map(same), used.apply(same), used.to_numpy(), used.to_frame().to_dict("list")["id"]]
+            exact = [int(value[0]) == ids[0] for value in converted] + [used.astype(str)[0] == str(ids[0])]
             exact += [len(used.drop_duplicates()) == len(used), not used.duplicated().any()]
             self.assertEqual({*exact, not pd.Series(ids[2:]).isin(used.loc[:1])[0]}, {is_exact})
         beside = pd.DataFrame({"id": narrow, "float": [0.5, 1.5]})
-        found = [beside.iloc[0]["id"], next(beside.iterrows())[1]["id"], beside.apply(lambda row: row["id"], axis=1)[0]]
-        found += [beside.to_numpy()[0, 0], beside.T[0]["id"], beside.melt()["value"][0], next(beside.itertuples()).id]
-        self.assertEqual([int(number) == ids[0] for number in found], [False] * 6 + [True])
+        numbers = [beside.iloc[0]["id"], next(beside.iterrows())[1]["id"], beside.apply(lambda row: row["id"], axis=1)[0]]
+        numbers += [beside.to_numpy()[0, 0], beside.T[0]["id"], beside.melt()["value"][0], next(beside.itertuples()).id]
+        self.assertEqual([int(number) == ids[0] for number in numbers], [False] * 6 + [True])
 
     def test_readers(self) -> None:
         """Which readers keep ids beside a missing one, and which round them: those of README's table, and a cast."""
@@ -386,9 +386,9 @@ class Recipes(ColumnsTestCase):
         """sqlite3 stores scalars as BLOBs, which no string equals."""
         with contextlib.closing(sqlite3.connect(":memory:")) as db:
             db.execute("CREATE TABLE item (code TEXT)")
-            for codes, found in ((columns.encode([1337]), 0), (columns.encode([1337]).to_pylist(), 1)):
+            for codes, count in ((columns.encode([1337]), 0), (columns.encode([1337]).to_pylist(), 1)):
                 db.executemany("INSERT INTO item VALUES (?)", zip(codes))
-                self.assertEqual(db.execute("SELECT count(*) FROM item WHERE code = 'LZ'").fetchone(), (found,))
+                self.assertEqual(db.execute("SELECT count(*) FROM item WHERE code = 'LZ'").fetchone(), (count,))
 
     def test_spreadsheets(self) -> None:
         """How many shortest strings look like numbers with an exponent."""
@@ -412,10 +412,10 @@ class Recipes(ColumnsTestCase):
             parquet.write_table(table, f"{folder}/in.parquet")
             rows = f"SELECT *, typeof(name) || typeof(number) AS types FROM '{folder}/in.parquet'"
             subprocess.run(["duckdb", "-c", f"COPY ({rows}) TO '{folder}/out.parquet'"], check=True)
-            found = parquet.read_table(f"{folder}/out.parquet")
-        self.assertEqual({*found["types"].to_pylist()}, {"UUIDDECIMAL(38,0)"})
-        self.assertEqual(columns.encode_uuid(found["name"]).combine_chunks(), names)
-        self.assertEqual(columns.encode(found["number"]).combine_chunks(), numbers)
+            table = parquet.read_table(f"{folder}/out.parquet")
+        self.assertEqual({*table["types"].to_pylist()}, {"UUIDDECIMAL(38,0)"})
+        self.assertEqual(columns.encode_uuid(table["name"]).combine_chunks(), names)
+        self.assertEqual(columns.encode(table["number"]).combine_chunks(), numbers)
 
 
 MISSING: list[Any] = [None, pd.NA, float("nan"), np.float32("nan")]

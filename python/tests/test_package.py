@@ -82,9 +82,9 @@ class Package(unittest.TestCase):
         """Editors show what help shows. Parameters of one name have one type, and results that of the stub."""
         stub = ast.parse(pathlib.Path(_base62.__file__).with_name("_base62.pyi").read_text())
         documented = [node for node in stub.body if isinstance(node, (ast.FunctionDef, ast.ClassDef))]
-        told = {node.name: ast.get_docstring(node) for node in documented}
+        texts = {node.name: ast.get_docstring(node) for node in documented}
         shown = {name: inspect.getdoc(one) for name, one in vars(_base62).items() if callable(one)}
-        self.assertEqual(told, shown)
+        self.assertEqual(texts, shown)
         arguments = [value for node in ast.walk(stub) if isinstance(node, ast.FunctionDef) for value in node.args.args]
         self.assertEqual({(each.arg, ast.unparse(each.annotation)) for each in arguments if each.annotation}, {*TYPES.items()})
         for node in documented:

@@ -24,7 +24,7 @@ SIZES = {"L": 8, "l": 8, "d": 16, "w": 16, "u": 4, "z": 4, "U": 8, "Z": 8}
 ORDERS: Any = dict.fromkeys(SIZES, sys.byteorder) | {"w": "big"}
 TEXTS = "uzUZ"
 # The types of a column and of a result, of encoding and of decoding.
-FORMS = {True: ("LldwuzUZ", "uU"), False: (TEXTS, "LldwuU")}
+FORMATS = {True: ("LldwuzUZ", "uU"), False: (TEXTS, "LldwuU")}
 GREATEST = {"l": 2**63 - 1, "L": 2**64 - 1, "d": 10**38 - 1}
 LIMITS = [number + more for number in GREATEST.values() for more in (0, 1)]
 ALPHABETS = [base62.Alphabet.STANDARD, LETTERS]
@@ -42,94 +42,96 @@ def buffer(given: bytes) -> array[int]:
     return array("B", given)
 
 
-def to_bytes(form: str, *numbers: int) -> bytes:
+def to_bytes(format: str, *numbers: int) -> bytes:
     """Values of a type, or the offsets of its strings."""
-    return b"".join(value.to_bytes(SIZES[form], ORDERS[form], signed=form not in "Lw") for value in numbers)
+    return b"".join(value.to_bytes(SIZES[format], ORDERS[format], signed=format not in "Lw") for value in numbers)
 
 
-def number_at(form: str, values: array[int], index: int) -> int:
-    size = SIZES[form]
-    return int.from_bytes(values[index * size : index * size + size], ORDERS[form], signed=form not in "Lw")
+def number_at(format: str, values: array[int], index: int) -> int:
+    size = SIZES[format]
+    return int.from_bytes(values[index * size : index * size + size], ORDERS[format], signed=format not in "Lw")
 
 
 class Input:
     """The arguments of a call, and what it has to do."""
 
-    def __init__(self, of: random.Random, encodes: bool) -> None:
-        self.of, self.encodes, self.letters = of, encodes, of.choice(ALPHABETS)
-        self.form, self.new_form = (of.choice(value) for value in FORMS[encodes])
+    def __init__(self, rng: random.Random, encodes: bool) -> None:
+        self.rng, self.encodes, self.letters = rng, encodes, rng.choice(ALPHABETS)
+        self.format, self.new_format = (rng.choice(value) for value in FORMATS[encodes])
         # A width, or -1. To decode canonical strings it is -2.
-        self.option = of.choice([-1, -1 if encodes else -2, 0, 5, 22, of.randrange(40)])
-        self.offset, self.count, self.coerces = of.choice([0, of.randrange(20)]), of.randrange(20), of.random() < 0.5
-        valid = [of.random() < 0.8 for _ in range(self.offset + self.count)]
-        self.validity = buffer(bitmap(valid)) if of.random() < 0.7 else None
-        rows, is_text = [self.row() for _ in valid], self.form in TEXTS
-        self.values = buffer(to_bytes(self.form, *(accumulate(map(len, rows), initial=0) if is_text else rows)))
+        self.option = rng.choice([-1, -1 if encodes else -2, 0, 5, 22, rng.randrange(40)])
+        self.offset, self.count, self.coerces = rng.choice([0, rng.randrange(20)]), rng.randrange(20), rng.random() < 0.5
+        valid = [rng.random() < 0.8 for _ in range(self.offset + self.count)]
+        self.validity = buffer(bitmap(valid)) if rng.random() < 0.7 else None
+        rows, is_text = [self.row() for _ in valid], self.format in TEXTS
+        self.values = buffer(to_bytes(self.format, *(accumulate(map(len, rows), initial=0) if is_text else rows)))
         self.characters = buffer(b"".join(rows) if is_text else b"")
-        ends = (self.count + 1) * SIZES[self.new_form] if self.new_form in TEXTS else 0
-        length = self.most() * self.count + of.choice([0, 0, 0, 0, of.randrange(30)])
-        self.new = [buffer(of.randbytes(size)) for size in ((self.count + 7) // 8, ends, length)]
+        ends = (self.count + 1) * SIZES[self.new_format] if self.new_format in TEXTS else 0
+        length = self.most() * self.count + rng.choice([0, 0, 0, 0, rng.randrange(30)])
+        self.new = [buffer(rng.randbytes(size)) for size in ((self.count + 7) // 8, ends, length)]
 
     def most(self) -> int:
         """The bytes that a row of the result may need."""
         if not self.encodes:
-            return 36 if self.new_form in TEXTS else SIZES[self.new_form]
-        return self.option if self.option >= 0 else 11 if self.form in "Ll" else 22
+            return 36 if self.new_format in TEXTS else SIZES[self.new_format]
+        return self.option if self.option >= 0 else 11 if self.format in "Ll" else 22
 
     def row(self) -> Any:
-        of = self.of
-        bits = {"L": 64, "l": 63, "d": 127}.get(self.form, 128)
-        is_limit = of.random() < 0.3
-        number = of.choice([limit for limit in LIMITS if limit < 2**bits]) if is_limit else of.getrandbits(of.randint(1, bits))
-        if self.form in "ld" and of.random() < 0.1:
+        rng = self.rng
+        bits = {"L": 64, "l": 63, "d": 127}.get(self.format, 128)
+        is_limit = rng.random() < 0.3
+        number = (
+            rng.choice([limit for limit in LIMITS if limit < 2**bits]) if is_limit else rng.getrandbits(rng.randint(1, bits))
+        )
+        if self.format in "ld" and rng.random() < 0.1:
             return ~number
-        if self.form not in TEXTS:
+        if self.format not in TEXTS:
             return number
         if not self.encodes:
-            text = base62.encode(number >> of.choice([0, 0 if is_limit else 64]), self.letters).encode()
+            text = base62.encode(number >> rng.choice([0, 0 if is_limit else 64]), self.letters).encode()
             padded = text.rjust(max(self.option, 0), self.letters[:1])
-            return of.choice([text, text, padded, padded, self.letters[:1] + text, text + b"-", b""])
+            return rng.choice([text, text, padded, padded, self.letters[:1] + text, text + b"-", b""])
         name = uuid.UUID(int=number)
         texts = [name.hex, str(name), name.urn, f"{{{name}}}", str(name)[1:], name.hex + "-"]
         sixteen = [name.bytes, name.bytes[1:], name.bytes + b"-"]
-        return of.choice(sixteen if self.form in "zZ" else [value.encode() for value in texts])
+        return rng.choice(sixteen if self.format in "zZ" else [value.encode() for value in texts])
 
     def damage(self) -> None:
         """Makes a buffer too short, an offset of its strings wrong, a number negative or too great, or a type another."""
-        of = self.of
-        place = of.choice(
-            ["option", "offset", "count", "validity", "values", "characters", "new", "ends", "ends", "form", "new_form"]
+        rng = self.rng
+        place = rng.choice(
+            ["option", "offset", "count", "validity", "values", "characters", "new", "ends", "ends", "format", "new_format"]
         )
         parts: Any = self.new if place == "new" else vars(self)
-        key: Any = of.randrange(3) if place == "new" else place
+        key: Any = rng.randrange(3) if place == "new" else place
         if place in ("option", "offset", "count"):
-            other = of.choice([of.randrange(30), of.getrandbits(64) - 2**63])
-            parts[key] = of.choice([-1, -2, -(2**63), 2**63 - 1, 2**62, 2**60, 2**32, other])
-        elif place in ("form", "new_form"):
+            other = rng.choice([rng.randrange(30), rng.getrandbits(64) - 2**63])
+            parts[key] = rng.choice([-1, -2, -(2**63), 2**63 - 1, 2**62, 2**60, 2**32, other])
+        elif place in ("format", "new_format"):
             # Another type, or one of which a char would be the letter of a type, or the end of a string.
-            parts[key] = chr(of.choice([0, 256]) + of.choice(b"LldwuzUZ\0"))
+            parts[key] = chr(rng.choice([0, 256]) + rng.choice(b"LldwuzUZ\0"))
         elif place != "ends":
             # A slice has no byte behind its end either.
-            parts[key] = parts[key] and parts[key][: -of.choice([1, 1, 1, of.randint(1, 20)])]
-        elif self.form in TEXTS and len(self.values) >= SIZES[self.form]:
-            size, length = SIZES[self.form], len(self.characters)
+            parts[key] = parts[key] and parts[key][: -rng.choice([1, 1, 1, rng.randint(1, 20)])]
+        elif self.format in TEXTS and len(self.values) >= SIZES[self.format]:
+            size, length = SIZES[self.format], len(self.characters)
             great = [2**31 - 1, -(2**31)] if size == 4 else [2**32, 2**63 - 1, -(2**63)]
-            end = of.choice([-1, 0, of.randrange(length + 1), length, length + 1, *great])
-            start = of.randrange(len(self.values) // size) * size
-            self.values[start : start + size] = buffer(to_bytes(self.form, end))
+            end = rng.choice([-1, 0, rng.randrange(length + 1), length, length + 1, *great])
+            start = rng.randrange(len(self.values) // size) * size
+            self.values[start : start + size] = buffer(to_bytes(self.format, end))
 
     def has_rows(self) -> bool:
         last = self.offset + self.count
         return (
-            self.form in FORMS[self.encodes][0]
-            and self.new_form in FORMS[self.encodes][1]
+            self.format in FORMATS[self.encodes][0]
+            and self.new_format in FORMATS[self.encodes][1]
             and self.offset >= 0
             and self.count >= 0
             and last <= 2**40
-            and len(self.values) >= (last + (self.form in TEXTS)) * SIZES[self.form]
+            and len(self.values) >= (last + (self.format in TEXTS)) * SIZES[self.format]
             and (self.validity is None or len(self.validity) * 8 >= last)
             and len(self.new[0]) * 8 >= self.count
-            and (self.new_form not in TEXTS or len(self.new[1]) >= (self.count + 1) * SIZES[self.new_form])
+            and (self.new_format not in TEXTS or len(self.new[1]) >= (self.count + 1) * SIZES[self.new_format])
             and len(self.new[2]) >= self.count * self.most()
         )
 
@@ -138,24 +140,24 @@ class Input:
         i = self.offset + row
         if self.validity is not None and not self.validity[i // 8] >> i % 8 & 1:
             return None
-        if self.form not in TEXTS:
-            return number_at(self.form, self.values, i)
-        start, end = (number_at(self.form, self.values, value) for value in (i, i + 1))
+        if self.format not in TEXTS:
+            return number_at(self.format, self.values, i)
+        start, end = (number_at(self.format, self.values, value) for value in (i, i + 1))
         if not 0 <= start <= end <= len(self.characters):
             raise LookupError
         text = self.characters[start:end].tobytes()
-        return text.decode() if self.encodes and self.form in "uU" else text
+        return text.decode() if self.encodes and self.format in "uU" else text
 
     def convert(self, value: Any) -> Any:
         named: dict[str, Any] = {"alphabet": self.letters} | ({"width": self.option} if self.option >= 0 else {})
         if not self.encodes:
             decode: Any = base62.decode_canonical if self.option == -2 else base62.decode
             number = base62.decode_fixed(value, **named) if self.option >= 0 else decode(value, **named)
-            if number > GREATEST.get(self.new_form, number):
+            if number > GREATEST.get(self.new_format, number):
                 raise ValueError
-            return str(uuid.UUID(int=number)).encode() if self.new_form in TEXTS else number
+            return str(uuid.UUID(int=number)).encode() if self.new_format in TEXTS else number
         encode: Any = base62.encode_fixed if self.option >= 0 else base62.encode
-        return encode(base62.decode(base62.encode_uuid(value)) if self.form in TEXTS else value, **named).encode()
+        return encode(base62.decode(base62.encode_uuid(value)) if self.format in TEXTS else value, **named).encode()
 
     def expected(self) -> list[Any] | None:
         """The rows of the result before the first invalid one, or None if the array is malformed."""
@@ -177,12 +179,12 @@ class Input:
     def result(self, row: int, used: int, nulls: int) -> list[Any]:
         valid = [bool(self.new[0][i // 8] >> i % 8 & 1) for i in range(row)]
         assert valid.count(False) == nulls, (valid, nulls)
-        if self.new_form in TEXTS:
-            ends = [number_at(self.new_form, self.new[1], i) for i in range(row + 1)]
+        if self.new_format in TEXTS:
+            ends = [number_at(self.new_format, self.new[1], i) for i in range(row + 1)]
             assert (ends[0], ends[row]) == (0, used), (ends, used)
             rows: list[Any] = [self.new[2][start:end].tobytes() for start, end in pairwise(ends)]
         else:
-            rows = [number_at(self.new_form, self.new[2], i) for i in range(row)]
+            rows = [number_at(self.new_format, self.new[2], i) for i in range(row)]
         # A null row has no string, or 0.
         assert not any(value for value, is_valid in zip(rows, valid) if not is_valid), rows
         return [value if is_valid else None for value, is_valid in zip(rows, valid)]
@@ -192,9 +194,9 @@ class Input:
         expected = self.expected()
         call: Any = _base62.encode_rows if self.encodes else _base62.decode_rows
         # An array lacks the buffer of its characters if it has none.
-        source = self.form, self.offset, self.count, self.validity, self.values, self.characters or None
+        source = self.format, self.offset, self.count, self.validity, self.values, self.characters or None
         try:
-            row, used, nulls = call(self.letters, self.option, source, (self.new_form, *self.new), self.coerces)
+            row, used, nulls = call(self.letters, self.option, source, (self.new_format, *self.new), self.coerces)
         except ValueError as error:
             assert expected is None and str(error) == MALFORMED, (vars(self), expected, error)
         else:
@@ -208,10 +210,10 @@ class Input:
 
 class Inputs(unittest.TestCase):
     def test_random(self) -> None:
-        of, well_formed = random.Random(62), 0
+        rng, well_formed = random.Random(62), 0
         for _ in range(8_000):
-            given = Input(of, of.random() < 0.5)
-            for _ in range(of.randrange(3)):
+            given = Input(rng, rng.random() < 0.5)
+            for _ in range(rng.randrange(3)):
                 given.damage()
             well_formed += given.check()
         self.assertLess(3_500, well_formed)
@@ -299,11 +301,11 @@ class Far(unittest.TestCase):
         offset = 2**32 + 2**31 + 11
         validity = pages(offset // 8 + 8)
         validity[(offset + 1) // 8] = 1 << (offset + 1) % 8
-        for form, size in SIZES.items():
+        for format, size in SIZES.items():
             values, place = pages((offset + 4) * size), (offset + 1) * size
-            values[place : place + 2 * size] = to_bytes(form, *((0, 1) if form in TEXTS else (7, 0)))
-            source, new = (form, offset, 2, validity, values, b"7"), (bytearray(1), bytearray(32), bytearray(64))
-            if form in TEXTS:
+            values[place : place + 2 * size] = to_bytes(format, *((0, 1) if format in TEXTS else (7, 0)))
+            source, new = (format, offset, 2, validity, values, b"7"), (bytearray(1), bytearray(32), bytearray(64))
+            if format in TEXTS:
                 self.assertEqual(_base62.decode_rows(ALPHABETS[0], -1, source, ("L", *new), True), (2, 0, 1))
                 self.assertEqual(memoryview(new[2]).cast("Q")[1], 7)
             else:

@@ -16,9 +16,9 @@ from calls import OF_ALPHABETS, VALUES, Call, RaisesTestCase
 def rows(kind: str) -> list[list[str]]:
     """The fields of each row of a kind, of which there are some."""
     lines = [line.split("\t") for line in VALUES.read_text("ascii").splitlines()]
-    found = [fields for first, *fields in lines if first == kind]
-    assert found, kind
-    return found
+    matching = [fields for first, *fields in lines if first == kind]
+    assert matching, kind
+    return matching
 
 
 LETTERS = {name: unquote_to_bytes(letters) for name, letters, *_ in rows("alphabet")}
@@ -127,7 +127,7 @@ class Values(RaisesTestCase):
     def test_ranges(self) -> None:
         for name, width, escaped, kind, *expected in rows("range"):
             for prefix in forms_of_text(escaped):
-                calls: list[Call] = [lambda of: base62.prefix_range(of, int(width), ALPHABETS[name])]
+                calls: list[Call] = [lambda prefix: base62.prefix_range(prefix, int(width), ALPHABETS[name])]
                 if (name, width) == ("standard", "22"):
                     calls += [base62.key_range, numbers_of_bounds]
                 for call in calls:

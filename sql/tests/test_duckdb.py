@@ -73,8 +73,8 @@ def overloads() -> Iterator[tuple[str, list[tuple[str, list[str]]]]]:
     """The name of each that has parameters, and two results with arguments. A number is one of any type."""
     listed = "FROM duckdb_functions() WHERE function_name LIKE 'base62%' AND function_name <> 'base62_version'"
     for row in rows(f"SELECT function_name AS name, parameter_types AS types {listed};"):
-        found = FUNCTIONS[row["name"].removeprefix("base62_"), len(row["types"])].items()
-        small = [(result, given) for result, given in found if not isinstance(given[0], int) or given[0] <= BIGINT]
+        calls = FUNCTIONS[row["name"].removeprefix("base62_"), len(row["types"])].items()
+        small = [(result, given) for result, given in calls if not isinstance(given[0], int) or given[0] <= BIGINT]
         yield row["name"], [
             (text_of(result), [f"{quoted(value)}::{kind}" for value, kind in zip(given, row["types"])])
             for result, given in small[:2]

@@ -223,11 +223,11 @@ def range_calls(database: Database) -> Iterator[Call]:
 
 def arguments_by_result(calls: list[Call]) -> dict[tuple[str, int], dict[Any, tuple[Any, ...]]]:
     """Of each function, with each count of arguments: some for each of its results."""
-    found: dict[tuple[str, int], dict[Any, tuple[Any, ...]]] = {}
+    by_result: dict[tuple[str, int], dict[Any, tuple[Any, ...]]] = {}
     for name, arguments, result in calls:
         if result is not None and not isinstance(result, Error):
-            found.setdefault((name, len(arguments)), {}).setdefault(result, arguments)
-    return found
+            by_result.setdefault((name, len(arguments)), {}).setdefault(result, arguments)
+    return by_result
 
 
 def argument_calls(database: Database, name: str, given: tuple[Any, ...]) -> Iterator[Call]:

@@ -72,6 +72,7 @@ test('other alphabets are rejected', () => {
   rejects(calls, ['0'], 'TypeError', `${expected}, not a string: create one with new Alphabet(..)`);
   rejects(calls, [5], 'TypeError', `${expected}, not 5: give map a function such as (n) => encode(n)`);
   assert.throws(() => (custom.characters = ''), TypeError);
+  for (const name of ['standard', 'alternative']) assert.throws(() => (Alphabet[name] = custom), TypeError);
 });
 
 test('numbers and widths out of range are rejected', () => {

@@ -17,14 +17,16 @@
 Traceback (most recent call last):
 base62.WrongLengthError: Encoded input has 2 bytes, not 22
 >>> engine.dispose()
->>> [str(Key().compile(dialect=database.dialect())) for database in (postgresql, mysql)]
-['VARCHAR(22) COLLATE "C"', 'VARCHAR(22) COLLATE utf8mb4_bin']
+>>> databases = postgresql.dialect(), mysql.dialect(), mariadb.MariaDBDialect()
+>>> [str(Key().compile(dialect=database)) for database in databases]
+['VARCHAR(22) COLLATE "C"', 'VARCHAR(22) COLLATE utf8mb4_bin', 'VARCHAR(22) COLLATE utf8mb4_bin']
 """
 
 from typing import Any
 
 import sqlalchemy
 from sqlalchemy.dialects import mysql, postgresql
+from sqlalchemy.dialects.mysql import mariadb
 
 import base62
 

@@ -228,13 +228,8 @@ class Objects(ColumnsTestCase):
         self.check(columns.encode, pd.Index([61, 62]), ["z", "10"])
         # Steps of which the count is not exact in floats, and ends that int64 does not have.
         narrow = range(60, 63), range(2**62, -1, -(2**60)), range(0, 2**62 + 1, 2**60), range(0), range(3, -9, -1)[:4]
-        wide = (
-            range(2**63 - 1, 2**63 + 3, 2),
-            range(2**63, 2**63 - 3, -1),
-            range(0, 2**70, 2**69),
-            range(5, 2**63 - 1, 2**63 + 1),
-        )
-        for row_ids in (*narrow, *wide):
+        wide = range(2**63 - 1, 2**63 + 3, 2), range(0, 2**70, 2**69), range(5, 2**63 - 1, 2**63 + 1)
+        for row_ids in (*narrow, *wide, range(2**63, 2**63 - 3, -1)):
             self.check(columns.encode, row_ids, [base62.encode(number) for number in row_ids])
             if row_ids.step < 2**63 and row_ids.stop < 2**64:
                 self.check(columns.encode, pd.RangeIndex(row_ids), [base62.encode(number) for number in row_ids])
@@ -495,13 +490,8 @@ class Arguments(ColumnsTestCase):
             expected = caught.exception
             rows = [None, *[value] * 300, bad, bad]
             chunks = pa.chunked_array([rows[:7], rows[7:9], rows[9:]])
-            for column in (
-                rows,
-                pd.Series(rows, range(len(rows), 0, -1), object),
-                chunks,
-                np.array(rows, object),
-                dictionary(pa.array(rows)),
-            ):
+            series = pd.Series(rows, range(len(rows), 0, -1), object)
+            for column in (rows, series, chunks, np.array(rows, object), dictionary(pa.array(rows))):
                 error = self.raised(type(expected), call, column, *given)
                 notes = {"row": 301, "__notes__": [f"Row 301 of the column is {bad!r}"]}
                 self.assertEqual((str(error), vars(error)), (str(expected), vars(expected) | notes))

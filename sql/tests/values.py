@@ -89,9 +89,8 @@ STANDARD, OWN = ALPHABETS["standard"], ALPHABETS["reversed"]
 BIGINT = 2**63 - 1
 KEY = 22
 # README has the greatest width, and how many bytes of a string a message shows.
-(WIDEST,), (MOST_SHOWN,) = (
-    map(int, re.findall(words, README)) for words in (r"A width goes up to (\d+)", r"at most (\d+) bytes")
-)
+(WIDEST,) = map(int, re.findall(r"A width goes up to (\d+)", README))
+(MOST_SHOWN,) = map(int, re.findall(r"at most (\d+) bytes", README))
 # The message of each error and of each byte. The index follows.
 MESSAGES = {tuple(row[1:3]): re.sub(r"\d+$", "", unquote_to_bytes(row[0]).decode()) for row in rows("message")}
 # Canonical standard texts by their numbers.

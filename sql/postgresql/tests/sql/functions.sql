@@ -52,8 +52,9 @@ BEGIN
     END LOOP;
 END $$;
 SELECT string_agg(each, ' ')
-    FROM with_each(:own, :alternative, :own, left(:own, 61), :own, :own || '-', :own, repeat('0', 62), :alternative) each;
+    FROM with_each(:own, :alternative, :own, left(:own, 61), :own, repeat('0', 62), :alternative) each;
 SELECT string_agg(base62_encode(61, a), '') FROM unnest(ARRAY[:own, left(:own, 61) || '-']) a;
+SELECT left(result_of(format('count(base62_encode(61, a)) FROM unnest(ARRAY[%1$L, %1$L || 5]) a', :own)), 5);
 \echo A constant alphabet is created once for all rows
 SET client_min_messages = debug1;
 SELECT count(base62_encode_fixed(n, 22, :own)) FROM generate_series(1, 1000) n;

@@ -11,7 +11,7 @@ import re
 import subprocess
 import sys
 import tomllib
-from itertools import pairwise, zip_longest
+from itertools import pairwise
 from pathlib import Path
 from types import SimpleNamespace
 
@@ -299,9 +299,9 @@ def write(translated):
 
 def difference(tokens, expected):
     """The first token, of those with their lines, that is not the expected one."""
-    for (token, line), other in zip_longest(tokens, expected.split(), fillvalue=("", "last")):
+    for (token, line), other in zip([*tokens, ("", "last")], [*expected.split(), ""]):
         if token != other:
-            return f"line {line}: not what its source has, and make generate writes: {token.translate(SHOW)}"
+            return f"line {line}: not what its source has, and make generate writes: {other.translate(SHOW) or 'no more'}"
     return ""
 
 

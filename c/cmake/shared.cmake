@@ -7,7 +7,7 @@ if(WIN32)
     set_target_properties(base62_shared PROPERTIES RUNTIME_OUTPUT_NAME "base62-${PROJECT_VERSION_MAJOR}")
 elseif(UNIX AND NOT APPLE AND CMAKE_C_COMPILER_ID MATCHES "GNU|Clang")
     # A function that a minor version N adds has a symbol version of its own, so that its callers fail to load with an
-    # older library: add BASE62_MAJOR.N { global: base62_NAME; } BASE62_MAJOR; to the script.
+    # older library. Add to the script BASE62_${PROJECT_VERSION_MAJOR}.N { global: base62_NAME; } BASE62_${PROJECT_VERSION_MAJOR};
     set(base62_script "${CMAKE_CURRENT_BINARY_DIR}/base62_shared.symbols")
     file(WRITE "${base62_script}" "BASE62_${PROJECT_VERSION_MAJOR} { global: base62_*; };\n")
     # LINKER: would part the path at a comma.

@@ -1,10 +1,10 @@
 #!/usr/bin/python3 -B
-"""Changes base62.acsl in one place after the other: c/proof/mutate_specification.py [TEXTS..]
+"""Changes base62.acsl in one place after the other: c/proof/mutate_specification.py [NAME..]
 
 Each change has to leave a law or an example without a proof. OPERATORS says what is exchanged for what, wherever it
 stands in a definition or a contract. All laws are tried that name the contract or the definition, or something that
-does. So a new function is tried as soon as a law calls it, and one that no law calls is a failure. If there are texts, it
-tries the changes whose line has one of them. With the variable SHARE it tries one change in so many, without those of
+does. So a new function is tried as soon as a law calls it, and one that no law calls is a failure. If there are names, it
+tries the changes of these contracts and definitions, and there have to be some. With the variable SHARE it tries one change in so many, without those of
 SAME, by the seed SEED.
 
 It prints the changes that leave all with a proof, but for those of SAME, and how many it tried. A goal that is false
@@ -178,7 +178,7 @@ def tried_laws(specification):
 
 
 def changes(text):
-    """Each changed specification: the laws to try, the line, and the text."""
+    """Each changed specification: the contract or definition, the laws to try, the line, and the text."""
     whole = clauses(text)
     conclusions = blanked(whole, r"\b(?:requires|assigns)\b[^;]*;")
     exchanged = [
@@ -195,7 +195,7 @@ def changes(text):
         name, laws = [part[1:] for part in parts if part[0] <= start][-1]
         if name not in FREE and changed not in yielded:
             yielded.add(changed)
-            yield laws, changed[changed.rfind("\n", 0, start) + 1 : changed.index("\n", start)].strip(), changed
+            yield name, laws, changed[changed.rfind("\n", 0, start) + 1 : changed.index("\n", start)].strip(), changed
 
 
 def failing(file, names, limits):
@@ -212,9 +212,11 @@ def failing(file, names, limits):
         return "not read"
 
 
-def chosen_changes(specification, texts):
-    """The changes to try: all, those of the texts, or a share."""
-    chosen = [change for change in changes(specification) if not texts or any(text in change[1] for text in texts)]
+def chosen_changes(specification, parts):
+    """The changes to try: all, those of these contracts and definitions, or a share."""
+    chosen = [change for name, *change in changes(specification) if not parts or name in parts]
+    if not chosen:
+        raise SystemExit(f"base62.acsl has no {' '.join(parts)}")
     share = int(os.environ.get("SHARE", "1"))
     if share > 1:
         others = [change for change in chosen if change[1] not in SAME]
@@ -222,9 +224,9 @@ def chosen_changes(specification, texts):
     return chosen
 
 
-def main(texts):
+def main(parts):
     specification = wp.SPECIFICATION.read_text()
-    chosen = chosen_changes(specification, texts)
+    chosen = chosen_changes(specification, parts)
     failures = [f"no law calls {name}" for _, name, laws in tried_laws(specification) if name.startswith("base62_") and not laws]
 
     def result(i):

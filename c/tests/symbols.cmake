@@ -4,6 +4,7 @@
 #         -P symbols.cmake
 #
 # SHARED is a shared library of ELF, OVER_STATIC one that calls the static library, and IMPORT the import library of a DLL.
+cmake_policy(SET CMP0007 NEW)
 
 # Sets symbols to the symbols that nm prints, each as TYPE NAME.
 function(find_symbols)

@@ -81,7 +81,7 @@ class Header(unittest.TestCase):
         declared = re.findall(r"((?:BASE62_\w+(?:\(\d, \d\))?\s+)*)(\w+) (base62_\w+)\(([^()]*)\)(?:;| \{)", text)
         self.assertGreater(len(declared), 25)
         for attributes, result, name, parameters in declared:
-            checked = "CHECK_RESULT" if result in ("size_t", "base62_status") else "NO_NULL"
+            checked = "NO_NULL" if result in ("void", "base62_number") else "CHECK_RESULT"
             wanted = {checked} if re.search(r"[*\[]", parameters) else set()
             for place, parameter in enumerate(re.split(r",\s+", parameters), 1):
                 if string := re.fullmatch(r"(const )?char \*\w+", parameter):

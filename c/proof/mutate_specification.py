@@ -83,10 +83,7 @@ SAME = {
     "n > 0 && bad_index(letters, text, n) >= n && value(letters, text, n) == number;",
     "n < 0 ? 0 : bad_index(letters, text, n - 1) == n - 1 && digit(letters, text[n - 1]) < 62 ? n",
     "n <= 0 ? 0 : bad_index(letters, text, n - 1) >= n - 1 && digit(letters, text[n - 1]) < 62 ? n",
-    # No number has 23 digits, nor one of 64 bits 21 decimals, more than 22 bytes are an overflow already, and no number
-    # with zeros behind it is 2^128.
-    "c <= 20 && without_decimals(number, c) > 0 ? decimal_from(number, c + 1) : c;",
-    "c <= 22 && number >= power_of_62(c) ? count_from(number, c + 1) : c;",
+    # More than 22 bytes are an overflow already, and no number with zeros behind it is 2^128.
     ": n - zeros >= 22 && shifted(value(letters, text, zeros + 10), 12) >= ACSL_2_128 ? BASE62_OVERFLOW",
     ": n - zeros == 22 && shifted(value(letters, text, zeros + 10), 12) > ACSL_2_128 ? BASE62_OVERFLOW",
 }

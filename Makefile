@@ -1,15 +1,15 @@
 # What people run at the top of the repository. `make` prints it.
 
-parts = form translate c rust command compare python js sql bench dist pages
+parts = $(patsubst scripts/check-%,%,$(filter-out %-debian,$(wildcard scripts/check-*)))
 
 help: ## print this list
 	@sed -n 's/^\([a-z-]*\):.* ## /  make \1	/p' $(MAKEFILE_LIST) | expand -t 24
 	@echo '  make check-PART       test one of them: $(parts)'
 
 check: ## test all packages without the kit, in parallel
-	@rm -rf out/check && mkdir -p out/check
+	@rm -rf out/check
 	@$(MAKE) --jobs=$$(nproc) --keep-going --output-sync=target --no-print-directory $(parts:%=check-%) || :
-	@scripts/count $(parts)
+	@scripts/count sum $(parts:%=out/check/%.log)
 
 $(parts:%=check-%): check-%:
 	@scripts/check $*
@@ -17,7 +17,7 @@ $(parts:%=check-%): check-%:
 prove: ## prove all crates, reject all mutants and run all tests, with the kit
 	rt ci
 
-prove-c: ## prove c/base62.c by Frama-C; BITS=32 for 32-bit targets, MUTANTS=1 for its mutation tests
+prove-c: ## prove c/base62.c with Frama-C; BITS=32 for 32-bit targets, MUTANTS=1 for its mutation tests
 	@$(if $(MUTANTS),c/proof/rejections.py && c/proof/mutate_specification.py,LIMIT=$${LIMIT:-180} c/proof/prove.py)
 
 generate: ## write the generated files anew, after a change of their sources
@@ -30,7 +30,7 @@ version: ## set the version everywhere: make version V=X.Y.Z
 
 ROUNDS = 300
 bench: ## time the packages on this machine, beside other code for base 62
-	bench/run.py $(ROUNDS)
+	bench/run $(ROUNDS)
 
 PREFIX = /usr/local
 install-command: ## install the command, its manual page and completions: make install-command PREFIX=..

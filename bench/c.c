@@ -1,4 +1,4 @@
-/* Times base62.c. bench/run.py runs it. */
+/* Times base62.c. bench/run runs it. */
 #define _POSIX_C_SOURCE 199309L
 #include <base62.h>
 #include <stdio.h>

@@ -1,4 +1,4 @@
-"""Times base62.columns. bench/run.py runs it.
+"""Times base62.columns. bench/run runs it.
 
 A call takes time without any row too, so that each array has each number so many times. The numbers have 64 bits or, if
 some are greater, 128.

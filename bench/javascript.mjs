@@ -1,4 +1,4 @@
-// Times the package for JavaScript beside loops over BigInt. bench/run.py runs it.
+// Times the package for JavaScript beside loops over BigInt. bench/run runs it.
 import {readFileSync} from 'node:fs';
 
 import base62 from '../js/commonjs/index.js';
@@ -31,8 +31,8 @@ function measure(who, name, call, values) {
 }
 
 for (let round = 0; round < rounds; round++) {
-  measure('base62-proved', 'encode', base62.encode, numbers);
-  measure('base62-proved', 'decode', base62.decode, texts);
+  measure('this package', 'encode', base62.encode, numbers);
+  measure('this package', 'decode', base62.decode, texts);
   measure('loop over BigInt', 'encode', encode, numbers);
   measure('loop over BigInt', 'decode', decode, texts);
 }

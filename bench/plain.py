@@ -1,5 +1,9 @@
-"""The codec that one writes without a library, and what the programs in Python share."""
+"""The codec that one writes without a library, and what the programs in Python share.
 
+python3 bench/plain.py KIND    prints the strings of 500 random numbers
+"""
+
+import random
 import sys
 from pathlib import Path
 from time import perf_counter_ns
@@ -37,3 +41,9 @@ def measure(calls, rounds, run, count):
             start = perf_counter_ns()
             run(*call)
             print(who, name, (perf_counter_ns() - start) / count, sep="\t")
+
+
+if __name__ == "__main__":
+    draw = random.Random(sys.argv[1])
+    for _ in range(500):
+        print(encode(draw.getrandbits(draw.randint(1, 128) if sys.argv[1] == "mixed" else int(sys.argv[1]))))

@@ -1,4 +1,4 @@
-"""Times the package for Python beside a plain loop and, if it is installed, gmpy2. bench/run.py runs it."""
+"""Times the package for Python beside a plain loop and, if it is installed, gmpy2. bench/run runs it."""
 
 from contextlib import suppress
 

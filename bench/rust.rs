@@ -1,4 +1,4 @@
-//! Times the Rust crate and, with the feature `theirs`, the crate `base62`. `bench/run.py` builds and runs it.
+//! Times the Rust crate and, with the feature `theirs`, the crate `base62`. `bench/run` builds and runs it.
 
 use std::hint::black_box;
 use std::time::Instant;
@@ -37,8 +37,8 @@ fn main() {
     let value = |text: &str| (ours::decode(text).unwrap(), text.to_owned());
     let values: Vec<Value> = file.lines().map(value).collect();
     for _ in 0..rounds {
-        measure_crate!("base62-proved", ours, &values);
+        measure_crate!("this crate", ours, &values);
         #[cfg(feature = "theirs")]
-        measure_crate!("base62", theirs, &values);
+        measure_crate!("the crate base62", theirs, &values);
     }
 }

@@ -1,4 +1,4 @@
-"""Times SQLite's functions. bench/run.py runs it.
+"""Times SQLite's functions. bench/run runs it.
 
 Numbers below 2**63 are integers. If some are greater, all are blobs of 16 bytes.
 """

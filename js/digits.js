@@ -14,8 +14,8 @@ const LOWEST_24_BITS = 2 ** 24 - 1;
 const TWO_TO_24 = 2 ** 24;
 const TWO_TO_32 = 2 ** 32;
 const TWO_TO_48 = 2 ** 48;
-const TWO_TO_64 = 2n ** 64n;
-export const TWO_TO_128 = 2n ** 128n;
+const TWO_TO_64 = 1n << 64n;  // Babel turns ** into Math.pow
+export const TWO_TO_128 = 1n << 128n;
 
 const halves = new BigUint64Array(2);
 export const words = new Uint32Array(halves.buffer);

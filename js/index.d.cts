@@ -7,7 +7,7 @@
 /** An unsigned integer: a `bigint` up to 2n ** 128n - 1n, or a `number` up to `Number.MAX_SAFE_INTEGER`. */
 export type Integer = number | bigint;
 
-/** An encoded string, or its bytes in UTF-8. A lone surrogate has its own three bytes, not those of U+FFFD. */
+/** An encoded string, or its bytes in UTF-8. */
 export type EncodedString = string | Uint8Array;
 
 /**
@@ -31,26 +31,22 @@ export function encode(number: Integer, alphabet?: Alphabet): string;
  *
  * @example
  * console.log(encodeFixed(1337, 4)); // 00LZ
- * @param value a string is always a UUID
- * @param width an integer from 1 to 2**53 - 1. 22 characters are enough for any number.
+ * @param width an integer from 1 to 2**53 - 1
  * @throws {Base62Error} `INVALID_UUID`; `OUT_OF_RANGE` for the number, the width, or a number of more characters
- * @throws {Error} an error of the runtime, without a `code`, if the width exceeds its longest string
  */
 export function encodeFixed(value: Integer | Uuid, width: number, alphabet?: Alphabet): string;
 
 /**
  * Encodes a number or a UUID as a key: exactly 22 characters of the standard alphabet. Keys sort in numeric order,
- * and in the order of their UUIDs' bytes. {@link decodeCanonical} rejects those that begin with a zero.
+ * and in the order of their UUIDs' bytes.
  *
  * @example
  * console.log(encodeKey(1337)); // 00000000000000000000LZ
  * @throws {Base62Error} `OUT_OF_RANGE`, `INVALID_UUID`
  */
 export function encodeKey(value: Integer | Uuid): string;
-
 /** Like {@link encode}, but encodes a UUID, read as a big-endian 128-bit integer. Throws `INVALID_UUID`. */
 export function encodeUuid(uuid: Uuid, alphabet?: Alphabet): string;
-
 /** Returns the length of the string that {@link encode} returns. Throws as it does. */
 export function digitCount(number: Integer): number;
 
@@ -64,13 +60,10 @@ export function digitCount(number: Integer): number;
  *   or more than 22 bytes after the leading zeros. docs/DECODING.md of the repository says which of several is thrown.
  */
 export function decode(text: EncodedString, alphabet?: Alphabet): bigint;
-
 /** Like {@link decode}, but returns a `number`, and throws `UNSAFE_INTEGER` if it is above 2**53 - 1. */
 export function decodeNumber(text: EncodedString, alphabet?: Alphabet): number;
-
 /** Like {@link decode}, but accepts only what {@link encode} returns: a leading zero throws `NOT_CANONICAL`. */
 export function decodeCanonical(text: EncodedString, alphabet?: Alphabet): bigint;
-
 /** Like {@link decodeCanonical}, but returns a `number` as {@link decodeNumber}. */
 export function decodeNumberCanonical(text: EncodedString, alphabet?: Alphabet): number;
 
@@ -79,22 +72,16 @@ export function decodeNumberCanonical(text: EncodedString, alphabet?: Alphabet):
  * throws `WRONG_LENGTH`. The width is an integer from 0 to 2**53 - 1; any other number throws `OUT_OF_RANGE`.
  */
 export function decodeFixed(text: EncodedString, width: number, alphabet?: Alphabet): bigint;
-
 /** Like {@link decodeFixed}, but returns a `number` as {@link decodeNumber}. */
 export function decodeNumberFixed(text: EncodedString, width: number, alphabet?: Alphabet): number;
-
 /** Decodes a key: like {@link decodeFixed} with a width of 22 in the standard alphabet. */
 export function decodeKey(text: EncodedString): bigint;
-
 /** Like {@link decode}, but returns the UUID of the number, in lowercase with hyphens. Each number has one. */
 export function decodeUuid(text: EncodedString, alphabet?: Alphabet): string;
-
 /** Like {@link decodeCanonical}, but returns a UUID. */
 export function decodeUuidCanonical(text: EncodedString, alphabet?: Alphabet): string;
-
 /** Like {@link decodeFixed}, but returns a UUID. */
 export function decodeUuidFixed(text: EncodedString, width: number, alphabet?: Alphabet): string;
-
 /** Like {@link decodeKey}, but returns a UUID. */
 export function decodeUuidKey(text: EncodedString): string;
 
@@ -104,14 +91,10 @@ export function decodeUuidKey(text: EncodedString): string;
  *
  * @example
  * console.log(prefixRange('00a', 7)); // [ 531948096n, 546724431n ]
- * @param prefix may be empty, or longer than the width
  * @throws {Base62Error} `INVALID_BYTE` for the prefix, `OUT_OF_RANGE` for the width as {@link decodeFixed}
  */
-export function prefixRange(
-  prefix: EncodedString,
-  width: number,
-  alphabet?: Alphabet,
-): [least: bigint, greatest: bigint] | null;
+export function prefixRange(prefix: EncodedString, width: number, alphabet?: Alphabet):
+  [least: bigint, greatest: bigint] | null;
 
 /** Like {@link prefixRange}, but for keys: a width of 22 and the standard alphabet. */
 export function keyRange(prefix: EncodedString): [least: bigint, greatest: bigint] | null;
@@ -130,7 +113,8 @@ export class Alphabet {
   /**
    * Creates a custom alphabet. Create it once, not for each call.
    *
-   * @throws {Base62Error} `REPEATED_CHARACTER` for the first that equals an earlier one; otherwise `INVALID_ALPHABET`
+   * @throws {Base62Error} `INVALID_ALPHABET` if they are not 62 ASCII characters; otherwise `REPEATED_CHARACTER` for the
+   *   first that equals an earlier one
    */
   constructor(characters: string);
   readonly characters: string;
@@ -138,25 +122,16 @@ export class Alphabet {
   static readonly standard: Alphabet;
   /** `0` to `9`, `a` to `z`, `A` to `Z`. Strings of one width do not sort in numeric order. */
   static readonly alternative: Alphabet;
-  #private;
+  private readonly tables;
 }
 
 /** Thrown for an argument of the right type with an invalid value. */
 export class Base62Error extends RangeError {
-  private constructor();
-  readonly code:
-    | 'EMPTY_INPUT'
-    | 'INVALID_BYTE'
-    | 'OVERFLOW'
-    | 'REPEATED_CHARACTER'
-    | 'NOT_CANONICAL'
-    | 'WRONG_LENGTH'
-    | 'OUT_OF_RANGE'
-    | 'UNSAFE_INTEGER'
-    | 'INVALID_UUID'
-    | 'INVALID_ALPHABET';
-  /** The byte that `INVALID_BYTE` or `REPEATED_CHARACTER` is about, from 0 to 255. Other errors have none. */
-  readonly byte?: number;
-  /** Its index in the bytes, from 0. It is also the index of the character, since those before it are ASCII. */
-  readonly index?: number;
+  constructor(message: string, code: Base62Error['code'], byte?: number, index?: number);
+  code: 'EMPTY_INPUT' | 'INVALID_BYTE' | 'OVERFLOW' | 'NOT_CANONICAL' | 'WRONG_LENGTH' | 'UNSAFE_INTEGER'
+    | 'OUT_OF_RANGE' | 'INVALID_UUID' | 'REPEATED_CHARACTER' | 'INVALID_ALPHABET';
+  /** The byte of `INVALID_BYTE` or `REPEATED_CHARACTER`. */
+  byte?: number;
+  /** Its index, which is also that of the character, since those before it are ASCII. */
+  index?: number;
 }

@@ -1,9 +1,9 @@
 // SPDX-License-Identifier: MIT
 // Copyright (c) 2026 the maintainers of base62 for Rattle
 
-// The public functions, which index.d.cts describes.
+// The public functions, which index.d.cts describes. The default export has all of them, as in Node.
 import {bigIntOfWords, integerOfWords, splitBigInt, splitInteger, splitWords, stringOfGroups, TWO_TO_128} from './digits.js';
-import {Base62Error, checkCanonical, countZeros, decodeFixedText, decodeText, defineReadOnly, errorAt, indexOfInvalid, invalidByte, isUint8Array, lengthOf, lengthOfText, MAX_DIGITS, readDigits, useDigits, wrongType} from './strings.js';
+import {Base62Error, checkCanonical, countZeros, decodeFixedText, decodeText, defineReadOnly, errorAt, indexOfInvalid, invalidByte, isUint8Array, lengthOf, lengthOfText, MAX_DIGITS, POWERS_OF_62, readDigits, useDigits, wrongType} from './strings.js';
 import {readUuid, readUuidBytes, uuidOfWords} from './uuid.js';
 
 const KEY_LENGTH = 22;
@@ -171,8 +171,6 @@ const decodeUuidFixed = (text, width, alphabet = standard) => readFixed(text, wi
 const decodeKey = (text) => decodeFixed(text, KEY_LENGTH);
 const decodeUuidKey = (text) => decodeUuidFixed(text, KEY_LENGTH);
 
-const POWERS_OF_62 = Array.from({ length: MAX_DIGITS + 1 }, (_, exponent) => 62n ** BigInt(exponent));
-
 function prefixRange(prefix, width, alphabet = standard) {
   checkWidth(width);
   const length = lengthOfText(prefix);
@@ -199,26 +197,8 @@ function keyBounds(prefix) {
   return range && [encodeKey(range[0]), encodeKey(range[1])];
 }
 
-export {
-  Alphabet,
-  Base62Error,
-  decode,
-  decodeCanonical,
-  decodeFixed,
-  decodeKey,
-  decodeNumber,
-  decodeNumberCanonical,
-  decodeNumberFixed,
-  decodeUuid,
-  decodeUuidCanonical,
-  decodeUuidFixed,
-  decodeUuidKey,
-  digitCount,
-  encode,
-  encodeFixed,
-  encodeKey,
-  encodeUuid,
-  keyBounds,
-  keyRange,
-  prefixRange
-};
+export * as default from './index.js';
+export {Alphabet, Base62Error};
+export {digitCount, encode, encodeFixed, encodeKey, encodeUuid, keyBounds, keyRange, prefixRange};
+export {decode, decodeCanonical, decodeFixed, decodeKey, decodeNumber, decodeNumberCanonical, decodeNumberFixed};
+export {decodeUuid, decodeUuidCanonical, decodeUuidFixed, decodeUuidKey};

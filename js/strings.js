@@ -7,24 +7,23 @@ import {bigIntOfWords, joinParts, TWO_TO_128} from './digits.js';
 import {charCodeAt} from './uuid.js';
 
 export const MAX_DIGITS = 22;
+export const POWERS_OF_62 = [1n];
+for (let i = 0; i < MAX_DIGITS; i++) POWERS_OF_62.push(POWERS_OF_62[i] * 62n);
 
 // Descriptors inherit nothing, since a program may give Object.prototype a property such as `get`.
-const defineProperty = (object, name, descriptor) =>
-  Object.defineProperty(object, name, { __proto__: null, ...descriptor });
-export function defineReadOnly(object, name, value) { defineProperty(object, name, { value, enumerable: true }); }
+const define = (object, name, value, others) =>
+  Object.defineProperty(object, name, { __proto__: null, value, ...others });
+export function defineReadOnly(object, name, value) { define(object, name, value, { enumerable: true }); }
 
 export class Base62Error extends RangeError {
   constructor(message, code, byte, index) {
     super(message);
-    defineReadOnly(this, 'code', code);
-    if (byte === undefined) return;
-    defineReadOnly(this, 'byte', byte);
-    defineReadOnly(this, 'index', index);
+    this.code = code;
+    if (byte !== undefined) Object.assign(this, { byte, index });
   }
 }
 
-// The name is assignable, like that of a built-in error.
-defineProperty(Base62Error.prototype, 'name', { value: 'Base62Error', writable: true, configurable: true });
+define(Base62Error.prototype, 'name', 'Base62Error', { writable: true, configurable: true });
 
 const overflow = () => new Base62Error('Decoded number is 2^128 or more', 'OVERFLOW');
 
@@ -41,7 +40,6 @@ export function errorAt(message, code, byte, index) {
 const typedArray = Object.getPrototypeOf(Uint8Array.prototype);
 const getter = (name) => Object.getOwnPropertyDescriptor(typedArray, name).get;
 const typeOf = getter(Symbol.toStringTag);
-const bufferOf = getter('buffer');
 export const lengthOf = getter('length');
 const codePointAt = ''.codePointAt.call.bind(''.codePointAt);
 
@@ -57,8 +55,8 @@ export function lengthOfText(text) {
   if (typeof text === 'string') return ('' + text).length;
   if (!isUint8Array(text)) throw wrongType('an encoded string or a prefix is a string or a Uint8Array', text);
   const length = lengthOf.call(text);
-  // A detached array has no length either. For it this throws a TypeError.
-  if (length === 0) new Uint8Array(bufferOf.call(text));
+  // An array whose buffer is detached or too small has none either: for it this throws a TypeError.
+  if (length === 0) typedArray.keys.call(text);
   return length;
 }
 
@@ -142,11 +140,18 @@ export function decodeText(text, length) {
   if (!readShort(text, length)) decodeByRules(text, length);
 }
 
+const showBytes = (count) => `${count} byte${count === 1 ? '' : 's'}`;
+
 export function decodeFixedText(text, length, width) {
-  if (length === width && readShort(text, length)) return;
-  const size = countBytes(text, 0, length);
+  if (length !== width || !readShort(text, length)) decodeFixedByRules(text, length, width);
+}
+
+function decodeFixedByRules(text, length, width) {
+  // If there are more units than the width, no bytes are counted.
+  const size = length > width ? Infinity : countBytes(text, 0, length);
   if (size === width) return decodeByRules(text, length);
-  throw new Base62Error(`Encoded input has ${size} byte${size === 1 ? '' : 's'}, not ${width}`, 'WRONG_LENGTH');
+  const found = size > width ? `more than ${showBytes(width)}` : `${showBytes(size)}, not ${width}`;
+  throw new Base62Error(`Encoded input has ${found}`, 'WRONG_LENGTH');
 }
 
 // Most texts are valid, and have at most 22 characters.
@@ -161,7 +166,7 @@ function decodeByRules(text, length) {
   const invalid = indexOfInvalid(text, start, length);
   if (invalid < Math.min(start + 10, length)) throw invalidByte(text, invalid);
   const isFull = remaining === MAX_DIGITS && readDigits(text, start, start + 10);
-  if (isFull && bigIntOfWords() * 62n ** 12n >= TWO_TO_128) throw overflow();
+  if (isFull && bigIntOfWords() * POWERS_OF_62[12] >= TWO_TO_128) throw overflow();
   if (invalid < length) throw invalidByte(text, invalid);
   if (!readDigits(text, start, length)) throw overflow();
 }

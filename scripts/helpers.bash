@@ -5,6 +5,8 @@ work=$(mktemp -d)
 trap 'rm -rf "$work"' EXIT
 trap 'echo "$0: line $LINENO fails" >&2' ERR
 read -r version <VERSION
+# The name of the packages for Rust, Python and npm.
+package=$(sed -n 's/^name = "\(.*\)"$/\1/p;T;q' rust/Cargo.toml)
 # No setting of the user's, and no network: pip takes Debian's files.
 unset CC CFLAGS COPT CPATH CPPFLAGS CXX CXXFLAGS DESTDIR LDFLAGS LDSHARED LIBRARY_PATH MAKEFLAGS MFLAGS MODULE \
     NODE_OPTIONS NODE_PATH PG_CONFIG PKG_CONFIG_PATH PYTHONPATH SOURCE_DATE_EPOCH docdir libdir prefix
@@ -17,17 +19,18 @@ required=(black build cargo cargo-clippy clang clang-format clang-tidy cmake ens
     pg_virtualenv pip pkg-config postgres postgres.h Python.h python3 /usr/bin/python3 reuse rustfmt script shfmt sqlite3
     sqlite3ext.h tsc uuidgen wheel)
 # and `make setup-full` these too.
-optional=(aarch64-linux-gnu-gcc arm-linux-gnueabihf-gcc chromium cvc4 cvc5 debootstrap distributed django duckdb esbuild
-    express firefox-esr fish frama-c gawk go help2man i686-linux-gnu-gcc librust mlr node-base62 ocamlfind pandas
-    pyarrow pydantic qemu-aarch64 qemu-arm qemu-i386 qemu-riscv64 qemu-s390x riscv64-linux-gnu-gcc ruby-base62
+optional=(aarch64-linux-gnu-gcc acorn arm-linux-gnueabihf-gcc babeljs chromium cvc4 cvc5 debootstrap distributed django duckdb esbuild
+    express firefox-esr fish frama-c gawk go help2man i686-linux-gnu-gcc jsc librust mlr mmdebstrap node-base62 ocamlfind pandas
+    pyarrow pydantic qemu-aarch64 qemu-arm qemu-i386 qemu-riscv64 qemu-s390x riscv64-linux-gnu-gcc rollup ruby-base62
     s390x-linux-gnu-gcc shortuuid sqlalchemy why3 wine x86_64-w64-mingw32-gcc z3 zsh)
 # The packages of Debian that have them, where their names are others.
 declare -A packages=(
-    [build]=python3-build [distributed]=python3-distributed [django]=python3-django [ensurepip]=python3-venv
+    [acorn]=node-acorn [build]=python3-build [distributed]=python3-distributed [django]=python3-django [ensurepip]=python3-venv
     [express]=node-express [gmpy2]=python3-gmpy2 [pandas]=python3-pandas [pip]=python3-pip [pyarrow]=python3-pyarrow
     [pydantic]=python3-pydantic [Python.h]=python3-dev ['/usr/bin/python3']=python3 [shortuuid]=python3-shortuuid
     [sqlalchemy]=python3-sqlalchemy [wheel]=python3-wheel-whl ['cargo-clippy']=rust-clippy
     [clang]='clang libclang-rt-dev' [gcc]='gcc libc6-dev' [go]=golang-go [duckdb]='duckdb libduckdb-dev' [mlr]=miller
+    [babeljs]=node-babel7 [jsc]=libjavascriptcoregtk-4.0-bin
     [node]=nodejs [script]=bsdutils [tsc]=node-typescript [pg_virtualenv]=postgresql-common
     [postgres]=postgresql [postgres.h]=postgresql-server-dev-all [sqlite3ext.h]=libsqlite3-dev ['frama-c']=frama-c-base
     [ocamlfind]=ocaml-findlib [wine]='wine wine64' [librust]='librust-serde-dev librust-uuid-dev'
@@ -65,14 +68,14 @@ is_installed() {
     case $1 in
         # Of the system's Python, if there is one: Debian's setuptools works with no other.
         build | distributed | django | ensurepip | gmpy2 | pandas | pip | pydantic | shortuuid | sqlalchemy) PATH=/usr/bin:$PATH python3 -c "import $1" ;;
-        duckdb) command -v duckdb || cmp scripts/fetch-testing "$testing/fetched" ;;
-        pyarrow) PATH=/usr/bin:$PATH python3 -c "import pyarrow" || cmp scripts/fetch-testing "$testing/fetched" ;;
+        duckdb) command -v duckdb || [[ -e $testing/fetched ]] ;;
+        pyarrow) PATH=/usr/bin:$PATH python3 -c "import pyarrow" || [[ -e $testing/fetched ]] ;;
         cargo) in_order "$oldest_rust" "$(version_of cargo)" ;;
         cargo-clippy | rustfmt) is_installed cargo && command -v "$1" ;;
         # Debian's file, which serves each Python without a network.
         wheel) compgen -G '/usr/share/python-wheels/wheel-*.whl' ;;
         librust) compgen -G '/usr/share/cargo/registry/uuid-*' ;;
-        express) [[ -e /usr/share/nodejs/express ]] ;;
+        acorn | express) [[ -e /usr/share/nodejs/$1 ]] ;;
         node-base62) is_installed node && [[ -e /usr/share/nodejs/base62 ]] ;;
         ruby-base62) ruby -r base62 -e '' ;;
         Python.h) python3 -c 'import os, sysconfig; os.stat(sysconfig.get_path("include") + "/Python.h")' ;;
@@ -81,6 +84,12 @@ is_installed() {
         sqlite3ext.h) [[ -e /usr/include/sqlite3ext.h ]] ;;
         *) command -v "$1" ;;
     esac >/dev/null 2>&1
+}
+
+# OPTION.. SUITE FOLDER [MIRROR]. Makes a root of Debian, with this machine's settings of apt for its network.
+make_root() {
+    apt-config dump | grep -E '^Acquire::(https?|Check|Retries)' >"$work/apt.conf" || true
+    mmdebstrap --quiet --aptopt="$work/apt.conf" "$@"
 }
 
 # COMMAND.. Runs a command in the root of Debian testing, at /srv, which is the current folder. /mnt is $work. What is
@@ -92,7 +101,8 @@ in_testing() {
         for folder in proc sys dev; do mount --rbind "/$folder" "$0/$folder"; done
         mount --bind . "$0/srv"
         mount --bind "$1" "$0/mnt"
-        exec chroot "$0" env -i --chdir=/srv PATH=/usr/sbin:/usr/bin:/sbin:/bin HOME=/mnt LC_ALL=C.UTF-8 "${@:2}"' \
+        exec chroot "$0" env -i --chdir=/srv PATH=/usr/sbin:/usr/bin:/sbin:/bin HOME=/mnt LC_ALL=C.UTF-8 \
+            PYTHONDONTWRITEBYTECODE=1 "${@:2}"' \
         "$testing" "$work" "$@"
 }
 
@@ -107,10 +117,7 @@ skip() {
     [[ ! ${CI-} ]] || exit 1
 }
 
-# The status of a check that is skipped, as in automake.
-SKIPPED=77
-
-# THING.. If any is missing, the check is left out.
+# THING.. If any is missing, the check is skipped.
 needs() {
     local thing missing=()
     for thing; do
@@ -118,7 +125,8 @@ needs() {
     done
     [[ ${missing[*]} ]] || return 0
     skip "$0" "${missing[@]}"
-    exit "$SKIPPED"
+    echo '0 passed, 0 failed, 1 skipped'
+    exit
 }
 
 # THING WHAT. Whether the thing is here. If not, WHAT is left out.
@@ -164,6 +172,13 @@ make_repository() {
 # Fails if cargo has warned as it ran quietly, and is strict.
 warns_of_nothing() {
     ! grep -A 9 '^warning' "$work/said" >&2 || ! is_strict cargo || exit 1
+}
+
+# REPOSITORY. Whether Cargo can fetch it: Cargo 1.96 of Debian 12 cannot use the libgit2 of Debian 12.
+can_fetch() {
+    local said
+    said=$(CARGO_NET_OFFLINE=false cargo install --git "file://$1" --root "$work/none" none 2>&1) || true
+    [[ $said != *git_proxy_options* ]] || ! echo 'left out: what Cargo fetches with git, which this one cannot'
 }
 
 # COMMAND.. What it prints is shown if it fails, and else what a compiler warns of.

@@ -4,8 +4,9 @@
     scripts/pages.py links [FOLDER]        checks that each link to a page, a heading or a file has a target, in the
                                            pages that git tracks or in those of the folder, which they do not leave
     scripts/pages.py write PAGE FOLDER     writes each block of PAGE whose fence names files, as in: ```c lz.c
-    scripts/pages.py run PAGE FOLDER       runs PAGE in FOLDER: writes such files, runs the blocks of sh, and
-                                           compares what one prints with the block of text that follows it
+    scripts/pages.py run PAGE FOLDER       runs PAGE in FOLDER: writes such files, runs blocks of sh in bash,
+                                           and compares what one prints with the block of text after it
+    scripts/pages.py rows PAGE             prints the rows of Install: user|packages|command|command that tries it
 
 A file that several fences name has their blocks one after the other. A block of console is compared with what its lines
 that begin with `$ ` print as one script, errors too.
@@ -20,6 +21,7 @@ from collections.abc import Iterator
 from pathlib import Path
 
 BLOCK = re.compile(r"(?ms)^```(.*?)\n(.*?)^```$")
+ROW = re.compile(r"\| [^|]+ \| (?:`([^`|]+)` )?\| (as root, )?`([^`|]+)` \| `([^`|]+)` \|")
 LINK = re.compile(r"\]\((?![a-z]+:)([^)\s]+)\)")
 
 
@@ -47,6 +49,7 @@ def lost_links(pages: list[Path], top: Path) -> Iterator[str]:
 
 
 def write(page: Path, folder: Path) -> None:
+    prose(page)  # Each block has an end.
     files = defaultdict[str, list[str]](list)
     for fence, text in BLOCK.findall(page.read_text()):
         for name in fence.split()[1:]:
@@ -65,7 +68,8 @@ def run(page: Path, folder: Path) -> None:
             commands = re.findall(r"(?m)^\$ (.*)$", text)
             shown = "".join(f"echo {shlex.quote(f'$ {command}')}\n{command} || :\n" for command in commands)
             script = text if fence == "sh" else f"exec 2>&1\n{shown}"
-            ran = subprocess.run(["sh", "-euc", script], cwd=folder, stdin=subprocess.DEVNULL, stdout=subprocess.PIPE, text=True)
+            bash = ["bash", "-euc", script]
+            ran = subprocess.run(bash, cwd=folder, stdin=subprocess.DEVNULL, stdout=subprocess.PIPE, text=True)
             printed = ran.stdout
             if ran.returncode:
                 raise SystemExit(f"{page}: it ended with status {ran.returncode}, and printed:\n{printed}")
@@ -75,6 +79,14 @@ def run(page: Path, folder: Path) -> None:
             printed = None
     if "\n```sh\n" not in page.read_text():
         raise SystemExit(f"{page}: it has no block to run")
+
+
+def rows(page: Path) -> Iterator[str]:
+    table = re.search(r"(?ms)^## Install$(?:(?!^## ).)*?^\|[-|]+\n((?:\|.*?\n)+)", prose(page))
+    for row in table[1].splitlines() if table else [""]:
+        if not (cells := ROW.fullmatch(row)):
+            raise SystemExit(f"{page}: Install has a row whose commands cannot be run: {row}")
+        yield "|".join(["root" if cells[2] else "user", cells[1] or "", cells[3], cells[4]])
 
 
 def main() -> None:
@@ -88,6 +100,8 @@ def main() -> None:
             write(Path(page), Path(folder))
         case ["run", page, folder]:
             run(Path(page), Path(folder))
+        case ["rows", page]:
+            print("\n".join(rows(Path(page))))
         case _:
             raise SystemExit(__doc__)
 

@@ -30,13 +30,18 @@ typedef struct {
     char message[BASE62_MAX_ERROR_MESSAGE + 4 * MAX_SHOWN + sizeof ": x'...'"];
 } call_error;
 
+/* COLD keeps a function out of loops over rows. */
+#ifdef __GNUC__
+#define COLD __attribute__((__cold__, __noinline__))
+#define PRINTF __attribute__((__format__(__printf__, 3, 4)))
+#else
+#define COLD
+#define PRINTF
+#endif
+
 /* Errors. Each of these functions returns false. */
 
-#ifdef __GNUC__
-__attribute__((__format__(__printf__, 3, 4)))
-#endif
-static inline bool
-fail_with(call_error *error, error_kind kind, const char *format, ...) {
+PRINTF static inline bool fail_with(call_error *error, error_kind kind, const char *format, ...) {
     va_list values;
     error->kind = kind;
     va_start(values, format);
@@ -141,12 +146,9 @@ static inline bool encode_width(const base62_alphabet *alphabet, base62_number n
 }
 
 /* Stores why a string is rejected, unless the function has TRY. A number of 2^63 or more has a function that takes it:
- * wider, with the form behind its name. Otherwise wider is null. This function is kept out of loops over rows. */
-#ifdef __GNUC__
-__attribute__((__cold__, __noinline__))
-#endif
-static void
-reject(const encoded *given, base62_status status, base62_bad_byte bad, const char *wider, call_error *error) {
+ * wider, with the form behind its name. Otherwise wider is null. */
+COLD static void reject(const encoded *given, base62_status status, base62_bad_byte bad, const char *wider,
+                        call_error *error) {
     int flags = given->flags;
     if (flags & TRY) return;
     if (wider != NULL)

@@ -39,11 +39,6 @@ HEAD = r"""
 # RESULT number NUMBER | length | FAULT
 # RANGE  numbers LEAST GREATEST | none | byte BYTE INDEX
 #
-# tests/test_coverage.py checks what occurs. Alphabets are of ASCII and not, and ascend and do not. Over each one there
-# are numbers from 0 to 2^128 - 1, texts and prefixes of each length, each byte that is not a letter, and one at each
-# index, also of a key. Over the standard one each power of 2 and of 62 has its neighbours, and each letter is in each
-# place. A repeated letter has each index, and a message each byte.
-#
 # The count of a number's digits is the length of its canonical text. An index or a width may be 2^32 - 1 or more: not
 # every machine, and not every call, takes it.
 """.lstrip()
@@ -234,9 +229,11 @@ KNOWN_FIXED: list[tuple[int, int, bytes | None]] = [
     (LARGEST, 21, None),
     (1337, 22, b"00000000000000000000LZ"),
     (LARGEST, 22, b"7n42DGM5Tflk9n8mt7Fhc7"),
+    (2**64 - 1, 22, b"00000000000LygHa16AHYF"),
     (LARGEST, 23, b"07n42DGM5Tflk9n8mt7Fhc7"),
     (1337, 100, b"0" * 98 + b"LZ"),
 ]
+POINTS = [point.encode() for point in "\x80\u07ff\u0800\uffff\U00010000\U0010ffff"]
 KNOWN_EXACT: list[tuple[int, bytes, Result]] = [
     (0, b"", ("empty",)),
     (0, b"0", ("length",)),
@@ -256,6 +253,8 @@ KNOWN_EXACT: list[tuple[int, bytes, Result]] = [
     (22, b"7n42DGM5Tflk9n8mt7Fhc7", ("number", LARGEST)),
     (22, b"7n42DGM5Tflk9n8mt7Fhc8", ("overflow",)),
     (22, b"z" * 23, ("length",)),
+    # The first and the last code points of each size in UTF-8.
+    *((len(point) + 1, point + b"0", ("byte", point[0], 0)) for point in POINTS),
     (23, b"z" * 23, ("overflow",)),
     (23, b"07n42DGM5Tflk9n8mt7Fhc7", ("number", LARGEST)),
     (100, b"0" * 98 + b"LZ", ("number", 1337)),

@@ -1,5 +1,5 @@
 #!/usr/bin/env python3
-"""Compares docs/CALLS.md with what each package exports: every name is there, and no other one. Tests and READMEs name all."""
+"""Compares docs/CALLS.md with what each package exports: every name is there, in tests and in READMEs, and no other one."""
 
 import ast
 import re
@@ -8,14 +8,22 @@ from pathlib import Path
 TOP = Path(__file__).resolve().parent.parent
 # What the name of a function for another alphabet has besides, in Rust and C.
 ALPHABETS = re.compile(r"_(alternative|alt|with)(?=_|$)")
-# The tests and READMEs that name all of a language, its comments, and what is before a name that is not an attribute.
+# The tests and pages that name all of a language, its comments, and what is before a name that is not an attribute.
 BARE = r"(?<![\w.])"
 NAMING = {
     "Rust": (["rust/tests/*.rs"], "//.*", BARE),
-    "C": (["c/tests/values.c"], r"/\*(?s:.*?)\*/", BARE),
-    "Python": (["python/tests/test_*.py", "python/README.md"], "#.*", '["`]'),
-    "JavaScript": (["js/tests/calls.mjs", "js/tests/types.ts", "js/README.md"], "//.*", BARE),
+    "C": (["c/tests/values.c", "c/README.md"], r"/\*(?s:.*?)\*/", BARE),
+    "Python": (["python/tests/test_*.py", "python/README.md", "python/COLUMNS.md"], "#.*", '["`]'),
+    "JavaScript": (["js/tests/calls.mjs", "js/README.md"], "//.*", BARE),
 }
+# Pages and types, and the languages whose names they have. In C and SQL these have a prefix; in others they have verbs.
+SQL = ["SQLite", "DuckDB", "PostgreSQL"]
+PAGES = {
+    **dict.fromkeys(["README.md", "command/README.md", "docs/CALLS.md"], [*NAMING, *SQL]),
+    **dict.fromkeys(["js/README.md", "js/index.d.cts", "js/tests/types.ts"], ["JavaScript"]),
+    **{"c/README.md": ["C"], "python/*.md": ["Python"], "rust/README.md": ["Rust"], "sql/*.md": SQL},
+}
+VERBS = r"(?<![\w./])(?:base62\.|columns\.|b\.)?((?:en|de)code\b|(?:(?:en|de)code|digit|prefix|key|uuid)(?:_[a-z]\w*|[A-Z]\w*))"
 
 
 def text(*paths: str) -> str:
@@ -23,16 +31,15 @@ def text(*paths: str) -> str:
 
 
 def all_of(module: str) -> list[str]:
-    statements = ast.parse(text(f"python/base62/{module}.py")).body
-    lists = [statement for statement in statements if isinstance(statement, ast.Assign)]
-    return next(ast.literal_eval(statement.value) for statement in lists if ast.unparse(statement.targets[0]) == "__all__")
+    lists = re.findall(r"(?m)^__all__ \+?= (\[[^]]*\])$", text(f"python/base62/{module}.py"))
+    return [name for names in lists for name in ast.literal_eval(names)]
 
 
 def exported() -> dict[str, set[str]]:
     """The names by the languages of the page."""
     rust = re.findall(r"\w+", "".join(re.findall(r"\npub (?:use (?:\w+::)+)?([^;]*;)", text("rust/src/lib.rs"))))
     c = re.findall(r"\b(base62_\w+)\(", re.sub(r"(?s)/\*.*?\*/", "", text("c/base62.h")))
-    javascript = "".join(re.findall(r"(?ms)^export \{(.*?)\}", text("js/index.js")))
+    javascript = " ".join(re.findall(r"(?m)^export \{(.*)\}", text("js/index.js")))
     return {
         "Rust": {ALPHABETS.sub("", name) for name in rust},
         "C": {ALPHABETS.sub("", name) for name in c},
@@ -62,10 +69,20 @@ def listed() -> dict[str, set[str]]:
 
 
 def used(path: str, comments: str, before: str) -> set[str]:
-    """The names in files that can be the package's. A README may name those of columns without the module."""
+    """The names in files that can be the package's. COLUMNS.md names functions of columns without the module."""
     names = re.findall(rf"(?:\bbase62\.|\b(columns\.)|{before})(\w+)", re.sub(comments, "", text(path)))
-    of_columns = {f"columns.{name}" for _, name in names if path.endswith(".md")}
-    return {module + name for module, name in names} | of_columns
+    return {("columns." if "COLUMNS" in path else module) + name for module, name in names}
+
+
+def unknown(path: str, exports: set[str]) -> set[str]:
+    """The names in the code of a file that are of no export, no type of C or SQL and no program, and not defined there."""
+    blocks = re.findall(r"(?ms)^```[^\n]*\n(.*?)^```$|`([^`\n]+)`", text(path))
+    code = "\n".join(map("".join, blocks)) if path.endswith(".md") else text(path)
+    names = re.findall(r"\bbase62_\w+", code) + ([] if path.startswith(("c/", "sql/")) else re.findall(VERBS, code))
+    types = re.findall(r"(?m)(?:^} |CREATE DOMAIN )(\w+)", text("c/base62.h", "sql/postgresql/*.sql"))
+    defined = map("".join, re.findall(r"\b(?:def|fn) (\w+)|\b(\w+) ?=(?!=)", code))
+    known = {"base62_cli", *types, *defined, *exports, *(name.removeprefix("columns.") for name in exports)}
+    return {name for name in names if not {name, ALPHABETS.sub("", name)} & known}
 
 
 def main() -> None:
@@ -79,7 +96,12 @@ def main() -> None:
     for language, (paths, *syntax) in NAMING.items():
         for path in paths:
             missing = exports[language] - used(path, *syntax)
+            if path.endswith(".md"):  # Functions of columns have a page of their own.
+                missing = {name for name in missing if ("columns." in name) == ("COLUMNS" in path)}
             errors += [f"{language}: {name} is exported, and not used in {path}" for name in missing]
+    for path, languages in PAGES.items():
+        names = unknown(path, set().union(*map(exports.get, languages)))
+        errors += [f"{path}: {name} is not exported" for name in names]
     if errors:
         raise SystemExit("\n".join(sorted(errors)))
 

@@ -1,4 +1,4 @@
-/* The texts of errors, proved of base62.acsl as the laws are: their first and last bytes, and all that names a byte and
+/* The texts of errors, proved from base62.acsl as the laws are: their first and last bytes, and all that names a byte and
    an index. The escapes are those of Rust's ascii::escape_default. */
 #define SHORT(byte, letter) (escape_length(byte) == 2 && escape_byte(byte, 0) == '\\' && escape_byte(byte, 1) == letter)
 #define HEXADECIMAL(digit) (digit < 10 ? 48 + digit : 87 + digit)

@@ -1,5 +1,5 @@
 /*
- * The promises of README, proved of base62.acsl alone. Each law is a client in C: WP proves that it returns what its
+ * The promises of README, proved from base62.acsl alone. Each law is a client in C: WP proves that it returns what its
  * `ensures` says, for every number, text and alphabet. mutate_specification.py shows that each mutant of base62.acsl
  * fails a proof, except those that it lists.
  */

@@ -1,5 +1,5 @@
 #!/usr/bin/python3 -B
-"""Proves base62.c and laws.c by Frama-C's WP: c/proof/prove.py [FUNCTIONS..]
+"""Proves base62.c and laws.c with Frama-C's WP: c/proof/prove.py [FUNCTIONS..]
 
 It prints the goals without a proof, how many are proved and how many failed. It fails if a goal has no proof or rests
 on an axiom of WP that is false, if Frama-C warns of anything, if its tree has what tree.ml rejects, or if the code

@@ -21,6 +21,7 @@ FALSE, NOT_TRIED = "an axiom of WP that is false", "WP tries no goal"
 NUMBER, CHAR, APART = "a pointer from a number", "a plain char", "Memory model hypotheses"
 LINE, TYPE, EXPRESSION, STATEMENT = "are not reviewed", "list: a type", "list: the expression", "list: a statement"
 VARIABLE, UNTYPED, CALL = "is not initialized", "list: an expression", "a call that may write"
+POINTER, ARRAY = "list: a pointer in a struct, or to a pointer", "more than numbers"
 
 # A function, which stands behind those of base62.c, and its contract.
 HERE = """
@@ -154,7 +155,7 @@ STATEMENTS = [
     ("((uint64_t *)to)[0] = 0;", EXPRESSION), ("((base62_bad_byte *)to)->byte = 0;", EXPRESSION), ("i = (size_t)to;", NUMBER),
     ("uint8_t *restrict other = to; other[0] = 0;", "restrict"), ("if (to == part) i = 1;", EXPRESSION),
     ("i = (size_t)(to - part);", EXPRESSION), ("to = 0;", EXPRESSION), ("const size_t *at = &((const base62_bad_byte *)0)->index;", EXPRESSION),
-    ("const struct { size_t n; uint8_t a[2]; } both[2] = {{0, {0}}};", "more than numbers"),
+    ("const struct { size_t n; uint8_t a[2]; } both[2] = {{0, {0}}};", ARRAY),
     ("const struct { size_t n; uint8_t rest[]; } n = {1}; i = n.n;", "an array without a length"),
     ("base62_range n = {{0, 0}, {0, 0}}; uint64_t *at = &n.least.low; at[1] = 1;", EXPRESSION),
     # Other statements.
@@ -166,6 +167,20 @@ STATEMENTS = [
 SOURCES = [
     ("__builtin_clzll(n);", "__builtin_clzll(n | 1);", LINE), ("    //@ assert requires: n != 0;\n", "", LINE),
     (HERE, HERE.replace("uint8_t *to", "uint8_t *restrict to"), "restrict"), (HERE, HERE.replace("size_t length", "unsigned length"), TYPE),
+]
+
+# Calls that write, although no parameter is a pointer to bytes that are not const: what stands before here, what in it
+# stands before a sum of a read and a call, the call, and what rejects it.
+OUT = "typedef struct Out { uint8_t *to; } Out;\n"
+WRITES = [
+    (OUT + "static size_t poke(Out out) { out.to[0] = 1; return 1; }", "", "poke((Out){to})", POINTER),
+    (OUT + "typedef struct More { Out out; } More;\nstatic size_t poke(More more) { more.out.to[0] = 1; return 1; }",
+     "", "poke((More){{to}})", POINTER),
+    (OUT + "static Out out_of(uint8_t *to) { return (Out){to}; }\nstatic size_t poke(Out out) { out.to[0] = 1; return 1; }",
+     "const Out out = out_of(to);\n    ", "poke(out)", POINTER),
+    ("typedef struct Out { uint8_t *to[1]; } Out;\nstatic size_t poke(Out out) { out.to[0][0] = 1; return 1; }",
+     "", "poke((Out){{to}})", ARRAY),
+    ("static size_t poke(uint8_t *const *out) { (*out)[0] = 1; return 1; }", "", "poke(&to)", POINTER),
 ]
 
 # Wrong code of each kind: the function that then has no proof, what stands in base62.c, and what takes its place.
@@ -251,6 +266,9 @@ def cases(work):
         yield text, by, lambda at, text=once(source, "/**/", text): of_code(at, text)
     for old, new, by in SOURCES:
         yield new, by, lambda at, text=once(source, old, new): of_code(at, text)
+    for text, first, call, by in WRITES:
+        new = HERE.replace("static size_t here", f"{text}\n\nstatic size_t here").replace("/**/", f"{first}i = part[0] + {call};")
+        yield new, by, lambda at, text=once(source, HERE, new): of_code(at, text)
     for text, by in LISTS:
         yield text, by, lambda at, text=text: of_lists(at, text)
     shared = once(whole, "separated(to + (0 .. length - 1)", "separated(to + (0 .. 0)")

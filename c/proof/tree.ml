@@ -303,6 +303,12 @@ let rec has_array typ = match Cil.unrollType typ with
   | TComp (c, _) -> List.exists (fun f -> has_array f.ftype) (Option.value c.cfields ~default:[])
   | _ -> false
 
+(* It would let a call write, although no parameter says so. *)
+let hides_pointer typ = match Cil.unrollType typ with
+  | TPtr (t, _) -> Cil.isPointerType t
+  | TComp (c, _) -> List.exists (fun f -> Cil.isPointerType f.ftype) (Option.value c.cfields ~default:[])
+  | _ -> false
+
 let is_of_kind kind typ = match Cil.unrollType typ with TInt (k, _) -> k = kind | _ -> false
 let is_through_a_number to_ from = Cil.isPointerType to_ <> Cil.isPointerType from && not (Cil.isVoidType to_)
 let plain_char = "a plain char, which compilers may have with a sign"
@@ -416,7 +422,8 @@ class walk = object (self)
       | TComp (c, _) -> List.for_all (fun f -> Cil.isArithmeticType f.ftype) (Option.value c.cfields ~default:[])
       | t -> Cil.isArithmeticType t in
     let is_wrong = match t with TArray (t, size, _) -> size = None || not (holds_numbers t) | _ -> false in
-    self#reject_if is_wrong (Cil.CurrentLoc.get ()) "an array without a length, or of structs that hold more than numbers"; Cil.DoChildren
+    self#reject_if is_wrong (Cil.CurrentLoc.get ()) "an array without a length, or of structs that hold more than numbers";
+    allow (not (hides_pointer t)) (Cil.CurrentLoc.get ()) "a pointer in a struct, or to a pointer"; Cil.DoChildren
 
   method! vvdec v =
     allow (v.vformal || not (Cil.typeHasAttribute "restrict" v.vtype)) (Cil.CurrentLoc.get ()) "restrict"; Cil.DoChildren

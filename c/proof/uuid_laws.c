@@ -1,5 +1,5 @@
 /*
- * Laws of strings for UUIDs, proved of base62.acsl as those of laws.c are: what is written are 32 digits that denote the
+ * Laws of strings for UUIDs, proved from base62.acsl as those of laws.c are: what is written are 32 digits that denote the
  * number of the UUID, and exactly what may be written for a UUID is read as this UUID.
  */
 

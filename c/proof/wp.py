@@ -155,8 +155,10 @@ def checked(file, bare=None, calls=None):
     wrong = [f"rejected: {name} {what}" for kind, name, what in dict.fromkeys(rows) if kind in kinds]
     wrong += [f"no body: {name}" for name in sorted(names["declared"] - (set() if bare else calls or names["public"]))]
     wrong += bits.wrong(rows)
-    if bare and code(file) != bare:
-        wrong.append("the lists change the code")
+    if bare:
+        annotated, plain = collections.Counter(code(file)), collections.Counter(bare)
+        changed = sorted((annotated - plain + (plain - annotated)).elements())
+        wrong += [f"the lists change the code: {definition.strip()[:120]}" for definition in changed]
     lemmas = {LEMMAS} if names["lemma"] else set()
     return Checked(names["defined"] | lemmas, names["public"], set() if calls else names["constant"], wrong)
 

@@ -58,6 +58,9 @@ fn each_call_fails() {
         "1337\n\n61\n",
         1,
     );
+    // Each part of the first line needs more memory.
+    let input = r"'000000000000000000q1o\n%040000d' 0";
+    fail_in_turn("base62 range", input, "12400000 12400061\n\n", 1);
     let input = r"'enc 1337\nenc x\nenc %040000d' 61";
     fail_in_turn("base62_cli", input, "LZ\nfault: not a number\nz\n", 0);
 }

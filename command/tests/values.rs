@@ -1,7 +1,7 @@
 // SPDX-License-Identifier: MIT
 // Copyright (c) 2026 the maintainers of base62 for Rattle
 
-//! The values of tests/values.tsv, by the command with arguments.
+//! The values of tests/values.tsv, by both programs.
 
 mod shell;
 #[path = "../../rust/tests/support/mod.rs"]
@@ -18,9 +18,14 @@ type Row = Vec<&'static str>;
 /// A line of input, and its line of output or the end of the message about it.
 type Line = (Vec<u8>, Result<Vec<u8>, String>);
 
-/// Compares the status, the output and the messages of a run over lines.
 #[track_caller]
 fn check(arguments: &str, lines: impl IntoIterator<Item = Line>) {
+    check_program(&format!("base62 {arguments}"), lines);
+}
+
+/// Compares the status, the output and the messages of a run over lines.
+#[track_caller]
+fn check_program(command: &str, lines: impl IntoIterator<Item = Line>) {
     let (mut input, mut output, mut errors) = (Vec::new(), Vec::new(), Vec::new());
     // A line has no line feed, and loses one `\r` at its end.
     let is_line = |line: &Line| !line.0.contains(&b'\n') && !line.0.ends_with(b"\r");
@@ -36,13 +41,13 @@ fn check(arguments: &str, lines: impl IntoIterator<Item = Line>) {
     let (folder, id) = (env!("CARGO_TARGET_TMPDIR"), thread::current().id());
     let file = format!("{folder}/{id:?}");
     fs::write(&file, input).unwrap();
-    let (status, printed, reported) = run(&format!("base62 {arguments} <'{file}'"));
+    let (status, printed, reported) = run(&format!("{command} <'{file}'"));
     assert_eq!(reported.lines().count(), errors.len(), "{reported}");
     for (line, (start, end)) in reported.lines().zip(&errors) {
         let is_expected = line.starts_with(start) && line.ends_with(end);
         assert!(is_expected, "{line}, not {start}..{end}");
     }
-    assert_eq!(printed.as_bytes(), output, "{arguments}");
+    assert_eq!(printed.as_bytes(), output, "{command}");
     assert_eq!(status, Some(i32::from(!errors.is_empty())));
 }
 
@@ -167,4 +172,30 @@ fn uuids() {
     // The command ignores blanks around a number.
     let is_bare = |row: &&Row| bytes(row[0]).trim_ascii() == bytes(row[0]);
     check("encode -u", rows("form").iter().filter(is_bare).map(line));
+}
+
+#[test]
+fn lines_of_base62_cli() {
+    let mut lines = Vec::new();
+    let mut add = |command: &str, input: &[u8], reply: Vec<u8>| {
+        lines.push(([command.as_bytes(), b" ", input].concat(), Ok(reply)));
+    };
+    for (name, encode, decode) in [("standard", "enc", "dec"), ("alternative", "alt", "adc")] {
+        let of = |kind| rows(kind).into_iter().filter(move |row| row[0] == name);
+        for row in of("encode") {
+            add(encode, format!("000{}", row[1]).as_bytes(), bytes(row[2]));
+            add(decode, &bytes(row[2]), bytes(row[1]));
+        }
+        for row in of("zeros") {
+            add(decode, &bytes(row[1]), bytes(row[2]));
+        }
+        for row in of("refused") {
+            let fault = format!("fault: {}", decode_error(&row[2..]).unwrap());
+            add(decode, &bytes(row[1]), fault.into());
+        }
+        for input in ["", "+1", "1 ", "340282366920938463463374607431768211456"] {
+            add(encode, input.as_bytes(), "fault: not a number".into());
+        }
+    }
+    check_program("base62_cli", lines);
 }

@@ -16,8 +16,8 @@ const LOWEST_24_BITS = 2 ** 24 - 1;
 const TWO_TO_24 = 2 ** 24;
 const TWO_TO_32 = 2 ** 32;
 const TWO_TO_48 = 2 ** 48;
-const TWO_TO_64 = 2n ** 64n;
-const TWO_TO_128 = 2n ** 128n;
+const TWO_TO_64 = 1n << 64n;  // Babel turns ** into Math.pow
+const TWO_TO_128 = 1n << 128n;
 
 const halves = new BigUint64Array(2);
 const words = new Uint32Array(halves.buffer);
@@ -178,24 +178,23 @@ function stringOfGroups(count, pairs) {
 // or a prefix: a string, encoded as UTF-8, or a Uint8Array. Its units are the code units of the string, or the bytes.
 
 const MAX_DIGITS = 22;
+const POWERS_OF_62 = [1n];
+for (let i = 0; i < MAX_DIGITS; i++) POWERS_OF_62.push(POWERS_OF_62[i] * 62n);
 
 // Descriptors inherit nothing, since a program may give Object.prototype a property such as `get`.
-const defineProperty = (object, name, descriptor) =>
-  Object.defineProperty(object, name, { __proto__: null, ...descriptor });
-function defineReadOnly(object, name, value) { defineProperty(object, name, { value, enumerable: true }); }
+const define = (object, name, value, others) =>
+  Object.defineProperty(object, name, { __proto__: null, value, ...others });
+function defineReadOnly(object, name, value) { define(object, name, value, { enumerable: true }); }
 
 class Base62Error extends RangeError {
   constructor(message, code, byte, index) {
     super(message);
-    defineReadOnly(this, 'code', code);
-    if (byte === undefined) return;
-    defineReadOnly(this, 'byte', byte);
-    defineReadOnly(this, 'index', index);
+    this.code = code;
+    if (byte !== undefined) Object.assign(this, { byte, index });
   }
 }
 
-// The name is assignable, like that of a built-in error.
-defineProperty(Base62Error.prototype, 'name', { value: 'Base62Error', writable: true, configurable: true });
+define(Base62Error.prototype, 'name', 'Base62Error', { writable: true, configurable: true });
 
 const overflow = () => new Base62Error('Decoded number is 2^128 or more', 'OVERFLOW');
 
@@ -212,7 +211,6 @@ function errorAt(message, code, byte, index) {
 const typedArray = Object.getPrototypeOf(Uint8Array.prototype);
 const getter = (name) => Object.getOwnPropertyDescriptor(typedArray, name).get;
 const typeOf = getter(Symbol.toStringTag);
-const bufferOf = getter('buffer');
 const lengthOf = getter('length');
 const codePointAt = ''.codePointAt.call.bind(''.codePointAt);
 
@@ -228,8 +226,8 @@ function lengthOfText(text) {
   if (typeof text === 'string') return ('' + text).length;
   if (!isUint8Array(text)) throw wrongType('an encoded string or a prefix is a string or a Uint8Array', text);
   const length = lengthOf.call(text);
-  // A detached array has no length either. For it this throws a TypeError.
-  if (length === 0) new Uint8Array(bufferOf.call(text));
+  // An array whose buffer is detached or too small has none either: for it this throws a TypeError.
+  if (length === 0) typedArray.keys.call(text);
   return length;
 }
 
@@ -313,11 +311,18 @@ function decodeText(text, length) {
   if (!readShort(text, length)) decodeByRules(text, length);
 }
 
+const showBytes = (count) => `${count} byte${count === 1 ? '' : 's'}`;
+
 function decodeFixedText(text, length, width) {
-  if (length === width && readShort(text, length)) return;
-  const size = countBytes(text, 0, length);
+  if (length !== width || !readShort(text, length)) decodeFixedByRules(text, length, width);
+}
+
+function decodeFixedByRules(text, length, width) {
+  // If there are more units than the width, no bytes are counted.
+  const size = length > width ? Infinity : countBytes(text, 0, length);
   if (size === width) return decodeByRules(text, length);
-  throw new Base62Error(`Encoded input has ${size} byte${size === 1 ? '' : 's'}, not ${width}`, 'WRONG_LENGTH');
+  const found = size > width ? `more than ${showBytes(width)}` : `${showBytes(size)}, not ${width}`;
+  throw new Base62Error(`Encoded input has ${found}`, 'WRONG_LENGTH');
 }
 
 // Most texts are valid, and have at most 22 characters.
@@ -332,7 +337,7 @@ function decodeByRules(text, length) {
   const invalid = indexOfInvalid(text, start, length);
   if (invalid < Math.min(start + 10, length)) throw invalidByte(text, invalid);
   const isFull = remaining === MAX_DIGITS && readDigits(text, start, start + 10);
-  if (isFull && bigIntOfWords() * 62n ** 12n >= TWO_TO_128) throw overflow();
+  if (isFull && bigIntOfWords() * POWERS_OF_62[12] >= TWO_TO_128) throw overflow();
   if (invalid < length) throw invalidByte(text, invalid);
   if (!readDigits(text, start, length)) throw overflow();
 }
@@ -407,7 +412,7 @@ function uuidOfWords() {
     hex[d >>> 28], hex[(d >>> 24) & 15], hex[(d >>> 20) & 15], hex[(d >>> 16) & 15], hex[(d >>> 12) & 15],
     hex[(d >>> 8) & 15], hex[(d >>> 4) & 15], hex[d & 15]);
 }
-// The public functions, which index.d.cts describes.
+// The public functions, which index.d.cts describes. The default export has all of them, as in Node.
 
 const KEY_LENGTH = 22;
 
@@ -574,8 +579,6 @@ const decodeUuidFixed = (text, width, alphabet = standard) => readFixed(text, wi
 const decodeKey = (text) => decodeFixed(text, KEY_LENGTH);
 const decodeUuidKey = (text) => decodeUuidFixed(text, KEY_LENGTH);
 
-const POWERS_OF_62 = Array.from({ length: MAX_DIGITS + 1 }, (_, exponent) => 62n ** BigInt(exponent));
-
 function prefixRange(prefix, width, alphabet = standard) {
   checkWidth(width);
   const length = lengthOfText(prefix);
@@ -602,52 +605,8 @@ function keyBounds(prefix) {
   return range && [encodeKey(range[0]), encodeKey(range[1])];
 }
 
-return {
-  Alphabet,
-  Base62Error,
-  decode,
-  decodeCanonical,
-  decodeFixed,
-  decodeKey,
-  decodeNumber,
-  decodeNumberCanonical,
-  decodeNumberFixed,
-  decodeUuid,
-  decodeUuidCanonical,
-  decodeUuidFixed,
-  decodeUuidKey,
-  digitCount,
-  encode,
-  encodeFixed,
-  encodeKey,
-  encodeUuid,
-  keyBounds,
-  keyRange,
-  prefixRange
-};
+return {Alphabet, Base62Error, digitCount, encode, encodeFixed, encodeKey, encodeUuid, keyBounds, keyRange, prefixRange, decode, decodeCanonical, decodeFixed, decodeKey, decodeNumber, decodeNumberCanonical, decodeNumberFixed, decodeUuid, decodeUuidCanonical, decodeUuidFixed, decodeUuidKey};
 })();
 if (typeof module === 'object') module.exports = base62;
 // By this line, which never runs, Node knows the names for import.
-0 && (module.exports = {
-  Alphabet,
-  Base62Error,
-  decode,
-  decodeCanonical,
-  decodeFixed,
-  decodeKey,
-  decodeNumber,
-  decodeNumberCanonical,
-  decodeNumberFixed,
-  decodeUuid,
-  decodeUuidCanonical,
-  decodeUuidFixed,
-  decodeUuidKey,
-  digitCount,
-  encode,
-  encodeFixed,
-  encodeKey,
-  encodeUuid,
-  keyBounds,
-  keyRange,
-  prefixRange
-});
+0 && (module.exports = {Alphabet, Base62Error, digitCount, encode, encodeFixed, encodeKey, encodeUuid, keyBounds, keyRange, prefixRange, decode, decodeCanonical, decodeFixed, decodeKey, decodeNumber, decodeNumberCanonical, decodeNumberFixed, decodeUuid, decodeUuidCanonical, decodeUuidFixed, decodeUuidKey});

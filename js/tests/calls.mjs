@@ -24,11 +24,10 @@ const errorOf = (kind, byte, index) =>
 // A text as a string with a character for each byte, as bytes, and if they are UTF-8 as the string that they encode.
 const textOf = (field) => field.replace(/%(..)/g, (_, digits) => String.fromCharCode(parseInt(digits, 16)));
 const bytesOf = (field) => Uint8Array.from(textOf(field), (character) => character.charCodeAt(0));
-const decoder = new TextDecoder('utf-8', { fatal: true, ignoreBOM: true });
 function formsOf(field) {
   const bytes = bytesOf(field);
   try {
-    return [bytes, decoder.decode(bytes)];
+    return [bytes, decodeURIComponent(field)];
   } catch { return [bytes]; }
 }
 

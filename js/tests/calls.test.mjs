@@ -15,6 +15,7 @@ import {Checks, CODES} from './calls.mjs';
 
 const { Alphabet, decode, decodeFixed, decodeKey, digitCount, encode, encodeFixed, encodeKey, encodeUuid } = base62;
 const file = readFileSync(new URL('../../tests/values.tsv', import.meta.url), 'utf8');
+const NAMES = Object.keys(base62).sort();
 const custom = new Alphabet('23456789ABCDEFGHJKLMNPQRSTUVWXYZabcdefghijkmnpqrstuvwxyz-_.~!*');
 
 for (const [form, functions] of Object.entries({ modules, commonJs: base62 })) {
@@ -23,15 +24,52 @@ for (const [form, functions] of Object.entries({ modules, commonJs: base62 })) {
 
 test('the rows find a wrong function', () => {
   const some = file.split('\n').filter((row, i) => row.startsWith('alphabet') || i % 20 === 0).join('\n');
-  for (const name of Object.keys(base62))
+  for (const name of NAMES)
     assert.throws(() => new Checks({...base62, [name]: function() {} }, some), / is not /, name);
 });
 
 // It throws if a call runs its code.
 const trap = new Proxy(() => assert.fail('called'), { get: () => assert.fail('read') });
 const bytes = new Uint8Array(16);
-const named = (pattern) => Object.keys(base62).filter((name) => pattern.test(name)).map((name) => base62[name]);
-const ofWidth = named(/Fixed|prefix/).map((call) => (width) => call('', width));
+
+// Valid arguments by the types of parameters, in the order in which calls check them. A text that is all is a key.
+const VALID = {
+  number: 1,
+  Integer: 5,
+  'Integer | Uuid': 5,
+  Uuid: bytes,
+  EncodedString: '5',
+  Alphabet: custom
+};
+const ORDER = Object.keys(VALID);
+const validOf = (types) => types.map((type) => (`${types}` === 'EncodedString' ? '5'.repeat(22) : VALID[type]));
+
+// By the type of a parameter in index.d.cts, the functions that have one. All arguments that they check later are wrong.
+const callsOf = Object.fromEntries(ORDER.map((type) => [type, []]));
+const declarations = readFileSync(new URL('../index.d.cts', import.meta.url), 'utf8');
+const functions = [...declarations.matchAll(/^export function (\w+)\(([^)]*)\):\s+([^;]+);/gm)];
+const typesOf = (parameters) => Array.from(parameters.matchAll(/: (\w[\w |]*)/g), ([, type]) => type);
+for (const [, name, parameters] of functions) {
+  const types = typesOf(parameters);
+  for (const type of types) {
+    const others = validOf(types).map((valid, i) => (ORDER.indexOf(types[i]) > ORDER.indexOf(type) ? trap : valid));
+    callsOf[type].push((value) => base62[name](...others.map((other, i) => (types[i] === type ? value : other))));
+  }
+}
+const ofNumber = [...callsOf.Integer, ...callsOf['Integer | Uuid']];
+const ofUuid = [...callsOf.Uuid, ...callsOf['Integer | Uuid']];
+
+test('functions have the types of index.d.cts, and those of one argument work with map', () => {
+  const typeOf = (result) => (Array.isArray(result) ? `[${result.map(typeOf).join(', ')}] | null` : typeof result);
+  assert.deepEqual(['Alphabet', 'Base62Error', ...functions.map(([, name]) => name)].sort(), NAMES);
+  for (const [, name, parameters, type] of functions) {
+    const valid = validOf(typesOf(parameters));
+    const result = base62[name](...valid);
+    assert.equal(typeOf(result), type.replace(/\w+: /g, ''), name);
+    assert.equal(base62[name].length, valid.length - parameters.split('?').length + 1, name);
+    if (valid.length === 1) assert.deepEqual([valid[0], valid[0]].map(base62[name]), [result, result]);
+  }
+});
 
 function rejects(calls, values, code, message) {
   const expected = code === 'TypeError' ? { name: code, message } : { name: 'Base62Error', code, message };
@@ -44,33 +82,30 @@ test('values of wrong types are rejected, and none of their code runs', () => {
   const objects = [{}, ['LZ'], Object('LZ'), convertible, new Proxy(bytes, {}), bytes.buffer];
   const values = [undefined, true, Symbol('LZ'), trap, ...objects].map((value) => [typeof value, value]);
   values.push(['null', null], ['Int8Array', new Int8Array(16)], ['Uint8ClampedArray', new Uint8ClampedArray(16)]);
-  const ofText = named(/^(decode|key|prefix)/).map((call) => (text) => call(text, 2));
-  for (const [type, value] of values) {
-    rejects([encode, digitCount], [value], 'TypeError', `a number is a Number or a BigInt, not ${type}`);
-    const expected = 'a value is a Number, a BigInt, or a UUID as a string or a Uint8Array';
-    rejects([encodeKey], [value], 'TypeError', `${expected}, not ${type}`);
-  }
   for (const [type, value] of [...values, ['number', 5], ['bigint', 5n]]) {
-    rejects(ofText, [value], 'TypeError', `an encoded string or a prefix is a string or a Uint8Array, not ${type}`);
-    rejects([encodeUuid], [value], 'TypeError', `a UUID is a string or a Uint8Array, not ${type}`);
-    if (type !== 'number') rejects(ofWidth, [value], 'TypeError', `a width is a Number, not ${type}`);
+    const reject = (expected, message) => rejects(callsOf[expected], [value], 'TypeError', `${message}, not ${type}`);
+    reject('EncodedString', 'an encoded string or a prefix is a string or a Uint8Array');
+    reject('Uuid', 'a UUID is a string or a Uint8Array');
+    if (type !== 'number') reject('number', 'a width is a Number');
+    if (['number', 'bigint'].includes(type)) continue;
+    reject('Integer', 'a number is a Number or a BigInt');
+    reject('Integer | Uuid', 'a value is a Number, a BigInt, or a UUID as a string or a Uint8Array');
   }
-  rejects([encode], ['5'], 'TypeError', "a number is a Number or a BigInt, not string: give BigInt('1337')");
+  rejects(callsOf.Integer, ['5'], 'TypeError', "a number is a Number or a BigInt, not string: give BigInt('1337')");
   rejects(
     [(characters) => new Alphabet(characters)], [5, trap], 'TypeError', 'the characters of an alphabet are a string');
 });
 
 test('other alphabets are rejected', () => {
-  const calls = [
-    (alphabet) => encode(5, alphabet),
-    ...named(/^(encodeUuid|decode(Number|Uuid)?(Canonical)?)$/).map((call) => (alphabet) => call(bytes, alphabet)),
-    ...named(/Fixed|prefix/).map((call) => (alphabet) => call(bytes, 22, alphabet))
-  ];
   const likenesses = [Object.create(Alphabet.prototype), Object.create(custom), new Proxy(custom, {})];
   const expected = 'an alphabet is an Alphabet';
-  rejects(calls, [null, {}, ...likenesses], 'TypeError', `${expected} of this copy of base62-proved`);
-  rejects(calls, ['0'], 'TypeError', `${expected}, not a string: create one with new Alphabet(..)`);
-  rejects(calls, [5], 'TypeError', `${expected}, not 5: give map a function such as (n) => encode(n)`);
+  const reject = (values, message) => rejects(callsOf.Alphabet, values, 'TypeError', `${expected}${message}`);
+  reject([null, {}, ...likenesses], ' of this copy of base62-proved');
+  reject(['0'], ', not a string: create one with new Alphabet(..)');
+  reject([5], ', not 5: give map a function such as (n) => encode(n)');
+  // Before what is wrong in this alphabet.
+  const ofWidth = [encodeFixed, decodeFixed, base62.prefixRange].map((call) => (width) => call(bytes, width, null));
+  rejects([...ofWidth, () => decode('', null)], [0], 'TypeError', `${expected} of this copy of base62-proved`);
   assert.throws(() => (custom.characters = ''), TypeError);
   for (const name of ['standard', 'alternative']) assert.throws(() => (Alphabet[name] = custom), TypeError);
 });
@@ -78,8 +113,9 @@ test('other alphabets are rejected', () => {
 test('numbers and widths out of range are rejected', () => {
   const numbers = [2 ** 53, 1.5, 5e-324, NaN, Infinity, -Infinity, -1, -1n, 2n ** 128n, -(2n ** 64n), 2n ** 200n];
   const outOfRange = 'a number is an integer from 0 to 2**128 - 1, or to 2**53 - 1 as a Number';
-  rejects([encode, digitCount, encodeKey], numbers, 'OUT_OF_RANGE', outOfRange);
-  rejects(ofWidth, [-1, 1.5, NaN, Infinity, 2 ** 53], 'OUT_OF_RANGE', 'a width is an integer from 0 to 2**53 - 1');
+  rejects(ofNumber, numbers, 'OUT_OF_RANGE', outOfRange);
+  rejects(
+    callsOf.number, [-1, 1.5, NaN, Infinity, 2 ** 53], 'OUT_OF_RANGE', 'a width is an integer from 0 to 2**53 - 1');
   rejects([(width) => encodeFixed(62, width)], [1], 'OUT_OF_RANGE', 'the number needs more characters than the width');
   // No string has this width.
   assert.throws(() => encodeFixed(5, 2 ** 40), (error) => error instanceof RangeError && !('code' in error));
@@ -91,18 +127,21 @@ test('numbers and widths out of range are rejected', () => {
 
 test('invalid UUIDs, characters and lengths are rejected', () => {
   const uuids = ['5', new Uint8Array(0), new Uint8Array(15), new Uint8Array(17)];
-  // No string has the width.
-  const ofUuid = [encodeUuid, encodeKey, (value) => encodeFixed(value, 2 ** 40)];
   const forms = 'with hyphens or without, in braces or after urn:uuid:, or 16 bytes';
   rejects(ofUuid, uuids, 'INVALID_UUID', `a UUID is 32 hexadecimal digits, ${forms}`);
   const create = (characters) => new Alphabet(characters);
-  rejects([create], [''], 'INVALID_ALPHABET', 'the alphabet has 0 characters, not 62');
-  rejects([create], ['0'], 'INVALID_ALPHABET', 'the alphabet has 1 character, not 62');
+  for (const [characters, found] of [['', '0 characters'], ['0', '1 character'], ['00', '2 characters']])
+    rejects([create], [characters], 'INVALID_ALPHABET', `the alphabet has ${found}, not 62`);
   const wide = ['\u00e9', `${custom.characters.slice(2)}\u{1f600}`];
   rejects([create], wide, 'INVALID_ALPHABET', 'the alphabet has a non-ASCII character');
-  rejects([decodeKey], ['0'], 'WRONG_LENGTH', 'Encoded input has 1 byte, not 22');
   // A lone surrogate has three bytes.
-  rejects([decodeKey], ['\ud800'], 'WRONG_LENGTH', 'Encoded input has 3 bytes, not 22');
+  const found = {
+    '1 byte, not 22': ['0'],
+    '3 bytes, not 22': ['\ud800'],
+    'more than 22 bytes': ['\u00e9'.repeat(12), new Uint8Array(23)]
+  };
+  for (const length in found) rejects([decodeKey], found[length], 'WRONG_LENGTH', `Encoded input has ${length}`);
+  rejects([(text) => decodeFixed(text, 1)], ['00'], 'WRONG_LENGTH', 'Encoded input has more than 1 byte');
   const invalid = "Encoded input contains the invalid byte b'\\xed' at index 1";
   rejects([decode, (text) => decodeFixed(text, 4)], ['0\ud800', '0\udfff'], 'INVALID_BYTE', invalid);
   rejects([decode], ['\ud800'.repeat(8)], 'OVERFLOW', 'Decoded number is 2^128 or more');
@@ -128,13 +167,6 @@ test('100 MB are decoded and encoded without a copy, and strings of 10 MB are re
   }
 });
 
-test('functions of one argument work with map', () => {
-  const numbers = [0n, 1337n, 2n ** 128n - 1n];
-  const keys = numbers.map(encodeKey);
-  assert.deepEqual(keys.map(decodeKey), numbers);
-  for (const call of named(/^key|UuidKey/)) assert.deepEqual(keys.map(call), keys.map((key) => call(key)));
-});
-
 test('any Uint8Array is read, by its own length', () => {
   class Trapped extends Uint8Array {}
   for (const name of ['buffer', 'byteLength', 'byteOffset', 'length', Symbol.toStringTag])
@@ -150,16 +182,16 @@ test('any Uint8Array is read, by its own length', () => {
   }
   assert.equal(decode(Buffer.from('-LZ-').subarray(1, -1)), 1337n);
   assert.equal(decode(new Uint8Array(new SharedArrayBuffer(2)).fill(48)), 0n);
-  // A detached one is not read as an empty text.
-  const sent = new Uint8Array(2);
-  structuredClone(sent.buffer, { transfer: [sent.buffer] });
-  for (const call of [decode, base62.keyRange]) assert.throws(() => call(sent), TypeError);
+  // One without a buffer, or beyond its end, is not read as an empty text. Node 18 cannot resize a buffer.
+  const buffers = [new ArrayBuffer(2), new ArrayBuffer(2, { maxByteLength: 2 })];
+  const lost = [new Uint8Array(buffers[0]), new Uint8Array(buffers[1], 0, 2), new Uint8Array(buffers[1], 1)];
+  structuredClone(buffers[0], { transfer: [buffers[0]] });
+  buffers[1].resize?.(0);
+  for (const array of lost.filter(({ length }) => length === 0))
+    for (const call of callsOf.EncodedString) assert.throws(() => call(array), TypeError);
 });
 
-function heapUsed() {
-  globalThis.gc();
-  return process.memoryUsage().heapUsed;
-}
+const heapUsed = () => (globalThis.gc(), process.memoryUsage().heapUsed);
 
 // No number is passed twice.
 let next = 0n;
@@ -189,30 +221,37 @@ test('a string takes the memory of its characters alone, and a call keeps no oth
 });
 
 test('calls go on after the stack has run out in one', () => {
-  const calls = [
-    () => encode(2n ** 127n), () => encode(1337, custom), () => decode('7n42DGM5Tflk9n8mt7Fhc7'),
-    () => decode('Pd'.padStart(30, '2'), custom), () => base62.decodeUuid('2aUyqjCzEIiEcYMKj7TZtw'),
-    () => encodeUuid('{550E8400-E29B-41D4-A716-446655440000}'), () => base62.keyRange('zz')
+  // The calls of a dive have one alphabet, so that none mends what a call that fails leaves.
+  const dives = [
+    [
+      () => encode(2n ** 127n), () => decode('7n42DGM5Tflk9n8mt7Fhc7'),
+      () => base62.decodeUuid('2aUyqjCzEIiEcYMKj7TZtw'), () => encodeUuid('{550E8400-E29B-41D4-A716-446655440000}'),
+      () => base62.keyRange('00zz')
+    ],
+    [() => encode(1337, custom), () => decode('Pd'.padStart(30, '2'), custom)]
   ];
-  const expected = calls.map((call) => call());
+  const expected = new Map(dives.flat().map((call) => [call, `${call()}`]));
   const failures = new Set();
   // An assertion that fails would need more stack than is left.
-  const attempt = (call, i) => {
+  const attempt = (call) => {
     try {
-      if (call() !== expected[i]) failures.add(`${call}`);
+      if (`${call()}` !== expected.get(call)) failures.add(`${call}`);
     } catch ({ name, code }) { failures.add(`${name} ${code}`); }
   };
-  const dive = () => {
+  let left;
+  const dive = (calls) => {
     try {
-      dive();
-    } catch {
-      // The frames above have room for the calls.
-    }
-    calls.forEach(attempt);
+      dive(calls);
+    } catch { left = 60; }
+    // So many frames have room for the calls.
+    if (left-- > 0) calls.forEach(attempt);
   };
   // The stack begins at many places.
-  for (let i = 0; i < 100; i++) Reflect.apply(dive, undefined, new Array(i));
-  assert.deepEqual(calls.map((call) => call()), expected);
+  for (let i = 0; i < 200; i++) {
+    dives[(i + 1) % 2].forEach(attempt);
+    Reflect.apply(dive, undefined, [dives[i % 2], ...Array(i >> 1)]);
+  }
+  dives.flat().forEach(attempt);
   assert.deepEqual([...failures], ['RangeError undefined']);
 });
 
@@ -262,7 +301,6 @@ function drawRows(name, alphabet) {
   const text = drawText(alphabet);
   const width = pick([22, text.length, below(60)]);
   const field = fieldOf(text);
-  const encoded = fieldOf(encode(number, alphabet));
   const isNarrow = digitCount(number) > width;
   const fixed = isNarrow ? '' : fieldOf(encodeFixed(number, width, alphabet));
   const any = resultOf(() => decode(text, alphabet));
@@ -270,7 +308,7 @@ function drawRows(name, alphabet) {
   const isSame = any === resultOf(() => base62.decodeCanonical(text, alphabet));
   const canonical = kind === 'number' ? `encode\t${name}\t${value}\t${field}` : `refused\t${name}\t${field}\t${any}`;
   return [
-    `encode\t${name}\t${number}\t${encoded}`,
+    `encode\t${name}\t${number}\t${fieldOf(encode(number, alphabet))}`,
     isNarrow ? `narrow\t${name}\t${number}\t${width}` : `fixed\t${name}\t${number}\t${width}\t${fixed}`,
     isSame ? canonical : `zeros\t${name}\t${field}\t${value}`,
     `exact\t${name}\t${width}\t${field}\t${resultOf(() => decodeFixed(text, width, alphabet))}`,
@@ -302,5 +340,5 @@ test(`${wanted} random calls return what c/base62.c returns`, { skip }, () => {
       execFileSync(program, [path]);
     }
   } finally { rmSync(folder, { recursive: true }); }
-  assert.deepEqual([...checks.called, 'Base62Error'].sort(), Object.keys(base62));
+  assert.deepEqual([...checks.called, 'Base62Error'].sort(), NAMES);
 });

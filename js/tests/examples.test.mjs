@@ -1,15 +1,26 @@
 // Tests the examples. scripts/check-js runs them beside the installed package and Debian's Express.
 import {encode} from 'base62-proved';
 import assert from 'node:assert/strict';
-import {execFileSync} from 'node:child_process';
 import {once} from 'node:events';
 import {existsSync} from 'node:fs';
 import {test} from 'node:test';
 
-import {findLinks, rangesOf} from '../examples/prefix_ranges.mjs';
-
 const noExpress = !existsSync(new URL('../node_modules/express', import.meta.url)) && 'install node-express';
-const noPostgresql = !existsSync('/usr/bin/pg_virtualenv') && 'install postgresql and postgresql-common';
+
+test('a short link leads to its URL', async () => {
+  process.env.PORT = 0;
+  const { server } = await import('../examples/short_links.mjs');
+  await once(server, 'listening');
+  const request = (path, options) =>
+    fetch(`http://127.0.0.1:${server.address().port}/${path}`, { redirect: 'manual', ...options });
+  try {
+    for (const [i, path] of ['/0', '/1', 'Invalid URL', '/2'].entries())
+      assert.equal(await (await request('', { method: 'POST', body: i === 2 ? '' : `http://a/${i}` })).text(), path);
+    assert.equal((await request('2')).headers.get('location'), 'http://a/3');
+    for (const [path, status] of [['0', 302], ['3', 404], ['00', 400]])
+      assert.equal((await request(path)).status, status);
+  } finally { server.close(); }
+});
 
 test('a route of Express accepts the strings that it returns', { skip: noExpress }, async () => {
   const { createApp } = await import('../examples/express_route.mjs');
@@ -37,27 +48,4 @@ test('a route of Express accepts the strings that it returns', { skip: noExpress
     for (const other of ['LY', 'AzL8n0Y58m8', '7n42DGM5Tflk9n8mt7Fhc7']) await expect(other, 404);
     for (const wrong of ['LZ-', '%C3%A9', 'z'.repeat(22)]) await expect(wrong, 400);
   } finally { server.close(); }
-});
-
-test('PostgreSQL finds the ids of a prefix by the index', { skip: noPostgresql }, () => {
-  assert.deepEqual(rangesOf(''), [[0n, 2n ** 63n - 1n]]);
-  assert.deepEqual(rangesOf('0'), [[0n, 0n]]);
-  // 2**63 is AzL8n0Y58m8.
-  assert.deepEqual(rangesOf('AzL8n0Y58m').at(-1), [9223372036854775800n, 2n ** 63n - 1n]);
-  for (const prefix of ['00', '0L', Uint8Array.of(48, 76), 'zzzzzzzzzzz', '111111111111'])
-    assert.deepEqual(rangesOf(prefix), []);
-  for (const invalid of ['0-', '111111111111-']) assert.throws(() => rangesOf(invalid), { code: 'INVALID_BYTE' });
-  const [query, ends] = findLinks({ query: (...given) => given }, 'LZ');
-  const input = `CREATE TABLE link (id bigint PRIMARY KEY);
-  INSERT INTO link SELECT generate_series(0, 100000);
-  ANALYZE link;
-  PREPARE found AS ${query};
-  EXECUTE found(${ends.map((end) => `'{${end}}'`)});
-  EXPLAIN EXECUTE found(${ends.map((end) => `'{${end}}'`)});`;
-  // Several tests may run servers at a time: each takes another port, and none that a client is given.
-  const server = ['-t', '-c', `--port=${10_000 + (process.pid % 20_000)}`];
-  const printed = execFileSync('pg_virtualenv', [...server, 'psql', '-XAtq'], { input, encoding: 'utf8' });
-  const ids = [...Array(100_001).keys()].filter((id) => encode(id).startsWith('LZ'));
-  assert.deepEqual(printed.match(/^\d+$/gm).map(Number).sort((a, b) => a - b), ids);
-  assert.match(printed, /Index Only Scan using link_pkey/);
 });

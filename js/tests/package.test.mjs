@@ -2,14 +2,19 @@
 import base62 from 'base62-proved';
 import assert from 'node:assert/strict';
 import {execFileSync, spawnSync} from 'node:child_process';
-import {readFileSync} from 'node:fs';
+import {mkdtempSync, readFileSync, rmSync} from 'node:fs';
 import {createRequire} from 'node:module';
+import {tmpdir} from 'node:os';
+import {join} from 'node:path';
 import {test} from 'node:test';
 import {fileURLToPath} from 'node:url';
 import {format, inspect} from 'node:util';
 import {createContext, runInContext, runInNewContext} from 'node:vm';
+import {gzipSync} from 'node:zlib';
 
 import * as modules from '../index.js';
+
+import {Checks} from './calls.mjs';
 
 const pathOf = (name) => fileURLToPath(new URL(`../${name}`, import.meta.url));
 const read = (name) => readFileSync(pathOf(name), 'utf8');
@@ -41,7 +46,7 @@ test('README has the oldest Node and the codes of the types', () => {
   const readme = read('README.md');
   const { engines } = JSON.parse(read('package.json'));
   assert.equal(/for Node (\d+) and later/.exec(readme)[1], engines.node.slice('>='.length));
-  const [, union] = /readonly code:([^;]+);/.exec(read('index.d.cts'));
+  const [, union] = / {2}code:([^;]+);/.exec(read('index.d.cts'));
   assert.deepEqual(readme.match(/(?<=^\| `)[A-Z_]+(?=`)/gm).sort(), union.match(/\w+/g).sort());
 });
 
@@ -59,14 +64,48 @@ test('calls return and throw what the examples of the types and README say', () 
   }
 });
 
-const skip = spawnSync('esbuild', ['--version']).status !== 0 && 'install esbuild';
+// Debian's packages are there, where other builds of Node do not look.
+const env = Object.assign({}, process.env, { NODE_PATH: '/usr/share/nodejs' });
+const run = (program, args, input) => execFileSync(program, args, { cwd, encoding: 'utf8', env, input });
+const isMissing = (program) => spawnSync(program, ['--version'], { env }).status !== 0 && `install ${program}`;
+const bundle = (input) => run('esbuild', ['--bundle', '--minify'], input);
+const noEsbuild = isMissing('esbuild');
 
-test('a bundle has one copy, and no more than 12 kB, or nothing if no function is used', { skip }, () => {
-  const bundle = (input) => execFileSync('esbuild', ['--bundle', '--minify'], { cwd, encoding: 'utf8', input });
-  const all = bundle("import { encode } from 'base62-proved'; console.log(encode, require('base62-proved').decode);");
-  assert.ok(all.length < 12_000, `${all.length}`);
-  assert.equal(all.split('Encoded input has a leading zero').length, 2);
+test('a bundle has one copy, of the size in README, or nothing without a call', { skip: noEsbuild }, () => {
+  const both =
+    bundle("import { decodeCanonical } from 'base62-proved'; f(decodeCanonical, require('base62-proved').decode);");
+  assert.equal(both.split('Encoded input has a leading zero').length, 2);
   assert.ok(bundle("import { encode } from 'base62-proved';").length < 100);
+  const bundles = ['{ encode }', '* as encode'].map((all) => bundle(`import ${all} from 'base62-proved'; f(encode);`));
+  const sizes = bundles.flatMap((code) => [code.length, gzipSync(code, { level: 9 }).length]);
+  const stated = read('README.md').match(/[0-9.]+(?= kB)/g);
+  assert.deepEqual(sizes.map((size, i) => Math.floor(size / 100 / stated[i])), [9, 9, 9, 9]);
+});
+
+// In Node it is that of CommonJS, and in a bundle that of the module.
+const BUNDLERS = {
+  node: (input) => input,
+  esbuild: bundle,
+  rollup: (input) => run('rollup', ['--silent', '--format=es', '-'], input.replace('base62-proved', './index.js'))
+};
+for (const [program, convert] of Object.entries(BUNDLERS)) {
+  test(`a default import has all functions: ${program}`, { skip: isMissing(program) }, () => {
+    const code = convert("import all from 'base62-proved'; console.log(`${Object.keys(all)},${all.encode(1337)}`);");
+    const printed = run('node', ['--input-type=module'], code).trim().split(',');
+    assert.deepEqual(printed.filter((name) => name !== 'default').sort(), ['LZ', ...Object.keys(base62)].sort());
+  });
+}
+
+test('what Babel makes of the modules returns the same', { skip: isMissing('babeljs') }, () => {
+  for (const BROWSERSLIST of ['', '> 0.2%, not dead, not op_mini all']) {
+    const folder = mkdtempSync(join(tmpdir(), 'base62-'));
+    const files = ['digits.js', 'strings.js', 'uuid.js', 'index.js', `--out-dir=${folder}`];
+    try {
+      execFileSync('babeljs', ['--presets=@babel/preset-env', ...files], { cwd, env: {...env, BROWSERSLIST } });
+      assert.doesNotMatch(readFileSync(join(folder, 'index.js'), 'utf8'), /^const /m);
+      new Checks(createRequire(folder)(join(folder, 'index.js')), read('../tests/values.tsv'));
+    } finally { rmSync(folder, { recursive: true }); }
+  }
 });
 
 test('import and require give one copy, whose alphabets and errors work in both', () => {
@@ -85,13 +124,13 @@ function pageAfter(code) {
 }
 
 test('a script of a page has one name, inherits nothing from Object.prototype, and needs little-endian words', () => {
-  const expected = { value: 2, writable: false, enumerable: true, configurable: false };
+  const expected = { value: 2, writable: true, enumerable: true, configurable: true };
   for (const name of ['configurable', 'get', 'set', 'writable']) {
     const page = pageAfter(`const decode = 1; Object.prototype.${name} = true`);
     assert.deepEqual(Object.keys(page), ['base62']);
     assert.throws(() => page.base62.decode('LZ-'), (error) => {
       assert.deepEqual(Object.getOwnPropertyDescriptor(error, 'index'), expected);
-      error.name = 'Other';
+      Object.assign(error, { name: 'Other', code: 5, byte: 5, index: 5 });
       return error instanceof page.base62.Base62Error && `${error}`.startsWith('Other: ');
     });
   }
@@ -99,12 +138,20 @@ test('a script of a page has one name, inherits nothing from Object.prototype, a
     () => pageAfter('Uint16Array.of = () => Uint8Array.of(0, 1)'), /base62-proved needs a little-endian processor$/);
 });
 
+test('in Turkish urn:uuid: is the same, and no more bytes of a text are counted than the width', () => {
+  const { base62: inPage } = pageAfter(`
+    String.prototype.toLocaleLowerCase = function() { return this.toLowerCase().replaceAll('i', '\u0131'); };
+    String.prototype.codePointAt = () => { throw new Error('a text is counted'); };`);
+  assert.equal(inPage.encodeUuid('URN:UUID:00000000-0000-0000-0000-000000000539'), 'LZ');
+  assert.throws(() => inPage.decodeKey('\u00e9'.repeat(23)), { code: 'WRONG_LENGTH' });
+});
+
 test('a runtime without WebAssembly and without a compiler has all functions', () => {
-  const run = (option, ...others) => spawnSync(process.execPath, [option, ...others], { env: {}, encoding: 'utf8' });
+  const start = (option, ...others) => spawnSync(process.execPath, [option, ...others], { env: {}, encoding: 'utf8' });
   // Some versions of Node have no such option, but --jitless leaves WebAssembly out too.
-  const hasOption = run('--no-expose-wasm', '--version').status === 0;
+  const hasOption = start('--no-expose-wasm', '--version').status === 0;
   for (const option of hasOption ? ['--no-expose-wasm', '--jitless'] : ['--jitless']) {
-    const { status, stdout } = run(option, '--test-name-pattern=commonJs', pathOf('tests/calls.test.mjs'));
+    const { status, stdout } = start(option, '--test-name-pattern=commonJs', pathOf('tests/calls.test.mjs'));
     assert.equal(status, 0, stdout);
   }
 });

@@ -13,14 +13,11 @@ static int init_alphabet_or_raise(struct state *state, struct text characters, s
     }
     base62_bad_byte bad = {0, 0};
     base62_status status = base62_alphabet_init(&alphabet->tables, characters.bytes, &bad);
-    if (status != BASE62_OK) {
-        raise_status(state, status, bad);
-        return -1;
-    }
+    if (status != BASE62_OK) raise_status(state, status, bad);
     alphabet->is_ascii = 1;
     for (int i = 0; i < BASE62_ALPHABET_LENGTH; i++)
         if ((unsigned char)characters.bytes[i] > 127) alphabet->is_ascii = 0;
-    return 0;
+    return status == BASE62_OK ? 0 : -1;
 }
 
 /* Creates the fields of an alphabet from an argument that is not an Alphabet. Returns its characters. */
@@ -79,12 +76,9 @@ static int alphabet_traverse(PyObject *self, visitproc visit, void *arg) {
 /* The name of a built-in alphabet, and NULL for another one. */
 static const char *name_of(PyObject *self) {
     const struct state *state = PyType_GetModuleState(Py_TYPE(self));
-    if (state == NULL)
-        PyErr_Clear();
-    else if (self == state->objects[STANDARD])
-        return "Alphabet.STANDARD";
-    else if (self == state->objects[ALTERNATIVE])
-        return "Alphabet.ALTERNATIVE";
+    if (state == NULL) PyErr_Clear();
+    if (state != NULL && self == state->objects[STANDARD]) return "Alphabet.STANDARD";
+    if (state != NULL && self == state->objects[ALTERNATIVE]) return "Alphabet.ALTERNATIVE";
     return NULL;
 }
 

@@ -238,38 +238,39 @@ static PyObject *new_fixed_or_raise(struct state *state, const base62_alphabet *
                                     size_t width) {
     char small[64], *buffer = width <= sizeof small ? small : PyMem_Malloc(width);
     if (buffer == NULL) return PyErr_NoMemory();
-    PyObject *result = NULL;
     PyThreadState *saved = release_gil_if_long(width);
     size_t length = base62_encode_fixed_with(tables, number, buffer, width);
     restore_gil(saved);
-    if (length == 0)
-        raise_out_of_range(state, "the number needs more characters than the width");
-    else
-        result = PyUnicode_DecodeASCII(buffer, (Py_ssize_t)length, NULL);
+    PyObject *result = length == 0 ? NULL : PyUnicode_DecodeASCII(buffer, (Py_ssize_t)length, NULL);
+    if (length == 0) raise_out_of_range(state, "the number needs more characters than the width");
     if (buffer != small) PyMem_Free(buffer);
     return result;
 }
 
-static PyObject *fixed_or_raise(struct state *state, PyObject *const arguments[3]) {
+static inline PyObject *fixed_or_raise(read_number *read, struct state *state, PyObject *const arguments[3]) {
     base62_number number;
     size_t width;
     struct alphabet storage;
-    if (number_or_raise(state, arguments[0], &number) != 0 || width_or_raise(arguments[1], &width) != 0) return NULL;
+    if (read(state, arguments[0], &number) != 0 || width_or_raise(arguments[1], &width) != 0) return NULL;
     const struct alphabet *alphabet = ascii_alphabet_or_raise(state, arguments[2], &storage);
     return alphabet == NULL ? NULL : new_fixed_or_raise(state, &alphabet->tables, number, width);
 }
 
-DEFINE_CALL(encode_fixed, "OO|O", 2, 3, fixed_or_raise(state, arguments), "number", "width", "alphabet")
+DEFINE_CALL(encode_fixed, "OO|O", 2, 3, fixed_or_raise(number_or_raise, state, arguments), "number", "width",
+            "alphabet")
+DEFINE_CALL(encode_uuid_fixed, "OO|O", 2, 3, fixed_or_raise(uuid_or_raise, state, arguments), "value", "width",
+            "alphabet")
 
-static PyObject *key_or_raise(struct state *state, PyObject *argument) {
+static inline PyObject *key_or_raise(read_number *read, struct state *state, PyObject *argument) {
     base62_number number;
-    if (number_or_raise(state, argument, &number) != 0) return NULL;
+    if (read(state, argument, &number) != 0) return NULL;
     char key[BASE62_KEY_LENGTH];
     base62_encode_key(number, key);
     return PyUnicode_DecodeASCII(key, sizeof key, NULL);
 }
 
-DEFINE_CALL(encode_key, "O", 1, 1, key_or_raise(state, arguments[0]), "number")
+DEFINE_CALL(encode_key, "O", 1, 1, key_or_raise(number_or_raise, state, arguments[0]), "number")
+DEFINE_CALL(encode_uuid_key, "O", 1, 1, key_or_raise(uuid_or_raise, state, arguments[0]), "value")
 
 static PyObject *digit_count_or_raise(struct state *state, PyObject *argument) {
     base62_number number;
@@ -308,9 +309,8 @@ static inline Py_ALWAYS_INLINE PyObject *decode_or_raise(decode_with *decode, si
 static inline Py_ALWAYS_INLINE PyObject *decode_fixed_or_raise(new_result *new, struct state *state,
                                                                PyObject *const arguments[3]) {
     size_t width;
-    return width_or_raise(arguments[1], &width) == 0
-               ? decode_or_raise(NULL, width, new, state, arguments[0], arguments[2])
-               : NULL;
+    if (width_or_raise(arguments[1], &width) != 0) return NULL;
+    return decode_or_raise(NULL, width, new, state, arguments[0], arguments[2]);
 }
 
 #define DEFINE_DECODER(name, decode, new)                                                                              \
@@ -362,10 +362,11 @@ DEFINE_CALL(key_range, "O", 1, 1, range_or_raise(state, arguments[0], BASE62_KEY
     { #name, (PyCFunction)(void (*)(void))name, METH_FASTCALL | METH_KEYWORDS, DOC_##name }
 
 static PyMethodDef calls[] = {
-    CALL(encode),          CALL(encode_uuid), CALL(encode_fixed),          CALL(encode_key),
-    CALL(digit_count),     CALL(decode),      CALL(decode_canonical),      CALL(decode_fixed),
-    CALL(decode_key),      CALL(decode_uuid), CALL(decode_uuid_canonical), CALL(decode_uuid_fixed),
-    CALL(decode_uuid_key), CALL(key_range),   CALL(prefix_range),          {NULL, NULL, 0, NULL},
+    CALL(encode),     CALL(encode_uuid),     CALL(encode_fixed),     CALL(encode_uuid_fixed),
+    CALL(encode_key), CALL(encode_uuid_key), CALL(digit_count),      CALL(prefix_range),
+    CALL(decode),     CALL(decode_uuid),     CALL(decode_fixed),     CALL(decode_uuid_fixed),
+    CALL(decode_key), CALL(decode_uuid_key), CALL(decode_canonical), CALL(decode_uuid_canonical),
+    CALL(key_range),  {NULL, NULL, 0, NULL},
 };
 
 /* The calls name base62 as their module, since callers find them there. */

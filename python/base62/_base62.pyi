@@ -13,12 +13,12 @@ __version__: str
 class Alphabet(bytes):
     """A custom alphabet: 62 distinct bytes, in the order of their digit values.
 
-    It is immutable and cannot be subclassed. characters, an ASCII str or bytes, is checked here once; a str
-    or bytes passed to a function is checked on every call. With an alphabet that has
-    non-ASCII bytes, functions that encode raise ValueError.
+    It is immutable and cannot be subclassed. characters, an ASCII str or bytes, is checked here once; a str or bytes
+    passed to a function is checked on every call. With an alphabet that has non-ASCII bytes, functions that encode raise
+    ValueError.
 
-    Raises AlphabetError if a byte is repeated, ValueError if there are not 62, and UnicodeEncodeError if a
-    str is not ASCII.
+    Raises AlphabetError if a byte is repeated, ValueError if there are not 62, and UnicodeEncodeError if a str is not
+    ASCII.
 
     >>> import base62
     >>> custom = base62.Alphabet("23456789ABCDEFGHJKLMNPQRSTUVWXYZabcdefghijkmnpqrstuvwxyz-_.~!*")
@@ -33,11 +33,9 @@ class Alphabet(bytes):
 def encode(number: Number, alphabet: AnyAlphabet = Alphabet.STANDARD) -> str:
     """Return the encoded string of a number: 1 to 22 characters, without leading zeros.
 
-    number is an int from 0 to 2**128 - 1, an object whose __index__() returns such an int, or a
-    uuid.UUID.
+    number is an int from 0 to 2**128 - 1, an object whose __index__() returns such an int, or a uuid.UUID.
 
-    Raises OutOfRangeError for any other number, ValueError if the alphabet is not ASCII, and what
-    Alphabet raises.
+    Raises OutOfRangeError for any other number, ValueError if the alphabet is not ASCII, and what Alphabet raises.
 
     >>> import base62
     >>> import uuid
@@ -50,9 +48,8 @@ def encode(number: Number, alphabet: AnyAlphabet = Alphabet.STANDARD) -> str:
 def encode_uuid(value: AnyUUID, alphabet: AnyAlphabet = Alphabet.STANDARD) -> str:
     """Return the encoded string of a UUID's 128-bit integer, UUID.int.
 
-    value is a uuid.UUID, its 16 bytes, or a str of its 32 hexadecimal digits, uppercase or lowercase,
-    with or without hyphens, optionally in braces or after urn:uuid:. The bits of its version and
-    variant are not checked.
+    value is a uuid.UUID, its 16 bytes, or a str of its 32 hexadecimal digits, uppercase or lowercase, with or without
+    hyphens, optionally in braces or after urn:uuid:. The bits of its version and variant are not checked.
 
     Raises ValueError for any other str or bytes, and what encode raises for the alphabet.
 
@@ -64,28 +61,39 @@ def encode_uuid(value: AnyUUID, alphabet: AnyAlphabet = Alphabet.STANDARD) -> st
 def encode_fixed(number: Number, width: SupportsIndex, alphabet: AnyAlphabet = Alphabet.STANDARD) -> str:
     """Return the encoded string of a number, padded with leading zeros to exactly width characters.
 
-    Strings of the same width sort in numeric order if the alphabet's characters are in ascending byte
-    order, as in Alphabet.STANDARD. decode_fixed decodes them. Only memory limits the width: above 64, a
-    buffer of width bytes is allocated besides the result.
+    Strings of the same width sort in numeric order if the alphabet's characters are in ascending byte order, as in
+    Alphabet.STANDARD. decode_fixed decodes them. Only memory limits the width: above 64, a buffer of width bytes is
+    allocated besides the result.
 
-    Raises OutOfRangeError if the number has more characters, ValueError if the width is negative,
-    MemoryError if an allocation fails, and what encode raises.
+    Raises OutOfRangeError if the number has more characters, ValueError if the width is negative, MemoryError if an
+    allocation fails, and what encode raises.
 
     >>> import base62
     >>> base62.encode_fixed(1337, 4)
     '00LZ'
     """
 
+def encode_uuid_fixed(value: AnyUUID, width: SupportsIndex, alphabet: AnyAlphabet = Alphabet.STANDARD) -> str:
+    """Like encode_fixed, but encode a UUID in any form that encode_uuid accepts. decode_uuid_fixed decodes the strings."""
+
 def encode_key(number: Number) -> str:
     """Return the key of a number: its standard string, padded with leading zeros to 22 characters.
 
-    number may be a uuid.UUID. Keys sort in numeric order. decode_key decodes them, and decode_uuid_key those of
-    UUIDs. Raises OutOfRangeError as encode does.
+    number may be a uuid.UUID. Keys sort in numeric order. decode_key decodes them, and decode_uuid_key those of UUIDs.
+    Raises OutOfRangeError as encode does.
 
     >>> import base62
     >>> import uuid
     >>> base62.encode_key(1337), base62.encode_key(uuid.UUID("12345678-1234-5678-1234-567812345678"))
     ('00000000000000000000LZ', '0YLmNWW2NwaipfRR50HIPA')
+    """
+
+def encode_uuid_key(value: AnyUUID) -> str:
+    """Like encode_key, but encode a UUID in any form that encode_uuid accepts. decode_uuid_key decodes the keys.
+
+    >>> import base62
+    >>> base62.encode_uuid_key("12345678-1234-5678-1234-567812345678")
+    '0YLmNWW2NwaipfRR50HIPA'
     """
 
 def digit_count(number: Number) -> int:
@@ -97,9 +105,8 @@ def digit_count(number: Number) -> int:
 def decode(text: EncodedString, alphabet: AnyAlphabet = Alphabet.STANDARD) -> int:
     """Return the number that a string represents, from 0 to 2**128 - 1. Leading zeros are ignored.
 
-    To accept only what an encoder returns, call decode_canonical for encode, decode_fixed for
-    encode_fixed, or decode_key for encode_key. A str is encoded as UTF-8 first. A bytearray and a
-    memoryview are copied.
+    To accept only what an encoder returns, call decode_canonical for encode, decode_fixed for encode_fixed, or decode_key
+    for encode_key. A str is encoded as UTF-8 first. A bytearray and a memoryview are copied.
 
     Raises EmptyInputError, InvalidByteError or TooLargeError, and what Alphabet raises.
 
@@ -114,8 +121,8 @@ def decode(text: EncodedString, alphabet: AnyAlphabet = Alphabet.STANDARD) -> in
 def decode_canonical(text: EncodedString, alphabet: AnyAlphabet = Alphabet.STANDARD) -> int:
     """Like decode, but accept only canonical strings: those that encode returns.
 
-    Each number has exactly one. Raises NotCanonicalError if decode accepts the string, but it has a
-    leading zero, and otherwise what decode raises.
+    Each number has exactly one. Raises NotCanonicalError if decode accepts the string, but it has a leading zero, and
+    otherwise what decode raises.
 
     >>> import base62
     >>> base62.decode_canonical("LZ"), base62.decode_canonical("0")
@@ -128,8 +135,8 @@ def decode_canonical(text: EncodedString, alphabet: AnyAlphabet = Alphabet.STAND
 def decode_fixed(text: EncodedString, width: SupportsIndex, alphabet: AnyAlphabet = Alphabet.STANDARD) -> int:
     """Like decode, but accept only strings of exactly width bytes: those that encode_fixed returns.
 
-    Each number has at most one. Raises WrongLengthError if the string has another length, ValueError if
-    the width is negative, and otherwise what decode raises.
+    Each number has at most one. Raises WrongLengthError if the string has another length, ValueError if the width is
+    negative, and otherwise what decode raises.
 
     >>> import base62
     >>> base62.decode_fixed("00LZ", 4)
@@ -145,9 +152,9 @@ def decode_key(text: EncodedString) -> int:
 def decode_uuid(text: EncodedString, alphabet: AnyAlphabet = Alphabet.STANDARD) -> UUID:
     """Return the UUID whose 128-bit integer a string represents.
 
-    Every integer below 2**128 is the int of exactly one UUID: the bits of its version and variant are
-    not checked. To accept only what an encoder returns, call decode_uuid_key for encode_key,
-    decode_uuid_canonical for encode_uuid, or decode_uuid_fixed for encode_fixed. Raises what decode raises.
+    Every integer below 2**128 is the int of exactly one UUID: the bits of its version and variant are not checked. To
+    accept only what an encoder returns, call decode_uuid_key for encode_uuid_key, decode_uuid_canonical for encode_uuid,
+    or decode_uuid_fixed for encode_uuid_fixed. Raises what decode raises.
 
     >>> import base62
     >>> base62.decode_uuid("YLmNWW2NwaipfRR50HIPA")
@@ -161,13 +168,13 @@ def decode_uuid_canonical(text: EncodedString, alphabet: AnyAlphabet = Alphabet.
     """
 
 def decode_uuid_fixed(text: EncodedString, width: SupportsIndex, alphabet: AnyAlphabet = Alphabet.STANDARD) -> UUID:
-    """Like decode_uuid, but accept only strings of exactly width bytes: those that encode_fixed returns.
+    """Like decode_uuid, but accept only strings of exactly width bytes: those that encode_uuid_fixed returns.
 
     Raises what decode_fixed raises.
     """
 
 def decode_uuid_key(text: EncodedString) -> UUID:
-    """Like decode_uuid, but accept only keys: those that encode_key returns, of which each UUID has one.
+    """Like decode_uuid, but accept only keys: those that encode_uuid_key returns, of which each UUID has one.
 
     Raises what decode_key raises.
     """
@@ -183,8 +190,7 @@ def prefix_range(
 ) -> tuple[int, int] | None:
     """Return the least and the greatest number whose string of this width begins with prefix.
 
-    The strings are those of encode_fixed. Return None if there is no such number. The width is
-    unbounded.
+    The strings are those of encode_fixed. Return None if there is no such number. The width is unbounded.
 
     Raises InvalidByteError, ValueError if the width is negative, and what Alphabet raises.
 
@@ -194,33 +200,23 @@ def prefix_range(
     """
 
 # For base62.columns. A type is a letter, as _columns.c says.
-def encode_rows(
-    alphabet: Alphabet,
-    width: int,
-    source: tuple[str, int, int, object, object, object],
-    result: tuple[str, object, object, object],
-    coerces: bool,
-    /,
-) -> tuple[int, int, int]:
+_Source = tuple[str, int, int, object, object, object]
+_Result = tuple[str, object, object, object]
+
+def encode_rows(alphabet: Alphabet, width: int, source: _Source, result: _Result, coerces: bool, /) -> tuple[int, int, int]:
     """Encode rows of numbers, with the width, or with no leading zeros if it is -1.
 
-    source is a type, an offset, the count of rows, and the buffers of validity, values and characters; result a type,
-    and the buffers of validity, offsets and values. Return how many rows are encoded before the first invalid one, the
-    length of their strings, and how many are null. Raises ValueError if a buffer is too short, or has such offsets.
+    source is a type, an offset, the count of rows, and the buffers of validity, values and characters; result a type, and
+    the buffers of validity, offsets and values. Return how many rows are encoded before the first invalid one, the length
+    of their strings, and how many are null. Raises ValueError if a buffer is too short, or has such offsets.
     """
 
-def decode_rows(
-    alphabet: Alphabet,
-    width: int,
-    source: tuple[str, int, int, object, object, object],
-    result: tuple[str, object, object, object],
-    coerces: bool,
-    /,
-) -> tuple[int, int, int]:
+def decode_rows(alphabet: Alphabet, width: int, source: _Source, result: _Result, coerces: bool, /) -> tuple[int, int, int]:
     """Like encode_rows, but decode rows of strings of the width, of any length if it is -1, or canonical ones if -2."""
 
-def pack_rows(rows: list[object], missing: object, are_uuids: bool, validity: object, values: object, /) -> int:
+def pack_rows(rows: list[object], missing: object, decimal: object, are_uuids: bool, validity: object, values: object, /) -> int:
     """Store numbers as 16 bytes each, in buffers of zeros, and set the bits of rows that are not missing.
 
-    Return how many rows are missing: None, NaN, and the object missing. Raises what encode raises, or encode_uuid.
+    Return how many rows are missing: None, NaN, and the object missing. A number may have the type decimal, if its string
+    has digits alone. Raises what encode raises, or encode_uuid, or ValueError for another decimal.
     """

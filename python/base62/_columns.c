@@ -4,7 +4,7 @@
 /* Hand-written. The loops of base62.columns over the buffers of Arrow arrays. Whatever these contain, nothing outside
    of them is read or written, if what a call reads does not change until it returns: it runs without the GIL. A type
    is a letter of Arrow's C data interface: uint64 L, int64 l, decimal128 d, fixed_size_binary(16) w, string u,
-   binary z, large_string U, large_binary Z. */
+   binary z, large_string U, large_binary Z. Decimals are little-endian: columns.py is for such machines only. */
 #include "_base62.h"
 #include <math.h>
 
@@ -86,15 +86,9 @@ static inline enum outcome read_text(const struct source *source, Py_ssize_t ind
     return VALID;
 }
 
-static enum outcome read_uuid_text(const struct source *source, Py_ssize_t index, base62_number *number) {
-    struct text text;
-    enum outcome outcome = read_text(source, index, has_large_offsets(source->type), &text);
-    if (outcome != VALID) return outcome;
-    return read_uuid(text, source->type == 'u' || source->type == 'U', number) == 0 ? VALID : INVALID;
-}
-
 static enum outcome read_number(const struct source *source, Py_ssize_t index, base62_number *number) {
     uint64_t halves[2];
+    struct text text;
     switch (source->type) {
     case 'L':
     case 'l':
@@ -102,16 +96,16 @@ static enum outcome read_number(const struct source *source, Py_ssize_t index, b
         *number = base62_from_u64(halves[0]);
         return source->type == 'l' && halves[0] > INT64_MAX ? INVALID : VALID;
     case 'd':
-        /* Two's complement, in the byte order of this machine. */
+        /* Two's complement. */
         memcpy(halves, place_at(&source->values, index, sizeof halves), sizeof halves);
-        *number = (base62_number){.high = halves[!PY_BIG_ENDIAN], .low = halves[PY_BIG_ENDIAN]};
+        *number = (base62_number){.high = halves[1], .low = halves[0]};
         return number->high > INT64_MAX ? INVALID : VALID;
     case 'w':
         *number = base62_from_uuid(place_at(&source->values, index, BASE62_UUID_LENGTH));
         return VALID;
-    default:
-        return read_uuid_text(source, index, number);
     }
+    if (read_text(source, index, has_large_offsets(source->type), &text) != VALID) return MALFORMED;
+    return read_uuid(text, source->type == 'u' || source->type == 'U', number) == 0 ? VALID : INVALID;
 }
 
 static void store_offset(const struct result *result, Py_ssize_t row) {
@@ -125,7 +119,7 @@ static void store_offset(const struct result *result, Py_ssize_t row) {
 
 /* Stores a decimal, or a string for a UUID. A null row has 0, or no string. */
 static void store_decimal_or_string(struct result *result, Py_ssize_t row, base62_number number, int is_valid) {
-    const uint64_t halves[2] = {PY_BIG_ENDIAN ? number.high : number.low, PY_BIG_ENDIAN ? number.low : number.high};
+    const uint64_t halves[2] = {number.low, number.high};
     unsigned char uuid[BASE62_UUID_LENGTH];
     if (result->type == 'd') {
         memcpy(place_at(&result->values, row, sizeof halves), halves, sizeof halves);
@@ -225,14 +219,10 @@ static inline Py_ALWAYS_INLINE enum outcome decode_loop(struct conversion *conve
 
 /* Each size of offsets and of results has a loop of its own. */
 static enum outcome decode_until(struct conversion *conversion, Py_ssize_t end) {
-    int is_large = has_large_offsets(conversion->source.type);
-    switch (conversion->result.type) {
-    case 'L':
-    case 'l':
+    int is_large = has_large_offsets(conversion->source.type), type = conversion->result.type;
+    if (type == 'L' || type == 'l')
         return is_large ? decode_loop(conversion, end, 1, 'l') : decode_loop(conversion, end, 0, 'l');
-    case 'w':
-        return is_large ? decode_loop(conversion, end, 1, 'w') : decode_loop(conversion, end, 0, 'w');
-    }
+    if (type == 'w') return is_large ? decode_loop(conversion, end, 1, 'w') : decode_loop(conversion, end, 0, 'w');
     return is_large ? decode_loop(conversion, end, 1, 0) : decode_loop(conversion, end, 0, 0);
 }
 
@@ -240,13 +230,25 @@ static int is_missing(PyObject *object, PyObject *missing) {
     return object == Py_None || object == missing || (PyFloat_CheckExact(object) && isnan(PyFloat_AsDouble(object)));
 }
 
+/* Reads a decimal whose string has digits alone. */
+static int decimal_or_raise(struct state *state, PyObject *decimal, base62_number *number) {
+    PyObject *text = PyObject_Str(decimal);
+    const char *digits = text == NULL ? NULL : PyUnicode_AsUTF8AndSize(text, NULL);
+    PyObject *integer = digits == NULL ? NULL : PyLong_FromString(digits, NULL, 10);
+    int failed = integer == NULL ? -1 : number_or_raise(state, integer, number);
+    Py_DecRef(integer);
+    Py_DecRef(text);
+    return failed;
+}
+
 /* Stores the numbers of a list as 16 bytes each, and the bits of the rows that are not missing. Returns how many are. */
 PyObject *pack_rows(PyObject *module, PyObject *args) {
     struct state *state = PyModule_GetState(module);
-    PyObject *rows, *missing;
+    PyObject *rows, *missing, *decimal;
     Py_buffer validity, values;
     int are_uuids, failed = 0;
-    if (!PyArg_ParseTuple(args, "O!Opw*w*", &PyList_Type, &rows, &missing, &are_uuids, &validity, &values)) return NULL;
+    if (!PyArg_ParseTuple(args, "O!OOpw*w*", &PyList_Type, &rows, &missing, &decimal, &are_uuids, &validity, &values))
+        return NULL;
     Py_ssize_t nulls = 0;
     /* What converts an object can change the list. */
     for (Py_ssize_t row = 0; !failed && row < PyList_Size(rows) && has(&values, row + 1, BASE62_UUID_LENGTH) &&
@@ -257,7 +259,9 @@ PyObject *pack_rows(PyObject *module, PyObject *args) {
         if (is_missing(object, missing)) {
             nulls++;
         } else {
-            failed = are_uuids ? uuid_or_raise(state, object, &number) : number_or_raise(state, object, &number);
+            failed = (PyObject *)Py_TYPE(object) == decimal ? decimal_or_raise(state, object, &number)
+                     : are_uuids                            ? uuid_or_raise(state, object, &number)
+                                                            : number_or_raise(state, object, &number);
             *place_at(&validity, row / 8, 1) |= (unsigned char)(1 << row % 8);
             base62_to_uuid(number, place_at(&values, row, BASE62_UUID_LENGTH));
         }

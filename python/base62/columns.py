@@ -1,6 +1,6 @@
 # SPDX-License-Identifier: MIT
 # Copyright (c) 2026 the maintainers of base62 for Rattle
-"""Encodes and decodes whole columns, by pyarrow.
+"""Encodes and decodes whole columns, with pyarrow.
 
 A column is what pyarrow.array or pyarrow.chunked_array takes: an array of pyarrow or of another Arrow library, a Series
 or an Index of pandas, an array of NumPy, a list; also a table or DataFrame of one column, without its index. The result
@@ -26,6 +26,8 @@ from uuid import UUID
 import base62
 from base62 import Alphabet, AnyAlphabet, OutOfRangeError, _base62
 
+if sys.byteorder != "little":
+    raise ImportError("base62.columns needs a little-endian machine")
 try:
     import pyarrow as pa
     from pyarrow import compute as pc
@@ -34,31 +36,21 @@ try:
 except (ImportError, AttributeError) as error:
     raise ImportError("base62.columns needs pyarrow: install pyarrow 18 or later") from error
 
-__all__ = [
-    "decode",
-    "decode_canonical",
-    "decode_fixed",
-    "decode_key",
-    "decode_uuid",
-    "decode_uuid_canonical",
-    "decode_uuid_fixed",
-    "decode_uuid_key",
-    "encode",
-    "encode_fixed",
-    "encode_key",
-    "encode_uuid",
-]
+__all__ = ["decode", "decode_canonical", "decode_fixed", "decode_key"]
+__all__ += ["decode_uuid", "decode_uuid_canonical", "decode_uuid_fixed", "decode_uuid_key"]
+__all__ += ["encode", "encode_fixed", "encode_key", "encode_uuid", "encode_uuid_fixed", "encode_uuid_key"]
 
 if TYPE_CHECKING:
     from collections.abc import Callable
 
     _Type: TypeAlias = pa.DataType
-    _Decoded: TypeAlias = "dict[_Type, tuple[int, Callable[[Any], object]]]"
+    _Decoded: TypeAlias = "dict[_Type, tuple[int, Callable[[Any, str], object]]]"
     _Array: TypeAlias = "pa.Array | pa.ChunkedArray"
+    _Width: TypeAlias = SupportsIndex
     _Errors = Literal["raise", "coerce"]
     _Options: TypeAlias = tuple[AnyAlphabet, _Errors, _Type]
 
-_STANDARD = Alphabet.STANDARD
+_STANDARD, _KEY = Alphabet.STANDARD, 22
 # The types that the extension reads and writes, by their letters.
 _LETTERS = {
     **{pa.uint64(): "L", pa.int64(): "l", pa.decimal128(38): "d", pa.binary(16): "w", pa.uuid(): "w"},
@@ -66,23 +58,24 @@ _LETTERS = {
 }
 
 
-def _check_below(limit: int, shown: str, other: str, number: int) -> int:
+def _check_below(limit: int, shown: str, hint: str, number: int, counterpart: str) -> int:
     if number >= limit:
-        raise OutOfRangeError(f"the number is not from 0 to {shown} - 1: {other}")
+        raise OutOfRangeError(f"the number is not from 0 to {shown} - 1: {hint.format(counterpart=counterpart)}")
     return number
 
 
+# In a hint, counterpart is the function of the same form for UUIDs, or for numbers. A test follows each hint: it leads to the
+# right values, or to an error.
 # The types of decoded numbers and UUIDs: the bytes of a row, and the row of what the function for one value returns.
 _DECODED_NUMBERS: _Decoded = {
     pa.int64(): (8, partial(_check_below, 2**63, "2**63", "pass type=pyarrow.uint64()")),
     pa.uint64(): (8, partial(_check_below, 2**64, "2**64", "pass type=pyarrow.decimal128(38)")),
-    pa.decimal128(38): (16, partial(_check_below, 10**38, "10**38", "call decode_uuid")),
+    pa.decimal128(38): (16, partial(_check_below, 10**38, "10**38", "call {counterpart}")),
 }
 _DECODED_UUIDS: _Decoded = {
-    pa.uuid(): (16, lambda name: name),
-    pa.binary(16): (16, operator.attrgetter("bytes")),
-    pa.string(): (36, str),
-    pa.large_string(): (36, str),
+    pa.uuid(): (16, lambda name, _: name),
+    pa.binary(16): (16, lambda name, _: name.bytes),
+    **dict.fromkeys((pa.string(), pa.large_string()), (36, lambda name, _: str(name))),
 }
 
 
@@ -99,26 +92,18 @@ def _is_own(of_type: _Type) -> bool:
     return isinstance(of_type, pa.BaseExtensionType) and of_type != pa.uuid()
 
 
-_OTHER_HINTS = [
-    (pa.types.is_run_end_encoded, "decode it by pyarrow.compute.run_end_decode"),
-    (lambda given: "uhugeint" in str(given), "cast it to UBIGINT, HUGEINT or UUID in DuckDB"),
-    (_is_own, "pass its storage"),
-]
+_OWN_HINT = (_is_own, "cast it to uint64, decimal128(38, 0) or uuid where it comes from")
 _STRINGS = _Kind(
     "strings or binary",
     {
         **{same: same for same in (pa.string(), pa.binary(), pa.large_string(), pa.large_binary())},
         **{pa.null(): pa.string(), pa.string_view(): pa.large_string(), pa.binary_view(): pa.large_binary()},
     },
-    [(pa.types.is_fixed_size_binary, "cast it to binary"), (pa.types.is_primitive, "read strings"), *_OTHER_HINTS],
+    [],
 )
 _SIXTEEN_BYTES = dict.fromkeys((pa.uuid(), pa.binary(16)), pa.binary(16))
-_UUID_HINTS = [(pa.types.is_integer, "encode takes integers"), *_OTHER_HINTS]
-_UUIDS = _Kind("uuid, binary or strings", _STRINGS.types | _SIXTEEN_BYTES, _UUID_HINTS)
-_FLOATS_HINT = (
-    'read it again as integers, by pandas with dtype_backend="pyarrow", in read_json with engine="pyarrow" too; '
-    "a cast of floats keeps the rounded values"
-)
+_UUID_TYPES = _STRINGS.types | _SIXTEEN_BYTES
+_UUIDS = _Kind("uuid, binary or strings", _UUID_TYPES, [(pa.types.is_integer, "call {counterpart}"), _OWN_HINT])
 _NUMBERS = _Kind(
     "integers, decimal128 of scale 0, uuid or fixed_size_binary[16]",
     {
@@ -128,12 +113,10 @@ _NUMBERS = _Kind(
         **_SIXTEEN_BYTES,
     },
     [
-        (pa.types.is_floating, _FLOATS_HINT),
-        (pa.types.is_decimal, "cast it to decimal128(38, 0), or pass a list of int"),
-        (pa.types.is_boolean, "cast it to uint8"),
-        (pa.types.is_temporal, "cast it to an integer type"),
-        *_OTHER_HINTS,
-        (lambda given: given in _UUIDS.types, "encode_uuid takes UUIDs; cast numbers to uint64 or binary(16)"),
+        (pa.types.is_floating, "ids that are floats have been rounded, and no cast restores them"),
+        (pa.types.is_decimal, "cast it to decimal128(38, 0), or pass the decimals as a list"),
+        _OWN_HINT,
+        (lambda given: given in _UUID_TYPES, "cast digits to uint64 with pyarrow; only for UUIDs, call {counterpart}"),
     ],
 )
 
@@ -148,6 +131,17 @@ def _is_arrow(column: Any) -> bool:
     return hasattr(column, "__arrow_c_array__") or hasattr(column, "__arrow_c_stream__")
 
 
+def _array_of(column: range) -> Any:
+    """Return an array of the integers, or the range if NumPy is not loaded or an end is not in int64."""
+    numpy: Any = sys.modules.get("numpy")
+    if numpy is None or not all(-(2**63) <= end < 2**63 for end in (column.start, column.stop, column.step)):
+        return column
+    rows = numpy.arange(len(column), dtype="int64")  # Its own steps are floats.
+    rows *= column.step
+    rows += column.start
+    return rows
+
+
 def _readable(column: Any, kind: _Kind) -> Any:
     """Return a column as pyarrow takes it as it is meant."""
     if isinstance(column, (str, bytes, bytearray, Mapping)):
@@ -160,13 +154,7 @@ def _readable(column: Any, kind: _Kind) -> Any:
     if type(column).__name__ == "RangeIndex":
         column = range(column.start, column.stop, column.step)  # pandas converts it by int64 and floats.
     if isinstance(column, range):
-        numpy: Any = sys.modules.get("numpy")
-        if numpy is None or not all(-(2**63) <= end < 2**63 for end in (column.start, column.stop, column.step)):
-            return column
-        rows = numpy.arange(len(column), dtype="int64")  # Its own steps are floats.
-        rows *= column.step
-        rows += column.start
-        return rows
+        return _array_of(column)
     if type(column).__name__ == "NumpyExtensionArray":
         column = column.__array__()  # Its dtype is not NumPy's.
     categories: Any = getattr(getattr(column, "dtype", None), "categories", None)
@@ -174,6 +162,8 @@ def _readable(column: Any, kind: _Kind) -> Any:
     if name in ("object", "string", "str") and len(categories) > len(column) // 2:
         column = column.to_numpy()  # Objects are read faster in the order of the rows.
     dtype: Any = getattr(column, "dtype", None)
+    if getattr(dtype, "byteorder", "=") == ">":
+        column = column.astype(dtype.newbyteorder("="))  # pyarrow reads no big-endian integers.
     code = getattr(dtype, "char", "O")
     if code == "S" and kind is not _STRINGS:
         # The bytes of numbers, of which NumPy would cut the zeros at the end.
@@ -191,30 +181,30 @@ def _readable(column: Any, kind: _Kind) -> Any:
     return list(column) if may_be_read_once else column
 
 
+def _has_objects(column: Any) -> bool:
+    return hasattr(column, "__iter__") and getattr(column, "dtype", object) == object and not _is_arrow(column)
+
+
 def _types_of_objects(column: Any) -> set[type]:
     """Return the types of the objects in a list, an array or a categorical of objects, besides None, NA and floats."""
     objects = getattr(getattr(column, "dtype", None), "categories", column)
-    has_objects = hasattr(objects, "__iter__") and getattr(objects, "dtype", object) == object
-    types = set(map(type, getattr(objects, "values", objects))) if has_objects else set()
+    types = set(map(type, getattr(objects, "values", objects))) if _has_objects(objects) else set()
     return {each for each in types if each.__name__ not in ("NoneType", "NAType", "float")}  # Floats may be NaN.
 
 
-def _pack_objects(column: Any, kind: _Kind) -> pa.Array | None:
+def _pack_objects(column: Any, are_uuids: bool) -> pa.Array | None:
     """Return a list or an array of objects as 16 bytes, or None if a row is not such a number."""
-    has_objects = hasattr(column, "__iter__") and getattr(column, "dtype", object) == object and not _is_arrow(column)
-    if kind is _STRINGS or not has_objects:
-        return None
     rows = column.tolist() if hasattr(column, "tolist") else list(column)
     missing = getattr(sys.modules.get("pandas"), "NA", None)
     buffers = bytearray((len(rows) + 7) // 8), bytearray(16 * len(rows))
     try:
-        nulls = _base62.pack_rows(rows, missing, kind is _UUIDS, *buffers)
+        nulls = _base62.pack_rows(rows, missing, None if are_uuids else Decimal, are_uuids, *buffers)
     except Exception:
         return None
     return pa.Array.from_buffers(pa.binary(16), len(rows), [*map(pa.py_buffer, buffers)], nulls)
 
 
-def _to_arrow(column: Any) -> _Array | None:
+def _to_arrow(column: Any, kind: _Kind) -> _Array | None:
     """Return a column as pyarrow has it, or None if it converts values otherwise than base62 does, or not at all."""
     if isinstance(column, (pa.Array, pa.ChunkedArray)):
         return column
@@ -225,7 +215,8 @@ def _to_arrow(column: Any) -> _Array | None:
         return pa.chunked_array(column)
     types = _types_of_objects(column)
     are_integers = all(hasattr(each, "__index__") and each is not bool for each in types)
-    if not are_integers and not any(all(issubclass(each, base) for each in types) for base in (str, bytes, Decimal, pa.Scalar)):
+    bases = ((str, bytes), pa.Scalar) if kind is _STRINGS else (str, bytes, pa.Scalar)
+    if not are_integers and not any(all(issubclass(each, base) for each in types) for base in bases):
         return None
     try:
         array = pa.array(column, from_pandas=True)
@@ -234,20 +225,24 @@ def _to_arrow(column: Any) -> _Array | None:
     return None if types and pa.types.is_floating(array.type) else array
 
 
+def _is_whole(value: Any) -> bool:
+    # The int of a decimal with a great exponent could fill the memory.
+    return isinstance(value, Decimal) and value.adjusted() < 99 and value == value.to_integral_value()
+
+
 def _is_missing(value: Any) -> bool:
     names = {base.__name__ for base in type(value).__mro__}
-    is_float = not names.isdisjoint(("float", "floating"))
+    is_float = not names.isdisjoint(("float", "floating", "Decimal"))
     return is_float and value != value or not names.isdisjoint(("NoneType", "NAType", "MaskedConstant"))
 
 
-def _value_of(scalar: pa.Scalar) -> Any:
+def _value_of(scalar: pa.Scalar, kind: _Kind) -> Any:
     """Return a row as the functions for one value take it."""
     try:
         value = scalar.as_py()
     except UnicodeDecodeError:
         return scalar.as_buffer().to_pybytes()
-    is_number = scalar.type == pa.binary(16)
-    return int.from_bytes(value) if is_number else int(value) if isinstance(value, Decimal) else value
+    return int.from_bytes(value) if kind is _NUMBERS and scalar.type == pa.binary(16) else value
 
 
 @dataclass
@@ -261,15 +256,18 @@ class _Conversion:
     width: int
     convert_one: Callable[[Any], object]
     convert_rows: Callable[..., tuple[int, int, int]]
-    # The objects of the column, if they are packed.
+    # The name of the function of the same form for UUIDs, or for numbers.
+    counterpart: str
+    # The column, if it has objects.
     rows: Any = None
 
     def __call__(self, column: object) -> _Array:
         if self.errors not in ("raise", "coerce"):
             raise ValueError(f"errors is 'raise' or 'coerce', not {self.errors!r}")
         column = _readable(column, self.kind)
-        packed = _pack_objects(column, self.kind)
-        given = _to_arrow(column) if packed is None else packed
+        rows = column if _has_objects(column) else None
+        packed = None if rows is None or self.kind is _STRINGS else _pack_objects(rows, self.kind is _UUIDS)
+        given = _to_arrow(column, self.kind) if packed is None else packed
         if given is None:
             return pa.array(self._convert_values(column), self.type)
         if pa.types.is_struct(given.type):
@@ -278,7 +276,6 @@ class _Conversion:
         chunks = given.chunks if isinstance(given, pa.ChunkedArray) else [given]
         width = self.width if self.width >= 0 else 11 if _LETTERS[source_type] in "Ll" else 22
         is_large = self.type == pa.string() and max(map(len, chunks), default=0) * width >= 2**31
-        rows = None if packed is None else column
         sized = replace(self, type=pa.large_string() if is_large else self.type, width=width, rows=rows)
         convert = sized._convert_dictionary if pa.types.is_dictionary(given.type) else sized._convert_array
         results, first = [], 0
@@ -295,6 +292,7 @@ class _Conversion:
         accepted = None if _is_own(of_values) else self.kind.types.get(of_values)
         if accepted is None:
             hint = next((f": {hint}" for is_such, hint in self.kind.hints if is_such(of_values)), "")
+            hint = hint.format(counterpart=self.counterpart)
             raise TypeError(f"the column has the type {of_values}, not {self.kind.accepted}{hint}")
         return accepted
 
@@ -303,12 +301,14 @@ class _Conversion:
         values, indices = array.dictionary, array.indices
         if len(values) > len(array):
             used = indices.dictionary_encode()
+            # The take of pyarrow has no kernel for views.
+            values = values.cast(source_type) if "view" in str(values.type) else values
             values, indices = values.take(used.dictionary), used.indices
         results = replace(self, errors="coerce")._convert_array(values, source_type, 0)
         if self.errors == "raise" and results.null_count > values.null_count:
             is_invalid = pc.and_(results.is_null(), values.is_valid())
             if (row := is_invalid.take(indices).index(True).as_py()) >= 0:
-                self._raise_for(_value_of(values[indices[row].as_py()]), first + row)
+                self._raise_for(_value_of(values[indices[row].as_py()], self.kind), first + row)
         return results.take(indices)
 
     def _convert_array(self, chunk: pa.Array, source_type: _Type, first: int) -> pa.Array:
@@ -324,7 +324,8 @@ class _Conversion:
         result = letter, validity, offsets, values
         row, used, nulls = self.convert_rows(source, result, self.errors == "coerce")
         if row < count:
-            self._raise_for(_value_of(chunk[row]) if self.rows is None else self.rows[row], first + row)
+            value = _value_of(chunk[row], self.kind) if self.rows is None else self.rows[first + row]
+            self._raise_for(value, first + row)
         buffers = [validity if nulls else None, values]
         if letter in "uU":
             values.resize(used, shrink_to_fit=True)
@@ -357,28 +358,38 @@ def _check_type(of_result: _Type, *types: _Type) -> None:
         raise TypeError(f"the type of the result is pyarrow's {' or '.join(map(str, types))}, not {of_result!r}")
 
 
+def _counterpart(name: str) -> str:
+    return name.replace("_uuid", "") if "_uuid" in name else name.replace("code", "code_uuid")
+
+
+def _one(call: Callable[..., Any], characters: Alphabet, width: int) -> Callable[[Any], Any]:
+    """Return the function for one value with its other arguments."""
+    given = () if call.__name__.endswith("_key") else (characters,) if width < 0 else (width, characters)
+    return lambda value: call(value, *given)
+
+
 def _encode(column: object, call: Callable[..., str], options: _Options, kind: _Kind = _NUMBERS, width: int = -1) -> _Array:
     alphabet, errors, of_result = options
-    characters, given = Alphabet(alphabet), () if width < 0 else (width,)
+    characters = Alphabet(alphabet)
     base62.encode(0, characters)  # Raises an exception for an alphabet that is not ASCII.
     _check_type(of_result, pa.string(), pa.large_string())
-    convert_rows = partial(_base62.encode_rows, characters, width)
-    convert_one = lambda value: call(value, *given, characters)
-    return _Conversion(kind, of_result, errors, width, convert_one, convert_rows)(column)
+    convert_rows, one = partial(_base62.encode_rows, characters, width), _one(call, characters, width)
+    convert_one = lambda value: one(int(value) if _is_whole(value) else value)
+    return _Conversion(kind, of_result, errors, width, convert_one, convert_rows, _counterpart(call.__name__))(column)
 
 
 def _decode(column: object, call: Callable[..., Any], options: _Options, types: _Decoded, width: int = -1) -> _Array:
     """Decode by the width of _base62.decode_rows, and by the function for one value."""
     alphabet, errors, of_result = options
-    characters, given = Alphabet(alphabet), () if width < 0 else (width,)
+    characters, counterpart = Alphabet(alphabet), _counterpart(call.__name__)
     _check_type(of_result, *types)
     size, finish = types[of_result]
-    convert_rows = partial(_base62.decode_rows, characters, width)
-    convert_one = lambda text: finish(call(text, *given, characters))
-    return _Conversion(_STRINGS, of_result, errors, size, convert_one, convert_rows)(column)
+    convert_rows, one = partial(_base62.decode_rows, characters, width), _one(call, characters, width)
+    convert_one = lambda text: finish(one(text), counterpart)
+    return _Conversion(_STRINGS, of_result, errors, size, convert_one, convert_rows, counterpart)(column)
 
 
-def _places(width: SupportsIndex) -> int:
+def _places(width: _Width) -> int:
     places = operator.index(width)
     if places < 0:
         raise ValueError("the width is negative")
@@ -409,20 +420,27 @@ def encode_uuid(
 
 
 def encode_fixed(
-    column: object,
-    width: SupportsIndex,
-    alphabet: AnyAlphabet = _STANDARD,
-    *,
-    errors: _Errors = "raise",
-    type: _Type = pa.string(),
+    column: object, width: _Width, alphabet: AnyAlphabet = _STANDARD, *, errors: _Errors = "raise", type: _Type = pa.string()
 ) -> _Array:
     """Like encode, but pad each string with leading zeros to exactly width characters."""
     return _encode(column, base62.encode_fixed, (alphabet, errors, type), width=_places(width))
 
 
+def encode_uuid_fixed(
+    column: object, width: _Width, alphabet: AnyAlphabet = _STANDARD, *, errors: _Errors = "raise", type: _Type = pa.string()
+) -> _Array:
+    """Like encode_uuid, but pad each string with leading zeros to exactly width characters."""
+    return _encode(column, base62.encode_uuid_fixed, (alphabet, errors, type), _UUIDS, _places(width))
+
+
 def encode_key(column: object, *, errors: _Errors = "raise", type: _Type = pa.string()) -> _Array:
     """Like encode, but encode to keys: standard strings of 22 characters, which sort in numeric order."""
-    return encode_fixed(column, 22, errors=errors, type=type)
+    return _encode(column, base62.encode_key, (_STANDARD, errors, type), width=_KEY)
+
+
+def encode_uuid_key(column: object, *, errors: _Errors = "raise", type: _Type = pa.string()) -> _Array:
+    """Like encode_key, but encode UUIDs, as encode_uuid takes them."""
+    return _encode(column, base62.encode_uuid_key, (_STANDARD, errors, type), _UUIDS, _KEY)
 
 
 def decode(column: object, alphabet: AnyAlphabet = _STANDARD, *, errors: _Errors = "raise", type: _Type = pa.int64()) -> _Array:
@@ -450,12 +468,7 @@ def decode_canonical(
 
 
 def decode_fixed(
-    column: object,
-    width: SupportsIndex,
-    alphabet: AnyAlphabet = _STANDARD,
-    *,
-    errors: _Errors = "raise",
-    type: _Type = pa.int64(),
+    column: object, width: _Width, alphabet: AnyAlphabet = _STANDARD, *, errors: _Errors = "raise", type: _Type = pa.int64()
 ) -> _Array:
     """Like decode, but accept only strings of the width: those that encode_fixed returns."""
     return _decode(column, base62.decode_fixed, (alphabet, errors, type), _DECODED_NUMBERS, _places(width))
@@ -463,7 +476,7 @@ def decode_fixed(
 
 def decode_key(column: object, *, errors: _Errors = "raise", type: _Type = pa.int64()) -> _Array:
     """Like decode, but accept only keys: those that encode_key returns."""
-    return decode_fixed(column, 22, errors=errors, type=type)
+    return _decode(column, base62.decode_key, (_STANDARD, errors, type), _DECODED_NUMBERS, _KEY)
 
 
 def decode_uuid(
@@ -484,12 +497,12 @@ def decode_uuid_canonical(
 
 
 def decode_uuid_fixed(
-    column: object, width: SupportsIndex, alphabet: AnyAlphabet = _STANDARD, *, errors: _Errors = "raise", type: _Type = pa.uuid()
+    column: object, width: _Width, alphabet: AnyAlphabet = _STANDARD, *, errors: _Errors = "raise", type: _Type = pa.uuid()
 ) -> _Array:
-    """Like decode_uuid, but accept only strings of the width: those that encode_fixed returns."""
+    """Like decode_uuid, but accept only strings of the width: those that encode_uuid_fixed returns."""
     return _decode(column, base62.decode_uuid_fixed, (alphabet, errors, type), _DECODED_UUIDS, _places(width))
 
 
 def decode_uuid_key(column: object, *, errors: _Errors = "raise", type: _Type = pa.uuid()) -> _Array:
-    """Like decode_uuid, but accept only keys: those that encode_key returns."""
-    return decode_uuid_fixed(column, 22, errors=errors, type=type)
+    """Like decode_uuid, but accept only keys: those that encode_uuid_key returns."""
+    return _decode(column, base62.decode_uuid_key, (_STANDARD, errors, type), _DECODED_UUIDS, _KEY)

@@ -38,11 +38,7 @@ import base62
 
 # In these columns strings compare byte by byte, so that keys sort as their numbers. With their default collations, MySQL
 # and MariaDB ignore case: two keys would be one.
-TYPES = {
-    "sqlite": "varchar(22)",
-    "postgresql": 'varchar(22) COLLATE "C"',
-    "mysql": "varchar(22) COLLATE utf8mb4_bin",
-}
+TYPES = {"sqlite": "varchar(22)", "postgresql": 'varchar(22) COLLATE "C"', "mysql": "varchar(22) COLLATE utf8mb4_bin"}
 
 
 class KeyField(models.Field):

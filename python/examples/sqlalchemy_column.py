@@ -53,8 +53,5 @@ class Key(sqlalchemy.types.TypeDecorator):
 
 metadata = sqlalchemy.MetaData()
 link = sqlalchemy.Table(
-    "link",
-    metadata,
-    sqlalchemy.Column("id", Key, primary_key=True),
-    sqlalchemy.Column("target", sqlalchemy.Text, nullable=False),
+    "link", metadata, sqlalchemy.Column("id", Key, primary_key=True), sqlalchemy.Column("target", sqlalchemy.Text, nullable=False)
 )

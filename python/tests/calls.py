@@ -5,13 +5,13 @@
 import doctest
 import inspect
 import pathlib
-import re
 import sys
 import unittest
 import uuid
 from array import array
 from collections.abc import Callable, Iterator
 from dataclasses import dataclass
+from decimal import Decimal
 from functools import partial
 from typing import Any
 
@@ -27,7 +27,6 @@ sys.path.append(str(PACKAGE / "examples"))
 
 CUSTOM = "zyxwvutsrqponmlkjihgfedcbaZYXWVUTSRQPONMLKJIHGFEDCBA9876543210"
 LETTERS = Alphabet(CUSTOM)
-REPEATED = "0" * 62
 HIGH = bytes(range(194, 256))
 WIDE = 2**128 - 1
 TEXT = "7n42DGM5Tflk9n8mt7Fhc7"
@@ -78,7 +77,7 @@ ARGUMENTS: dict[str, list[Any]] = {
     "value": [NAME, OtherUUID(int=WIDE), str(NAME), NAME.bytes, "", "é" * 32, b"", 5],
     "text": [bytearray(TEXT, "ascii"), TEXT, TEXT.encode(), memoryview(b"0L0Z")[::2], "", "é", "\ud800", "z" * 22, 5],
     "width": [22, 65, Indexed(22), 1, -1, -(2**64), "1"],
-    "alphabet": [Alphabet.ALTERNATIVE, LETTERS, CUSTOM, CUSTOM.encode(), None, "short", REPEATED, HIGH],
+    "alphabet": [Alphabet.ALTERNATIVE, LETTERS, CUSTOM, CUSTOM.encode(), None, "short", "0" * 62, HIGH],
 }
 ARGUMENTS["text"] += [bytearray(b"-"), "00LZ", array("H", [48]), memoryview(array("H", [48]))]
 ARGUMENTS |= {"prefix": ARGUMENTS["text"], "characters": ARGUMENTS["alphabet"]}
@@ -117,13 +116,14 @@ def each_call() -> Iterator[partial[Any]]:
     encoding = rows_of(_base62.encode_rows, "w", 2, "U")
     yield encoding
     yield rows_of(_base62.decode_rows, "u", 2, "L")
-    yield partial(_base62.pack_rows, [WIDE, None, NAME], None, False, bytearray(1), bytearray(48))
+    yield partial(_base62.pack_rows, [WIDE, None, NAME, Decimal(WIDE)], None, Decimal, False, bytearray(1), bytearray(64))
     # Too few rows, negative offsets, a wrong type, a wrong argument behind the buffers, and one before them.
     yield rows_of(_base62.encode_rows, "w", 3, "U")
     yield rows_of(_base62.decode_rows, "u", 2, "L", values=b"\xff" * 32)
     yield rows_of(_base62.decode_rows, "L", 2, "L")
-    yield partial(_base62.pack_rows, [str(NAME), "not a UUID"], None, True, bytearray(1), bytearray(32))
-    yield partial(_base62.pack_rows, [1], None, True, bytearray(1), b"read-only")
+    yield partial(_base62.pack_rows, [str(NAME), "not a UUID"], None, None, True, bytearray(1), bytearray(32))
+    yield partial(_base62.pack_rows, [Decimal("1.5")], None, Decimal, False, bytearray(1), bytearray(16))
+    yield partial(_base62.pack_rows, [1], None, None, True, bytearray(1), b"read-only")
     *given, new, coerces = encoding.args
     yield partial(encoding.func, *given, (*new[:3], b"read-only"), coerces)
     yield partial(encoding.func, "letters", *given[1:], new, coerces)
@@ -135,8 +135,6 @@ def rows_of(call: Call, format: str, count: int, new_format: str, values: bytes 
     return partial(call, LETTERS, 1, (format, 0, count, b"\3", values, b"LZ"), (new_format, *new), True)
 
 
-def readme(of_columns: bool = False) -> doctest.DocTest:
-    """The examples of README's section of columns, which need other libraries, or of all other sections."""
-    before, section, after = re.split("(?m)^## (?:Columns|With other libraries)$", README)
-    text = section if of_columns else before + after
-    return doctest.DocTestParser().get_doctest(text, {}, "README", "README.md", 0)
+def page(name: str) -> doctest.DocTest:
+    """The examples of a page."""
+    return doctest.DocTestParser().get_doctest((PACKAGE / name).read_text(), {}, name, name, 0)

@@ -59,6 +59,7 @@ REJECTED: list[tuple[list[Call], type[Exception], str, list[Any]]] = [
     (calls_of("value"), ValueError, UUID_MESSAGE, [b"", bytes(15), bytes(17), bytes(32), NAME.hex.encode(), "\ud800" * 32]),
     (calls_of("value"), TypeError, "a UUID is a uuid.UUID, a str or 16 bytes, not {}", [5, bytearray(16), None]),
     (calls_of("width"), ValueError, "the width is negative", [-1, -22, -sys.maxsize - 1, -(2**64) + 4]),
+    (calls_of("width"), TypeError, "'{}' object cannot be interpreted as an integer", [4.0, "4", None, b"4"]),
     (OF_TEXTS, TypeError, TEXT_MESSAGE, [5, None, [1], {"0"}, 1.0, array("B", b"5"), ctypes.c_char(b"5")]),
     (OF_TEXTS, TypeError, "a memoryview of an encoded string has one dimension, of single bytes", VIEWS),
     (OF_ALPHABETS, ValueError, "the alphabet has 0 characters, not 62", [""]),
@@ -129,6 +130,8 @@ class Texts(unittest.TestCase):
         for given in (*uuids, str(NAME), OtherStr(NAME), NAME.bytes):
             self.assertEqual(base62.encode_uuid(given), "2aUyqjCzEIiEcYMKj7TZtw")
         self.assertEqual((base62.encode(False), base62.encode(True)), ("0", "1"))
+        for call in calls_of("width"):
+            self.assertEqual(call(Indexed(22)), call(22))
 
     def test_uuids_of_programs(self) -> None:
         """A program can store any object as the int of a UUID."""
@@ -222,7 +225,7 @@ class Alphabets(RaisesTestCase):
         self.assertEqual(base62.encode(61, bytes(range(66, 128))), "\x7f")
 
 
-class Widths(RaisesTestCase):
+class Faults(RaisesTestCase):
     def test_wide(self) -> None:
         for width in (64, 65, 4095, 4096, 5000):
             text = CUSTOM[0] * (width - 1) + CUSTOM[61]
@@ -234,14 +237,6 @@ class Widths(RaisesTestCase):
             self.raised(base62.WrongLengthError, base62.decode_fixed, "00LZ", width)
         self.raised(base62.WrongLengthError, base62.decode_fixed, "00LZ", Indexed(2**70))
 
-    def test_widths(self) -> None:
-        for call in calls_of("width"):
-            self.assertEqual(call(Indexed(22)), call(22))
-            for other in (4.0, "4", None, b"4"):
-                self.raised(TypeError, call, other)
-
-
-class Faults(RaisesTestCase):
     def test_rejected(self) -> None:
         for calls, kind, message, arguments in REJECTED:
             for call, argument in product(calls, arguments):
@@ -276,9 +271,8 @@ class Faults(RaisesTestCase):
             names = [kind.__name__, *above, "ValueError", "Exception", "BaseException", "object"]
             self.assertEqual([base.__name__ for base in kind.__mro__], names)
             errors += [kind("said"), kind("said", *(45, 4)[: len(attributes)])]
-            self.assertEqual(
-                [vars(error) for error in errors[-2:]], [dict(zip(attributes, given)) for given in ((0, 0), (45, 4))]
-            )
+            expected = [dict(zip(attributes, given)) for given in ((0, 0), (45, 4))]
+            self.assertEqual([vars(error) for error in errors[-2:]], expected)
         for error in errors:
             for again in copies(error):
                 self.assertIs(type(again), type(error))

@@ -2,8 +2,6 @@
 # Copyright (c) 2026 the maintainers of base62 for Rattle
 """Tests of memory: each allocation of a call fails in turn, alone and with all later ones, and nothing leaks."""
 
-from __future__ import annotations
-
 import gc
 import importlib
 import importlib.util
@@ -86,7 +84,7 @@ class Allocations(unittest.TestCase):
     def check_no_leak(self, call: Call, *given: Any, **named: Any) -> None:
         """Sweeps leave the blocks and the references as they were, in the end: CPython keeps some blocks for itself."""
 
-        def state() -> array[int]:
+        def state() -> "array[int]":
             gc.collect()
             listed = (row for value in given if isinstance(value, list) for row in value)
             counts = map(sys.getrefcount, [*BORROWED, *given, *named.values(), *listed])
@@ -116,10 +114,9 @@ class Allocations(unittest.TestCase):
 
     def test_alphabet(self) -> None:
         """A call with an Alphabet allocates at most its result, which may be an int of CPython's free lists."""
-        calls: list[tuple[Call, tuple[object, ...]]] = [(base62.encode, (1337,)), (base62.encode_fixed, (1337, 22))]
-        calls += [(base62.decode, ("LZ",))]
+        calls: list[Any] = [(base62.encode, 1337), (base62.encode_fixed, 1337, 22), (base62.decode, "LZ")]
         for alphabet in (base62.Alphabet.STANDARD, base62.Alphabet.ALTERNATIVE, LETTERS):
-            for call, given in calls:
+            for call, *given in calls:
                 # The first sweep fills CPython's free lists.
                 self.sweep(call, *given, alphabet)
                 self.failures = 0

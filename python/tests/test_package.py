@@ -1,6 +1,6 @@
 # SPDX-License-Identifier: MIT
 # Copyright (c) 2026 the maintainers of base62 for Rattle
-"""Tests of the package: its exports, README and example of links, reimports and subinterpreters."""
+"""Tests of the package: its exports, README, reimports and subinterpreters."""
 
 import ast
 import ctypes
@@ -22,11 +22,9 @@ from typing import Any
 
 import base62
 from base62 import _base62, _types
-from calls import CALLS, CUSTOM, OWNED, PACKAGE, TOP, readme, valid_arguments
+from calls import CALLS, CUSTOM, OWNED, PACKAGE, TOP, page, valid_arguments
 from test_memory import load_extension
 from test_values import rows
-
-import links
 
 # The module by which a Python makes others.
 INTERPRETERS = "_interpreters" if sys.version_info >= (3, 13) else "_xxsubinterpreters"
@@ -47,11 +45,14 @@ class Package(unittest.TestCase):
 
     def test_columns_without_pyarrow(self) -> None:
         """What is missing is named, and how it is installed. The package does not need it."""
-        for other in (None, types.ModuleType("pyarrow")):
+        # An old one has all but the type of UUIDs.
+        for other in (None, types.ModuleType("pyarrow"), types.SimpleNamespace(compute=None)):
             with unittest.mock.patch.dict(sys.modules, {"pyarrow": other}):
                 self.assertEqual(reimported().encode(1337), "LZ")
                 with self.assertRaisesRegex(ImportError, "needs pyarrow: install pyarrow 18 or later$"):
                     reimported("base62.columns")
+        with unittest.mock.patch("sys.byteorder", "big"), self.assertRaisesRegex(ImportError, "needs a little-endian machine$"):
+            reimported("base62.columns")
 
     def test_installed(self) -> None:
         """The files and what they say of themselves: one wheel serves each Python from 3.11 on."""
@@ -176,7 +177,7 @@ class Modules(unittest.TestCase):
 class Queries(unittest.TestCase):
     def test_readme(self) -> None:
         """README's queries find the ids of a string, or of the strings with a prefix, and scan no table."""
-        example = readme()
+        example = page("README.md")
         doctest.DocTestRunner().run(example, clear_globs=False)
         find, find_prefix = example.globs["find"], example.globs["find_prefix"]
         db = example.globs["db"] = sqlite3.connect(":memory:")
@@ -192,6 +193,7 @@ class Queries(unittest.TestCase):
             expected = [(number,) for number in ids if texts[number].startswith(prefix)]
             self.assertEqual([*find_prefix(prefix)], expected, prefix)
             self.assertEqual([*find_prefix(prefix.encode())], expected, prefix)
+        self.assertRaises(OverflowError, db.execute, "SELECT ?", (2**63,))
         statements: list[str] = []
         db.set_trace_callback(statements.append)
         find("LZ"), [*find_prefix("L")]
@@ -203,6 +205,5 @@ class Queries(unittest.TestCase):
 def load_tests(loader: unittest.TestLoader, tests: unittest.TestSuite, pattern: object) -> unittest.TestSuite:
     # Those of _types are found where callers find them. An example can be pasted alone: it has its imports.
     tests.addTests(doctest.DocTestSuite(base62, globs={}))
-    tests.addTests(doctest.DocTestSuite(links))
-    tests.addTest(doctest.DocTestCase(readme()))
+    tests.addTest(doctest.DocTestCase(page("README.md")))
     return tests

@@ -2,8 +2,6 @@
 # Copyright (c) 2026 the maintainers of base62 for Rattle
 """Tests of the loops of base62.columns over plain buffers, valid and malformed, by the functions for one value."""
 
-from __future__ import annotations
-
 import mmap
 import random
 import signal
@@ -12,7 +10,7 @@ import unittest
 import unittest.mock
 import uuid
 from array import array
-from itertools import accumulate, pairwise
+from itertools import accumulate, pairwise, product
 from typing import Any
 
 import base62
@@ -37,7 +35,7 @@ def bitmap(valid: list[bool]) -> bytes:
     return sum(bit << i for i, bit in enumerate(valid)).to_bytes((len(valid) + 7) // 8, "little")
 
 
-def buffer(given: bytes) -> array[int]:
+def buffer(given: bytes) -> "array[int]":
     """A buffer without a byte behind its end, which the address sanitizer would take for its own."""
     return array("B", given)
 
@@ -47,7 +45,7 @@ def to_bytes(format: str, *numbers: int) -> bytes:
     return b"".join(value.to_bytes(SIZES[format], ORDERS[format], signed=format not in "Lw") for value in numbers)
 
 
-def number_at(format: str, values: array[int], index: int) -> int:
+def number_at(format: str, values: "array[int]", index: int) -> int:
     size = SIZES[format]
     return int.from_bytes(values[index * size : index * size + size], ORDERS[format], signed=format not in "Lw")
 
@@ -66,9 +64,8 @@ class Input:
         rows, is_text = [self.row() for _ in valid], self.format in TEXTS
         self.values = buffer(to_bytes(self.format, *(accumulate(map(len, rows), initial=0) if is_text else rows)))
         self.characters = buffer(b"".join(rows) if is_text else b"")
-        ends = (self.count + 1) * SIZES[self.new_format] if self.new_format in TEXTS else 0
-        length = self.most() * self.count + rng.choice([0, 0, 0, 0, rng.randrange(30)])
-        self.new = [buffer(rng.randbytes(size)) for size in ((self.count + 7) // 8, ends, length)]
+        self.new = [buffer(rng.randbytes(size)) for size in self.sizes()]
+        self.new[2].extend(rng.randbytes(rng.choice([0, 0, 0, 0, rng.randrange(30)])))
 
     def most(self) -> int:
         """The bytes that a row of the result may need."""
@@ -76,13 +73,17 @@ class Input:
             return 36 if self.new_format in TEXTS else SIZES[self.new_format]
         return self.option if self.option >= 0 else 11 if self.format in "Ll" else 22
 
+    def sizes(self) -> list[int]:
+        """The least sizes of the buffers of the result."""
+        ends = (self.count + 1) * SIZES[self.new_format] if self.new_format in TEXTS else 0
+        return [(self.count + 7) // 8, ends, self.most() * self.count]
+
     def row(self) -> Any:
         rng = self.rng
         bits = {"L": 64, "l": 63, "d": 127}.get(self.format, 128)
         is_limit = rng.random() < 0.3
-        number = (
-            rng.choice([limit for limit in LIMITS if limit < 2**bits]) if is_limit else rng.getrandbits(rng.randint(1, bits))
-        )
+        limits = [limit for limit in LIMITS if limit < 2**bits]
+        number = rng.choice(limits) if is_limit else rng.getrandbits(rng.randint(1, bits))
         if self.format in "ld" and rng.random() < 0.1:
             return ~number
         if self.format not in TEXTS:
@@ -99,9 +100,7 @@ class Input:
     def damage(self) -> None:
         """Makes a buffer too short, an offset of its strings wrong, a number negative or too great, or a type another."""
         rng = self.rng
-        place = rng.choice(
-            ["option", "offset", "count", "validity", "values", "characters", "new", "ends", "ends", "format", "new_format"]
-        )
+        place = rng.choice("option offset count validity values characters new ends ends format new_format".split())
         parts: Any = self.new if place == "new" else vars(self)
         key: Any = rng.randrange(3) if place == "new" else place
         if place in ("option", "offset", "count"):
@@ -121,19 +120,12 @@ class Input:
             self.values[start : start + size] = buffer(to_bytes(self.format, end))
 
     def has_rows(self) -> bool:
-        last = self.offset + self.count
-        return (
-            self.format in FORMATS[self.encodes][0]
-            and self.new_format in FORMATS[self.encodes][1]
-            and self.offset >= 0
-            and self.count >= 0
-            and last <= 2**40
-            and len(self.values) >= (last + (self.format in TEXTS)) * SIZES[self.format]
-            and (self.validity is None or len(self.validity) * 8 >= last)
-            and len(self.new[0]) * 8 >= self.count
-            and (self.new_format not in TEXTS or len(self.new[1]) >= (self.count + 1) * SIZES[self.new_format])
-            and len(self.new[2]) >= self.count * self.most()
-        )
+        last, (formats, new_formats) = self.offset + self.count, FORMATS[self.encodes]
+        if self.format not in formats or self.new_format not in new_formats or min(self.offset, self.count) < 0 or last > 2**40:
+            return False
+        has_values = len(self.values) >= (last + (self.format in TEXTS)) * SIZES[self.format]
+        has_bits = self.validity is None or len(self.validity) * 8 >= last
+        return has_values and has_bits and all(len(new) >= size for new, size in zip(self.new, self.sizes()))
 
     def value(self, row: int) -> Any:
         """A row as the function for one value takes it, or its bytes if it is malformed."""
@@ -274,14 +266,14 @@ class Objects(unittest.TestCase):
         """No row is behind the end of either buffer. Each fourth is not missing."""
         rows: list[object] = [None, float("nan"), "missing", 5] * 4
         for bits, numbers in ((1, 256), (2, 128)):
-            self.assertEqual(_base62.pack_rows(rows, "missing", False, buffer(bytes(bits)), buffer(bytes(numbers))), 6)
+            self.assertEqual(_base62.pack_rows(rows, "missing", None, False, buffer(bytes(bits)), buffer(bytes(numbers))), 6)
 
     def test_changed_list(self) -> None:
         """What converts a row can remove the others."""
         rows: list[Any] = [5, Indexed(6), 7]
         with unittest.mock.patch.object(Indexed, "__index__", lambda self: [rows.pop() for _ in range(3)] and 6):
             validity, values = bytearray(1), bytearray(128)
-            self.assertEqual(_base62.pack_rows(rows, None, False, validity, values), 0)
+            self.assertEqual(_base62.pack_rows(rows, None, None, False, validity, values), 0)
         self.assertEqual((validity, values[:48]), (b"\3", to_bytes("w", 5, 6, 0)))
 
 
@@ -312,6 +304,12 @@ class Far(unittest.TestCase):
                 self.assertEqual(_base62.encode_rows(ALPHABETS[0], -1, source, ("u", *new), True), (2, 1, 1))
                 self.assertEqual(new[2][:1], b"7")
             values.close()
+
+    def test_end(self) -> None:
+        """What is behind the last row, or the last byte of its bitmap, has an index above sys.maxsize."""
+        for format, count in product(TEXTS, range(8)):
+            source, new = (format, sys.maxsize - count, count, None, b"", None), (bytearray(1), bytearray(0), bytearray(64))
+            self.assertRaisesRegex(ValueError, MALFORMED, _base62.decode_rows, ALPHABETS[0], -1, source, ("L", *new), True)
 
     def test_small_offsets(self) -> None:
         """Offsets of 32 bits are for fewer than 2^31 characters."""

@@ -73,6 +73,8 @@ class Values(RaisesTestCase):
                 if name in OF_ASCII:
                     encoded = base62.encode(number, alphabet), base62.encode(named, alphabet), base62.encode_uuid(named, alphabet)
                     self.assertEqual(encoded, (texts[1],) * 3)
+                else:
+                    self.says("an alphabet for encoding has ASCII characters", ValueError, base62.encode, number, alphabet)
 
     def test_zeros(self) -> None:
         for name, escaped, number in rows("zeros"):
@@ -93,11 +95,14 @@ class Values(RaisesTestCase):
             for text in forms_of_text(escaped):
                 self.assertEqual(base62.decode(text, ALPHABETS[name]), int(number))
             named = uuid.UUID(int=int(number))
+            numbers: list[Any] = [int(number), named]
+            forms: list[Any] = [named, named.bytes, str(named)]
             for alphabet in forms_of_alphabet(name) if name in OF_ASCII else []:
-                self.assertEqual(base62.encode_fixed(int(number), int(width), alphabet), text)
-                self.assertEqual(base62.encode_fixed(named, int(width), alphabet), text)
+                encoded = {base62.encode_fixed(value, int(width), alphabet) for value in numbers}
+                encoded |= {base62.encode_uuid_fixed(value, int(width), alphabet) for value in forms}
+                self.assertEqual(encoded, {text})
             if (name, width) == ("standard", "22"):
-                self.assertEqual(base62.encode_key(int(number)), text)
+                self.assertEqual({base62.encode_key(int(number)), *map(base62.encode_uuid_key, forms)}, {text})
 
     def test_exact(self) -> None:
         for name, width, escaped, *expected in rows("exact"):
@@ -120,9 +125,10 @@ class Values(RaisesTestCase):
     def test_narrow(self) -> None:
         for name, number, width in rows("narrow"):
             if name in OF_ASCII:
-                given = int(number), int(width), ALPHABETS[name]
-                message = "the number needs more characters than the width"
-                self.says(message, base62.OutOfRangeError, base62.encode_fixed, *given)
+                given = int(width), ALPHABETS[name]
+                message, named = "the number needs more characters than the width", uuid.UUID(int=int(number))
+                self.says(message, base62.OutOfRangeError, base62.encode_fixed, int(number), *given)
+                self.says(message, base62.OutOfRangeError, base62.encode_uuid_fixed, str(named), *given)
 
     def test_ranges(self) -> None:
         for name, width, escaped, kind, *expected in rows("range"):
@@ -139,10 +145,12 @@ class Values(RaisesTestCase):
     def test_forms(self) -> None:
         for escaped, name in rows("form"):
             string = unquote_to_bytes(escaped).decode()
-            if name == "none":
-                self.assertRaises(ValueError, base62.encode_uuid, string)
-            else:
-                self.assertEqual(base62.encode_uuid(string), base62.encode_uuid(uuid.UUID(name)))
+            calls: list[Call] = [base62.encode_uuid, base62.encode_uuid_key]
+            for call in calls:
+                if name == "none":
+                    self.assertRaises(ValueError, call, string)
+                else:
+                    self.assertEqual(call(string), call(uuid.UUID(name)))
 
     def test_repeated(self) -> None:
         for escaped, *expected in rows("repeated"):

@@ -11,7 +11,6 @@ from uuid import UUID
 import base62
 from base62 import Alphabet, AlphabetError, DecodeError, InvalidByteError, WrongLengthError
 
-
 Custom = Alphabet | str | bytes
 Name = UUID | str | bytes
 # No buffer is taken for bytes: mypy runs without its promotions.
@@ -22,6 +21,8 @@ def right(number: SupportsIndex | UUID, name: Name, text: Text, width: SupportsI
     assert_type((Alphabet(custom), Alphabet.STANDARD, Alphabet.ALTERNATIVE), tuple[Alphabet, Alphabet, Alphabet])
     assert_type(base62.encode(number, custom), str)
     assert_type(base62.encode_uuid(name, custom), str)
+    assert_type(base62.encode_uuid_fixed(name, width, custom), str)
+    assert_type(base62.encode_uuid_key(name), str)
     assert_type(base62.decode_uuid_fixed(text, width, custom), UUID)
     assert_type(base62.key_bounds(text), tuple[str, str] | None)
     assert_type(base62.prefix_range(text, width, custom), tuple[int, int] | None)

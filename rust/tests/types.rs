@@ -109,6 +109,7 @@ fn variants() {
         FixedError::Decode(_) => (),
     }
     assert!(FixedError::WrongLength < DecodeError::ArithmeticOverflow.into());
+    assert!(ParseAlphabetError::InvalidLength(63) < ParseAlphabetError::Repeated(0, 1));
     let shown = format!("{:?}", DecodeError::InvalidBase62Byte(45, 2));
     assert_eq!(shown, "InvalidBase62Byte(45, 2)");
 }

@@ -20,13 +20,13 @@ struct column {
 /* One call of a function, for up to some thousand rows. */
 struct chunk {
     duckdb_function_info info;
-    /* The extra information of the function. */
-    int flags;
-    idx_t row, rows;
-    idx_t argument_count;
+    int flags; /* The extra information of the function. */
+    idx_t row, rows, argument_count;
     bool has_nulls;
     struct column arguments[3], results;
     duckdb_vector output;
+    char *block; /* Where the next strings of the output go. */
+    size_t block_size;
     /* The alphabet of an earlier row, since most queries have the same one in all rows. */
     bool has_alphabet;
     char characters[BASE62_ALPHABET_LENGTH];
@@ -44,19 +44,14 @@ static struct column column_of(duckdb_vector vector) {
 }
 
 static void begin(struct chunk *chunk, duckdb_function_info info, duckdb_data_chunk input, duckdb_vector output) {
-    chunk->info = info;
+    *chunk = (struct chunk){.info = info, .output = output, .results = column_of(output)};
     chunk->flags = (int)(intptr_t)duckdb_scalar_function_get_extra_info(info);
-    chunk->row = 0;
     chunk->rows = duckdb_data_chunk_get_size(input);
     chunk->argument_count = duckdb_data_chunk_get_column_count(input);
-    chunk->has_nulls = false;
     for (idx_t i = 0; i < chunk->argument_count; i++) {
         chunk->arguments[i] = column_of(duckdb_data_chunk_get_vector(input, i));
         chunk->has_nulls = chunk->has_nulls || chunk->arguments[i].validity != NULL;
     }
-    chunk->output = output;
-    chunk->results = column_of(output);
-    chunk->has_alphabet = false;
 }
 
 static void set_null(struct chunk *chunk) {
@@ -72,17 +67,8 @@ static bool is_null(const struct chunk *chunk) {
     return false;
 }
 
-/* Whether chunk->row is a row to compute. Rows with a null argument before it become null. */
-static bool skip_nulls(struct chunk *chunk) {
-    while (chunk->has_nulls && chunk->row < chunk->rows && is_null(chunk)) {
-        set_null(chunk);
-        chunk->row++;
-    }
-    return chunk->row < chunk->rows;
-}
-
 /* Ends the query. Returns false. */
-static bool set_error(const struct chunk *chunk, const call_error *error) {
+COLD static bool set_error(const struct chunk *chunk, const call_error *error) {
     char message[sizeof "base62: " + sizeof error->message];
     snprintf(message, sizeof message, "base62: %s", error->message);
     duckdb_scalar_function_set_error(chunk->info, message);
@@ -95,7 +81,7 @@ static bool set_error(const struct chunk *chunk, const call_error *error) {
 #define UUID_SIGN (UINT64_C(1) << 63)
 
 /* Returns false. */
-static bool set_negative(const struct chunk *chunk, duckdb_hugeint number) {
+COLD static bool set_negative(const struct chunk *chunk, duckdb_hugeint number) {
     duckdb_value value = duckdb_create_hugeint(number);
     char *digits = duckdb_get_varchar(value);
     call_error error;
@@ -105,7 +91,7 @@ static bool set_negative(const struct chunk *chunk, duckdb_hugeint number) {
     return set_error(chunk, &error);
 }
 
-static bool number_at(const struct chunk *chunk, base62_number *number) {
+static inline bool number_at(const struct chunk *chunk, base62_number *number) {
     const struct column *column = &chunk->arguments[0];
     const uint64_t *words = (const uint64_t *)column->data + chunk->row;
     call_error error;
@@ -167,15 +153,30 @@ static inline bool encoded_at(struct chunk *chunk, encoded *given) {
 
 /* Results of a row */
 
-/* DuckDB stores a short string in its row, with zeros behind it, and copies a longer one. */
-static void set_text(struct chunk *chunk, const char *text, size_t length) {
-    duckdb_string_t short_text = {{.inlined = {(uint32_t)length, ""}}};
-    if (length <= sizeof short_text.value.inlined.inlined) {
-        memcpy(short_text.value.inlined.inlined, text, length);
-        ((duckdb_string_t *)chunk->results.data)[chunk->row] = short_text;
-        return;
+/* Returns where a string of at most this length goes. DuckDB allocates by copying zeros, once for many rows. */
+static char *reserve(struct chunk *chunk, size_t length) {
+    static const char zeros[4096];
+    if (chunk->block_size < length) {
+        duckdb_vector_assign_string_element_len(chunk->output, chunk->row, zeros, sizeof zeros);
+        chunk->block_size = sizeof zeros;
+        chunk->block = ((duckdb_string_t *)chunk->results.data)[chunk->row].value.pointer.ptr;
     }
-    duckdb_vector_assign_string_element_len(chunk->output, chunk->row, text, length);
+    return chunk->block;
+}
+
+/* The result is the string that was written there. DuckDB stores a short one in its row, with zeros behind it, and of a
+ * longer one the first bytes and the address. */
+static void set_text(struct chunk *chunk, size_t length) {
+    duckdb_string_t result = {{.inlined = {(uint32_t)length, ""}}};
+    if (length <= sizeof result.value.inlined.inlined) {
+        memcpy(result.value.inlined.inlined, chunk->block, length);
+    } else {
+        memcpy(result.value.pointer.prefix, chunk->block, sizeof result.value.pointer.prefix);
+        result.value.pointer.ptr = chunk->block;
+        chunk->block += length;
+        chunk->block_size -= length;
+    }
+    ((duckdb_string_t *)chunk->results.data)[chunk->row] = result;
 }
 
 static void set_number(struct chunk *chunk, base62_number number) {
@@ -185,10 +186,9 @@ static void set_number(struct chunk *chunk, base62_number number) {
 }
 
 static bool set_fixed(struct chunk *chunk, const base62_alphabet *alphabet, base62_number number, size_t width) {
-    char text[MAX_WIDTH];
     call_error error;
-    if (!encode_width(alphabet, number, text, width, &error)) return set_error(chunk, &error);
-    set_text(chunk, text, width);
+    if (!encode_width(alphabet, number, reserve(chunk, width), width, &error)) return set_error(chunk, &error);
+    set_text(chunk, width);
     return true;
 }
 
@@ -199,12 +199,19 @@ static inline bool encode(struct chunk *chunk) {
     base62_number number;
     size_t width;
     const base62_alphabet *alphabet;
-    char text[BASE62_MAX_DIGITS];
     if (!number_at(chunk, &number) || (fixed && !width_at(chunk, &width)) ||
         !alphabet_at(chunk, fixed ? 2 : 1, &alphabet))
         return false;
     if (fixed) return set_fixed(chunk, alphabet, number, width);
-    set_text(chunk, text, encode_shortest(alphabet, number, text));
+    set_text(chunk, encode_shortest(alphabet, number, reserve(chunk, BASE62_MAX_DIGITS)));
+    return true;
+}
+
+static inline bool encode_key(struct chunk *chunk) {
+    base62_number number;
+    if (!number_at(chunk, &number)) return false;
+    base62_encode_key(number, reserve(chunk, BASE62_KEY_LENGTH));
+    set_text(chunk, BASE62_KEY_LENGTH);
     return true;
 }
 
@@ -266,7 +273,8 @@ static inline bool number_bound(struct chunk *chunk) {
 }
 
 static inline bool version(struct chunk *chunk) {
-    set_text(chunk, BASE62_VERSION, strlen(BASE62_VERSION));
+    memcpy(reserve(chunk, strlen(BASE62_VERSION)), BASE62_VERSION, strlen(BASE62_VERSION));
+    set_text(chunk, strlen(BASE62_VERSION));
     return true;
 }
 
@@ -274,11 +282,15 @@ static inline bool version(struct chunk *chunk) {
     static void function##_rows(duckdb_function_info info, duckdb_data_chunk input, duckdb_vector output) {            \
         struct chunk chunk;                                                                                            \
         begin(&chunk, info, input, output);                                                                            \
-        for (; skip_nulls(&chunk); chunk.row++)                                                                        \
-            if (!function(&chunk)) return;                                                                             \
+        for (; chunk.row < chunk.rows; chunk.row++)                                                                    \
+            if (chunk.has_nulls && is_null(&chunk))                                                                    \
+                set_null(&chunk);                                                                                      \
+            else if (!function(&chunk))                                                                                \
+                return;                                                                                                \
     }
 
 OVER_ROWS(encode)
+OVER_ROWS(encode_key)
 OVER_ROWS(decode)
 OVER_ROWS(is_valid)
 OVER_ROWS(string_bound)
@@ -310,8 +322,8 @@ static const struct function {
 } functions[] = {
     {"base62_encode", 1, 2, numbers, {TEXT}, TEXT, 0, encode_rows},
     {"base62_encode_uuid", 1, 2, uuids, {TEXT}, TEXT, 0, encode_rows},
-    {"base62_encode_key", 1, 1, numbers, {0}, TEXT, KEY, encode_rows},
-    {"base62_encode_uuid_key", 1, 1, uuids, {0}, TEXT, KEY, encode_rows},
+    {"base62_encode_key", 1, 1, numbers, {0}, TEXT, 0, encode_key_rows},
+    {"base62_encode_uuid_key", 1, 1, uuids, {0}, TEXT, 0, encode_key_rows},
     {"base62_encode_fixed", 2, 3, numbers, {BIGINT, TEXT}, TEXT, FIXED, encode_rows},
     {"base62_encode_uuid_fixed", 2, 3, uuids, {BIGINT, TEXT}, TEXT, FIXED, encode_rows},
     {"base62_decode", 1, 2, texts, {TEXT}, BIGINT, 0, decode_rows},

@@ -217,29 +217,25 @@ CREATE FUNCTION base62_first_number(prefix text, width integer) RETURNS bigint
 COMMENT ON FUNCTION base62_first_number(text, integer) IS 'the first number whose string of a width has a prefix';
 CREATE FUNCTION base62_first_number(prefix text, width integer, alphabet text) RETURNS bigint
     AS 'MODULE_PATHNAME', 'pg_base62_first_number' LANGUAGE c IMMUTABLE STRICT PARALLEL SAFE;
-COMMENT ON FUNCTION base62_first_number(text, integer, text)
-    IS 'the first number whose string of a width in an alphabet has a prefix';
+COMMENT ON FUNCTION base62_first_number(text, integer, text) IS 'the first number with a prefix at a width in an alphabet';
 CREATE FUNCTION base62_last_number(prefix text, width integer) RETURNS bigint
     AS 'MODULE_PATHNAME', 'pg_base62_last_number' LANGUAGE c IMMUTABLE STRICT PARALLEL SAFE;
 COMMENT ON FUNCTION base62_last_number(text, integer) IS 'the last number whose string of a width has a prefix';
 CREATE FUNCTION base62_last_number(prefix text, width integer, alphabet text) RETURNS bigint
     AS 'MODULE_PATHNAME', 'pg_base62_last_number' LANGUAGE c IMMUTABLE STRICT PARALLEL SAFE;
-COMMENT ON FUNCTION base62_last_number(text, integer, text)
-    IS 'the last number whose string of a width in an alphabet has a prefix';
+COMMENT ON FUNCTION base62_last_number(text, integer, text) IS 'the last number with a prefix at a width in an alphabet';
 CREATE FUNCTION base62_first_numeric(prefix text, width integer) RETURNS numeric
     AS 'MODULE_PATHNAME', 'pg_base62_first_numeric' LANGUAGE c IMMUTABLE STRICT PARALLEL SAFE;
 COMMENT ON FUNCTION base62_first_numeric(text, integer) IS 'the first numeric whose string of a width has a prefix';
 CREATE FUNCTION base62_first_numeric(prefix text, width integer, alphabet text) RETURNS numeric
     AS 'MODULE_PATHNAME', 'pg_base62_first_numeric' LANGUAGE c IMMUTABLE STRICT PARALLEL SAFE;
-COMMENT ON FUNCTION base62_first_numeric(text, integer, text)
-    IS 'the first numeric whose string of a width in an alphabet has a prefix';
+COMMENT ON FUNCTION base62_first_numeric(text, integer, text) IS 'the first numeric with a prefix at a width in an alphabet';
 CREATE FUNCTION base62_last_numeric(prefix text, width integer) RETURNS numeric
     AS 'MODULE_PATHNAME', 'pg_base62_last_numeric' LANGUAGE c IMMUTABLE STRICT PARALLEL SAFE;
 COMMENT ON FUNCTION base62_last_numeric(text, integer) IS 'the last numeric whose string of a width has a prefix';
 CREATE FUNCTION base62_last_numeric(prefix text, width integer, alphabet text) RETURNS numeric
     AS 'MODULE_PATHNAME', 'pg_base62_last_numeric' LANGUAGE c IMMUTABLE STRICT PARALLEL SAFE;
-COMMENT ON FUNCTION base62_last_numeric(text, integer, text)
-    IS 'the last numeric whose string of a width in an alphabet has a prefix';
+COMMENT ON FUNCTION base62_last_numeric(text, integer, text) IS 'the last numeric with a prefix at a width in an alphabet';
 
 CREATE FUNCTION base62_version() RETURNS text
     AS 'MODULE_PATHNAME', 'pg_base62_version' LANGUAGE c STABLE STRICT PARALLEL SAFE;

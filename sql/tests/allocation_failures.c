@@ -35,9 +35,6 @@ static const char *current = "setup";
 #define UUID "00000000-0000-0000-0000-000000000539"
 #define ALTERNATIVE "'0123456789abcdefghijklmnopqrstuvwxyzABCDEFGHIJKLMNOPQRSTUVWXYZ'"
 
-/* More bytes than a query below takes at once. */
-#define LITTLE 10000
-
 /* A query and its result, or NULL if it is an error. The database is in UTF-16, so that texts stored in it have to be
  * converted. */
 static const struct {
@@ -77,7 +74,7 @@ static int fail_query(sqlite3 *db, const char *query, const char *result, long b
     successes = before;
     status = sqlite3_step(statement);
     successes = -1;
-    CHECK(sqlite3_memory_highwater(0) - used < LITTLE);
+    CHECK(sqlite3_memory_highwater(0) - used < 10000);
     if (status == SQLITE_ROW && result != NULL)
         CHECK(strcmp((const char *)sqlite3_column_text(statement, 0), result) == 0);
     else if (status == SQLITE_NOMEM)

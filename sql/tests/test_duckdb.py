@@ -14,7 +14,7 @@ from pathlib import Path
 from typing import Any
 from uuid import UUID
 
-from values import BIGINT, HEADER, OWN, README, SEARCHES, TEXTS
+from values import BIGINT, BIGINTS, HEADER, OWN, README, SEARCHES, TEXTS, WIDEST
 from values import Database, Error, arguments_by_result, bigint, calls_of, negative, text_of, uuid
 
 SHELL = [os.environ.get("DUCKDB", "duckdb"), "-init", os.devnull, "-unsigned", "-json"]
@@ -114,6 +114,8 @@ class Functions(Case):
         self.assertEqual(loaded_version, "v" + version)
         (oldest,) = re.findall(r" DuckDB (\S+) and later", README)
         self.assertIn(f"v{oldest}.0\0".encode(), Path(os.environ["BASE62_DUCKDB"]).read_bytes()[-512:])
+        signed = subprocess.run(SHELL[:3], input=LOAD, capture_output=True, text=True)
+        self.assertIn("signature is either missing or invalid", signed.stderr)
 
     def test_calls(self) -> None:
         """Those that return are the rows of tables, one for each function and types of its arguments."""
@@ -173,18 +175,24 @@ class Functions(Case):
 
 class Queries(Case):
     def test_threads(self) -> None:
-        """Random numbers of 64 and of 128 bits, by four threads."""
+        """Random numbers of 64 and of 128 bits, with four threads, also at widths that change from row to row."""
         trips = (
             "base62_decode_uhugeint(base62_encode(id)) = id",
             "base62_decode_uhugeint(base62_encode(n)) = n",
             "base62_decode(base62_encode(id // 2)) = id // 2",
             f"base62_decode_uhugeint(base62_encode_fixed(n, 30, '{OWN}'), '{OWN}') = n",
+            "base62_decode(base62_encode_fixed(id // 2, (11 + n % 90)::BIGINT)) = id // 2",
         )
-        table = "(SELECT hash(i) AS id, md5_number(i::VARCHAR) AS n FROM range(500000) r(i))"
-        self.check_counts(dict.fromkeys(trips, 500000), table, "SET threads = 4;\n")
+        # Threads share the row groups of a table, but not a range.
+        setup = "SET threads = 4;\nCREATE TABLE t AS SELECT hash(i) AS id, md5_number(i::VARCHAR) AS n FROM range(500000) r(i);\n"
+        self.check_counts(dict.fromkeys(trips, 500000), "t", setup)
+
+    def test_widest(self) -> None:
+        """Strings of the greatest width, of which several share an allocation."""
+        self.check_counts({f"base62_decode(base62_encode_fixed(i, {WIDEST})) = i": 5000}, "range(5000) r(i)")
 
     def test_joins(self) -> None:
-        """Which types README joins and sums as integers: a join that rounds finds each row twice."""
+        """What README says of integers that are joined and summed: a join that rounds finds each row twice."""
         kinds = ("BIGINT", "UBIGINT", "HUGEINT", "DECIMAL(38, 0)", "UHUGEINT")
         pairs = [*itertools.product(kinds[:4], repeat=2), ("UHUGEINT", "UBIGINT"), ("UHUGEINT", "HUGEINT")]
         joins = ", ".join(f"(SELECT count(*) FROM t JOIN t u ON t.n::{one} = u.n::{other})" for one, other in pairs)
@@ -194,20 +202,32 @@ class Queries(Case):
         self.assertEqual(counts, [2] * (len(pairs) - 1) + [4])
         self.assertEqual(types, ["HUGEINT", "HUGEINT", "HUGEINT", "DECIMAL(38,0)", "DOUBLE"])
 
+    def test_rounding(self) -> None:
+        """What README says is a DOUBLE, and that the types that it recommends instead are not."""
+        kinds = {"d / 1": "DOUBLE", "d // 1": "DOUBLE", "u + h": "DOUBLE", "u + b": "DOUBLE", "h // 1": "HUGEINT"}
+        types = ", ".join(f"typeof({operation})" for operation in kinds)
+        table = "(SELECT 1::DECIMAL(38, 0) AS d, 1::HUGEINT AS h, 1::UHUGEINT AS u, 1::BIGINT AS b)"
+        self.assertEqual(results(f"SELECT unnest([{types}]) FROM {table};"), [*kinds.values()])
+        with tempfile.NamedTemporaryFile(suffix=".parquet") as file:
+            script = f"COPY {table} TO '{file.name}'; SELECT unnest([typeof(d), typeof(h), typeof(u)]) FROM '{file.name}';"
+            self.assertEqual(results(script), ["DECIMAL(38,0)", "DOUBLE", "DOUBLE"])
+
     def test_prefixes(self) -> None:
-        """README's queries find the ids of the strings with a prefix, each once."""
-        setup = f"CREATE TABLE link AS SELECT unnest({[n for n in TEXTS if n <= BIGINT]})::BIGINT AS id;\n"
-        setup += f"CREATE TABLE named AS SELECT unnest({[str(UUID(int=n)) for n in TEXTS]})::UUID AS id;\n"
+        """The queries of KEYS find the ids of the strings with a prefix, each once."""
+        setup = f"CREATE TABLE link AS SELECT unnest({BIGINTS})::BIGINT AS id;\n"
+        setup += f"CREATE TABLE item AS SELECT unnest({[str(uuid(n)) for n in TEXTS]})::UUID AS id;\n"
         for query, strings in SEARCHES:
-            queries = [query.replace("?1", quoted(prefix)) for prefix in strings]
-            lists = "".join(f"SELECT list(s ORDER BY s) FROM ({query}) t(s);\n" for query in queries)
-            self.assertEqual([value or [] for value in results(setup + lists)], [*strings.values()])
+            prepared = f"PREPARE search AS SELECT list(s ORDER BY s) FROM ({query.replace('?1', '$1')}) t(s);\n"
+            lists = "".join(f"EXECUTE search({quoted(prefix)});\n" for prefix in strings)
+            self.assertEqual([value or [] for value in results(setup + prepared + lists)], [*strings.values()])
 
     def test_row_groups(self) -> None:
-        """BETWEEN scans a table, and not all of its row groups."""
-        query = "SELECT * FROM link WHERE id BETWEEN base62_first_number('LZ', 3) AND base62_last_number('LZ', 3);"
-        plan = shell("CREATE TABLE link AS SELECT i AS id FROM range(1000000) r(i); EXPLAIN ANALYZE " + query).stdout
-        self.assertRegex(plan, r"(?s)Sequential Scan.*Row Groups Scanned: 1 / 9")
+        """Of the queries for one range, which scan a table, and not all of its row groups."""
+        setup = "CREATE TABLE link AS SELECT 9000000000000 * i AS id FROM range(1000000) r(i);\n"
+        setup += "CREATE TABLE item AS SELECT base62_decode_uuid(base62_encode(id)) AS id FROM link;\n"
+        for (query, _), prefix in zip(SEARCHES[:2], ("00000000000A", "A")):
+            execute = f"PREPARE search AS {query.replace('?1', '$1')}; EXPLAIN ANALYZE EXECUTE search('{prefix}');"
+            self.assertRegex(shell(setup + execute).stdout, r"(?s)Sequential Scan.*Row Groups Scanned: [12] / 9")
 
     def test_collations(self) -> None:
         """Comparisons are by the collation of a column, a prefix or the default."""

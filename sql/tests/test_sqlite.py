@@ -176,11 +176,11 @@ class Tables(Case):
             self.assertEqual([step[3] for step in plan], [expected], condition)
 
     def test_prefixes(self) -> None:
-        """README's queries find the ids of the strings with a prefix, each once, by an index."""
-        self.db.execute("CREATE TABLE named (id TEXT PRIMARY KEY)")
-        self.db.executemany("INSERT INTO named VALUES (?)", [(str(UUID(int=n)),) for n in TEXTS])
-        by_uuid = "SEARCH named USING COVERING INDEX sqlite_autoindex_named_1 (id>? AND id<?)"
-        for (query, strings), step in zip(SEARCHES, (BY_ID + ">? AND rowid<?)", by_uuid)):
+        """The queries of KEYS find the ids of the strings with a prefix, each once, with an index."""
+        self.db.executescript("DROP TABLE item; CREATE TABLE item (id TEXT PRIMARY KEY)")
+        self.db.executemany("INSERT INTO item VALUES (?)", [(uuid_text(n),) for n in TEXTS])
+        steps = "SEARCH item USING COVERING INDEX sqlite_autoindex_item_1 (id>? AND id<?)", *[BY_ID + ">? AND rowid<?)"] * 2
+        for (query, strings), step in zip(SEARCHES, steps, strict=True):
             plan = self.db.execute("EXPLAIN QUERY PLAN " + query, ("",)).fetchall()
             self.assertIn(step, [row[3] for row in plan])
             for prefix, expected in strings.items():

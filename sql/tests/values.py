@@ -14,7 +14,7 @@ HERE = Path(__file__).resolve().parent
 FOLDERS = HERE, HERE.parents[1] / "tests"
 VALUES = next(folder / "values.tsv" for folder in FOLDERS if (folder / "values.tsv").exists())
 ROWS = [line.split("\t") for line in VALUES.read_text().split("\n") if line and not line.startswith("#")]
-README = (HERE.parent / "README.md").read_text()
+README, KEYS = ((HERE.parent / page).read_text() for page in ("README.md", "KEYS.md"))
 HEADER = next(path for path in (HERE.parent / "base62.h", HERE.parents[1] / "c/base62.h") if path.exists()).read_text()
 
 
@@ -270,14 +270,11 @@ def by_prefix(strings: list[str], *others: str) -> dict[str, list[str]]:
     return {prefix: sorted(text for text in strings if text.startswith(prefix)) for prefix in prefixes}
 
 
-# README's queries for a prefix, ?1, and what they find: of shortest strings in a table link of the ids in TEXTS, and of keys in
-# a table named of these as UUIDs.
-(QUERY,) = re.findall(r"(?s)\n(WITH given .*?);", README.replace("'L'", "?1").replace(", target", ""))
-(BETWEEN,) = re.findall(r"\nSELECT name FROM item\n(WHERE id BETWEEN .*?);", README.replace("'2aU'", "?1"))
-SEARCHES = [
-    (QUERY, by_prefix([text for number, text in TEXTS.items() if number <= BIGINT], "00", "01", "-", "L-", "é")),
-    (
-        "SELECT base62_encode_uuid_key(id) FROM named " + BETWEEN,
-        by_prefix([text.rjust(KEY, "0") for text in TEXTS.values()], "x"),
-    ),
-]
+# The queries of KEYS for a prefix, ?1, each with prefixes and the strings that it finds for them: in a table item of the ids in
+# TEXTS as UUIDs, and a table link of those that are bigints.
+PAGE = re.sub(r"VALUES \('\w+'\)", "VALUES (?1)", KEYS).replace("SELECT name", "SELECT base62_encode_uuid_key(id)")
+QUERIES = re.findall(r"(?s)\n(WITH given .*?);", PAGE.replace(", target", ""))
+BIGINTS = [number for number in TEXTS if number <= BIGINT]
+STRINGS = [string_of(n, KEY) for n in TEXTS], [string_of(n, 11) for n in BIGINTS], [string_of(n, 1) for n in BIGINTS]
+OTHERS = "00", "01", "-", "2a-", "2\0", "L-", "é", "é" * 22, "0" * 23, "z" * 22
+SEARCHES = [(query, by_prefix(strings, *OTHERS)) for query, strings in zip(QUERIES, STRINGS, strict=True)]

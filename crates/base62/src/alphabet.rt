@@ -21,8 +21,8 @@ pub use work::Work;
 /// An alphabet of 62 distinct bytes: the characters of the digits 0 to 61, in order.
 ///
 /// The first character represents zero. The calls that use an alphabet have `_with` in their names:
-/// [`decode_with`] is like [`decode`], but uses a custom alphabet. An alphabet takes 318 bytes, for
-/// its characters and the digits of all bytes, and does not allocate.
+/// [`decode_with`] is like [`decode`], but uses a custom alphabet. An alphabet contains its
+/// characters and the digits of all bytes, and does not allocate.
 ///
 /// ```rust
 /// // Digits and letters, but none that look alike, and some punctuation.

@@ -13,14 +13,14 @@ use crate::text::Text;
 use std::fmt;
 use std::marker::Model;
 
-/// The result of [`encode_fmt`], [`encode_fmt_alt`] and [`encode_fmt_with`]: a value that contains
-/// the encoded string, and displays as it.
+/// The result of [`encode_fmt`]: a value that contains the encoded string, and displays as it.
 #[derive(Drop)]
 pub struct Fmt {
     text: Text,
 }
 
-// In contracts the value is the text that it contains.
+// In contracts the value is the text that it contains. The other two types are the same but for
+// their names, and display as it does.
 impl Model for Fmt {
     ghost Value = { List ℕ };
 
@@ -41,7 +41,57 @@ impl fmt::Display for Fmt {
     }
 }
 
-// Writes a text padded, as `Display` of `Fmt` does.
+/// The result of [`encode_fmt_alt`]: like [`Fmt`], but in the alternative alphabet.
+#[derive(Drop)]
+pub struct FmtAlternative {
+    text: Text,
+}
+
+impl Model for FmtAlternative {
+    ghost Value = { List ℕ };
+
+    ghost view = { λ f. f.text };
+
+    ghost invariant = { λ f. IsAscii f.text };
+}
+
+/// Writes the encoded string, padded as [`encode_fmt`] says.
+impl fmt::Display for FmtAlternative {
+    ghost output = { ⟦<Fmt as fmt::Display>⟧.output };
+
+    ghost styled_output = { ⟦<Fmt as fmt::Display>⟧.styled_output };
+
+    fn fmt<W: fmt::Write>(&self, f: &mut fmt::Formatter<W>) -> fmt::Result {
+        pad(&self.text, f)
+    }
+}
+
+/// The result of [`encode_fmt_with`]: like [`Fmt`], but in a custom alphabet.
+#[derive(Drop)]
+pub struct FmtWith {
+    text: Text,
+}
+
+impl Model for FmtWith {
+    ghost Value = { List ℕ };
+
+    ghost view = { λ f. f.text };
+
+    ghost invariant = { λ f. IsAscii f.text };
+}
+
+/// Writes the encoded string, padded as [`encode_fmt`] says.
+impl fmt::Display for FmtWith {
+    ghost output = { ⟦<Fmt as fmt::Display>⟧.output };
+
+    ghost styled_output = { ⟦<Fmt as fmt::Display>⟧.styled_output };
+
+    fn fmt<W: fmt::Write>(&self, f: &mut fmt::Formatter<W>) -> fmt::Result {
+        pad(&self.text, f)
+    }
+}
+
+// Writes a text padded, as `Display` of the three types does.
 #[tactic(auto, using(crate::proofs::PaddingLemmas::pad_displays))]
 fn pad<W: fmt::Write>(text: &Text, f: &mut fmt::Formatter<W>) -> fmt::Result
     requires { IsAscii text.now }
@@ -81,10 +131,10 @@ pub fn encode_fmt<T: Number>(num: T) -> Fmt
 /// println!(rt; "{:0>5}", base62::encode_fmt_alt(1337_u64))?; // 000lz
 /// ```
 #[tactic(auto, using(crate::proofs::CanonicalLemmas::ascii_texts))]
-pub fn encode_fmt_alt<T: Number>(num: T) -> Fmt
+pub fn encode_fmt_alt<T: Number>(num: T) -> FmtAlternative
     ensures { IsCanonical alternative result (T.meaning num) }
 {
-    Fmt {
+    FmtAlternative {
         text: Text::over(alternative_tables(), num),
     }
 }
@@ -100,11 +150,11 @@ pub fn encode_fmt_alt<T: Number>(num: T) -> Fmt
 /// }
 /// ```
 #[tactic(auto, using(crate::proofs::CanonicalLemmas::ascii_texts))]
-pub fn encode_fmt_with<T: Number>(alphabet: &Alphabet, num: T) -> Fmt
+pub fn encode_fmt_with<T: Number>(alphabet: &Alphabet, num: T) -> FmtWith
     requires { IsAscii alphabet.now }
     ensures { IsCanonical alphabet.now result (T.meaning num) }
 {
-    Fmt {
+    FmtWith {
         text: Text::over(alphabet.as_tables(), num),
     }
 }

@@ -1,4 +1,4 @@
-//! Tests of the messages of errors.
+//! Tests of the messages of errors, and of their order.
 
 use base62::AlphabetError::Repeated;
 use base62::DecodeError::{ArithmeticOverflow, EmptyInput, InvalidBase62Byte};
@@ -95,4 +95,24 @@ fn escaped_bytes(rt: HostRuntime) -> Result<(), Fail> {
         assert_prints(&rt, &InvalidBase62Byte(byte, 7), text.as_str())?;
     }
     Ok(())
+}
+
+#[test]
+fn order_of_errors(rt: HostRuntime) {
+    let mut errors = [
+        InvalidBase62Byte(1, 0),
+        EmptyInput,
+        InvalidBase62Byte(0, 1),
+        ArithmeticOverflow,
+        InvalidBase62Byte(0, 0),
+    ];
+    errors.sort_unstable();
+    let sorted = [
+        ArithmeticOverflow,
+        EmptyInput,
+        InvalidBase62Byte(0, 0),
+        InvalidBase62Byte(0, 1),
+        InvalidBase62Byte(1, 0),
+    ];
+    assert_eq!(rt; errors, sorted);
 }

@@ -99,7 +99,7 @@ fn are_texts_decoded() -> bool {
 }
 
 // Prints in which step an allocation failed, for `.ci/failed-allocations`, which makes each allocation fail in turn.
-// The last step shows it that the calls new_alphabet no other allocation.
+// The last step shows that the calls make no other allocation.
 #[test]
 fn refused_memory(rt: HostRuntime) -> Result<(), Fail> {
     let (Ok(mut standard), Ok(mut alternative), Ok(mut own), Ok(mut roomy)) = (

@@ -5,8 +5,8 @@ ghost use Rattle.std.specs.Prelude.{◌≡◌, Ok, Err};
 ghost use Rattle.base62.specs.declared.fault.DecodeError.TheVariants.{InvalidBase62Byte};
 ghost use Rattle.base62.specs.declared.fault.EncodeError.TheVariants.{BufferTooSmall};
 
-use base62::laws::{built_in_alphabets, one_text};
-use base62::{DecodeError, EncodeError, Work, decode_counted, encode_bytes_counted};
+use base62::laws::text_of_number;
+use base62::{Alphabet, DecodeError, EncodeError, Work, decode_counted, encode_bytes_counted};
 
 /// Decodes `0!` with a new counter. It takes one step: the leading zero takes none.
 pub fn bad_byte_after_a_zero() -> (Result<u128, DecodeError>, Work)
@@ -33,10 +33,20 @@ pub fn two_characters_in_one_byte() -> (Result<usize, EncodeError>, Work)
     ensures answer { result.0 ≡ Err BufferTooSmall }
     ensures steps { result.1 ≡ 0 }
 {
-    built_in_alphabets();
-    one_text();
+    text_of_number(&Alphabet::standard(), b"LZ", 1337);
     let mut work = Work::new();
     let answer = encode_bytes_counted(1337_u32, &mut [0; 1], &mut work);
+    (answer, work)
+}
+
+/// Encodes 0 with a new counter, in one step, and returns the length.
+pub fn zero_in_22_bytes() -> (Result<usize, EncodeError>, Work)
+    ensures answer { result.0 ≡ Ok 1 }
+    ensures steps { result.1 ≡ 1 }
+{
+    text_of_number(&Alphabet::standard(), b"0", 0);
+    let mut work = Work::new();
+    let answer = encode_bytes_counted(0_u8, &mut [0; 22], &mut work);
     (answer, work)
 }
 
@@ -45,8 +55,7 @@ pub fn ten_characters_in_22_bytes() -> (Result<usize, EncodeError>, Work)
     ensures answer { result.0 ≡ Ok 10 }
     ensures steps { result.1 ≡ 7 }
 {
-    built_in_alphabets();
-    one_text();
+    text_of_number(&Alphabet::standard(), b"1000000000", 13537086546263552);
     let mut work = Work::new();
     let answer = encode_bytes_counted(13537086546263552_u64, &mut [0; 22], &mut work);
     (answer, work)

@@ -10,8 +10,7 @@ use crate::alphabet::{Alphabet, alternative_tables, standard_tables};
 use crate::text::Text;
 use core::fmt;
 
-/// The result of [`encode_fmt`], [`encode_fmt_alt`] and [`encode_fmt_with`]: a value that contains
-/// the encoded string, and displays as it.
+/// The result of [`encode_fmt`]: a value that contains the encoded string, and displays as it.
 #[derive(Clone, Copy, Debug)]
 pub struct Fmt {
     text: Text,
@@ -24,7 +23,33 @@ impl fmt::Display for Fmt {
     }
 }
 
-// Writes a text padded, as `Display` of `Fmt` does.
+/// The result of [`encode_fmt_alt`]: like [`Fmt`], but in the alternative alphabet.
+#[derive(Clone, Copy, Debug)]
+pub struct FmtAlternative {
+    text: Text,
+}
+
+/// Writes the encoded string, padded as [`encode_fmt`] says.
+impl fmt::Display for FmtAlternative {
+    fn fmt(&self, f: &mut fmt::Formatter<'_>) -> fmt::Result {
+        pad(&self.text, f)
+    }
+}
+
+/// The result of [`encode_fmt_with`]: like [`Fmt`], but in a custom alphabet.
+#[derive(Clone, Copy, Debug)]
+pub struct FmtWith {
+    text: Text,
+}
+
+/// Writes the encoded string, padded as [`encode_fmt`] says.
+impl fmt::Display for FmtWith {
+    fn fmt(&self, f: &mut fmt::Formatter<'_>) -> fmt::Result {
+        pad(&self.text, f)
+    }
+}
+
+// Writes a text padded, as `Display` of the three types does.
 fn pad(text: &Text, f: &mut fmt::Formatter<'_>) -> fmt::Result {
     f.pad(text.as_str())
 }
@@ -56,7 +81,7 @@ pub fn encode_fmt<T: Into<u128>>(num: T) -> impl fmt::Display + fmt::Debug + Cop
 /// ```
 #[must_use]
 pub fn encode_fmt_alt<T: Into<u128>>(num: T) -> impl fmt::Display + fmt::Debug + Copy {
-    Fmt {
+    FmtAlternative {
         text: Text::over(alternative_tables(), num),
     }
 }
@@ -82,7 +107,7 @@ pub fn encode_fmt_with<T: Into<u128>>(
     num: T,
 ) -> impl fmt::Display + fmt::Debug + Copy {
     crate::support::contract::assert_ascii(alphabet);
-    Fmt {
+    FmtWith {
         text: Text::over(alphabet.as_tables(), num),
     }
 }

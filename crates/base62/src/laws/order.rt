@@ -23,6 +23,10 @@ pub fn order_of_texts()
         → lexicographic_order a b ≡ nat_cmp (value B a) (value B b) }
     ensures fixed { (B : List ℕ) → IsAlphabet B → Ascends B → (w : ℕ) (a b : List ℕ) (m n : ℕ)
         → IsFixed B w a m → IsFixed B w b n → lexicographic_order a b ≡ nat_cmp m n }
+    ensures not_after { (B : List ℕ) → IsAlphabet B → Ascends B → (w : ℕ) (a b : List ℕ) (m n : ℕ)
+        → IsFixed B w a m → IsFixed B w b n → m ≤ n → IsNotAfter a b }
+    ensures at_most { (B : List ℕ) → IsAlphabet B → Ascends B → (w : ℕ) (a b : List ℕ) (m n : ℕ)
+        → IsFixed B w a m → IsFixed B w b n → IsNotAfter a b → m ≤ n }
     ensures canonical { (B : List ℕ) → IsAlphabet B → Ascends B → (a b : List ℕ) (m n : ℕ)
         → IsCanonical B a m → IsCanonical B b n → shortlex_order a b ≡ nat_cmp m n }
 {}
@@ -43,6 +47,7 @@ pub fn order_of_two(alphabet: &Alphabet, width: usize, a: &[u8], b: &[u8], m: u1
         → IsCanonical alphabet.now b.now n → shortlex_order a.now b.now ≡ nat_cmp m n }
 {
     letters_are_distinct(alphabet);
+    order_of_texts();
 }
 
 /// Two numbers `high * base + low`, whose low parts are below the base, compare by their high

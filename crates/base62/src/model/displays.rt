@@ -38,9 +38,12 @@ pub fn paddings_by_example()
     ensures no_text { padded_to (Some 2) 32 Left [] ≡ codes "  " }
 {}
 
-/// What `Display` writes for `LZ` without options.
-pub fn plain_display_by_example()
-    ensures { ⟦<show::Fmt as fmt::Display>⟧.output (codes "LZ") ≡ Some (codes "LZ") }
+/// What `Display` of each type writes for `LZ` without options.
+pub fn plain_displays_by_example()
+    ensures standard { ⟦<show::Fmt as fmt::Display>⟧.output (codes "LZ") ≡ Some (codes "LZ") }
+    ensures alternative { ⟦<show::FmtAlternative as fmt::Display>⟧.output (codes "LZ")
+        ≡ Some (codes "LZ") }
+    ensures custom { ⟦<show::FmtWith as fmt::Display>⟧.output (codes "LZ") ≡ Some (codes "LZ") }
 {}
 
 /// What `Display` writes for errors with any options, such as `{:.3}` and `{:>100}`: the message.

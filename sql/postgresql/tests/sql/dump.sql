@@ -5,7 +5,7 @@ SET client_min_messages = warning;
 DROP DATABASE IF EXISTS contrib_regression_restored;
 CREATE DATABASE contrib_regression_restored TEMPLATE template0;
 CREATE VIEW shown AS SELECT 'link' of, count(*), max(id)::text number, max(slug COLLATE "C") generated FROM link
-    UNION ALL SELECT 'item', count(*), max(u::text), max(key) FROM item
+    UNION ALL SELECT 'item', count(*), max(id::text), max(key) FROM item
     UNION ALL SELECT 'code', count(*), max(id)::text, max(code) FROM code;
 \! pg_dump contrib_regression | psql -Xq -o /dev/null -v ON_ERROR_STOP=1 contrib_regression_restored
 \c contrib_regression_restored

@@ -3,13 +3,13 @@
 -- Generated columns, constraints and indexes, and the plans that use them.
 CREATE TABLE link (id bigint PRIMARY KEY, slug text GENERATED ALWAYS AS (base62_encode(id)) STORED UNIQUE
     CHECK (base62_is_canonical(slug)));
-CREATE TABLE item (u uuid PRIMARY KEY, key base62_key GENERATED ALWAYS AS (base62_encode_uuid_key(u)) STORED UNIQUE,
-    CHECK (base62_try_decode_uuid_fixed(key, 22) IS NOT NULL AND base62_decode_uuid_fixed(key, 22) = u));
+CREATE TABLE item (id uuid PRIMARY KEY, key base62_key GENERATED ALWAYS AS (base62_encode_uuid_key(id)) STORED UNIQUE,
+    CHECK (base62_try_decode_uuid_fixed(key, 22) IS NOT NULL AND base62_decode_uuid_fixed(key, 22) = id));
 CREATE TABLE code (id bigint PRIMARY KEY, code base62_key GENERATED ALWAYS AS (base62_encode_fixed(id, 11)) STORED
     CHECK (base62_try_decode_fixed(code, 11) IS NOT NULL));
 CREATE TABLE wide (id numeric(39) PRIMARY KEY);
-CREATE UNIQUE INDEX item_text ON item (base62_encode_uuid(u));
-CREATE INDEX item_prefix ON item (u) WHERE key < base62_last_string('3');
+CREATE UNIQUE INDEX item_text ON item (base62_encode_uuid(id));
+CREATE INDEX item_prefix ON item (id) WHERE key < base62_last_string('3');
 CREATE INDEX code_code ON code (code);
 INSERT INTO link SELECT i * 461168601842738 FROM generate_series(0, 20000) i;
 INSERT INTO code SELECT id FROM link;
@@ -21,14 +21,9 @@ SET enable_bitmapscan = off;
 EXPLAIN (COSTS off) SELECT * FROM link WHERE slug = base62_encode(1337);
 EXPLAIN (COSTS off) SELECT * FROM link WHERE id = base62_try_decode_canonical('LZ');
 EXPLAIN (COSTS off) SELECT * FROM link WHERE id = 9223372036854775808;
-EXPLAIN (COSTS off) SELECT * FROM item WHERE base62_encode_uuid(u) = 'LZ';
+EXPLAIN (COSTS off) SELECT * FROM item WHERE base62_encode_uuid(id) = 'LZ';
 EXPLAIN (COSTS off) SELECT * FROM item WHERE key LIKE '2aU%';
 EXPLAIN (COSTS off) SELECT * FROM item WHERE key ^@ '2aU';
-EXPLAIN (COSTS off) SELECT * FROM item
-    WHERE key BETWEEN base62_first_string('2aU') AND base62_last_string('2aU') ORDER BY key;
-EXPLAIN (COSTS off) SELECT * FROM item
-    WHERE u BETWEEN base62_decode_uuid_key(base62_first_string('2aU')) AND base62_decode_uuid_key(base62_last_string('2aU'));
-EXPLAIN (COSTS off) SELECT * FROM link WHERE id BETWEEN base62_first_number('Az', 11) AND base62_last_number('Az', 11);
 EXPLAIN (COSTS off) SELECT * FROM wide
     WHERE id BETWEEN base62_first_numeric('7n4', 22) AND base62_last_numeric('7n4', 22);
 PREPARE between_bounds (text) AS SELECT * FROM item WHERE key BETWEEN base62_first_string($1) AND base62_last_string($1);
@@ -38,15 +33,20 @@ SET plan_cache_mode = force_generic_plan;
 EXPLAIN (COSTS off) EXECUTE between_bounds ('2aU');
 EXPLAIN (COSTS off) EXECUTE like_prefix ('2aU');
 EXPLAIN (COSTS off) EXECUTE starting_with ('2aU');
-\echo The query of the README for strings with a prefix, and those for which it finds other rows
-\set page `cat ../README.md`
-SELECT format('PREPARE with_prefix (text) AS %1$s; CREATE FUNCTION with_prefix(text) RETURNS SETOF text LANGUAGE sql AS %1$L',
-    replace(replace(substring(:'page' FROM '\nWITH given .*?;'), $$'L'$$, '$1'), ', target', ''))
+\echo The queries of KEYS for a prefix, and those prefixes for which they find other rows
+\set page `cat ../KEYS.md`
+SELECT format('PREPARE search_%1$s (text) AS %2$s; CREATE FUNCTION search_%1$s(text) RETURNS SETOF text LANGUAGE sql AS %2$L',
+    i, replace(replace(regexp_replace(q[1], 'VALUES \(''\w+''', 'VALUES ($1'), ', target', ''), 'SELECT name', 'SELECT key'))
+    FROM regexp_matches(:'page', '\nWITH given .*?;', 'g') WITH ORDINALITY query (q, i)
 \gexec
-EXPLAIN (COSTS off) EXECUTE with_prefix ('L-');
+EXPLAIN (COSTS off) EXECUTE search_1 ('2a-');
+EXPLAIN (COSTS off) EXECUTE search_2 ('2a-');
+EXPLAIN (COSTS off) EXECUTE search_3 ('2a-');
 RESET plan_cache_mode;
-SELECT p FROM unnest(ARRAY['', '0', '00', '2', 'A', 'Az', 'z', '-', 'L-']) p
-    WHERE ARRAY(SELECT * FROM with_prefix(p)) <> ARRAY(SELECT slug FROM link WHERE starts_with(slug, p) ORDER BY id);
+SELECT p FROM unnest(ARRAY['', '0', '00', '2', 'A', 'Az', 'z', '-', 'L-', '2a-', 'é', repeat('0', 23), repeat('z', 22)]) p
+    WHERE ARRAY(SELECT s FROM search_1(p) s ORDER BY s) <> ARRAY(SELECT key::text FROM item WHERE starts_with(key, p) ORDER BY key)
+    OR ARRAY(SELECT * FROM search_2(p)) <> ARRAY(SELECT code::text FROM code WHERE starts_with(code, p) ORDER BY id)
+    OR ARRAY(SELECT * FROM search_3(p)) <> ARRAY(SELECT slug FROM link WHERE starts_with(slug, p) ORDER BY id);
 SELECT pg_typeof(sum(id)) FROM link;
 
 \echo Partitions without such keys are pruned
@@ -59,4 +59,8 @@ EXPLAIN (COSTS off) SELECT * FROM part WHERE key BETWEEN base62_first_string('2a
 RESET enable_indexscan;
 RESET enable_bitmapscan;
 \set VERBOSITY terse
+BEGIN;
+SELECT base62_decode('2a-');
+SELECT base62_try_decode('2a-');
+ROLLBACK;
 CREATE PUBLICATION filtered FOR TABLE link WHERE (base62_encode(id) <> 'LZ');

@@ -1,0 +1,24 @@
+// SPDX-License-Identifier: MIT
+// Copyright (c) 2026 the maintainers of base62 for Rattle
+
+// Short links: the response to a POST with a URL is a path such as /LZ, which leads to it. Ids are consecutive, so anyone
+// can find all links: for secret ones use encodeKey(crypto.randomUUID()).
+import {decodeNumberCanonical, encode} from 'base62-proved';
+import {createServer} from 'node:http';
+import {text} from 'node:stream/consumers';
+
+const links = [];  // The index is the id.
+
+export const server = createServer(async (request, response) => {
+  try {
+    if (request.method === 'POST') {
+      const { href } = new URL(await text(request));
+      return response.writeHead(201).end(`/${encode(links.push(href) - 1)}`);
+    }
+    // It accepts only what encode returns, so each link has one path.
+    const id = decodeNumberCanonical(request.url.slice(1));
+    if (id >= links.length) return response.writeHead(404).end();
+    response.writeHead(302, { Location: links[id] }).end();
+  } catch ({ message }) { response.writeHead(400).end(message); }
+});
+server.listen(process.env.PORT ?? 8080);

@@ -1,0 +1,320 @@
+// SPDX-License-Identifier: MIT
+// Copyright (c) 2026 the maintainers of base62 for Rattle
+
+// What JavaScript means where a value is not known. Functions run in Node, but each operator, condition, read, store and
+// call in them is a call of a rule here, and a form without one is an error. Where all values are known, a rule does what
+// Node does. Unknown are:
+// - a Number: an integer from -2**53 to 2**53, or Infinity. In place of any other one, such as NaN, there is an open goal or
+//   an error. -0 is 0: no form that has a rule tells them apart.
+// - a quotient of Numbers, of which only the integer part is known
+// - a BigInt, a boolean, a string ('text', its code units), a typed array ('array')
+import {constant, integer, isConstant, literal, power, range, Unknown} from './path.mjs';
+
+const EXACT = power(53);
+const least = (...values) => values.reduce((x, y) => (y < x ? y : x));
+const greatest = (...values) => values.reduce((x, y) => (y > x ? y : x));
+const boolean = (term) => (/^(true|false)$/.test(term) ? term === 'true' : new Unknown({ type: 'boolean', term }));
+export const textOf = (units) => new Unknown({type: 'text', units, length: units.length});
+const isUnknown = (v) => v instanceof Unknown;
+const isBig = ({ type }) => type === 'bigint';
+const isFinite = (...values) => values.every(({ infinite }) => infinite === 'false');
+const native = (operator) => new Function('a', 'b', `return a ${operator} b`);
+
+// ---- Operators. The operands are two Numbers or two BigInts, of which one is unknown.
+
+// A result of Numbers is exact if it is within 2**53. This is the goal, with its bounds, which are among the results of the
+// bounds. Infinity plus any number is Infinity. BigInts are exact.
+function arithmetic(m, operator, a, b) {
+  const define = () => m.path.define(`(${operator} ${a.term} ${b.term})`);
+  if (isBig(a)) return integer(define(), undefined, undefined, 'bigint');
+  const results = [a.low, a.high].flatMap((x) => [b.low, b.high].map((y) => native(operator)(x, y)));
+  const [low, high] = [greatest(least(...results), -EXACT), least(greatest(...results), EXACT)];
+  const v = integer(define(), low, high, 'number', isFinite(a, b) ? 'false' : `(or ${a.infinite} ${b.infinite})`);
+  m.goal(`${operator} is exact`, range(v.term, low, high));
+  return v;
+}
+
+// Infinity minus Infinity would be NaN.
+const subtract = (m, operator, a, b) => (isFinite(b) ? arithmetic(m, operator, a, b) : m.fail());
+
+// By a constant. Infinity times one above 0 is Infinity.
+function multiply(m, operator, a, b) {
+  const [factor, other] = isConstant(b) ? [b, a] : [a, b];
+  const isKnown = isConstant(factor) && (isBig(a) || factor.low > 0n);
+  return isKnown ? arithmetic(m, operator, a, b) : m.fail();
+}
+
+// By a constant. README.md shows that the integer part is exact if the dividend is from 0 to 2**53.
+function divide(m, operator, a, b) {
+  if (isBig(a) || !isConstant(b) || b.low < 1n) m.fail();
+  m.goal('a quotient of a number from 0 to 2**53', range(a.term, 0n, EXACT));
+  const [{ term, low, high }] = m.path.divide(a, b.low);
+  return integer(term, low, high, 'quotient', a.infinite);
+}
+
+// ToInt32, ToUint32 and the like: the integer part modulo 2**bits, which is 0 for Infinity.
+function modulo(m, v, bits, isSigned = false) {
+  const [, rest] = m.path.divide(v, power(bits), isSigned ? -power(bits - 1) : 0n);
+  if (isFinite(v)) return integer(rest.term, rest.low, rest.high, isBig(v) ? 'bigint' : 'number');
+  return integer(m.path.define(`(ite ${v.infinite} 0 ${rest.term})`), least(0n, rest.low), greatest(0n, rest.high));
+}
+
+// By a constant 2**k - 1 below 2**31: modulo 2**k, which divides 2**32.
+function bitwiseAnd(m, operator, a, b) {
+  const mask = isConstant(b) ? b.low.toString(2) : '';
+  return !isBig(a) && /^1{1,31}$/.test(mask) ? modulo(m, a, mask.length) : m.fail();
+}
+
+// Of a multiple of 2**k and a number from 0 to 2**k - 1: the sum. In any case is known when the result is 0, when it is
+// negative, and that it is at most the sum of two that are not.
+function bitwiseOr(m, operator, a, b) {
+  const [x, y] = isBig(a) ? [a, b] : [modulo(m, a, 32, true), modulo(m, b, 32, true)];
+  if (isConstant(y) && y.low === 0n) return x;
+  const bounds = x.low >= 0n && y.low >= 0n ? [0n, x.high + y.high] : [-power(31), power(31) - 1n];
+  const v = isBig(a) ? m.path.unknown(undefined, undefined, 'bigint') : m.path.unknown(...bounds);
+  m.path.assume(`(= (= ${v.term} 0) (and (= ${x.term} 0) (= ${y.term} 0)))`);
+  m.path.assume(`(= (< ${v.term} 0) (or (< ${x.term} 0) (< ${y.term} 0)))`);
+  const [k, l] = [a, b].map(({ zeros = 0 }) => zeros);
+  m.path.assume(`(=> ${range(x.term, 0n, power(l) - 1n)} (= ${v.term} (+ ${x.term} ${y.term})))`);
+  m.path.assume(`(=> ${range(y.term, 0n, power(k) - 1n)} (= ${v.term} (+ ${x.term} ${y.term})))`);
+  return Object.assign(v, { zeros: least(k, l) });
+}
+
+const shiftCount = (m, a, b) =>
+  (isConstant(b) && b.low >= 0n && b.low < (isBig(a) ? 999n : 32n) ? Number(b.low) : m.fail());
+
+// A Number keeps its lowest 32 - k bits, the highest of which is its sign now, before k zeros.
+function shiftLeft(m, operator, a, b) {
+  const zeros = shiftCount(m, a, b);
+  const kept = isBig(a) ? a : modulo(m, a, 32 - zeros, true);
+  return Object.assign(arithmetic(m, '*', kept, constant(power(zeros), a.type)), { zeros });
+}
+
+// The floor of the quotient by 2**k: of a BigInt, of a signed integer of 32 bits, or with >>> of an unsigned one.
+function shiftRight(m, operator, a, b) {
+  if (isBig(a) && operator === '>>>') m.fail();
+  return m.path.divide(isBig(a) ? a : modulo(m, a, 32, operator === '>>'), power(shiftCount(m, a, b)))[0];
+}
+
+// Nothing is greater than Infinity. The bounds may decide it.
+function less(m, operator, a, b) {
+  const isLess = native(operator);
+  const areKnown = a.low !== undefined && b.low !== undefined && isLess(a.high, b.low) === isLess(a.low, b.high);
+  const term = areKnown ? `${isLess(a.high, b.low)}` : `(${operator} ${a.term} ${b.term})`;
+  if (isFinite(a, b)) return boolean(term);
+  const toInfinity = `(and ${b.infinite} ${operator === '<=' || `(not ${a.infinite})`})`;
+  return boolean(`(or ${toInfinity} (and (not ${a.infinite}) (not ${b.infinite}) ${term}))`);
+}
+
+function equal(m, operator, a, b) {
+  const term = a.high < b.low || b.high < a.low ? 'false' : `(= ${a.term} ${b.term})`;
+  return isFinite(a, b) ? boolean(term) : m.fail();
+}
+
+const OPERATORS = new Map([
+  ['+', arithmetic], ['-', subtract], ['*', multiply], ['/', divide], ['&', bitwiseAnd], ['|', bitwiseOr],
+  ['<<', shiftLeft], ['>>', shiftRight], ['>>>', shiftRight], ['<', less], ['<=', less], ['===', equal],
+  ['>', (m, operator, a, b) => less(m, '<', b, a)], ['>=', (m, operator, a, b) => less(m, '<=', b, a)],
+  ['!==', (m, operator, a, b) => m.unary(m.at, '!', equal(m, operator, a, b))]
+]);
+
+// ---- Functions of the language, of unknown values
+
+const CALLS = new Map([
+  [
+    Math.floor,
+    (m, v) => (/^(number|quotient)$/.test(v.type) ? integer(v.term, v.low, v.high, 'number', v.infinite) : m.fail())
+  ],
+  [
+    Math.min,
+    (m, a, b, ...others) => {
+      if (others.length > 0 || a.type !== 'number' || !isFinite(a) || !Number.isSafeInteger(b)) m.fail();
+      return integer(
+        m.path.define(`(ite (<= ${a.term} ${b}) ${a.term} ${b})`), least(a.low, BigInt(b)), least(a.high, BigInt(b)));
+    }
+  ],
+  [String.fromCharCode, (m, ...units) => textOf(units.map((unit) => (isUnknown(unit) ? modulo(m, unit, 16) : unit)))]
+]);
+export const charCodeAt = (string, i) => string.charCodeAt(i);
+const METHODS = {
+  __proto__: null,
+  charCodeAt: (m, { type, units }, i) => (type === 'text' && Number.isInteger(i) ? units[i] : undefined) ?? m.fail(),
+  slice: (m, { type, units }, ...ends) =>
+    type === 'text' && ends.every(Number.isInteger) ? textOf(units.slice(...ends)) : m.fail()
+};
+
+CALLS.set(charCodeAt, METHODS.charCodeAt);
+
+// ---- Typed arrays. Those of a buffer share its cells, which are as wide as the elements of the narrowest of them.
+
+export const arrayOf = (cells, bits, kind = 'Uint', length = cells.length) =>
+  new Unknown({type: 'array', cells, bits, kind, length});
+const isIndex = (index, { length }) => Number.isInteger(index) && index >= 0 && index < length;
+
+// An index that is not known is for a table: an array of constants, or one with a `lookup`.
+function readElement(m, array, index) {
+  const { cells, bits, kind, length, lookup } = array;
+  if (isUnknown(index)) {
+    const isTable = (lookup || (bits === cells.bits && !cells.includes(undefined))) && index.type === 'number' &&
+      isFinite(index) && (lookup || !cells.some(isUnknown));
+    m.goal('an index in the array', isTable ? range(index.term, 0n, BigInt(length) - 1n) : 'false');
+    return lookup ? lookup(index) : fromTable(m, cells.map(BigInt), index);
+  }
+  if (!isIndex(index, array) || lookup)
+    return lookup && isIndex(index, array) ? lookup(constant(BigInt(index))) : m.fail();
+  const width = bits / cells.bits;
+  if (width === 1) return cells[index] ?? m.fail();
+  const parts = cells.slice(index * width, index * width + width)
+                  .map((cell, i) => `(* ${power(cells.bits * i)} ${m.known(cell).term})`);
+  return integer(
+    m.path.define(`(+ ${parts.join(' ')})`), 0n, power(bits) - 1n, kind === 'BigUint' ? 'bigint' : 'number');
+}
+
+// One piece for each run of values that are equal, or of which each is one more than the one before.
+function fromTable(m, values, index) {
+  let term = '0';
+  for (let end = values.length - 1, i = end; end >= 0; end = --i) {
+    const step = end > 0 && values[end] - values[end - 1] === 1n ? 1n : 0n;
+    while (i > 0 && values[i] - values[i - 1] === step) i--;
+    const piece = step ? `(+ ${index.term} ${literal(values[end] - BigInt(end))})` : literal(values[end]);
+    term = `(ite (<= ${index.term} ${end}) ${piece} ${term})`;
+  }
+  return integer(m.path.define(term), least(0n, ...values), greatest(0n, ...values));
+}
+
+// An unsigned array keeps a value modulo 2**bits, and a signed one what fits, which is a goal.
+function storeElement(m, array, index, value) {
+  const { cells, bits, kind } = array;
+  const v = m.known(value);
+  const types = { Int: /^(number|quotient)$/, Uint: /^(number|quotient)$/, BigUint: /^bigint$/};
+  if (!cells.areOpen || !isIndex(index, array) || !types[kind]?.test(v.type)) m.fail();
+  if (kind === 'Int')
+    m.goal('it fits in a signed array', isFinite(v) ? range(v.term, -power(bits - 1), power(bits - 1) - 1n) : 'false');
+  let rest = kind === 'Int' ? v : modulo(m, v, bits);
+  for (let i = 0; i < bits / cells.bits; i++) {
+    const [higher, { term, low, high }] = kind === 'Int' ? [rest, rest] : m.path.divide(rest, power(cells.bits));
+    cells[index * bits / cells.bits + i] = integer(term, low, high);
+    rest = higher;
+  }
+}
+
+// ---- The machine runs functions on a path.
+
+export class Machine {
+  steps = 0;
+  stubs = { __proto__: null };
+  buffers = new Map();
+
+  constructor({ code, values, names }, path) {
+    this.path = path;
+    const widths = ([, x], [, y]) => (x.BYTES_PER_ELEMENT ?? 0) - (y.BYTES_PER_ELEMENT ?? 0);
+    this.values = Object.fromEntries(Object.entries(values).sort(widths).map(([name, v]) => [name, this.copy(v)]));
+    // What functions write is not known before, unless a proof opens it.
+    for (const [, name] of code.matchAll(/\$\.(?:store|method)\('[^']*', (\w+),/g))
+      this.values[name]?.cells?.fill(undefined);
+    const create = new Function(
+      '$', 'values', `'use strict';\nconst { ${Object.keys(this.values)} } = values;\n${code}return { ${names} };`);
+    this.functions = create(this, this.values);
+  }
+
+  // The elements of a typed array. The narrowest one of a buffer comes first.
+  copy(value) {
+    // Any use of other objects is an error, since they may have a state.
+    if (!ArrayBuffer.isView(value))
+      return Object(value) === value && ![charCodeAt, Math, String].includes(value) ? new Unknown({}) : value;
+    const bits = value.BYTES_PER_ELEMENT * 8;
+    const kind = value.constructor.name.replace(/\d+Array$/, '');
+    if (this.buffers.has(value.buffer) &&
+      (value.byteOffset !== 0 || !/^(Big)?Uint$/.test(kind) || this.buffers.get(value.buffer).kind !== 'Uint'))
+      return new Unknown({});
+    if (value.byteOffset !== 0) return new Unknown({});
+    if (!this.buffers.has(value.buffer)) this.buffers.set(value.buffer, Object.assign([...value], { bits, kind }));
+    return arrayOf(this.buffers.get(value.buffer), bits, kind, value.length);
+  }
+
+  // Lets functions write an array, which has any elements before.
+  open(name) {
+    const { cells, bits, kind } = this.values[name];
+    const low = kind === 'Int' ? -power(bits - 1) : 0n;
+    cells.areOpen = true;
+    cells.forEach((cell, i) => cells[i] = this.path.unknown(low, low + power(bits) - 1n));
+    return cells;
+  }
+
+  fail(at = this.at) { throw new Error(`${at}: no rule for this`); }
+  goal(goal, term) { this.path.prove(`${this.at}: ${goal}`, term); }
+
+  // A known Number or BigInt as an unknown one.
+  known(v) {
+    if (v === Infinity) return integer('0', 0n, 0n, 'number', 'true');
+    if (typeof v === 'bigint') return constant(v, 'bigint');
+    return isUnknown(v) ? v : Number.isSafeInteger(v) ? constant(BigInt(v)) : this.fail();
+  }
+
+  // In a bitwise operator a quotient is a Number. '' + string is the string.
+  binary(at, operator, x, y) {
+    this.at = at;
+    if (!isUnknown(x) && !isUnknown(y)) return native(operator)(x, y);
+    if (x === '' && operator === '+' && y.type === 'text') return y;
+    const [a, b] = [this.known(x), this.known(y)];
+    const types =
+      [a, b].map(({ type }) => (type === 'quotient' && /^([&|]|<<|>>>?)$/.test(operator) ? 'number' : type));
+    const isKnown = types[0] === types[1] && /^(number|bigint)$/.test(types[0]) && OPERATORS.has(operator);
+    return isKnown ? OPERATORS.get(operator)(this, operator, a, b) : this.fail();
+  }
+
+  unary(at, operator, v) {
+    this.at = at;
+    if (operator === 'typeof')
+      return isUnknown(v) ? { text: 'string', array: 'object' }[v.type] ?? this.fail() : typeof v;
+    if (operator === '-' && !isUnknown(v)) return -v;
+    if (operator !== '!' || (isUnknown(v) && v.type !== 'boolean')) this.fail();
+    return isUnknown(v) ? boolean(`(not ${v.term})`) : !v;
+  }
+
+  // Whether a condition holds on this path.
+  holds(at, v) {
+    this.at = at;
+    if (++this.steps > 10_000) throw new Error(`${at}: more than 10000 conditions`);
+    if (!isUnknown(v)) return Boolean(v);
+    return v.type === 'boolean' ? this.path.decide(v.term) : this.fail();
+  }
+
+  and(at, left, right) { return this.holds(at, left) ? right() : left; }
+  or(at, left, right) { return this.holds(at, left) ? left : right(); }
+
+  read(at, object, index) {
+    this.at = at;
+    if (isUnknown(object) && object.type === 'array') return readElement(this, object, index);
+    return isUnknown(object) || isUnknown(index) ? this.fail() : object[index] ?? this.fail();
+  }
+
+  store(at, array, index, value) {
+    this.at = at;
+    if (!isUnknown(array) || array.type !== 'array') this.fail();
+    storeElement(this, array, index, value);
+    return value;
+  }
+
+  member(at, object, name) {
+    this.at = at;
+    if (isUnknown(object)) return name === 'length' ? object.length : this.fail();
+    return [Math, String].includes(object) || (Array.isArray(object) && name === 'length') ? object[name] : this.fail();
+  }
+
+  // A function of the modules, one with a rule, or one of Node with known values.
+  call(at, f, self, values) {
+    this.at = at;
+    const isOwn = this.functions[f.name] === f;
+    if (isOwn && this.stubs[f.name]) return this.stubs[f.name](...values);
+    if (isOwn || (f === Array.prototype.push && Array.isArray(self))) return f.apply(self, values);
+    if (!CALLS.has(f)) this.fail();
+    return values.some(isUnknown) ? CALLS.get(f)(this, ...values) : f(...values);
+  }
+
+  method(at, object, name, values) {
+    this.at = at;
+    if (!isUnknown(object)) return this.call(at, object[name], object, values);
+    return METHODS[name] ? METHODS[name](this, object, ...values) : this.fail();
+  }
+}

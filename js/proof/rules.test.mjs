@@ -1,0 +1,138 @@
+// SPDX-License-Identifier: MIT
+// Copyright (c) 2026 the maintainers of base62 for Rattle
+
+// Compares the rules with Node on border values and random ones: that a function returns what Node returns is proved where
+// it has to be, and nowhere else.
+import assert from 'node:assert/strict';
+import {test} from 'node:test';
+
+import {read} from './forms.mjs';
+import {explore, integer, literal, solve} from './path.mjs';
+import {Machine} from './rules.mjs';
+
+const ARRAYS =
+  `const halves = new BigUint64Array(2), words = new Uint32Array(halves.buffer), groups = new Int32Array(2);
+const table = Int8Array.from({ length: 129 }, (_, i) => (i < 48 ? -1 : i < 58 ? i - 48 : i < 90 ? i - 61 : 7));`;
+const random = (bits) => Math.floor(Math.random() * 2 ** bits);
+const borders = [8, 16, 31, 32, 48, 53].flatMap((bits) => [2 ** bits - 1, 2 ** bits, -(2 ** bits)]);
+const numbers =
+  [Infinity, ...borders, 0, -0, 1, -1, 61, 2 ** 32 + 5, -(2 ** 31) - 1, random(8), random(32), random(53)];
+const bigInts =
+  [...borders.map(BigInt), 0n, -1n, 2n ** 64n - 1n, 2n ** 64n, 2n ** 128n, -(2n ** 200n), BigInt(random(53)) ** 3n];
+
+const isFinite = (...values) => values.every(Number.isFinite);
+const isExact = (x, y, result) => Math.abs(result) <= 2 ** 53 || result === Infinity;
+const isDividend = (x) => x >= 0 && (x <= 2 ** 53 || x === Infinity);
+// What has to be proved of Numbers x and y, and when.
+const OF_NUMBERS = [
+  [isExact, 'x + y', 'x * 62'], [(x, y, result) => isFinite(y) && isExact(x, y, result), 'x - y'],
+  [(x) => isFinite(x), 'Math.min(x, 128)', 'x !== 61'], [(x, y) => isFinite(x, y), 'x === y'],
+  [isDividend, 'Math.floor(x / 62)', '(x / 4096) | 0', '(x / 3844) & 0xffff', 'words[0] = x / 65536; return words[0]'],
+  [(x) => x >= 0 && x < 129, 'table[x]'], [(x) => isFinite(x) && x >= 0, 'table[Math.min(x, 128)]'],
+  [(x) => x >= -(2 ** 31) && x < 2 ** 31, 'groups[1] = x; return groups[1]'],
+  [
+    () => true, 'Math.floor(x)', '(x & 1) === 1', 'x & 255', 'x & 0x7fffffff', 'x | 0', '(x << 8) | (y & 255)',
+    '(y & 0xffff) | (x << 16)', '(x << 24) | ((y & 255) << 16) | 515', '(x | y) === 0', '(x | y) < 0',
+    '((x & 255) | (y & 255)) <= 510', 'x << 0', 'x << 12', 'x << 31', 'x >> 5', 'x >>> 0', 'x >>> 21', 'x < y',
+    'x <= y', 'x > y', 'x >= y', '!(x < 61)', 'x < 61 && y < 61', 'x < 61 || y < 61', 'x < 61 ? 5 : 6',
+    'String.fromCharCode(x, 45).charCodeAt(0)', 'String.fromCharCode(45, 46, x).slice(1).charCodeAt(1)',
+    'words[1] = x; return words[1]', 'words[1] = x; words[0] = y; return halves[0]'
+  ],
+  [
+    () => false, 'x * y', 'x * -3', 'x * 0', 'Math.min(x, 128, 60)', 'x / 62', 'Math.floor(x / 0)',
+    'Math.floor(62 / x)', 'Math.floor(x / 1.5)', 'x & 5', 'x & -1', 'x << 32', 'x + 1n', 'x + undefined', 'x + 0.5',
+    'x % 62', '`${x}`', 'String.fromCharCode(x).charCodeAt(1)', 'words[x]', 'words[4] = x', 'table[0] = x',
+    'halves[0] = x', 'words[0] = 5n', 'x == y', 'Math.abs(x)', '[x].includes(y)', 'x ?? y', 'x ** 2'
+  ]
+];
+const OF_BIGINTS = [
+  [
+    () => true, 'x + y', 'x - y', 'x * 5n', 'x >> 64n', 'x << 64n', 'x < y', 'x <= y', 'x > y', 'x >= y', 'x === y',
+    'halves[1] = x; return halves[1]', 'halves[1] = x; return words[3]', 'halves[0] = x; return (y << 64n) | halves[0]'
+  ],
+  [() => false, 'x * y', 'x / 5n', 'x >>> 1n', 'x & 1n', 'x + 1', 'words[0] = x', 'halves[2] = x']
+];
+const BODIES = [
+  'let sum = 0; for (let i = 0; i < 3; i++) { if (x > i) sum = sum + 2; else sum--; } return sum;',
+  'let i = 3; while (i > 0 && x < i) { const y = i - 1; i = y; } return [i, 4 * i][1];',
+  'const [a, b] = [x & 255, y]; if (a < 61) { if (b < 5) return 1; return 2; } return a;'
+];
+
+// Modules and functions in them that are an error with file and line.
+const REFUSED = [
+  ['let last = -1;', 'return last;'], ['const cache = new Map();', 'return cache.size;'],
+  ["import {words as w} from './test.js';", 'return 1;'], ["import {w} from './other.js';", 'return 1;'],
+  ['const g = async () => 1;', 'return g();'], ['const signed = new Int32Array(halves.buffer);', 'return signed[0];'],
+  ['const upper = words.subarray(1);', 'return upper[0];'], ['', 'var y = 1; var y; return y;'],
+  ['', 'return g(); function g() { return 1; }'], ['', 'return arguments[0];'], ['', 'return x.toString();'],
+  ['', "return words.hasOwnProperty('0');"], ['', 'label: return 1;'], ['', 'return (1, x);']
+];
+
+// An unknown value that is this one.
+function unknown(path, value) {
+  const n = Number.isFinite(value) || typeof value === 'bigint' ? BigInt(value) : 5n;
+  const bounds = typeof value === 'bigint' ? [undefined, undefined] : [n - BigInt(random(9)), n + BigInt(random(9))];
+  const v = path.unknown(...bounds, typeof value);
+  path.assume(`(= ${v.term} ${literal(n)})`);
+  return integer(v.term, v.low, v.high, v.type, `${value === Infinity}`);
+}
+
+// Whether the paths are proved on which the function returns this for these values.
+function isResult(m, result, expected) {
+  const { type, term, infinite } =
+    typeof result === 'boolean' ? { type: 'boolean', term: `${result}` } : m.known(result);
+  if (type !== typeof expected) throw new Error(type);
+  if (type === 'boolean') return `(= ${term} ${expected})`;
+  if (expected === Infinity) return infinite;
+  return type === 'number' && !Number.isInteger(expected) ?
+    'false' :
+    `(and (not ${infinite}) (= ${term} ${literal(BigInt(expected))}))`;
+}
+
+// A rule rejects what it does not cover by an error or an open goal of its own.
+async function compare(body, values, covers) {
+  const modules = read([['test.js', `${ARRAYS}\nfunction f(x, y) { ${body} }`]]);
+  const inNode = new Function('x', 'y', `${ARRAYS}\n${body}`);
+  await Promise.all(values.map(async ([x, y]) => {
+    let expected, paths = [], found = 'rejected';
+    try {
+      expected = inNode(x, y);
+      paths = explore((path) => {
+        const m = new Machine(modules, path);
+        ['words', 'groups'].forEach((name) => m.open(name));
+        path.prove('result', isResult(m, m.functions.f(unknown(path, x), unknown(path, y)), expected));
+      });
+      await solve(paths);
+      const open = paths.flatMap((path) => path.open);
+      if (open.every((goal) => goal === 'result')) found = open.length === 0 ? 'proved' : 'wrong';
+      if (found === 'proved' && !paths.some(({ isPossible }) => isPossible)) found = 'wrong';
+    } catch { found = 'rejected'; }
+    assert.equal(found, covers(x, y, expected) ? 'proved' : 'rejected', `${body}: ${x}, ${y}: ${expected}`);
+  }));
+}
+
+const pairs = (values) => values.map((x, i) => [x, values[i < 4 ? 0 : random(8) % values.length]]);
+for (const [groups, values] of [[OF_NUMBERS, numbers], [OF_BIGINTS, bigInts]])
+  for (const [covers, ...expressions] of groups)
+    for (const expression of expressions)
+      test(`${expression} of ${typeof values[0]}s`,
+        () => compare(`${expression.includes('return') ? '' : 'return '}${expression};`, pairs(values), covers));
+for (const [module, body] of REFUSED)
+  test(`refused: ${module} ${body}`, () => assert.throws(() => {
+    const modules = read([['test.js', `${ARRAYS}\n${module}\nfunction f(x) { ${body} }`]]);
+    explore((path) => new Machine(modules, path).functions.f(unknown(path, 5)));
+  }, /^Error: test\.js:\d+: no rule for this$/));
+test('too many paths are an error', () => assert.throws(() => explore((path) => {
+  for (let i = 0; i < 10; i++) path.decide('true');
+}),
+  /1000 paths/));
+for (const body of BODIES) test(body, () => compare(body, pairs(numbers.filter((n) => isFinite(n))), () => true));
+test('a goal is open if it is false or not known, and an impossible path is found', async () => {
+  const [path] = explore((path) => {
+    path.prove('known', '(= 5 5)');
+    path.prove('unknown', `(< ${path.unknown(0n, 5n).term} 5)`);
+    path.prove('false', '(= 5 6)');
+  });
+  await solve([path]);
+  assert.deepEqual([path.open, path.isPossible], [['unknown', 'false'], false]);
+});

@@ -21,11 +21,14 @@ const bigInts =
   [...borders.map(BigInt), 0n, -1n, 2n ** 64n - 1n, 2n ** 64n, 2n ** 128n, -(2n ** 200n), BigInt(random(53)) ** 3n];
 
 const isFinite = (...values) => values.every(Number.isFinite);
-const isExact = (x, y, result) => Math.abs(result) <= 2 ** 53 || result === Infinity;
+// The integer of a Number's term. Infinity has one too.
+const integerOf = (v) => (v === Infinity ? 5n : BigInt(v));
+const isExact = (n) => -(2n ** 53n) <= n && n <= 2n ** 53n;
 const isDividend = (x) => x >= 0 && (x <= 2 ** 53 || x === Infinity);
 // What has to be proved of Numbers x and y, and when.
 const OF_NUMBERS = [
-  [isExact, 'x + y', 'x * 62'], [(x, y, result) => isFinite(y) && isExact(x, y, result), 'x - y'],
+  [(x, y) => isExact(integerOf(x) + integerOf(y)), 'x + y'], [(x) => isExact(integerOf(x) * 62n), 'x * 62'],
+  [(x, y) => isFinite(y) && isExact(integerOf(x) - integerOf(y)), 'x - y'],
   [(x) => isFinite(x), 'Math.min(x, 128)', 'x !== 61'], [(x, y) => isFinite(x, y), 'x === y'],
   [isDividend, 'Math.floor(x / 62)', '(x / 4096) | 0', '(x / 3844) & 0xffff', 'words[0] = x / 65536; return words[0]'],
   [(x) => x >= 0 && x < 129, 'table[x]'], [(x) => isFinite(x) && x >= 0, 'table[Math.min(x, 128)]'],
@@ -70,7 +73,7 @@ const REFUSED = [
 
 // An unknown value that is this one.
 function unknown(path, value) {
-  const n = Number.isFinite(value) || typeof value === 'bigint' ? BigInt(value) : 5n;
+  const n = integerOf(value);
   const bounds = typeof value === 'bigint' ? [undefined, undefined] : [n - BigInt(random(9)), n + BigInt(random(9))];
   const v = path.unknown(...bounds, typeof value);
   path.assume(`(= ${v.term} ${literal(n)})`);

@@ -28,10 +28,6 @@ generate: ## write the generated files anew, after a change of their sources
 version: ## set the version everywhere: make version V=X.Y.Z
 	scripts/version.py '$(V)'
 
-ROUNDS = 300
-bench: ## time the packages on this machine, beside other code for base 62
-	bench/run $(ROUNDS)
-
 PREFIX = /usr/local
 install-command: ## install the command, its manual page and completions: make install-command PREFIX=..
 	cargo install --quiet --force --no-track --path command --root '$(DESTDIR)$(PREFIX)'
@@ -49,5 +45,5 @@ setup-full: ## install also browsers, Wine, cross compilers, emulators and prove
 check-debian: ## try README's lines in a bare Debian, as root: make check-debian SUITE=trixie
 	scripts/check-debian '$(SUITE)'
 
-.PHONY: help check $(parts:%=check-%) prove prove-c generate version bench install-command dist setup setup-full \
+.PHONY: help check $(parts:%=check-%) prove prove-c generate version install-command dist setup setup-full \
     check-debian

@@ -182,18 +182,17 @@ function fromTable(m, values, index) {
   return integer(m.path.define(term), least(0n, ...values), greatest(0n, ...values));
 }
 
-// An unsigned array keeps a value modulo 2**bits, and a signed one what fits, which is a goal.
+// An element keeps a value modulo 2**bits.
 function storeElement(m, array, index, value) {
   const { cells, bits, kind } = array;
   const v = m.known(value);
   const types = { Int: /^(number|quotient)$/, Uint: /^(number|quotient)$/, BigUint: /^bigint$/};
   if (!cells.areOpen || !isIndex(index, array) || !types[kind]?.test(v.type)) m.fail();
-  if (kind === 'Int')
-    m.goal('it fits in a signed array', isFinite(v) ? range(v.term, -power(bits - 1), power(bits - 1) - 1n) : 'false');
-  let rest = kind === 'Int' ? v : modulo(m, v, bits);
-  for (let i = 0; i < bits / cells.bits; i++) {
-    const [higher, { term, low, high }] = kind === 'Int' ? [rest, rest] : m.path.divide(rest, power(cells.bits));
-    cells[index * bits / cells.bits + i] = integer(term, low, high);
+  const width = bits / cells.bits;
+  let rest = modulo(m, v, bits, kind === 'Int');
+  for (let i = index * width; i < (index + 1) * width; i++) {
+    const [higher, { term, low, high }] = width === 1 ? [rest, rest] : m.path.divide(rest, power(cells.bits));
+    cells[i] = integer(term, low, high);
     rest = higher;
   }
 }

@@ -39,11 +39,14 @@ def exported() -> dict[str, set[str]]:
     """The names by the languages of the page."""
     rust = re.findall(r"\w+", "".join(re.findall(r"\npub (?:use (?:\w+::)+)?([^;]*;)", text("rust/src/lib.rs"))))
     c = re.findall(r"\b(base62_\w+)\(", re.sub(r"(?s)/\*.*?\*/", "", text("c/base62.h")))
+    python = re.findall(
+        r"(?m)^(?:def |class |(?=\w+ = ))([A-Za-z]\w*)", text("python/base62/_base62.pyi", "python/base62/__init__.py")
+    )
     javascript = " ".join(re.findall(r"(?m)^export \{(.*)\}", text("js/index.js")))
     return {
         "Rust": {ALPHABETS.sub("", name) for name in rust},
         "C": {ALPHABETS.sub("", name) for name in c},
-        "Python": {*all_of("__init__"), *(f"columns.{name}" for name in all_of("columns"))},
+        "Python": {*python, *all_of("_types"), *(f"columns.{name}" for name in all_of("columns"))},
         "JavaScript": set(re.findall(r"\w+", javascript)),
         "SQLite": set(re.findall(r'\{"(\w+)",', text("sql/sqlite/functions.c"))),
         "DuckDB": set(re.findall(r'\{"(base62_\w+)",', text("sql/duckdb/functions.c"))),

@@ -5,21 +5,12 @@
 The functions call a C library that Frama-C proves.
 """
 
-from base62._base62 import Alphabet, __version__ as __version__, digit_count, key_range, prefix_range
-from base62._base62 import decode, decode_canonical, decode_fixed, decode_key
-from base62._base62 import decode_uuid, decode_uuid_canonical, decode_uuid_fixed, decode_uuid_key
-from base62._base62 import encode, encode_fixed, encode_key, encode_uuid, encode_uuid_fixed, encode_uuid_key
-from base62._types import AlphabetError, AnyUUID, DecodeError, EmptyInputError, EncodedString, InvalidByteError
-from base62._types import NotCanonicalError, Number, OutOfRangeError, TooLargeError, WrongLengthError
+from base62._base62 import *
+from base62._base62 import Alphabet, __version__ as __version__, encode_key, key_range
+from base62._types import *
+from base62._types import EncodedString
 
 AnyAlphabet = Alphabet | str | bytes
-
-__all__ = ["Alphabet", "AlphabetError", "AnyAlphabet", "AnyUUID", "DecodeError", "EmptyInputError", "EncodedString"]
-__all__ += ["InvalidByteError", "NotCanonicalError", "Number", "OutOfRangeError", "TooLargeError", "WrongLengthError"]
-__all__ += ["decode", "decode_canonical", "decode_fixed", "decode_key"]
-__all__ += ["decode_uuid", "decode_uuid_canonical", "decode_uuid_fixed", "decode_uuid_key", "digit_count"]
-__all__ += ["encode", "encode_fixed", "encode_key", "encode_uuid", "encode_uuid_fixed", "encode_uuid_key"]
-__all__ += ["key_bounds", "key_range", "prefix_range"]
 
 
 def key_bounds(prefix: EncodedString) -> tuple[str, str] | None:

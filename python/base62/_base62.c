@@ -424,9 +424,9 @@ static void free_module(void *module) { clear(module); }
 static PyModuleDef_Slot slots[] = {{3, (void *)2}, {Py_mod_exec, execute}, {0, NULL}};
 
 static PyMethodDef row_calls[] = {
-    {"encode_rows", encode_rows, METH_VARARGS, DOC_encode_rows},
-    {"decode_rows", decode_rows, METH_VARARGS, DOC_decode_rows},
-    {"pack_rows", pack_rows, METH_VARARGS, DOC_pack_rows},
+    {"_encode_rows", encode_rows, METH_VARARGS, DOC__encode_rows},
+    {"_decode_rows", decode_rows, METH_VARARGS, DOC__decode_rows},
+    {"_pack_rows", pack_rows, METH_VARARGS, DOC__pack_rows},
     {NULL, NULL, 0, NULL},
 };
 

@@ -203,7 +203,7 @@ def prefix_range(
 _Source = tuple[str, int, int, object, object, object]
 _Result = tuple[str, object, object, object]
 
-def encode_rows(alphabet: Alphabet, width: int, source: _Source, result: _Result, coerces: bool, /) -> tuple[int, int, int]:
+def _encode_rows(alphabet: Alphabet, width: int, source: _Source, result: _Result, coerces: bool, /) -> tuple[int, int, int]:
     """Encode rows of numbers, with the width, or with no leading zeros if it is -1.
 
     source is a type, an offset, the count of rows, and the buffers of validity, values and characters; result a type, and
@@ -211,10 +211,10 @@ def encode_rows(alphabet: Alphabet, width: int, source: _Source, result: _Result
     of their strings, and how many are null. Raises ValueError if a buffer is too short, or has such offsets.
     """
 
-def decode_rows(alphabet: Alphabet, width: int, source: _Source, result: _Result, coerces: bool, /) -> tuple[int, int, int]:
-    """Like encode_rows, but decode rows of strings of the width, of any length if it is -1, or canonical ones if -2."""
+def _decode_rows(alphabet: Alphabet, width: int, source: _Source, result: _Result, coerces: bool, /) -> tuple[int, int, int]:
+    """Like _encode_rows, but decode rows of strings of the width, of any length if it is -1, or canonical ones if -2."""
 
-def pack_rows(rows: list[object], missing: object, decimal: object, are_uuids: bool, validity: object, values: object, /) -> int:
+def _pack_rows(rows: list[object], missing: object, decimal: object, are_uuids: bool, validity: object, values: object, /) -> int:
     """Store numbers as 16 bytes each, in buffers of zeros, and set the bits of rows that are not missing.
 
     Return how many rows are missing: None, NaN, and the object missing. A number may have the type decimal, if its string

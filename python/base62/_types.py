@@ -6,6 +6,9 @@ import operator
 from typing import SupportsIndex
 from uuid import UUID, SafeUUID
 
+__all__ = ["AlphabetError", "AnyUUID", "DecodeError", "EmptyInputError", "EncodedString", "InvalidByteError"]
+__all__ += ["NotCanonicalError", "Number", "OutOfRangeError", "TooLargeError", "WrongLengthError"]
+
 Number = SupportsIndex | UUID
 EncodedString = str | bytes | bytearray | memoryview
 AnyUUID = UUID | str | bytes

@@ -198,7 +198,7 @@ def _pack_objects(column: Any, are_uuids: bool) -> pa.Array | None:
     missing = getattr(sys.modules.get("pandas"), "NA", None)
     buffers = bytearray((len(rows) + 7) // 8), bytearray(16 * len(rows))
     try:
-        nulls = _base62.pack_rows(rows, missing, None if are_uuids else Decimal, are_uuids, *buffers)
+        nulls = _base62._pack_rows(rows, missing, None if are_uuids else Decimal, are_uuids, *buffers)
     except Exception:
         return None
     return pa.Array.from_buffers(pa.binary(16), len(rows), [*map(pa.py_buffer, buffers)], nulls)
@@ -373,18 +373,18 @@ def _encode(column: object, call: Callable[..., str], options: _Options, kind: _
     characters = Alphabet(alphabet)
     base62.encode(0, characters)  # Raises an exception for an alphabet that is not ASCII.
     _check_type(of_result, pa.string(), pa.large_string())
-    convert_rows, one = partial(_base62.encode_rows, characters, width), _one(call, characters, width)
+    convert_rows, one = partial(_base62._encode_rows, characters, width), _one(call, characters, width)
     convert_one = lambda value: one(int(value) if _is_whole(value) else value)
     return _Conversion(kind, of_result, errors, width, convert_one, convert_rows, _counterpart(call.__name__))(column)
 
 
 def _decode(column: object, call: Callable[..., Any], options: _Options, types: _Decoded, width: int = -1) -> _Array:
-    """Decode by the width of _base62.decode_rows, and by the function for one value."""
+    """Decode by the width of _base62._decode_rows, and by the function for one value."""
     alphabet, errors, of_result = options
     characters, counterpart = Alphabet(alphabet), _counterpart(call.__name__)
     _check_type(of_result, *types)
     size, finish = types[of_result]
-    convert_rows, one = partial(_base62.decode_rows, characters, width), _one(call, characters, width)
+    convert_rows, one = partial(_base62._decode_rows, characters, width), _one(call, characters, width)
     convert_one = lambda text: finish(one(text), counterpart)
     return _Conversion(_STRINGS, of_result, errors, size, convert_one, convert_rows, counterpart)(column)
 

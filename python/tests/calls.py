@@ -37,7 +37,7 @@ OWNED += [Alphabet, Alphabet.STANDARD, Alphabet.ALTERNATIVE]
 
 Call = Callable[..., Any]
 # The functions, and the type that is called too.
-CALLS: list[Call] = [getattr(base62, name) for name in base62.__all__ if name == "Alphabet" or name.islower()]
+CALLS: list[Call] = [Alphabet, *filter(inspect.isroutine, vars(base62).values())]
 
 
 class OtherUUID(uuid.UUID):
@@ -113,17 +113,17 @@ def each_call() -> Iterator[partial[Any]]:
     for shown in (LETTERS, Alphabet.STANDARD):
         yield partial(repr, shown)
         yield partial(shown.__reduce__)
-    encoding = rows_of(_base62.encode_rows, "w", 2, "U")
+    encoding = rows_of(_base62._encode_rows, "w", 2, "U")
     yield encoding
-    yield rows_of(_base62.decode_rows, "u", 2, "L")
-    yield partial(_base62.pack_rows, [WIDE, None, NAME, Decimal(WIDE)], None, Decimal, False, bytearray(1), bytearray(64))
+    yield rows_of(_base62._decode_rows, "u", 2, "L")
+    yield partial(_base62._pack_rows, [WIDE, None, NAME, Decimal(WIDE)], None, Decimal, False, bytearray(1), bytearray(64))
     # Too few rows, negative offsets, a wrong type, a wrong argument behind the buffers, and one before them.
-    yield rows_of(_base62.encode_rows, "w", 3, "U")
-    yield rows_of(_base62.decode_rows, "u", 2, "L", values=b"\xff" * 32)
-    yield rows_of(_base62.decode_rows, "L", 2, "L")
-    yield partial(_base62.pack_rows, [str(NAME), "not a UUID"], None, None, True, bytearray(1), bytearray(32))
-    yield partial(_base62.pack_rows, [Decimal("1.5")], None, Decimal, False, bytearray(1), bytearray(16))
-    yield partial(_base62.pack_rows, [1], None, None, True, bytearray(1), b"read-only")
+    yield rows_of(_base62._encode_rows, "w", 3, "U")
+    yield rows_of(_base62._decode_rows, "u", 2, "L", values=b"\xff" * 32)
+    yield rows_of(_base62._decode_rows, "L", 2, "L")
+    yield partial(_base62._pack_rows, [str(NAME), "not a UUID"], None, None, True, bytearray(1), bytearray(32))
+    yield partial(_base62._pack_rows, [Decimal("1.5")], None, Decimal, False, bytearray(1), bytearray(16))
+    yield partial(_base62._pack_rows, [1], None, None, True, bytearray(1), b"read-only")
     *given, new, coerces = encoding.args
     yield partial(encoding.func, *given, (*new[:3], b"read-only"), coerces)
     yield partial(encoding.func, "letters", *given[1:], new, coerces)

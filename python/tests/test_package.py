@@ -3,6 +3,7 @@
 """Tests of the package: its exports, README, reimports and subinterpreters."""
 
 import ast
+import contextlib
 import ctypes
 import doctest
 import gc
@@ -16,13 +17,13 @@ import sys
 import types
 import unittest
 import unittest.mock
-import uuid
 import weakref
+from collections import defaultdict
 from typing import Any
 
 import base62
 from base62 import _base62, _types
-from calls import CALLS, CUSTOM, OWNED, PACKAGE, TOP, page, valid_arguments
+from calls import CALLS, CUSTOM, OWNED, PACKAGE, TOP, each_call, page, valid_arguments
 from test_memory import load_extension
 from test_values import rows
 
@@ -31,15 +32,20 @@ INTERPRETERS = "_interpreters" if sys.version_info >= (3, 13) else "_xxsubinterp
 # The types of the parameters, by name.
 TYPES = {"number": "Number", "value": "AnyUUID", "width": "SupportsIndex", "alphabet": "AnyAlphabet"}
 TYPES |= {"text": "EncodedString", "prefix": "EncodedString", "characters": "str | bytes"}
-# The types of results, by those of Python.
-RETURNS = {str: "str", int: "int", uuid.UUID: "UUID", tuple: "tuple[int, int] | None", base62.Alphabet: "Self"}
+
+
+def type_of(result: object) -> str:
+    """The type as the stub names it."""
+    if isinstance(result, tuple):
+        return f"tuple[{', '.join(map(type_of, result))}]"
+    return type(result).__name__.removesuffix("Type")
 
 
 class Package(unittest.TestCase):
     def test_exports(self) -> None:
-        names = {name for name in dir(base62) if name[0] != "_"} - {"columns"}
-        self.assertEqual(sorted(names), base62.__all__)
-        for name in names - {"AnyAlphabet", "AnyUUID", "EncodedString", "Number"}:
+        """What modules import is none: the functions and types of the package say where users find them."""
+        names = {name for name in dir(base62) if name[0] != "_"}
+        for name in names - {"AnyAlphabet", "AnyUUID", "EncodedString", "Number", "columns"}:
             self.assertTrue(inspect.getdoc(getattr(base62, name)), name)
             self.assertEqual(getattr(base62, name).__module__, "base62", name)
 
@@ -80,7 +86,7 @@ class Package(unittest.TestCase):
                 self.assertEqual(call(**given), call(*reversed(given.values()), base62.Alphabet.STANDARD))
 
     def test_stub(self) -> None:
-        """Editors show what help shows. Parameters of one name have one type, and results that of the stub."""
+        """Editors show what help shows. Parameters of one name have one type, and results each type of the stub."""
         stub = ast.parse(pathlib.Path(_base62.__file__).with_name("_base62.pyi").read_text())
         documented = [node for node in stub.body if isinstance(node, (ast.FunctionDef, ast.ClassDef))]
         texts = {node.name: ast.get_docstring(node) for node in documented}
@@ -88,10 +94,13 @@ class Package(unittest.TestCase):
         self.assertEqual(texts, shown)
         arguments = [value for node in ast.walk(stub) if isinstance(node, ast.FunctionDef) for value in node.args.args]
         self.assertEqual({(each.arg, ast.unparse(each.annotation)) for each in arguments if each.annotation}, {*TYPES.items()})
-        for node in documented:
-            if call := getattr(base62, node.name, None):
-                result = call(*valid_arguments(call).values())
-                self.assertIn(f" -> {RETURNS[type(result)]}:\n", ast.unparse(node))
+        found = defaultdict[str, set[str]](set)
+        for call in each_call():
+            with contextlib.suppress(Exception):
+                found[call.func.__name__].add(type_of(call()))
+        for node in stub.body:
+            if isinstance(node, ast.FunctionDef) and node.returns:
+                self.assertEqual(found[node.name], {*ast.unparse(node.returns).split(" | ")}, node.name)
 
     def test_wrong_arguments(self) -> None:
         """Too few or too many, one of another name, and one twice. The call is named."""
@@ -146,7 +155,7 @@ class Modules(unittest.TestCase):
             number = base62.decode(text, bytes(alphabet))
             self.assertEqual((again.decode(text, alphabet), again.encode(number, alphabet)), (number, text))
             source, new = ("L", 0, 1, None, number.to_bytes(8, sys.byteorder), None), [*map(bytearray, (1, 16, 11))]
-            self.assertEqual(again.encode_rows(alphabet, -1, source, ("U", *new), False), (1, 2, 0))
+            self.assertEqual(again._encode_rows(alphabet, -1, source, ("U", *new), False), (1, 2, 0))
             self.assertEqual(new[2][:2], text.encode())
 
     def test_unload(self) -> None:

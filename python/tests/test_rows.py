@@ -184,7 +184,7 @@ class Input:
     def check(self) -> bool:
         """Whether the array is well-formed."""
         expected = self.expected()
-        call: Any = _base62.encode_rows if self.encodes else _base62.decode_rows
+        call: Any = _base62._encode_rows if self.encodes else _base62._decode_rows
         # An array lacks the buffer of its characters if it has none.
         source = self.format, self.offset, self.count, self.validity, self.values, self.characters or None
         try:
@@ -219,7 +219,7 @@ class Runs(unittest.TestCase):
         new = bytearray((count + 7) // 8), bytearray(4 * count + 4), bytearray(11 * count)
         validity = bitmap([row % 3 != 0 for row in range(24)]) * (count // 24 + 1)
         source = "l", 0, count, validity, bytes(8 * count), None
-        return new, lambda: _base62.encode_rows(ALPHABETS[0], -1, source, ("u", *new), False)
+        return new, lambda: _base62._encode_rows(ALPHABETS[0], -1, source, ("u", *new), False)
 
     def test_gil(self) -> None:
         self.assertTrue(others_run(self.encoded(3 * RUN)[1]))
@@ -255,9 +255,9 @@ class Runs(unittest.TestCase):
         length, result = 2**25, (bytearray(4), bytearray(), bytearray(256))
         source = "U", 0, 32, None, to_bytes("U", *range(0, 33 * length, length)), pages(32 * length)
         zeros = base62.Alphabet(bytes(range(62)))
-        self.check_interrupted(result, lambda: _base62.decode_rows(zeros, -1, source, ("l", *result), False))
+        self.check_interrupted(result, lambda: _base62._decode_rows(zeros, -1, source, ("l", *result), False))
         result = bytearray(4), bytearray(33 * 8), bytearray(32 * length)
-        call: Any = lambda: _base62.encode_rows(zeros, length, ("l", 0, 32, None, bytes(256), None), ("U", *result), False)
+        call: Any = lambda: _base62._encode_rows(zeros, length, ("l", 0, 32, None, bytes(256), None), ("U", *result), False)
         self.check_interrupted(result, call)
 
 
@@ -266,14 +266,14 @@ class Objects(unittest.TestCase):
         """No row is behind the end of either buffer. Each fourth is not missing."""
         rows: list[object] = [None, float("nan"), "missing", 5] * 4
         for bits, numbers in ((1, 256), (2, 128)):
-            self.assertEqual(_base62.pack_rows(rows, "missing", None, False, buffer(bytes(bits)), buffer(bytes(numbers))), 6)
+            self.assertEqual(_base62._pack_rows(rows, "missing", None, False, buffer(bytes(bits)), buffer(bytes(numbers))), 6)
 
     def test_changed_list(self) -> None:
         """What converts a row can remove the others."""
         rows: list[Any] = [5, Indexed(6), 7]
         with unittest.mock.patch.object(Indexed, "__index__", lambda self: [rows.pop() for _ in range(3)] and 6):
             validity, values = bytearray(1), bytearray(128)
-            self.assertEqual(_base62.pack_rows(rows, None, None, False, validity, values), 0)
+            self.assertEqual(_base62._pack_rows(rows, None, None, False, validity, values), 0)
         self.assertEqual((validity, values[:48]), (b"\3", to_bytes("w", 5, 6, 0)))
 
 
@@ -298,10 +298,10 @@ class Far(unittest.TestCase):
             values[place : place + 2 * size] = to_bytes(format, *((0, 1) if format in TEXTS else (7, 0)))
             source, new = (format, offset, 2, validity, values, b"7"), (bytearray(1), bytearray(32), bytearray(64))
             if format in TEXTS:
-                self.assertEqual(_base62.decode_rows(ALPHABETS[0], -1, source, ("L", *new), True), (2, 0, 1))
+                self.assertEqual(_base62._decode_rows(ALPHABETS[0], -1, source, ("L", *new), True), (2, 0, 1))
                 self.assertEqual(memoryview(new[2]).cast("Q")[1], 7)
             else:
-                self.assertEqual(_base62.encode_rows(ALPHABETS[0], -1, source, ("u", *new), True), (2, 1, 1))
+                self.assertEqual(_base62._encode_rows(ALPHABETS[0], -1, source, ("u", *new), True), (2, 1, 1))
                 self.assertEqual(new[2][:1], b"7")
             values.close()
 
@@ -309,16 +309,16 @@ class Far(unittest.TestCase):
         """What is behind the last row, or the last byte of its bitmap, has an index above sys.maxsize."""
         for format, count in product(TEXTS, range(8)):
             source, new = (format, sys.maxsize - count, count, None, b"", None), (bytearray(1), bytearray(0), bytearray(64))
-            self.assertRaisesRegex(ValueError, MALFORMED, _base62.decode_rows, ALPHABETS[0], -1, source, ("L", *new), True)
+            self.assertRaisesRegex(ValueError, MALFORMED, _base62._decode_rows, ALPHABETS[0], -1, source, ("L", *new), True)
 
     def test_small_offsets(self) -> None:
         """Offsets of 32 bits are for fewer than 2^31 characters."""
         for size in (2**31 - 1, 2**31):
             given = ("l", 0, 1, b"\0", bytes(8), None), ("u", bytearray(1), bytearray(8), pages(size)), False
             if size < 2**31:
-                self.assertEqual(_base62.encode_rows(ALPHABETS[0], -1, *given), (1, 0, 1))
+                self.assertEqual(_base62._encode_rows(ALPHABETS[0], -1, *given), (1, 0, 1))
             else:
-                self.assertRaisesRegex(ValueError, MALFORMED, _base62.encode_rows, ALPHABETS[0], -1, *given)
+                self.assertRaisesRegex(ValueError, MALFORMED, _base62._encode_rows, ALPHABETS[0], -1, *given)
 
     def test_characters(self) -> None:
         """The last string has more than 2^31 characters, of which nearly all are the zero of its alphabet."""
@@ -329,5 +329,5 @@ class Far(unittest.TestCase):
         for letters, text, length, number in ((ALPHABETS[0], b"LZ", 2, 1337), (other, b"\1\2", 2**31 + 2, 64)):
             characters[-2:] = text
             source = "U", 0, 1, None, to_bytes("U", end - length, end), characters
-            self.assertEqual(_base62.decode_rows(letters, -1, source, result, False), (1, 0, 0))
+            self.assertEqual(_base62._decode_rows(letters, -1, source, result, False), (1, 0, 0))
             self.assertEqual(number_at("L", values, 0), number)

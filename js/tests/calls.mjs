@@ -1,4 +1,4 @@
-// Checks each function by rows in the form of tests/values.tsv, in any runtime.
+// Checks each function by rows in the form of tests/values.tsv, in any runtime. Draws such rows, in Node.
 
 // The functions that decode, by what they accept.
 const DECODERS = {
@@ -9,7 +9,7 @@ const DECODERS = {
 };
 
 // The codes of errors by the words of the rows.
-export const CODES = {
+const CODES = {
   byte: 'INVALID_BYTE',
   empty: 'EMPTY_INPUT',
   length: 'WRONG_LENGTH',
@@ -131,6 +131,7 @@ export class Checks {
 
   check(row) {
     const [kind, ...fields] = row.split('\t');
+    if (!ROWS[kind]) throw new Error(`js/tests/calls.mjs has no calls for rows of the kind ${kind}`);
     if (kind === 'alphabet') this.#addAlphabet(...fields);
     for (const [name, expected, values, alphabet = 'none', ...others] of ROWS[kind](...fields)) {
       for (const value of values) {
@@ -163,4 +164,74 @@ export class Checks {
       return error instanceof Base62Error && isExpected ? {...error } : `${error}`;
     }
   }
+}
+
+const ASCII = Array.from({ length: 128 }, (_, code) => String.fromCharCode(code));
+const OTHERS = [...ASCII, ...'\x80\u0141\u07ff\u0800\uffff\u{10000}\u{10ffff}'];
+const below = (end) => Math.floor(Math.random() * end);
+const pick = (list) => list[below(list.length)];
+const fieldOf = (text) => Buffer.from(text).toString('hex').replace(/../g, '%$&');
+
+// Of any length. In a base of the library or of its arithmetic, runs of digits at both ends, or of any; then near it.
+function drawNumber() {
+  const base = pick([2n, 62n, 256n, 2n ** 24n, 2n ** 32n, 62n ** 4n, 62n ** 8n]);
+  const limit = 2n ** BigInt(below(129));
+  let digit = 1n;
+  let number = 0n;
+  do {
+    if (below(3) === 0) digit = pick([0n, 1n, base - 2n, base - 1n, BigInt(below(Number(base)))]);
+    number = number * base + digit;
+  } while (number < limit);
+  return BigInt.asUintN(128, number + BigInt(below(5) - 2));
+}
+
+// Zeros and the string of a number or any characters of the alphabet, with one other character or several anywhere.
+function drawText({ encode }, alphabet) {
+  const { characters } = alphabet;
+  const any = Array.from({ length: below(25) }, () => pick(characters));
+  const digits = [...characters[0].repeat(pick([0, 1, below(30)])), ...pick([any, encode(drawNumber(), alphabet)])];
+  digits.splice(below(digits.length + 1), 0, pick(OTHERS).repeat(pick([0, 0, 1, below(9)])));
+  return Buffer.from(digits.join(''), pick(['latin1', 'utf8']));
+}
+
+// What a call returns or throws, in the words of the rows.
+function resultOf(call) {
+  try {
+    const result = call();
+    if (result === null) return 'none';
+    return typeof result === 'bigint' ? `number\t${result}` : `numbers\t${result.join('\t')}`;
+  } catch ({ code, byte, index }) {
+    const word = Object.keys(CODES).find((key) => CODES[key] === code);
+    return byte === undefined ? word : `${word}\t${byte}\t${index}`;
+  }
+}
+
+// Rows of each kind that has an alphabet, of what the functions return for drawn arguments.
+function drawRowsOver(base62, name, alphabet) {
+  const number = drawNumber();
+  const text = drawText(base62, alphabet);
+  const width = pick([22, text.length, below(60)]);
+  const field = fieldOf(text);
+  const isNarrow = base62.digitCount(number) > width;
+  const fixed = isNarrow ? '' : fieldOf(base62.encodeFixed(number, width, alphabet));
+  const any = resultOf(() => base62.decode(text, alphabet));
+  const [kind, value] = any.split('\t');
+  const isSame = any === resultOf(() => base62.decodeCanonical(text, alphabet));
+  const canonical = kind === 'number' ? `encode\t${name}\t${value}\t${field}` : `refused\t${name}\t${field}\t${any}`;
+  return [
+    `encode\t${name}\t${number}\t${fieldOf(base62.encode(number, alphabet))}`,
+    isNarrow ? `narrow\t${name}\t${number}\t${width}` : `fixed\t${name}\t${number}\t${width}\t${fixed}`,
+    isSame ? canonical : `zeros\t${name}\t${field}\t${value}`,
+    `exact\t${name}\t${width}\t${field}\t${resultOf(() => base62.decodeFixed(text, width, alphabet))}`,
+    `range\t${name}\t${width}\t${field}\t${resultOf(() => base62.prefixRange(text, width, alphabet))}`
+  ];
+}
+
+// Rows over the standard alphabet and one that is drawn.
+export function drawRows(base62) {
+  const others = [...ASCII];
+  const characters = Array.from({ length: 62 }, () => others.splice(below(others.length), 1)[0]).join('');
+  const alphabets = [['standard', base62.Alphabet.standard], ['drawn', new base62.Alphabet(characters)]];
+  const rows = Array.from({ length: 1000 }, () => drawRowsOver(base62, ...pick(alphabets))).flat();
+  return [`alphabet\tdrawn\t${fieldOf(characters)}\t1`, ...rows];
 }

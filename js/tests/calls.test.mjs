@@ -11,9 +11,9 @@ import {runInNewContext} from 'node:vm';
 
 import * as modules from '../index.js';
 
-import {Checks, CODES} from './calls.mjs';
+import {Checks, drawRows} from './calls.mjs';
 
-const { Alphabet, decode, decodeFixed, decodeKey, digitCount, encode, encodeFixed, encodeKey, encodeUuid } = base62;
+const { Alphabet, decode, decodeFixed, decodeKey, encode, encodeFixed, encodeUuid } = base62;
 const file = readFileSync(new URL('../../tests/values.tsv', import.meta.url), 'utf8');
 const NAMES = Object.keys(base62).sort();
 const custom = new Alphabet('23456789ABCDEFGHJKLMNPQRSTUVWXYZabcdefghijkmnpqrstuvwxyz-_.~!*');
@@ -60,12 +60,21 @@ const ofNumber = [...callsOf.Integer, ...callsOf['Integer | Uuid']];
 const ofUuid = [...callsOf.Uuid, ...callsOf['Integer | Uuid']];
 
 test('functions have the types of index.d.cts, and those of one argument work with map', () => {
-  const typeOf = (result) => (Array.isArray(result) ? `[${result.map(typeOf).join(', ')}] | null` : typeof result);
-  assert.deepEqual(['Alphabet', 'Base62Error', ...functions.map(([, name]) => name)].sort(), NAMES);
+  const typeOf = (result) => Array.isArray(result) ? `[${result.map(typeOf).join(', ')}]` :
+    result === null ? 'null' :
+                      typeof result;
+  const found = Object.fromEntries(functions.map(([, name]) => [name, new Set()]));
+  assert.deepEqual(['Alphabet', 'Base62Error', ...Object.keys(found)].sort(), NAMES);
+  const recording = (name) => (...given) => {
+    const result = base62[name](...given);
+    found[name].add(typeOf(result));
+    return result;
+  };
+  new Checks({...base62, ...Object.fromEntries(Object.keys(found).map((name) => [name, recording(name)])) }, file);
   for (const [, name, parameters, type] of functions) {
+    assert.deepEqual([...found[name]].sort(), type.replace(/\w+: /g, '').split(' | ').sort(), name);
     const valid = validOf(typesOf(parameters));
     const result = base62[name](...valid);
-    assert.equal(typeOf(result), type.replace(/\w+: /g, ''), name);
     assert.equal(base62[name].length, valid.length - parameters.split('?').length + 1, name);
     if (valid.length === 1) assert.deepEqual([valid[0], valid[0]].map(base62[name]), [result, result]);
   }
@@ -255,67 +264,6 @@ test('calls go on after the stack has run out in one', () => {
   assert.deepEqual([...failures], ['RangeError undefined']);
 });
 
-const ASCII = Array.from({ length: 128 }, (_, code) => String.fromCharCode(code));
-const OTHERS = [...ASCII, ...'\x80\u0141\u07ff\u0800\uffff\u{10000}\u{10ffff}'];
-const below = (end) => Math.floor(Math.random() * end);
-const pick = (list) => list[below(list.length)];
-const fieldOf = (text) => Buffer.from(text).toString('hex').replace(/../g, '%$&');
-
-// Of any length. In a base of the library or of its arithmetic, runs of digits at both ends, or of any; then near it.
-function drawNumber() {
-  const base = pick([2n, 62n, 256n, 2n ** 24n, 2n ** 32n, 62n ** 4n, 62n ** 8n]);
-  const limit = 2n ** BigInt(below(129));
-  let digit = 1n;
-  let number = 0n;
-  do {
-    if (below(3) === 0) digit = pick([0n, 1n, base - 2n, base - 1n, BigInt(below(Number(base)))]);
-    number = number * base + digit;
-  } while (number < limit);
-  return BigInt.asUintN(128, number + BigInt(below(5) - 2));
-}
-
-// Zeros and the string of a number or any characters of the alphabet, with one other character or several anywhere.
-function drawText(alphabet) {
-  const { characters } = alphabet;
-  const any = Array.from({ length: below(25) }, () => pick(characters));
-  const digits = [...characters[0].repeat(pick([0, 1, below(30)])), ...pick([any, encode(drawNumber(), alphabet)])];
-  digits.splice(below(digits.length + 1), 0, pick(OTHERS).repeat(pick([0, 0, 1, below(9)])));
-  return Buffer.from(digits.join(''), pick(['latin1', 'utf8']));
-}
-
-// What a call returns or throws, in the words of the rows.
-function resultOf(call) {
-  try {
-    const result = call();
-    if (result === null) return 'none';
-    return typeof result === 'bigint' ? `number\t${result}` : `numbers\t${result.join('\t')}`;
-  } catch ({ code, byte, index }) {
-    const word = Object.keys(CODES).find((key) => CODES[key] === code);
-    return byte === undefined ? word : `${word}\t${byte}\t${index}`;
-  }
-}
-
-// Rows of what the functions return for drawn arguments.
-function drawRows(name, alphabet) {
-  const number = drawNumber();
-  const text = drawText(alphabet);
-  const width = pick([22, text.length, below(60)]);
-  const field = fieldOf(text);
-  const isNarrow = digitCount(number) > width;
-  const fixed = isNarrow ? '' : fieldOf(encodeFixed(number, width, alphabet));
-  const any = resultOf(() => decode(text, alphabet));
-  const [kind, value] = any.split('\t');
-  const isSame = any === resultOf(() => base62.decodeCanonical(text, alphabet));
-  const canonical = kind === 'number' ? `encode\t${name}\t${value}\t${field}` : `refused\t${name}\t${field}\t${any}`;
-  return [
-    `encode\t${name}\t${number}\t${fieldOf(encode(number, alphabet))}`,
-    isNarrow ? `narrow\t${name}\t${number}\t${width}` : `fixed\t${name}\t${number}\t${width}\t${fixed}`,
-    isSame ? canonical : `zeros\t${name}\t${field}\t${value}`,
-    `exact\t${name}\t${width}\t${field}\t${resultOf(() => decodeFixed(text, width, alphabet))}`,
-    `range\t${name}\t${width}\t${field}\t${resultOf(() => base62.prefixRange(text, width, alphabet))}`
-  ];
-}
-
 const skip = spawnSync('cc', ['--version']).status !== 0 && 'install a C compiler';
 const wanted = Number(process.env.CALLS ?? 1e6);
 
@@ -330,11 +278,7 @@ test(`${wanted} random calls return what c/base62.c returns`, { skip }, () => {
     execFileSync(
       'cc', ['-O1', '-I.', '-o', program, 'tests/values.c', 'base62.c'], { cwd: new URL('../../c', import.meta.url) });
     for (const end = checks.calls + wanted; checks.calls < end;) {
-      const others = [...ASCII];
-      const characters = Array.from({ length: 62 }, () => others.splice(below(others.length), 1)[0]).join('');
-      const alphabets = [['standard', Alphabet.standard], ['drawn', new Alphabet(characters)]];
-      const rows = Array.from({ length: 1000 }, () => drawRows(...pick(alphabets))).flat();
-      rows.unshift(`alphabet\tdrawn\t${fieldOf(characters)}\t1`);
+      const rows = drawRows(base62);
       for (const row of rows) checks.check(row);
       writeFileSync(path, [...first, ...rows].join('\n'));
       execFileSync(program, [path]);

@@ -66,8 +66,8 @@ def listed() -> dict[str, set[str]]:
     """The names of the page, and of SQL those of its README, which has more."""
     columns, sql = columns_of("docs/CALLS.md", "function"), columns_of("sql/README.md", "returns")
     in_all = sql.pop("in all three")
-    if columns.pop("SQL") != in_all:
-        raise SystemExit("docs/CALLS.md and sql/README.md differ in what all three databases have")
+    if differing := columns.pop("SQL") ^ in_all:
+        raise SystemExit(f"only one of docs/CALLS.md and sql/README.md has in all three databases: {' '.join(sorted(differing))}")
     return columns | {title.removeprefix("only "): names | in_all for title, names in sql.items()}
 
 

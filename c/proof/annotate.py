@@ -113,7 +113,7 @@ def place(head, lines, functions):
     where, text = re.split(r" (before|after) ", head, maxsplit=1)[1:]
     hits = [last] if text == "@end" else [i for i in range(first, last + 1) if text in lines[i]]
     if len(hits) != 1:
-        raise SystemExit(f"{len(hits)} lines: {head}")
+        raise SystemExit(f"{len(hits)} lines of {name} in base62.c have the text, not one: {head}")
     return hits[0] + (where == "after"), clauses
 
 

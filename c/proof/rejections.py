@@ -231,7 +231,7 @@ int planted(const char *p) { return 1; }
 
 def once(text, old, new):
     if text.count(old) != 1:
-        raise SystemExit(f"{text.count(old)} places: {old}")
+        raise SystemExit(f"{text.count(old)} places in the code, not one, have the text: {old}")
     return text.replace(old, new)
 
 

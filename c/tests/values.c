@@ -32,7 +32,7 @@ static size_t field_count;
 static int at_end;
 
 static void expect_of_row(int holds, const char *what) {
-    if (!holds) fprintf(stderr, "row %lu: ", row_number);
+    if (!holds) fprintf(stderr, "row %lu, %s: ", row_number, fields[0]);
     expect(holds, what);
 }
 
@@ -390,7 +390,7 @@ static void check_row(void) {
     size_t k = 0;
     split_row();
     while (k < KINDS && strcmp(fields[0], kinds[k].name) != 0) k++;
-    expect_of_row(k < KINDS, "no such kind");
+    expect_of_row(k < KINDS, "c/tests/values.c checks no such rows");
     for (at_end = 0; at_end < 2; at_end++) kinds[k].check();
 }
 

@@ -59,6 +59,7 @@ def numbers_of_bounds(prefix: str | bytes) -> tuple[int, int] | None:
 class Values(RaisesTestCase):
     def raises(self, expected: list[str], call: Call, *given: object) -> None:
         """A call raises exactly this error, with the message of its row if there is one."""
+        self.assertIn(expected[0], KINDS, "no exception is known for this word of a row")
         error = self.raised(KINDS[expected[0]], call, *given)
         self.assertEqual(vars(error), dict(zip(("byte", "index"), map(int, expected[1:]))))
         self.assertEqual(str(error), MESSAGES.get(tuple(expected), str(error)))

@@ -73,7 +73,7 @@ class Functions(Case):
     def test_calls(self) -> None:
         """Of each function, with each count of arguments."""
         query = "SELECT substr(name, 8), narg FROM pragma_function_list WHERE name LIKE 'base62%'"
-        self.assertEqual({*self.db.execute(query)}, {*FUNCTIONS, ("version", 0)})
+        self.assertEqual({*self.db.execute(query)}, {*FUNCTIONS, ("version", 0)}, "the second have calls in values.py")
         for name, given, result in CALLS:
             expected = f"base62: {result.message}" if isinstance(result, Error) else result
             self.assertEqual(self.result(name, *given), expected, (name, given))

@@ -6,10 +6,11 @@ CREATE VIEW functions AS SELECT p.*
     FROM pg_proc p JOIN pg_depend d ON (d.classid, d.objid, d.deptype) = ('pg_proc'::regclass, p.oid, 'e')
     JOIN pg_extension e ON (d.refclassid, d.refobjid, e.extname) = ('pg_extension'::regclass, e.oid, 'base62');
 \echo Their attributes
-SELECT provolatile, proisstrict, proparallel, proleakproof, prosecdef, count(*) FROM functions GROUP BY 1, 2, 3, 4, 5;
+SELECT DISTINCT provolatile, proisstrict, proparallel, proleakproof, prosecdef, substring(proname, 'version')
+    FROM functions ORDER BY 1;
 \echo No two share a name, unless an argument is optional; each has its own description, which names its type
 SELECT proname FROM functions GROUP BY proname, pronargs HAVING count(*) > 1;
-SELECT count(DISTINCT obj_description(oid, 'pg_proc')), obj_description('base62_key'::regtype, 'pg_type')
+SELECT count(*) - count(DISTINCT obj_description(oid, 'pg_proc')), obj_description('base62_key'::regtype, 'pg_type')
     FROM functions;
 SELECT oid::regprocedure FROM functions WHERE obj_description(oid, 'pg_proc') !~ CASE WHEN proname ~ '_uuid' THEN 'UUID'
     WHEN proname ~ 'numeric' THEN 'numeric' WHEN proname ~ 'code|number' THEN 'number' ELSE '' END;

@@ -12,7 +12,7 @@ ALPHABETS = re.compile(r"_(alternative|alt|with)(?=_|$)")
 BARE = r"(?<![\w.])"
 NAMING = {
     "Rust": (["rust/tests/*.rs"], "//.*", BARE),
-    "C": (["c/tests/values.c", "c/README.md"], r"/\*(?s:.*?)\*/", BARE),
+    "C": (["c/tests/values.c"], r"/\*(?s:.*?)\*/", BARE),
     "Python": (["python/tests/test_*.py", "python/README.md", "python/COLUMNS.md"], "#.*", '["`]'),
     "JavaScript": (["js/tests/calls.mjs", "js/README.md"], "//.*", BARE),
 }
@@ -102,6 +102,9 @@ def main() -> None:
             if path.endswith(".md"):  # Functions of columns have a page of their own.
                 missing = {name for name in missing if ("columns." in name) == ("COLUMNS" in path)}
             errors += [f"{language}: {name} is exported, and not used in {path}" for name in missing]
+    for block in text("c/base62.h").split("\n\n"):
+        if "/*" not in block:
+            errors += [f"C: {name} has no comment in c/base62.h" for name in re.findall(r"\b(base62_\w+)\(", block)]
     for path, languages in PAGES.items():
         names = unknown(path, set().union(*map(exports.get, languages)))
         errors += [f"{path}: {name} is not exported" for name in names]

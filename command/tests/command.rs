@@ -1,6 +1,3 @@
-// SPDX-License-Identifier: MIT
-// Copyright (c) 2026 the maintainers of base62 for Rattle
-
 //! The command: what it prints, what it writes to standard error, and its status.
 
 mod shell;

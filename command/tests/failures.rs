@@ -1,6 +1,3 @@
-// SPDX-License-Identifier: MIT
-// Copyright (c) 2026 the maintainers of base62 for Rattle
-
 //! Each allocation, read and write of the programs fails in turn. `FAIL_CALL` names the library that is preloaded for
 //! this, which `scripts/check-command` compiles of `.ci/fail_call.c`.
 #![cfg(target_os = "linux")]

@@ -1,6 +1,3 @@
-// SPDX-License-Identifier: MIT
-// Copyright (c) 2026 the maintainers of base62 for Rattle
-
 //! `base62_cli`, if its input, output or memory fails, and if all goes well. `BASE62_CLI` names another program to test,
 //! which `.ci/io-errors` sets.
 

@@ -1,6 +1,3 @@
-// SPDX-License-Identifier: MIT
-// Copyright (c) 2026 the maintainers of base62 for Rattle
-
 //! What is installed beside the command: the manual page is that of the help, and the completions find the words there.
 
 mod shell;

@@ -1,5 +1,3 @@
-# SPDX-License-Identifier: MIT
-# Copyright (c) 2026 the maintainers of base62 for Rattle
 """What several tests share: files, the functions, and calls of each with valid and invalid arguments."""
 
 import doctest

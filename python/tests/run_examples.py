@@ -1,5 +1,3 @@
-# SPDX-License-Identifier: MIT
-# Copyright (c) 2026 the maintainers of base62 for Rattle
 """Runs each example that uses another library, and names those whose library this Python lacks."""
 
 import doctest

@@ -1,5 +1,3 @@
-# SPDX-License-Identifier: MIT
-# Copyright (c) 2026 the maintainers of base62 for Rattle
 """Tests of memory: each allocation of a call fails in turn, alone and with all later ones, and nothing leaks."""
 
 import gc

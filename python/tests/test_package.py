@@ -1,5 +1,3 @@
-# SPDX-License-Identifier: MIT
-# Copyright (c) 2026 the maintainers of base62 for Rattle
 """Tests of the package: its exports, README, reimports and subinterpreters."""
 
 import ast

@@ -1,5 +1,3 @@
-# SPDX-License-Identifier: MIT
-# Copyright (c) 2026 the maintainers of base62 for Rattle
 """Tests of what COLUMNS.md says of other software, with ids that are equal as floats."""
 
 import doctest

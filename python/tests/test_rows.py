@@ -1,5 +1,3 @@
-# SPDX-License-Identifier: MIT
-# Copyright (c) 2026 the maintainers of base62 for Rattle
 """Tests of the loops of base62.columns over plain buffers, valid and malformed, by the functions for one value."""
 
 import mmap

@@ -1,5 +1,3 @@
-# SPDX-License-Identifier: MIT
-# Copyright (c) 2026 the maintainers of base62 for Rattle
 """Tests of each call by the values of tests/values.tsv at the top, whose head says what its rows are."""
 
 import itertools

@@ -1,5 +1,3 @@
-# SPDX-License-Identifier: MIT
-# Copyright (c) 2026 the maintainers of base62 for Rattle
 """What mypy finds in calls: exactly these types, and an error in each marked line. Nothing here is run.
 
 Parameters of one name have one type, and functions return those of the stub, which test_package.py shows: one function gets

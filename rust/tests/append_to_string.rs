@@ -1,6 +1,3 @@
-// SPDX-License-Identifier: MIT
-// Copyright (c) 2026 the maintainers of base62 for Rattle
-
 //! Functions that append to a string: what they append, what they allocate, and that the rest stays unchanged.
 #![cfg(feature = "alloc")]
 

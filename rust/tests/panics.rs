@@ -1,6 +1,3 @@
-// SPDX-License-Identifier: MIT
-// Copyright (c) 2026 the maintainers of base62 for Rattle
-
 //! A panic over letters that are repeated or not ASCII says so, and tells the place of the call in the caller's code. It
 //! changes no string.
 #![cfg(feature = "alloc")]

@@ -1,6 +1,3 @@
-// SPDX-License-Identifier: MIT
-// Copyright (c) 2026 the maintainers of base62 for Rattle
-
 //! The signatures and bounds of the crate `base62` 2.2.6, constants, and the traits of the types.
 
 mod support;

@@ -1,6 +1,3 @@
-/* SPDX-License-Identifier: MIT */
-/* Copyright (c) 2026 the maintainers of base62 for Rattle */
-
 /* Makes each allocation of SQLite fail in turn, in each of the queries below and while the module that is named is
  * loaded. A query has to return the result beside it or to be out of memory, takes little memory, and leaks none. The
  * last queries allocate less memory than an alphabet for each of their rows would take. */

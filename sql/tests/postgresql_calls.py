@@ -1,5 +1,3 @@
-# SPDX-License-Identifier: MIT
-# Copyright (c) 2026 the maintainers of base62 for Rattle
 """Prints the calls of PostgreSQL's functions as its COPY reads them: a function's name, the count of arguments, the call,
 and its result or the code and message of its error."""
 

@@ -1,5 +1,3 @@
-# SPDX-License-Identifier: MIT
-# Copyright (c) 2026 the maintainers of base62 for Rattle
 """Tests of DuckDB's functions, in the extension that BASE62_DUCKDB names. DUCKDB is the shell that runs them."""
 
 import itertools

@@ -1,5 +1,3 @@
-# SPDX-License-Identifier: MIT
-# Copyright (c) 2026 the maintainers of base62 for Rattle
 """Tests of SQLite's functions, in the module that BASE62_SQLITE names."""
 
 import os

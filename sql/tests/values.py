@@ -1,5 +1,3 @@
-# SPDX-License-Identifier: MIT
-# Copyright (c) 2026 the maintainers of base62 for Rattle
 """Calls of the functions with the results that they have to return, by the values that all packages are tested with."""
 
 import re

@@ -1,6 +1,3 @@
-// SPDX-License-Identifier: MIT
-// Copyright (c) 2026 the maintainers of base62 for Rattle
-
 //! Values from outside this code.
 #![allow(dead_code)]
 

@@ -1,5 +1,3 @@
--- SPDX-License-Identifier: MIT
--- Copyright (c) 2026 the maintainers of base62 for Rattle
 -- Keys in a database that sorts by the rules of a language, of a user who is not a superuser.
 SET client_min_messages = warning;
 DROP DATABASE IF EXISTS contrib_regression_language;

@@ -1,5 +1,3 @@
--- SPDX-License-Identifier: MIT
--- Copyright (c) 2026 the maintainers of base62 for Rattle
 -- A dump is restored, with the generated columns.
 SET client_min_messages = warning;
 DROP DATABASE IF EXISTS contrib_regression_restored;

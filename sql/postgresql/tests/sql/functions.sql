@@ -1,5 +1,3 @@
--- SPDX-License-Identifier: MIT
--- Copyright (c) 2026 the maintainers of base62 for Rattle
 -- Functions, their attributes and arguments, and custom alphabets that change.
 
 CREATE VIEW functions AS SELECT p.*

@@ -1,5 +1,3 @@
--- SPDX-License-Identifier: MIT
--- Copyright (c) 2026 the maintainers of base62 for Rattle
 -- Generated columns, constraints and indexes, and the plans that use them.
 CREATE TABLE link (id bigint PRIMARY KEY, slug text GENERATED ALWAYS AS (base62_encode(id)) STORED UNIQUE
     CHECK (base62_is_canonical(slug)));

@@ -1,5 +1,3 @@
--- SPDX-License-Identifier: MIT
--- Copyright (c) 2026 the maintainers of base62 for Rattle
 -- The results of all functions but base62_version. Only the calls that return another one are printed.
 CREATE EXTENSION base62;
 CREATE TABLE call (name text, arguments integer, call text, expected text);

@@ -1,6 +1,3 @@
-// SPDX-License-Identifier: MIT
-// Copyright (c) 2026 the maintainers of base62 for Rattle
-
 //! `base62-proved` under the name that dependencies of `base62` 2.2 require.
 
 #![no_std]

@@ -6,9 +6,8 @@ The functions call a C library that Frama-C proves.
 """
 
 from base62._base62 import *
-from base62._base62 import Alphabet, __version__ as __version__, encode_key, key_range
+from base62._base62 import __version__ as __version__
 from base62._types import *
-from base62._types import EncodedString
 
 AnyAlphabet = Alphabet | str | bytes
 

@@ -73,7 +73,7 @@ class RaisesTestCase(unittest.TestCase):
 ARGUMENTS: dict[str, list[Any]] = {
     "number": [WIDE, 1337, uuid.UUID(int=WIDE), True, -1, WIDE + 1, 10**100, 1.0],
     "value": [NAME, OtherUUID(int=WIDE), str(NAME), NAME.bytes, "", "é" * 32, b"", 5],
-    "text": [bytearray(TEXT, "ascii"), TEXT, TEXT.encode(), memoryview(b"0L0Z")[::2], "", "é", "\ud800", "z" * 22, 5],
+    "text": [bytearray(TEXT, "ascii"), TEXT, b"LZ".zfill(22), memoryview(b"0L0Z")[::2], "", "é", "\ud800", "z" * 22, 5],
     "width": [22, 65, Indexed(22), 1, -1, -(2**64), "1"],
     "alphabet": [Alphabet.ALTERNATIVE, LETTERS, CUSTOM, CUSTOM.encode(), None, "short", "0" * 62, HIGH],
 }

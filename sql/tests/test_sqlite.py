@@ -196,6 +196,15 @@ class Tables(Case):
         self.db.execute("INSERT INTO guarded VALUES (NULL)")
         self.assertEqual(self.db.execute("SELECT slug FROM guarded").fetchall(), [("1",)])
 
+    def test_affinity(self) -> None:
+        """What SQLite makes of texts: a column of integers converts those that are integers, as one of STRING does."""
+        texts = [(text,) for text in ("1337", "1e3", "5.0", "1E5", "1337x", "7.5")]
+        for kind in ("INTEGER", "STRING"):
+            self.db.execute(f"CREATE TABLE stored_{kind} (value {kind})")
+            self.db.executemany(f"INSERT INTO stored_{kind} VALUES (?)", texts)
+            stored = self.db.execute(f"SELECT value FROM stored_{kind}")
+            self.assertEqual([row[0] for row in stored], [1337, 1000, 5, 100000, "1337x", 7.5])
+
     def test_without_extension(self) -> None:
         """Which queries need it, and that another does not."""
         failing = ("SELECT slug FROM link", "INSERT INTO link VALUES (-1)", "INSERT INTO item VALUES (x'00')")

@@ -2,7 +2,7 @@
 import base62 from 'base62-proved';
 import assert from 'node:assert/strict';
 import {execFileSync, spawnSync} from 'node:child_process';
-import {mkdtempSync, readFileSync, rmSync} from 'node:fs';
+import {mkdtempSync, readFileSync, rmSync, writeFileSync} from 'node:fs';
 import {createRequire} from 'node:module';
 import {tmpdir} from 'node:os';
 import {join} from 'node:path';
@@ -97,12 +97,15 @@ for (const [program, convert] of Object.entries(BUNDLERS)) {
 }
 
 test('what Babel makes of the modules returns the same', { skip: isMissing('babeljs') }, () => {
-  for (const BROWSERSLIST of ['', '> 0.2%, not dead, not op_mini all']) {
+  for (const targets of ['ie 11', '> 0.2%, not dead, not op_mini all', undefined]) {
     const folder = mkdtempSync(join(tmpdir(), 'base62-'));
+    const config = join(folder, 'babel.config.json');
     const files = ['digits.js', 'strings.js', 'uuid.js', 'index.js', `--out-dir=${folder}`];
     try {
-      execFileSync('babeljs', ['--presets=@babel/preset-env', ...files], { cwd, env: {...env, BROWSERSLIST } });
-      assert.doesNotMatch(readFileSync(join(folder, 'index.js'), 'utf8'), /^const /m);
+      writeFileSync(config,
+        JSON.stringify({ presets: [['/usr/share/nodejs/@babel/preset-env', { targets, modules: 'commonjs' }]] }));
+      execFileSync('babeljs', ['--config-file', config, ...files], { cwd, env });
+      if (targets === 'ie 11') assert.doesNotMatch(readFileSync(join(folder, 'index.js'), 'utf8'), /^const /m);
       new Checks(createRequire(folder)(join(folder, 'index.js')), read('../tests/values.tsv'));
     } finally { rmSync(folder, { recursive: true }); }
   }

@@ -1,6 +1,3 @@
-// SPDX-License-Identifier: MIT
-// Copyright (c) 2026 the maintainers of base62 for Rattle
-
 // Writes commonjs/index.js, or with - prints it: the modules in one function. `make generate` runs it.
 import {readFileSync, writeFileSync} from 'node:fs';
 

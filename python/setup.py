@@ -1,5 +1,3 @@
-# SPDX-License-Identifier: MIT
-# Copyright (c) 2026 the maintainers of base62 for Rattle
 """The extension, over base62.c and base62.h, and what an sdist has of the repository."""
 
 import ast

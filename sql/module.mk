@@ -1,6 +1,3 @@
-# SPDX-License-Identifier: MIT
-# Copyright (c) 2026 the maintainers of base62 for Rattle
-
 # What the modules of SQLite and DuckDB share. Each Makefile says how its module is built and tested. The targets are those
 # of ../Makefile and `make check`, which tests the module as it was built. PYTHON runs the tests.
 prefix = /usr/local

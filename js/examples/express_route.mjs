@@ -1,6 +1,3 @@
-// SPDX-License-Identifier: MIT
-// Copyright (c) 2026 the maintainers of base62 for Rattle
-
 // A route of Express with strings in the place of ids: /orders/LZ is order 1337. The Pool of pg has a table of orders.
 import {decodeCanonical, encode} from 'base62-proved';
 import express from 'express';

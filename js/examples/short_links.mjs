@@ -1,6 +1,3 @@
-// SPDX-License-Identifier: MIT
-// Copyright (c) 2026 the maintainers of base62 for Rattle
-
 // Short links: the response to a POST with a URL is a path such as /LZ, which leads to it. Ids are consecutive, so anyone
 // can find all links: for secret ones use encodeKey(crypto.randomUUID()).
 import {decodeNumberCanonical, encode} from 'base62-proved';

@@ -1,6 +1,3 @@
-// SPDX-License-Identifier: MIT
-// Copyright (c) 2026 the maintainers of base62 for Rattle
-
 // Reads modules, and writes their functions so that each operator, condition, read, store and call is a call of a rule.
 import {createRequire} from 'node:module';
 import {runInNewContext} from 'node:vm';

@@ -1,6 +1,3 @@
-// SPDX-License-Identifier: MIT
-// Copyright (c) 2026 the maintainers of base62 for Rattle
-
 // A path through functions: what is known on it, and what has to be proved, as a script for z3. Terms are SMT-LIB.
 import {execFile} from 'node:child_process';
 import {cpus} from 'node:os';

@@ -1,7 +1,4 @@
 #!/usr/bin/env node
-// SPDX-License-Identifier: MIT
-// Copyright (c) 2026 the maintainers of base62 for Rattle
-
 // What is proved of the modules in a folder, or in js/: js/proof/prove.mjs [FOLDER]. README.md says it in words.
 import {readFileSync} from 'node:fs';
 import {fileURLToPath} from 'node:url';

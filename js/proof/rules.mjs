@@ -1,6 +1,3 @@
-// SPDX-License-Identifier: MIT
-// Copyright (c) 2026 the maintainers of base62 for Rattle
-
 // What JavaScript means where a value is not known. Functions run in Node, but each operator, condition, read, store and
 // call in them is a call of a rule here, and a form without one is an error. Where all values are known, a rule does what
 // Node does. Unknown are:
@@ -120,30 +117,27 @@ const OPERATORS = new Map([
 
 // ---- Functions of the language, of unknown values
 
-const CALLS = new Map([
-  [
-    Math.floor,
-    (m, v) => (/^(number|quotient)$/.test(v.type) ? integer(v.term, v.low, v.high, 'number', v.infinite) : m.fail())
-  ],
-  [
-    Math.min,
-    (m, a, b, ...others) => {
-      if (others.length > 0 || a.type !== 'number' || !isFinite(a) || !Number.isSafeInteger(b)) m.fail();
-      return integer(
-        m.path.define(`(ite (<= ${a.term} ${b}) ${a.term} ${b})`), least(a.low, BigInt(b)), least(a.high, BigInt(b)));
-    }
-  ],
-  [String.fromCharCode, (m, ...units) => textOf(units.map((unit) => (isUnknown(unit) ? modulo(m, unit, 16) : unit)))]
-]);
+function minimum(m, a, b, ...others) {
+  if (others.length > 0 || a.type !== 'number' || !isFinite(a) || !Number.isSafeInteger(b)) m.fail();
+  const term = m.path.define(`(ite (<= ${a.term} ${b}) ${a.term} ${b})`);
+  return integer(term, least(a.low, BigInt(b)), least(a.high, BigInt(b)));
+}
+
+const floor = (m, v) =>
+  /^(number|quotient)$/.test(v.type) ? integer(v.term, v.low, v.high, 'number', v.infinite) : m.fail();
+const fromCharCode = (m, ...units) => textOf(units.map((unit) => (isUnknown(unit) ? modulo(m, unit, 16) : unit)));
+const unitAt = (m, { type, units }, i) => (type === 'text' && Number.isInteger(i) ? units[i] : undefined) ?? m.fail();
+const slice = (m, { type, units }, ...ends) =>
+  type === 'text' && ends.every(Number.isInteger) ? textOf(units.slice(...ends)) : m.fail();
+
 export const charCodeAt = (string, i) => string.charCodeAt(i);
+const CALLS =
+  new Map([[Math.floor, floor], [Math.min, minimum], [String.fromCharCode, fromCharCode], [charCodeAt, unitAt]]);
 const METHODS = {
   __proto__: null,
-  charCodeAt: (m, { type, units }, i) => (type === 'text' && Number.isInteger(i) ? units[i] : undefined) ?? m.fail(),
-  slice: (m, { type, units }, ...ends) =>
-    type === 'text' && ends.every(Number.isInteger) ? textOf(units.slice(...ends)) : m.fail()
+  charCodeAt: unitAt,
+  slice
 };
-
-CALLS.set(charCodeAt, METHODS.charCodeAt);
 
 // ---- Typed arrays. Those of a buffer share its cells, which are as wide as the elements of the narrowest of them.
 
@@ -154,14 +148,14 @@ const isIndex = (index, { length }) => Number.isInteger(index) && index >= 0 && 
 // An index that is not known is for a table: an array of constants, or one with a `lookup`.
 function readElement(m, array, index) {
   const { cells, bits, kind, length, lookup } = array;
-  if (isUnknown(index)) {
-    const isTable = (lookup || (bits === cells.bits && !cells.includes(undefined))) && index.type === 'number' &&
-      isFinite(index) && (lookup || !cells.some(isUnknown));
-    m.goal('an index in the array', isTable ? range(index.term, 0n, BigInt(length) - 1n) : 'false');
-    return lookup ? lookup(index) : fromTable(m, cells.map(BigInt), index);
+  if (isUnknown(index) || lookup) {
+    const i = m.known(index);
+    const isTable = lookup || (bits === cells.bits && cells.every(Number.isInteger));
+    if (!isTable || i.type !== 'number' || !isFinite(i)) m.fail();
+    m.goal('an index in the array', range(i.term, 0n, BigInt(length) - 1n));
+    return lookup ? lookup(i) : fromTable(m, cells.map(BigInt), i);
   }
-  if (!isIndex(index, array) || lookup)
-    return lookup && isIndex(index, array) ? lookup(constant(BigInt(index))) : m.fail();
+  if (!isIndex(index, array)) m.fail();
   const width = bits / cells.bits;
   if (width === 1) return cells[index] ?? m.fail();
   const parts = cells.slice(index * width, index * width + width)
@@ -183,9 +177,8 @@ function fromTable(m, values, index) {
 }
 
 // An element keeps a value modulo 2**bits.
-function storeElement(m, array, index, value) {
+function storeElement(m, array, index, v) {
   const { cells, bits, kind } = array;
-  const v = m.known(value);
   const types = { Int: /^(number|quotient)$/, Uint: /^(number|quotient)$/, BigUint: /^bigint$/};
   if (!cells.areOpen || !isIndex(index, array) || !types[kind]?.test(v.type)) m.fail();
   const width = bits / cells.bits;
@@ -223,12 +216,12 @@ export class Machine {
       return Object(value) === value && ![charCodeAt, Math, String].includes(value) ? new Unknown({}) : value;
     const bits = value.BYTES_PER_ELEMENT * 8;
     const kind = value.constructor.name.replace(/\d+Array$/, '');
-    if (this.buffers.has(value.buffer) &&
-      (value.byteOffset !== 0 || !/^(Big)?Uint$/.test(kind) || this.buffers.get(value.buffer).kind !== 'Uint'))
-      return new Unknown({});
-    if (value.byteOffset !== 0) return new Unknown({});
-    if (!this.buffers.has(value.buffer)) this.buffers.set(value.buffer, Object.assign([...value], { bits, kind }));
-    return arrayOf(this.buffers.get(value.buffer), bits, kind, value.length);
+    const found = this.buffers.get(value.buffer);
+    const areUnsigned = /^(Big)?Uint$/.test(kind) && found?.kind === 'Uint';
+    if (value.byteOffset !== 0 || (found && !areUnsigned)) return new Unknown({});
+    const cells = found ?? Object.assign([...value], { bits, kind });
+    this.buffers.set(value.buffer, cells);
+    return arrayOf(cells, bits, kind, value.length);
   }
 
   // Lets functions write an array, which has any elements before.
@@ -291,7 +284,7 @@ export class Machine {
   store(at, array, index, value) {
     this.at = at;
     if (!isUnknown(array) || array.type !== 'array') this.fail();
-    storeElement(this, array, index, value);
+    storeElement(this, array, index, this.known(value));
     return value;
   }
 

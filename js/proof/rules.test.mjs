@@ -1,6 +1,3 @@
-// SPDX-License-Identifier: MIT
-// Copyright (c) 2026 the maintainers of base62 for Rattle
-
 // Compares the rules with Node on border values and random ones: that a function returns what Node returns is proved where
 // it has to be, and nowhere else.
 import assert from 'node:assert/strict';

@@ -1,5 +1,3 @@
-# SPDX-License-Identifier: MIT
-# Copyright (c) 2026 the maintainers of base62 for Rattle
 """A column in partitions, on the processes of a dask cluster.
 
 Each process reads and writes its own partitions: to move the strings between processes would take longer than to

@@ -1,5 +1,3 @@
-# SPDX-License-Identifier: MIT
-# Copyright (c) 2026 the maintainers of base62 for Rattle
 """A field of keys: numbers in the program, strings in forms and in the database, for Django 3.2 and later.
 
 >>> Link.objects.create(id=1337, target="https://example.org/a").id

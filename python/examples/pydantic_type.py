@@ -1,5 +1,3 @@
-# SPDX-License-Identifier: MIT
-# Copyright (c) 2026 the maintainers of base62 for Rattle
 """An id that is a number in the program and its text in JSON, for pydantic 2.
 
 >>> link = Link.model_validate_json('{"id": "LZ"}')

@@ -1,5 +1,3 @@
-# SPDX-License-Identifier: MIT
-# Copyright (c) 2026 the maintainers of base62 for Rattle
 """A column of keys, which are numbers in the program, for SQLAlchemy 1.4 and 2.
 
 >>> engine = sqlalchemy.create_engine("sqlite://")

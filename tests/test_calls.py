@@ -21,7 +21,7 @@ NAMING = {
 # and errors an ending.
 SQL = ["SQLite", "DuckDB", "PostgreSQL"]
 PAGES = {
-    **dict.fromkeys(["README.md", "command/README.md", "docs/CALLS.md"], [*NAMING, *SQL]),
+    **dict.fromkeys(["README.md", "command/README.md", "docs/CALLS.md", "docs/D[!E]*.md", "docs/DEC*.md"], [*NAMING, *SQL]),
     **dict.fromkeys(["js/README.md", "js/index.d.cts", "js/tests/types.ts"], ["JavaScript"]),
     **{"c/README.md": ["C"], "python/*.md": ["Python"], "rust/README.md": ["Rust"], "sql/*.md": SQL},
 }

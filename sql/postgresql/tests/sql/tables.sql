@@ -24,11 +24,13 @@ EXPLAIN (COSTS off) SELECT * FROM item WHERE key LIKE '2aU%';
 EXPLAIN (COSTS off) SELECT * FROM item WHERE key ^@ '2aU';
 EXPLAIN (COSTS off) SELECT * FROM wide
     WHERE id BETWEEN base62_first_numeric('7n4', 22) AND base62_last_numeric('7n4', 22);
-PREPARE between_bounds (text) AS SELECT * FROM item WHERE key BETWEEN base62_first_string($1) AND base62_last_string($1);
+PREPARE between_bounds (text) AS WITH search (p) AS (SELECT CASE WHEN base62_is_valid('0' || $1) THEN $1 END)
+    SELECT id FROM search, item WHERE key BETWEEN base62_first_string(p) AND base62_last_string(p);
 PREPARE like_prefix (text) AS SELECT * FROM item WHERE key LIKE $1 || '%';
 PREPARE starting_with (text) AS SELECT * FROM item WHERE key ^@ $1;
 SET plan_cache_mode = force_generic_plan;
 EXPLAIN (COSTS off) EXECUTE between_bounds ('2aU');
+EXECUTE between_bounds ('2a-');
 EXPLAIN (COSTS off) EXECUTE like_prefix ('2aU');
 EXPLAIN (COSTS off) EXECUTE starting_with ('2aU');
 \echo The queries of KEYS for a prefix, and those prefixes for which they find other rows

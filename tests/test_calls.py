@@ -2,6 +2,7 @@
 """Compares docs/CALLS.md with what each package exports: every name is there, in tests and in READMEs, and no other one."""
 
 import ast
+import builtins
 import re
 from pathlib import Path
 
@@ -16,14 +17,18 @@ NAMING = {
     "Python": (["python/tests/test_*.py", "python/README.md", "python/COLUMNS.md"], "#.*", '["`]'),
     "JavaScript": (["js/tests/calls.mjs", "js/README.md"], "//.*", BARE),
 }
-# Pages and types, and the languages whose names they have. In C and SQL these have a prefix; in others they have verbs.
+# Pages and types, and the languages whose names they have. In C and SQL these have a prefix. In others functions have verbs,
+# and errors an ending.
 SQL = ["SQLite", "DuckDB", "PostgreSQL"]
 PAGES = {
-    **dict.fromkeys(["README.md", "command/README.md", "docs/CALLS.md"], [*NAMING, *SQL]),
+    **dict.fromkeys(["README.md", "command/README.md", "docs/CALLS.md", "docs/D[!E]*.md", "docs/DEC*.md"], [*NAMING, *SQL]),
     **dict.fromkeys(["js/README.md", "js/index.d.cts", "js/tests/types.ts"], ["JavaScript"]),
     **{"c/README.md": ["C"], "python/*.md": ["Python"], "rust/README.md": ["Rust"], "sql/*.md": SQL},
 }
-VERBS = r"(?<![\w./])(?:base62\.|columns\.|b\.)?((?:en|de)code\b|(?:(?:en|de)code|digit|prefix|key|uuid)(?:_[a-z]\w*|[A-Z]\w*))"
+VERBS = (
+    r"(?<![\w./])(?:base62\.|columns\.|b\.)?"
+    r"((?:en|de)code\b|(?:(?:en|de)code|digit|prefix|key|uuid)(?:_[a-z]\w*|[A-Z]\w*)|[A-Z]\w+Error\b)"
+)
 
 
 def text(*paths: str) -> str:
@@ -78,13 +83,15 @@ def used(path: str, comments: str, before: str) -> set[str]:
 
 
 def unknown(path: str, exports: set[str]) -> set[str]:
-    """The names in the code of a file that are of no export, no type of C or SQL and no program, and not defined there."""
+    """The names in the code of a file that are of no export, no type of C or SQL, no language and no program, and not
+    defined there."""
     blocks = re.findall(r"(?ms)^```[^\n]*\n(.*?)^```$|`([^`\n]+)`", text(path))
     code = "\n".join(map("".join, blocks)) if path.endswith(".md") else text(path)
     names = re.findall(r"\bbase62_\w+", code) + ([] if path.startswith(("c/", "sql/")) else re.findall(VERBS, code))
     types = re.findall(r"(?m)(?:^} |CREATE DOMAIN )(\w+)", text("c/base62.h", "sql/postgresql/*.sql"))
     defined = map("".join, re.findall(r"\b(?:def|fn) (\w+)|\b(\w+) ?=(?!=)", code))
-    known = {"base62_cli", *types, *defined, *exports, *(name.removeprefix("columns.") for name in exports)}
+    known = {"base62_cli", "RangeError", *dir(builtins), *types, *defined, *exports}
+    known |= {name.removeprefix("columns.") for name in exports}
     return {name for name in names if not {name, ALPHABETS.sub("", name)} & known}
 
 
@@ -96,6 +103,8 @@ def main() -> None:
     for language, names in exports.items():
         errors += [f"{language}: {name} is exported, and not in docs/CALLS.md" for name in names - lists[language]]
         errors += [f"{language}: {name} is in docs/CALLS.md, and not exported" for name in lists[language] - names]
+        functions = (name for name in names if name[0].islower() and not name.startswith("base62_"))
+        errors += [f"{language}: {name} has no verb of VERBS" for name in functions if not re.fullmatch(VERBS, name)]
     for language, (paths, *syntax) in NAMING.items():
         for path in paths:
             missing = exports[language] - used(path, *syntax)

@@ -181,6 +181,7 @@ WRITES = [
     ("typedef struct Out { uint8_t *to[1]; } Out;\nstatic size_t poke(Out out) { out.to[0][0] = 1; return 1; }",
      "", "poke((Out){{to}})", ARRAY),
     ("static size_t poke(uint8_t *const *out) { (*out)[0] = 1; return 1; }", "", "poke(&to)", POINTER),
+    ("static size_t poke(const uint8_t *out) { ((uint8_t *)out)[0] = 1; return 1; }", "", "poke(part)", EXPRESSION),
 ]
 
 # Wrong code of each kind: the function that then has no proof, what stands in base62.c, and what takes its place.

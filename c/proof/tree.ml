@@ -366,7 +366,8 @@ let listed_cast to_ a =
   match Cil.unrollType to_, Cil.unrollType from with
   | TPtr (t, _), TPtr (f, _) ->
     (is_byte t && is_byte f || is_same t f || List.mem (name_of f, name_of t) [ ("base62_alphabet", "Tables") ])
-    && (is_constant_type f || not (is_constant_type t) || is_of_local a)  (* Reading starts here. *)
+    && (if is_constant_type f then is_constant_type t  (* It stays read only. *)
+        else not (is_constant_type t) || is_of_local a)  (* Reading starts here. *)
   | TVoid _, _ -> true
   | (TInt _ | TEnum _), (TInt _ | TEnum _) -> true
   | _ -> false

@@ -54,11 +54,15 @@ const ABSENT = {
   'IfStatement alternate': ';'
 };
 
+// The names of the language that functions may use, and later all that are declared.
+const names = new Set(['Infinity', 'undefined', 'Math', 'String']);
+
 // A form without a line above is an error where it runs.
 function formOf(node) {
   const at = `'${node.loc.source}:${node.loc.start.line}'`;
   const form = FORMS[node.type + variantOf(node)];
-  if (form === undefined) return `$.fail(${at})${node.type.endsWith('Statement') ? ';' : ''}`;
+  if (form === undefined || (node.type === 'Identifier' && !node.isProperty && !names.has(node.name)))
+    return `$.fail(${at})${node.type.endsWith('Statement') ? ';' : ''}`;
   return form.replace(/\{(\w+)(?:\.(\w+))?\}/g, (all, name, part) => {
     const value = name === 'at' ? at : part ? node[name][part] : node[name];
     if (Array.isArray(value)) return value.map(formOf).join(name === 'body' ? ' ' : ', ');
@@ -66,59 +70,73 @@ function formOf(node) {
   });
 }
 
-// A form without a line would lose a binding that is hoisted.
-function refuseHoisted(node) {
-  JSON.stringify(node, (key, v) => {
-    if (v?.kind === 'var' || v?.name === 'arguments' || v?.async || v?.generator ||
-      /^(Function|Class)Declaration$/.test(v?.type) && v !== node)
-      throw new Error(`${v.loc.source}:${v.loc.start.line}: no rule for this`);
-    return typeof v === 'bigint' ? '' : v;
-  });
+function refuse({ loc: { source, start } }) { throw new Error(`${source}:${start.line}: no rule for this`); }
+
+// Whether a part of a form is written to.
+const isTarget = (key, { type, operator }) => operator === 'delete' ||
+  /^Update|Rest|ArrayPattern|Property/.test(type) || (key === 'left' && !/^(Binary|Logical)/.test(type));
+
+// Notes the names that a function declares, those that stand for others, and those with which it does more than read an
+// element. Refuses a binding that is hoisted, which a form without a line above would lose.
+function examine(node, notes, key = '', parent = {}) {
+  if (Array.isArray(node)) node.forEach((v) => examine(v, notes, key, parent));
+  if (!node?.type) return;
+  const { type, kind, name } = node;
+  const isInner = /^(Function|Class)Declaration$/.test(type) && parent.type;
+  if (kind === 'var' || name === 'arguments' || node.async || node.generator || isInner) refuse(node);
+  node.isRead = type === 'MemberExpression' && node.computed && !isTarget(key, parent);
+  node.isProperty = key === 'property' && !parent.computed;
+  if (node.isProperty) return;
+  if (name && (/^(id|params)$/.test(key) || /Pattern$/.test(parent.type))) names.add(name);
+  else if (name && key === 'init') notes.aliases.push([parent.id.name, name]);
+  else if (name && (key !== 'object' || !parent.isRead)) notes.written.add(name);
+  for (const [key, v] of Object.entries(node)) examine(v, notes, key, node);
 }
 
-function functionOf(name, { params, body }) {
-  const isBlock = body.type === 'BlockStatement';
-  return `function ${name}(${params.map(formOf)}) ${isBlock ? formOf(body) : `{ return ${formOf(body)}; }`}\n`;
+function functionOf([name, { type, params, body }]) {
+  const text = body.type === 'BlockStatement' ? formOf(body) : `{ return ${formOf(body)}; }`;
+  const code = `function ${name}(${params.map(formOf)}) ${text}`;
+  return type === 'FunctionDeclaration' ? `${code}\n` : `const ${name} = ${code};\n`;
 }
 
 const CHAR_CODE_AT = "''.charCodeAt.call.bind(''.charCodeAt)";
 
-// Of modules, by file and text: the functions, and the values that Node computes for their variables. The modules have one
-// scope, as in commonjs.mjs.
+// Of modules, by file and text: the functions, the values that Node computes for their variables, and the names of those that
+// functions may write. The modules have one scope, as in commonjs.mjs.
 export function read(files) {
-  const names = [], variables = [];
-  let modules = '', code = '', hasCharCodeAt = false;
-  const fail = ({ loc: { source, start } }) => {
-    throw new Error(`${source}:${start.line}: no rule for this`);
-  };
+  const functions = new Map(), variables = [], notes = { aliases: [], written: new Set() };
+  let modules = '', hasCharCodeAt = false;
   for (const [sourceFile, text] of files) {
     for (const node of parse(text, { ecmaVersion: 2022, sourceType: 'module', locations: true, sourceFile }).body) {
       if (node.type === 'ImportDeclaration') {
         const isPlain = ({ imported, local }) => imported?.name === local.name;
-        if (!files.some(([name]) => `./${name}` === node.source.value) || !node.specifiers.every(isPlain)) fail(node);
+        if (!files.some(([name]) => `./${name}` === node.source.value) || !node.specifiers.every(isPlain)) refuse(node);
         continue;
       }
-      refuseHoisted(node.declaration ?? node);
-      const { start, end, type, kind, id, declarations = [] } = node.declaration ?? node;
-      if (kind && kind !== 'const') fail(node);
+      const declaration = node.declaration ?? node;
+      const { start, end, type, kind = 'const', declarations = [] } = declaration;
+      if (kind !== 'const') refuse(node);
       modules += `${text.slice(start, end)};\n`;
       const found =
-        /^(Function|Class)Declaration$/.test(type) ? [{ id, init: node.declaration ?? node }] : declarations;
+        /^(Function|Class)Declaration$/.test(type) ? [{ id: declaration.id, init: declaration }] : declarations;
       for (const { id: { name }, init } of found) {
-        if (!name || names.includes(name) || variables.includes(name)) fail(node);
+        if (!name || functions.has(name) || variables.includes(name)) refuse(node);
+        names.add(name);
+        examine(init, notes);
         hasCharCodeAt ||= name === 'charCodeAt' && text.slice(init.start, init.end) === CHAR_CODE_AT;
-        const isFunction = /^(FunctionDeclaration|ArrowFunctionExpression)$/.test(init.type);
-        if (isFunction)
-          code +=
-            type === 'FunctionDeclaration' ? functionOf(name, init) : `const ${name} = ${functionOf(name, init)};\n`;
-        (isFunction ? names : variables).push(name);
+        if (!/^(FunctionDeclaration|ArrowFunctionExpression)$/.test(init.type)) variables.push(name);
+        else functions.set(name, init);
       }
     }
   }
+  for (const _ of notes.aliases)
+    for (const [alias, name] of notes.aliases)
+      if (notes.written.has(alias)) notes.written.add(name);
   const values = runInNewContext(`'use strict';
 [Math, String, Object, Array, String.prototype, Array.prototype, Object.prototype].forEach(Object.freeze);
 ${modules}({ ${[...variables, 'Math', 'String']} })`,
     { Math, String });
   if (hasCharCodeAt) values.charCodeAt = charCodeAt;
-  return { code, names, values: {...values } };
+  const code = [...functions].map(functionOf).join('');
+  return { code, names: [...functions.keys()], values: {...values }, written: notes.written };
 }

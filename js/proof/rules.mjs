@@ -197,13 +197,12 @@ export class Machine {
   stubs = { __proto__: null };
   buffers = new Map();
 
-  constructor({ code, values, names }, path) {
+  constructor({ code, values, names, written }, path) {
     this.path = path;
     const widths = ([, x], [, y]) => (x.BYTES_PER_ELEMENT ?? 0) - (y.BYTES_PER_ELEMENT ?? 0);
     this.values = Object.fromEntries(Object.entries(values).sort(widths).map(([name, v]) => [name, this.copy(v)]));
     // What functions write is not known before, unless a proof opens it.
-    for (const [, name] of code.matchAll(/\$\.(?:store|method)\('[^']*', (\w+),/g))
-      this.values[name]?.cells?.fill(undefined);
+    for (const name of written) this.values[name]?.cells?.fill(undefined);
     const create = new Function(
       '$', 'values', `'use strict';\nconst { ${Object.keys(this.values)} } = values;\n${code}return { ${names} };`);
     this.functions = create(this, this.values);
@@ -290,7 +289,7 @@ export class Machine {
 
   member(at, object, name) {
     this.at = at;
-    if (isUnknown(object)) return name === 'length' ? object.length : this.fail();
+    if (isUnknown(object)) return (name === 'length' ? object.length : undefined) ?? this.fail();
     return [Math, String].includes(object) || (Array.isArray(object) && name === 'length') ? object[name] : this.fail();
   }
 
@@ -298,7 +297,8 @@ export class Machine {
   call(at, f, self, values) {
     this.at = at;
     const isOwn = this.functions[f.name] === f;
-    if (isOwn && this.stubs[f.name]) return this.stubs[f.name](...values);
+    if (isOwn && this.stubs[f.name])
+      return (values.length === f.length ? this.stubs[f.name](...values) : undefined) ?? this.fail();
     if (isOwn || (f === Array.prototype.push && Array.isArray(self))) return f.apply(self, values);
     if (!CALLS.has(f)) this.fail();
     return values.some(isUnknown) ? CALLS.get(f)(this, ...values) : f(...values);

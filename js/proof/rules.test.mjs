@@ -69,7 +69,10 @@ const REFUSED = [
   ['const g = async () => 1;', 'return g();'], ['const signed = new Int32Array(halves.buffer);', 'return signed[0];'],
   ['const upper = words.subarray(1);', 'return upper[0];'], ['', 'var y = 1; var y; return y;'],
   ['', 'return g(); function g() { return 1; }'], ['', 'return arguments[0];'], ['', 'return x.toString();'],
-  ['', "return words.hasOwnProperty('0');"], ['', 'label: return 1;'], ['', 'return (1, x);']
+  ['', "return words.hasOwnProperty('0');"], ['', 'label: return 1;'], ['', 'return (1, x);'],
+  ['const list = [5];', 'return list.length;'], ['', 'return typeof Buffer;'],
+  ['const uses = new Uint8Array(1); const g = () => uses[0] |= 1;', 'return uses[0];'],
+  ['const uses = new Uint8Array(1); const g = () => { const a = uses; a[0]++; };', 'return uses[0];']
 ];
 
 // An unknown value that is this one.

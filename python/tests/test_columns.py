@@ -228,12 +228,13 @@ class Objects(ColumnsTestCase):
     def test_arrays(self) -> None:
         """Columns that are not converted value by value, which would be slow, and ranges that are no lists of objects."""
         swapped = np.array([5, 2**64 - 1], ">u8")
-        with unittest.mock.patch.object(columns, "_pack_objects", side_effect=AssertionError):
-            for column in (range(60, 63), pd.RangeIndex(60, 63)):
-                self.check(columns.encode, column, ["y", "z", "10"])
         with unittest.mock.patch.object(columns._Conversion, "_convert_values", side_effect=AssertionError):
-            for column in (swapped, np.ma.array(swapped), pd.Series(swapped), [*map(Decimal, (5, 2**64 - 1))]):
-                self.check(columns.encode, column, ["5", "LygHa16AHYF"])
+            with unittest.mock.patch.object(columns, "_pack_objects", side_effect=AssertionError):
+                for column in (range(60, 63), pd.RangeIndex(60, 63)):
+                    self.check(columns.encode, column, ["y", "z", "10"])
+                for column in (swapped, np.ma.array(swapped), pd.Series(swapped)):
+                    self.check(columns.encode, column, ["5", "LygHa16AHYF"])
+            self.check(columns.encode, [*map(Decimal, (5, 2**64 - 1))], ["5", "LygHa16AHYF"])
             for column in (["LZ", b"z", None], [b"LZ", "z", pd.NA], np.array(["LZ", b"z", None], object)):
                 self.check(columns.decode, column, [1337, 61, None])
 
@@ -464,16 +465,28 @@ class Arguments(ColumnsTestCase):
     def test_types(self) -> None:
         """A column of another type is named, with what it has to have. Hints have tests of their own."""
         numbers, uuids = "not integers, decimal128 of scale 0, uuid or fixed_size_binary[16]", "not uuid, binary or strings: "
+        own = OWN.wrap_array(pa.array([bytes(16)], pa.binary(16)))
         for call, column, message in (
             *((columns.encode, column, f"double, {numbers}: ids") for column in ([1.0], pd.Series([1.5]).astype("category"))),
             *((columns.encode, np.array([b""], dtype), f"binary, {numbers}: ") for dtype in ("V8", "V17")),
             (columns.encode, np.array(["2026-01-01"], "M8[ns]"), f"timestamp[ns], {numbers}"),
             *((columns.encode_uuid, column, f"int64, {uuids}") for column in ([1], pa.chunked_array([[1]]))),
             *((columns.decode, column, "int64, not strings or binary") for column in ([1337], dictionary(pa.array([1337])))),
-            (columns.decode, OWN.wrap_array(pa.array([bytes(16)], pa.binary(16))), "extension<own<Own>>, not strings or binary"),
+            (columns.encode, own, f"extension<own<Own>>, {numbers}: cast it to uint64"),
+            (columns.encode_uuid, own, f"extension<own<Own>>, {uuids}cast it to uint64"),
+            (columns.decode, own, "extension<own<Own>>, not strings or binary"),
         ):
             for errors in ("raise", "coerce"):
                 self.assertRaisesRegex(TypeError, f"^the column has the type {re.escape(message)}", call, column, errors=errors)
+
+    def test_malformed(self) -> None:
+        """pyarrow finds what is wrong if it is asked to, and so do the functions in what pyarrow does not convert first."""
+        offsets = np.array([0, 2**30, 1, 1], np.int32)
+        strings = pa.Array.from_buffers(pa.string(), 3, [None, pa.py_buffer(offsets), pa.py_buffer(b"1")])
+        for column in (strings, dictionary(strings), pa.DictionaryArray.from_arrays(pa.array([2], pa.int8()), strings)):
+            self.assertRaises(pa.ArrowInvalid, column.validate, full=True)
+        for column in (strings, dictionary(strings)):
+            self.says("the array is malformed", ValueError, columns.decode, column)
 
     def test_size(self) -> None:
         """A result keeps hardly more memory than its buffers have bytes."""

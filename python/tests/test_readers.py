@@ -102,7 +102,8 @@ class Readers(ColumnsTestCase):
         for ids in with_missing(NARROW, 1):
             parquet.write_table(pa.table({"id": ids}), file := io.BytesIO())
             series_of(pa.int64(), ids).to_sql("item", self.db, if_exists="replace")
-            frames = [pd.read_json(lines("id", ids), lines=True), pd.read_parquet(file)]
+            frames = [pd.read_json(lines("id", ids), lines=True, engine=engine) for engine in ("ujson", "pyarrow")]
+            frames.append(pd.read_parquet(file))
             frames.append(pd.read_sql("SELECT id FROM item", self.db))
             for engine in ("c", "python", "pyarrow"):
                 frames.append(pd.read_csv(fields("id", ids), engine=engine))
@@ -119,6 +120,12 @@ class Readers(ColumnsTestCase):
             self.assertRaises(pa.ArrowInvalid, by_csv, io.BytesIO(commas), types)
             rounded = parquet.read_table(file, schema=types), by_csv(io.BytesIO(commas), types.set(0, pa.field("id", DECIMAL)))
             self.assertEqual([numbers_of(table["id"].to_pylist()) == ids for table in rounded], [False] * 2)
+            # So does the first one of several files.
+            with tempfile.TemporaryDirectory() as folder:
+                pd.DataFrame({"id": NARROW[:3]}).to_parquet(f"{folder}/0.parquet")
+                frame.to_parquet(f"{folder}/1.parquet")
+                column = parquet.read_table(folder)["id"]
+            self.assertEqual((column.type, column.to_pylist()[3:] == ids), (pa.int64(), False))
             self.is_rounded(series_of(DECIMAL, ids).map(int, na_action="ignore"))
             # Nor are those of a result, which has no index.
             result, frame = columns.decode(codes_of(ids)), pd.DataFrame({"row": 1}, range(len(ids), 0, -1))
@@ -144,9 +151,14 @@ class Readers(ColumnsTestCase):
         for of_type, left, others in [(one, left, rows) for (one, left), (other, rows) in product(LISTS, LISTS) if one == other]:
             right = [*NARROW[:3], *(number and number ^ 1 for number in others)]
             ids, more = series_of(of_type, left), series_of(of_type, right)
-            joined = ids.to_frame().set_index("id").join(more.to_frame().set_index("id"), how="inner").index
-            for result in (ids.to_frame().merge(more.to_frame())["id"], joined):
-                self.assertCountEqual(numbers_of(result), [number for number in left for other in right if number == other])
+            expected = {"inner": [number for number in left for other in right if number == other]}
+            expected["left"] = expected["inner"] + [number for number in left if number not in right]
+            expected["right"] = expected["inner"] + [number for number in right if number not in left]
+            expected["outer"] = expected["left"] + expected["right"][len(expected["inner"]) :]
+            for how, numbers in expected.items():
+                joined = ids.to_frame().set_index("id").join(more.to_frame().set_index("id"), how=how).index
+                for result in (ids.to_frame().merge(more.to_frame(), how=how)["id"], joined):
+                    self.assertCountEqual(numbers_of(result), numbers)
             self.assertEqual(numbers_of(ids[ids.isin(more)]), [number for number in left if number in right])
             self.assertEqual(numbers_of(pd.concat([ids, more])), left + right)
         # Without such types those are equal that are equal as floats.
@@ -170,7 +182,7 @@ class Readers(ColumnsTestCase):
             self.assertEqual(read, [codes] * 6)
 
     def test_written(self) -> None:
-        """pandas writes bytes as Python shows them, and merges no UUIDs. A scalar equals no string, also in sqlite3."""
+        """pandas writes bytes as Python shows them, and merges no UUIDs. A scalar equals no str or int."""
         sixteen = pa.table({"name": pa.array([NAME.bytes], pa.binary(16))})
         frame, names = in_pandas(sixteen), in_pandas(sixteen.cast(pa.schema({"name": pa.uuid()})))
         with warnings.catch_warnings(action="ignore"):
@@ -181,6 +193,7 @@ class Readers(ColumnsTestCase):
         self.assertRaises(NotImplementedError, names.merge, names)
         code = columns.encode([1337])[0]
         self.assertNotEqual(code, "LZ")
+        self.assertNotEqual(columns.decode(["LZ"])[0], 1337)
         self.assertEqual(self.db.execute("SELECT typeof(?), typeof(?)", (code, code.as_py())).fetchone(), ("blob", "text"))
 
     @unittest.skipUnless(shutil.which("duckdb"), "DuckDB is not installed")

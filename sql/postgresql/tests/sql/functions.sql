@@ -15,7 +15,7 @@ SELECT oid::regprocedure FROM functions WHERE obj_description(oid, 'pg_proc') !~
 SELECT oid::regprocedure FROM functions WHERE obj_description(oid, 'pg_proc') !~ substring(proname, 'first|last');
 -- Each has calls in values.sql.
 SELECT proname, pronargs FROM functions WHERE proname <> 'base62_version' EXCEPT SELECT name, arguments FROM call;
-SELECT extversion, extrelocatable FROM pg_extension WHERE extname = 'base62';
+SELECT extrelocatable FROM pg_extension WHERE extname = 'base62';
 SELECT string_agg(DISTINCT proargnames::text, ' ') FROM functions;
 -- A key has the collation of no argument that is a text.
 SELECT oid::regprocedure FROM functions WHERE prorettype = 'base62_key'::regtype AND 'text'::regtype = ANY (proargtypes);

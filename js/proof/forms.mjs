@@ -41,7 +41,7 @@ const FORMS = {
 function variantOf({ type, operator, prefix, computed, callee, left }) {
   if (type === 'CallExpression') return callee.type === 'MemberExpression' && !callee.computed ? ' .' : '';
   if (type === 'AssignmentExpression')
-    return ` ${left.type === 'MemberExpression' ? (left.computed ? '[]' : '.') : ''}${operator}`;
+    return ` ${left.type === 'Identifier' ? '' : left.computed ? '[]' : left.type}${operator}`;
   if (type === 'UpdateExpression') return ` ${prefix ? 'prefix' : ''}${operator}`;
   return type === 'LogicalExpression' ? ` ${operator}` : computed ? ' []' : '';
 }
@@ -75,22 +75,27 @@ function refuse({ loc: { source, start } }) { throw new Error(`${source}:${start
 // Whether a part of a form is written to.
 const isTarget = (key, { type, operator }) => operator === 'delete' ||
   /^Update|Rest|ArrayPattern|Property/.test(type) || (key === 'left' && !/^(Binary|Logical)/.test(type));
+const isDeclared = (key, { type }) => /^(id|params)$/.test(key) || (/Pattern$|^Rest/.test(type) && key !== 'right');
 
-// Notes the names that a function declares, those that stand for others, and those with which it does more than read an
-// element. Refuses a binding that is hoisted, which a form without a line above would lose.
-function examine(node, notes, key = '', parent = {}) {
-  if (Array.isArray(node)) node.forEach((v) => examine(v, notes, key, parent));
+// Notes the names that modules declare, those that stand for others, and those with which they do more than read an
+// element, or write one outside of functions. Refuses a binding that is hoisted, which a form without a line above would lose.
+function examine(node, notes, isInFunction, key = '', parent = {}) {
+  if (Array.isArray(node)) node.forEach((v) => examine(v, notes, isInFunction, key, parent));
   if (!node?.type) return;
   const { type, kind, name } = node;
-  const isInner = /^(Function|Class)Declaration$/.test(type) && parent.type;
-  if (kind === 'var' || name === 'arguments' || node.async || node.generator || isInner) refuse(node);
-  node.isRead = type === 'MemberExpression' && node.computed && !isTarget(key, parent);
+  const isInner = isInFunction && /^(Function|Class)Declaration$/.test(type);
+  if (kind === 'var' || /^(arguments|eval)$/.test(name) || node.async || node.generator || isInner) refuse(node);
+  node.isRead = type === 'MemberExpression' && node.computed && !/^(callee|object|tag)$/.test(key) &&
+    !(isInFunction && isTarget(key, parent));
   node.isProperty = key === 'property' && !parent.computed;
   if (node.isProperty) return;
-  if (name && (/^(id|params)$/.test(key) || /Pattern$/.test(parent.type))) names.add(name);
-  else if (name && key === 'init') notes.aliases.push([parent.id.name, name]);
+  if (name && isDeclared(key, parent)) {
+    if (name in globalThis) refuse(node);
+    names.add(name);
+  } else if (name && key === 'init') notes.aliases.push([parent.id.name, name]);
   else if (name && (key !== 'object' || !parent.isRead)) notes.written.add(name);
-  for (const [key, v] of Object.entries(node)) examine(v, notes, key, node);
+  for (const [key, v] of Object.entries(node))
+    examine(v, notes, isInFunction || /Function|Class/.test(type), key, node);
 }
 
 function functionOf([name, { type, params, body }]) {
@@ -116,13 +121,12 @@ export function read(files) {
       const declaration = node.declaration ?? node;
       const { start, end, type, kind = 'const', declarations = [] } = declaration;
       if (kind !== 'const') refuse(node);
+      examine(declaration, notes, false);
       modules += `${text.slice(start, end)};\n`;
       const found =
         /^(Function|Class)Declaration$/.test(type) ? [{ id: declaration.id, init: declaration }] : declarations;
       for (const { id: { name }, init } of found) {
         if (!name || functions.has(name) || variables.includes(name)) refuse(node);
-        names.add(name);
-        examine(init, notes);
         hasCharCodeAt ||= name === 'charCodeAt' && text.slice(init.start, init.end) === CHAR_CODE_AT;
         if (!/^(FunctionDeclaration|ArrowFunctionExpression)$/.test(init.type)) variables.push(name);
         else functions.set(name, init);

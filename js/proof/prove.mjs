@@ -37,6 +37,7 @@ const GROUP = 62n ** 4n;
 const END = power(128);
 
 function splits(m, path, count, number) {
+  path.prove('the count is a Number', `${Number.isInteger(count)}`);
   const groups = m.values.groups.cells.map(m.known, m);
   for (const { term } of groups) path.prove('a group is a digit in base 62**4', range(term, 0n, GROUP - 1n));
   path.prove('the groups are the digits of the number', equal(number, sum(groups, GROUP)));
@@ -52,7 +53,7 @@ prove('splitInteger', ({ splitInteger }, m, path) => {
 
 prove('splitWords', ({ splitWords }, m, path) => {
   m.open('groups');
-  const number = sum(m.open('words'), power(32));
+  const number = sum(m.fill('words'), power(32));
   splits(m, path, splitWords(), number);
 });
 
@@ -61,18 +62,18 @@ prove('splitBigInt', ({ splitBigInt }, m, path) => {
   m.open('words');
   const number = path.unknown(undefined, undefined, 'bigint');
   const count = splitBigInt(number);
-  path.prove('0 is for numbers out of range', equal(`${count > 0}`, range(number.term, 0n, END - 1n)));
-  if (count > 0) splits(m, path, count, number.term);
+  path.prove('0 is for numbers out of range', equal(`${count !== 0}`, range(number.term, 0n, END - 1n)));
+  if (count !== 0) splits(m, path, count, number.term);
 });
 
 prove('bigIntOfWords', ({ bigIntOfWords }, m, path) => {
-  const number = sum(m.open('words'), power(32));
+  const number = sum(m.fill('words'), power(32));
   const { type, term } = bigIntOfWords();
   path.prove('the BigInt is the number', type === 'bigint' ? equal(term, number) : 'false');
 });
 
 prove('integerOfWords', ({ integerOfWords }, m, path) => {
-  const number = sum(m.open('words'), power(32));
+  const number = sum(m.fill('words'), power(32));
   const result = integerOfWords();
   const isBelow = `(< ${number} ${power(53)})`;
   if (result === -1) path.prove('-1 is for numbers of 2**53 or more', `(not ${isBelow})`);
@@ -122,8 +123,8 @@ for (let count = 1; count <= 22; count++)
     };
     const split = (v, divisor) => [...path.divide(v, divisor)].reverse();
     m.open('codes');
-    const groups = m.open('groups').fill().map(() => path.unknown(0n, GROUP - 1n));
-    groups.forEach((group, i) => m.values.groups.cells[i] = group);
+    const groups = m.fill('groups');
+    groups.forEach((group, i) => groups[i] = path.unknown(0n, GROUP - 1n));
     const digits = groups.flatMap((group) => split(group, 62n ** 2n)).flatMap((pair) => split(pair, 62n));
     const pairs = Object.assign(arrayOf(Object.assign([], { bits: 16 }), 16), { length: 62 ** 2 });
     pairs.lookup = (index) => {
@@ -146,21 +147,28 @@ const areHex = (digits) => all(digits.map(({ term }) => `(<= 0 ${term})`));
 const readsHex = (term, digits) =>
   all([equal(`(<= 0 ${term})`, areHex(digits)), implies(areHex(digits), equal(term, sum([...digits].reverse(), 16n)))]);
 const HYPHENS = [8, 13, 18, 23];
+// By the length of a UUID's string, where four digits begin.
+const STARTS = {
+  32: [0, 4, 8, 12, 16, 20, 24, 28],
+  36: [0, 4, 9, 14, 19, 24, 28, 32]
+};
 
-for (const start of [0, 4, 8, 9, 12, 14, 16, 19, 20, 24, 28, 32])
-  prove(`readHex from ${start}`, ({ readHex }, m, path) => {
-    const units = list(36, () => path.unknown(0n, 65535n));
-    const term = termOf(m, readHex(textOf(units), start));
-    path.prove(
-      'the value of four digits, or a negative number', readsHex(term, units.slice(start, start + 4).map(hexOf)));
-    path.prove('its bounds', range(term, -power(31), power(16) - 1n));
-  });
+for (const length of [32, 36])
+  for (const start of STARTS[length])
+    prove(`readHex: of ${length} characters from ${start}`, ({ readHex }, m, path) => {
+      const units = list(length, () => path.unknown(0n, 65535n));
+      const term = termOf(m, readHex(textOf(units), start));
+      path.prove(
+        'the value of four digits, or a negative number', readsHex(term, units.slice(start, start + 4).map(hexOf)));
+      path.prove('its bounds', range(term, -power(31), power(16) - 1n));
+    });
 
 for (const length of [32, 36])
   prove(`readPlainUuid: ${length} characters`, ({ readPlainUuid }, m, path) => {
     const words = m.open('words');
     const units = list(length, () => Object.assign(path.unknown(0n, 65535n), { hex: path.unknown(-1n, 15n) }));
     m.stubs.readHex = (string, start) => {
+      if (!STARTS[string.units.length]?.includes(start)) m.fail();
       const v = path.unknown(-power(31), power(16) - 1n);
       path.assume(readsHex(v.term, string.units.slice(start, start + 4).map(({ hex }) => hex)));
       return v;
@@ -187,7 +195,7 @@ prove('readUuidBytes', ({ readUuidBytes }, m, path) => {
 });
 
 prove('uuidOfWords', ({ uuidOfWords }, m, path) => {
-  const words = m.open('words');
+  const words = m.fill('words');
   const digits = words.flatMap((word) => list(8, (i) => path.divide(path.divide(word, 16n ** BigInt(i))[0], 16n)[1]));
   const expected = digits.reverse().map(({ term }) => `(+ ${term} (ite (< ${term} 10) 48 87))`);
   for (const i of HYPHENS) expected.splice(i, 0, '45');

@@ -123,12 +123,13 @@ function minimum(m, a, b, ...others) {
   return integer(term, least(a.low, BigInt(b)), least(a.high, BigInt(b)));
 }
 
-const floor = (m, v) =>
-  /^(number|quotient)$/.test(v.type) ? integer(v.term, v.low, v.high, 'number', v.infinite) : m.fail();
-const fromCharCode = (m, ...units) => textOf(units.map((unit) => (isUnknown(unit) ? modulo(m, unit, 16) : unit)));
+const isNumeric = ({ type }) => /^(number|quotient)$/.test(type);
+const floor = (m, v) => (isNumeric(v) ? integer(v.term, v.low, v.high, 'number', v.infinite) : m.fail());
+const fromCharCode = (m, ...units) =>
+  textOf(units.map(m.known, m).map((unit) => (isNumeric(unit) ? modulo(m, unit, 16) : m.fail())));
 const unitAt = (m, { type, units }, i) => (type === 'text' && Number.isInteger(i) ? units[i] : undefined) ?? m.fail();
-const slice = (m, { type, units }, ...ends) =>
-  type === 'text' && ends.every(Number.isInteger) ? textOf(units.slice(...ends)) : m.fail();
+const slice = (m, { type, units, length }, ...ends) =>
+  type === 'text' && units.length === length && ends.every(Number.isInteger) ? textOf(units.slice(...ends)) : m.fail();
 
 export const charCodeAt = (string, i) => string.charCodeAt(i);
 const CALLS =
@@ -179,8 +180,8 @@ function fromTable(m, values, index) {
 // An element keeps a value modulo 2**bits.
 function storeElement(m, array, index, v) {
   const { cells, bits, kind } = array;
-  const types = { Int: /^(number|quotient)$/, Uint: /^(number|quotient)$/, BigUint: /^bigint$/};
-  if (!cells.areOpen || !isIndex(index, array) || !types[kind]?.test(v.type)) m.fail();
+  const holds = { Int: isNumeric, Uint: isNumeric, BigUint: isBig }[kind];
+  if (!cells.areOpen || !isIndex(index, array) || !holds?.(v)) m.fail();
   const width = bits / cells.bits;
   let rest = modulo(m, v, bits, kind === 'Int');
   for (let i = index * width; i < (index + 1) * width; i++) {
@@ -200,7 +201,10 @@ export class Machine {
   constructor({ code, values, names, written }, path) {
     this.path = path;
     const widths = ([, x], [, y]) => (x.BYTES_PER_ELEMENT ?? 0) - (y.BYTES_PER_ELEMENT ?? 0);
-    this.values = Object.fromEntries(Object.entries(values).sort(widths).map(([name, v]) => [name, this.copy(v)]));
+    // The elements and buffers of typed arrays alone, whatever properties they have.
+    const arrays = structuredClone(Object.fromEntries(Object.entries(values).filter(([, v]) => ArrayBuffer.isView(v))));
+    this.values =
+      Object.fromEntries(Object.entries({...values, ...arrays }).sort(widths).map(([name, v]) => [name, this.copy(v)]));
     // What functions write is not known before, unless a proof opens it.
     for (const name of written) this.values[name]?.cells?.fill(undefined);
     const create = new Function(
@@ -223,23 +227,28 @@ export class Machine {
     return arrayOf(cells, bits, kind, value.length);
   }
 
-  // Lets functions write an array, which has any elements before.
-  open(name) {
+  // Lets functions read an array, which has any elements.
+  fill(name) {
     const { cells, bits, kind } = this.values[name];
     const low = kind === 'Int' ? -power(bits - 1) : 0n;
-    cells.areOpen = true;
     cells.forEach((cell, i) => cells[i] = this.path.unknown(low, low + power(bits) - 1n));
     return cells;
+  }
+
+  // Lets functions write it too.
+  open(name) {
+    this.values[name].cells.areOpen = true;
+    return this.fill(name);
   }
 
   fail(at = this.at) { throw new Error(`${at}: no rule for this`); }
   goal(goal, term) { this.path.prove(`${this.at}: ${goal}`, term); }
 
-  // A known Number or BigInt as an unknown one.
+  // A known Number or BigInt as an unknown one. -0 is an error, since a result can be told from 0.
   known(v) {
     if (v === Infinity) return integer('0', 0n, 0n, 'number', 'true');
     if (typeof v === 'bigint') return constant(v, 'bigint');
-    return isUnknown(v) ? v : Number.isSafeInteger(v) ? constant(BigInt(v)) : this.fail();
+    return isUnknown(v) ? v : Number.isSafeInteger(v) && !Object.is(v, -0) ? constant(BigInt(v)) : this.fail();
   }
 
   // In a bitwise operator a quotient is a Number. '' + string is the string.

@@ -5,11 +5,12 @@ import {test} from 'node:test';
 
 import {read} from './forms.mjs';
 import {explore, integer, literal, power, solve} from './path.mjs';
-import {Machine} from './rules.mjs';
+import {Machine, textOf} from './rules.mjs';
 
 const ARRAYS =
   `const halves = new BigUint64Array(2), words = new Uint32Array(halves.buffer), groups = new Int32Array(2);
-const table = Int8Array.from({ length: 129 }, (_, i) => (i < 48 ? -1 : i < 58 ? i - 48 : i < 90 ? i - 61 : 7));`;
+const table = Int8Array.from({ length: 129 }, (_, i) => (i < 48 ? -1 : i < 58 ? i - 48 : i < 90 ? i - 61 : 7));
+table[100] = 5;`;
 // The same ones in each run, so that a failure comes again.
 let state = 62n;
 function random(bits) {
@@ -40,13 +41,16 @@ const OF_NUMBERS = [
     '((x & 255) | (y & 255)) <= 510', 'x << 0', 'x << 12', 'x << 31', 'x >> 5', 'x >>> 0', 'x >>> 21', 'x < y',
     'x <= y', 'x > y', 'x >= y', '!(x < 61)', 'x < 61 && y < 61', 'x < 61 || y < 61', 'x < 61 ? 5 : 6',
     'String.fromCharCode(x, 45).charCodeAt(0)', 'String.fromCharCode(45, 46, x).slice(1).charCodeAt(1)',
+    'String.fromCharCode(x, 65581).charCodeAt(1)', 'const a = x >>> 0; return x | 0', 'const a = x & 1; return x & 255',
     'words[1] = x; return words[1]', 'groups[1] = x; return groups[1]', 'words[1] = x; words[0] = y; return halves[0]'
   ],
   [
     () => false, 'x * y', 'x * -3', 'x * 0', 'Math.min(x, 128, 60)', 'x / 62', 'Math.floor(x / 0)',
-    'Math.floor(62 / x)', 'Math.floor(x / 1.5)', 'x & 5', 'x & -1', 'x << 32', 'x + 1n', 'x + undefined', 'x + 0.5',
-    'x % 62', '`${x}`', 'String.fromCharCode(x).charCodeAt(1)', 'words[x]', 'words[4] = x', 'table[0] = x',
-    'halves[0] = x', 'words[0] = 5n', 'x == y', 'Math.abs(x)', '[x].includes(y)', 'x ?? y', 'x ** 2'
+    'Math.floor(62 / x)', 'Math.floor(x / 1.5)', 'x & 5', 'x & -1', 'x & 0xffffffff', 'x << 32', 'x + 1n',
+    'x + undefined', 'x + 0.5', 'x % 62', '`${x}`', 'String.fromCharCode(x).charCodeAt(1)',
+    "String.fromCharCode('45', x).charCodeAt(0)", 'String.fromCharCode(45n, x).charCodeAt(1)', 'x < 61 ? -0 : -0',
+    'words[x]', 'words[4] = x', 'table[0] = x', 'halves[0] = x', 'words[0] = 5n', 'x == y', 'Math.abs(x)',
+    '[x].includes(y)', 'x ?? y', 'x ** 2'
   ]
 ];
 const OF_BIGINTS = [
@@ -58,6 +62,7 @@ const OF_BIGINTS = [
 ];
 const BODIES = [
   'let sum = 0; for (let i = 0; i < 3; i++) { if (x > i) sum = sum + 2; else sum--; } return sum;',
+  'let i = 2; const a = i--, b = i++; return a * 62 + b * 8 + i;',
   'let i = 3; while (i > 0 && x < i) { const y = i - 1; i = y; } return [i, 4 * i][1];',
   'const [a, b] = [x & 255, y]; if (a < 61) { if (b < 5) return 1; return 2; } return a;'
 ];
@@ -70,10 +75,21 @@ const REFUSED = [
   ['const upper = words.subarray(1);', 'return upper[0];'], ['', 'var y = 1; var y; return y;'],
   ['', 'return g(); function g() { return 1; }'], ['', 'return arguments[0];'], ['', 'return x.toString();'],
   ['', "return words.hasOwnProperty('0');"], ['', 'label: return 1;'], ['', 'return (1, x);'],
-  ['const list = [5];', 'return list.length;'], ['', 'return typeof Buffer;'],
-  ['const uses = new Uint8Array(1); const g = () => uses[0] |= 1;', 'return uses[0];'],
-  ['const uses = new Uint8Array(1); const g = () => { const a = uses; a[0]++; };', 'return uses[0];']
+  ['const list = [5];', 'return list.length;'], ['', 'return typeof Buffer;'], ['', 'let s = 1; s += 5; return s;'],
+  ['', 'let i = 1; return ++i;'], ['', 'return 0 ?? 5;'], ['', 'return words[4];'], ['', 'return eval("1");'],
+  ['function* g() { return 1; }', 'return g();'], ['const g = () => 1; g.state = 5;', 'return g.state;'],
+  ['const process = 5;', "return process['argv'];"],
+  ["const charCodeAt = ''.codePointAt.call.bind(''.codePointAt);", "return charCodeAt('A', 0);"],
+  ['const upper = new Uint32Array(halves.buffer, 4);', 'return upper[0];']
 ];
+// What writes a table later, or may.
+const WRITES = [
+  '() => uses[0] |= 1', '() => uses[0]++', '() => { [uses[0]] = [1]; }', '() => uses.fill(1)', "() => uses['fill'](1)",
+  '(i) => uses[i].state', '(g) => g(uses)', '() => { const a = uses; a[0]++; }',
+  '() => { const a = uses; const b = a; b[0]++; }', '(a = uses) => a[0]++', '() => { const [a = uses] = []; a[0]++; }',
+  '[() => { uses[0] = 1; }]', '[uses]', 'uses.buffer'
+];
+for (const value of WRITES) REFUSED.push([`const uses = new Uint8Array(1), g = ${value};`, 'return uses[0];']);
 
 // An unknown value that is this one.
 function unknown(path, value) {
@@ -127,7 +143,11 @@ for (const [groups, values] of [[OF_NUMBERS, numbers], [OF_BIGINTS, bigInts]])
 for (const [module, body] of REFUSED)
   test(`refused: ${module} ${body}`, () => assert.throws(() => {
     const modules = read([['test.js', `${ARRAYS}\n${module}\nfunction f(x) { ${body} }`]]);
-    explore((path) => new Machine(modules, path).functions.f(unknown(path, 5)));
+    explore((path) => {
+      const m = new Machine(modules, path);
+      ['words', 'groups'].forEach((name) => m.open(name));
+      m.functions.f(unknown(path, 5));
+    });
   }, /^Error: test\.js:\d+: no rule for this$/));
 test('too many paths are an error', () => assert.throws(() => explore((path) => {
   for (let i = 0; i < 10; i++) path.decide('true');
@@ -148,10 +168,12 @@ test('a goal is open if it is false, not known or too hard, and an impossible pa
 });
 test('an open array can have all elements, and | of numbers that share a bit is not their sum', async () => {
   const [path] = explore((path) => {
-    const functions = 'const f = (x, y) => (x << 8) | y, g = (x, y) => (x << 8) | (y << 16) | 256;';
+    const functions =
+      'const f = (x, y) => (x << 8) | y, g = (x, y) => (x << 8) | (y << 16) | 256, h = (x, y) => x | y;';
     const m = new Machine(read([['test.js', ARRAYS + functions]]), path);
     path.prove('256 | 256', isResult(m, m.functions.f(unknown(path, 1), unknown(path, 256)), 512));
     path.prove('65792 | 256', isResult(m, m.functions.g(unknown(path, 1), unknown(path, 1)), 66048));
+    path.prove('85 | 170', `(< ${m.functions.h(path.unknown(85n, 85n), path.unknown(170n, 170n)).term} 255)`);
     for (const [name, low, high] of [['words', 0n, power(32) - 1n], ['groups', -power(31), power(31) - 1n]])
       m.open(name).forEach(
         ({ term }) => [low, high].forEach((n) => path.prove(`${n}`, `(not (= ${term} ${literal(n)}))`)));
@@ -159,3 +181,16 @@ test('an open array can have all elements, and | of numbers that share a bit is 
   await solve([path]);
   assert.deepEqual(path.open, path.goals.filter((goal) => !goal.endsWith('is exact')));
 });
+test('a factor that may be Infinity, a part of a string of any length, another count of arguments',
+  () => explore((path) => {
+    const m = new Machine(read([['test.js', 'const f = (x) => x;']]), path);
+    m.stubs.f = () => 5;
+    const x = path.unknown(5n, 6n);
+    const [factor, text] = [integer('3', 3n, 3n, 'number', 'true'), Object.assign(textOf([]), { length: x })];
+    assert.equal(m.call('', m.functions.f, undefined, [x]), 5);
+    for (const step of [() => m.binary('', '*', x, factor), () => m.method('', text, 'slice', [0, 5]),
+                       () => m.call('', m.functions.f, undefined, [x, x])])
+      assert.throws(step, /no rule/);
+  }));
+test('a name twice',
+     () => assert.throws(() => read([['a.js', 'const g = 1;'], ['b.js', 'const g = 2;']]), /^Error: b\.js:1/));

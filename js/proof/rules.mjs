@@ -201,10 +201,7 @@ export class Machine {
   constructor({ code, values, names, written }, path) {
     this.path = path;
     const widths = ([, x], [, y]) => (x.BYTES_PER_ELEMENT ?? 0) - (y.BYTES_PER_ELEMENT ?? 0);
-    // The elements and buffers of typed arrays alone, whatever properties they have.
-    const arrays = structuredClone(Object.fromEntries(Object.entries(values).filter(([, v]) => ArrayBuffer.isView(v))));
-    this.values =
-      Object.fromEntries(Object.entries({...values, ...arrays }).sort(widths).map(([name, v]) => [name, this.copy(v)]));
+    this.values = Object.fromEntries(Object.entries(values).sort(widths).map(([name, v]) => [name, this.copy(v)]));
     // What functions write is not known before, unless a proof opens it.
     for (const name of written) this.values[name]?.cells?.fill(undefined);
     const create = new Function(

@@ -76,9 +76,9 @@ const REFUSED = [
   ['', 'return g(); function g() { return 1; }'], ['', 'return arguments[0];'], ['', 'return x.toString();'],
   ['', "return words.hasOwnProperty('0');"], ['', 'label: return 1;'], ['', 'return (1, x);'],
   ['const list = [5];', 'return list.length;'], ['', 'return typeof Buffer;'], ['', 'let s = 1; s += 5; return s;'],
-  ['', 'let i = 1; return ++i;'], ['', 'return 0 ?? 5;'], ['', 'return words[4];'], ['', 'return eval("1");'],
+  ['', 'let i = 1; return ++i;'], ['', 'return 0 ?? 5;'], ['', 'return words[4];'],
   ['function* g() { return 1; }', 'return g();'], ['const g = () => 1; g.state = 5;', 'return g.state;'],
-  ['const process = 5;', "return process['argv'];"],
+  ['const g = (process) => process;', "return process['argv'].length;"],
   ["const charCodeAt = ''.codePointAt.call.bind(''.codePointAt);", "return charCodeAt('A', 0);"],
   ['const upper = new Uint32Array(halves.buffer, 4);', 'return upper[0];']
 ];
@@ -87,7 +87,7 @@ const WRITES = [
   '() => uses[0] |= 1', '() => uses[0]++', '() => { [uses[0]] = [1]; }', '() => uses.fill(1)', "() => uses['fill'](1)",
   '(i) => uses[i].state', '(g) => g(uses)', '() => { const a = uses; a[0]++; }',
   '() => { const a = uses; const b = a; b[0]++; }', '(a = uses) => a[0]++', '() => { const [a = uses] = []; a[0]++; }',
-  '[() => { uses[0] = 1; }]', '[uses]', 'uses.buffer'
+  '[() => { uses[0] = 1; }]', "() => eval('uses[0] = 1')", '[uses]', 'uses.buffer'
 ];
 for (const value of WRITES) REFUSED.push([`const uses = new Uint8Array(1), g = ${value};`, 'return uses[0];']);
 
@@ -100,8 +100,9 @@ function unknown(path, value) {
   return integer(v.term, v.low, v.high, v.type, `${value === Infinity}`);
 }
 
-// Whether the paths are proved on which the function returns this for these values.
+// Whether the paths are proved on which the function returns this for these values. Where Node throws an error, none is.
 function isResult(m, result, expected) {
+  if (expected === undefined) return 'false';
   const { type, term, infinite } =
     typeof result === 'boolean' ? { type: 'boolean', term: `${result}` } : m.known(result);
   if (type !== typeof expected) throw new Error(type);
@@ -120,6 +121,8 @@ async function compare(body, values, covers) {
     let expected, paths = [], found = 'rejected';
     try {
       expected = inNode(x, y);
+    } catch { expected = undefined; }
+    try {
       paths = explore((path) => {
         const m = new Machine(modules, path);
         ['words', 'groups'].forEach((name) => m.open(name));

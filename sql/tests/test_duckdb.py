@@ -28,8 +28,8 @@ CALLS = calls_of(DUCKDB)
 FUNCTIONS = arguments_by_result(CALLS)
 # The types of numbers, to which DuckDB converts smaller integers.
 INTEGERS = {"BIGINT": 2**63, "UBIGINT": 2**64, "HUGEINT": 2**127, "UHUGEINT": 2**128}
-# An error takes DuckDB a millisecond, and a row of the file has several calls, so one in so many is computed.
-STEP = 5
+# An error takes DuckDB a millisecond, and a row of the file has several calls, so one in five of each function is computed.
+SAMPLE = sorted(CALLS, key=lambda call: call.name)[::5]
 
 
 def quoted(value: Any) -> str:
@@ -119,7 +119,7 @@ class Functions(Case):
         """Those that return are the rows of tables, one for each function and types of its arguments."""
         tables: dict[tuple[str, tuple[str, ...]], list[str]] = {}
         failing = []
-        for name, arguments, result in (call for call in CALLS[::STEP] if None not in call.arguments):
+        for name, arguments, result in (call for call in SAMPLE if None not in call.arguments):
             for given in itertools.product(*(typed(value, place == 0) for place, value in enumerate(arguments))):
                 values = ", ".join(value for _, value in given)
                 if isinstance(result, Error):
@@ -137,14 +137,14 @@ class Functions(Case):
         self.check_errors(failing)
 
     def test_nulls(self) -> None:
-        """Of each overload, with null in each place, in a row between two others."""
+        """Of each overload, with null in each place, in the first row of a chunk and in one near its end."""
         queries = []
         for name, ((_, given), _) in overloads():
             for place, value in enumerate(given):
-                changed = [*given[:place], f"CASE WHEN i <> 2048 THEN {value} END", *given[place + 1 :]]
+                changed = [*given[:place], f"CASE WHEN i NOT IN (2048, 4094) THEN {value} END", *given[place + 1 :]]
                 call = f"{name}({', '.join(changed)})"
-                queries.append(f"SELECT [count({call}), count(CASE i WHEN 2048 THEN {call} END)] FROM range(4096) r(i);")
-        self.assertEqual(results("".join(queries)), [[4095, 0]] * len(queries))
+                queries.append(f"SELECT list(i ORDER BY i) FILTER (WHERE {call} IS NULL) FROM range(4096) r(i);")
+        self.assertEqual(results("".join(queries)), [[2048, 4094]] * len(queries))
 
     def test_two_results(self) -> None:
         """Of each overload in one row, of arguments that are not constant."""
@@ -186,8 +186,9 @@ class Queries(Case):
         self.check_counts(dict.fromkeys(trips, 500000), "t", setup)
 
     def test_widest(self) -> None:
-        """Strings of the greatest width, of which several share an allocation."""
+        """Strings of the greatest width, of which several share an allocation, and one whose length needs more than 16 bits."""
         self.check_counts({f"base62_decode(base62_encode_fixed(i, {WIDEST})) = i": 5000}, "range(5000) r(i)")
+        self.assertEqual(results("SELECT base62_decode(repeat('0', 65536) || 'LZ');"), [1337])
 
     def test_joins(self) -> None:
         """What README says of integers that are joined and summed: a join that rounds finds each row twice."""
@@ -250,11 +251,11 @@ class Queries(Case):
 
     def test_error_in_a_row(self) -> None:
         """A query ends with the first error of a chunk. TRY and a function that tries make null of such rows alone."""
-        setup = "CREATE TABLE t AS SELECT base62_encode(i) || '-'[:(i >= 4990)::INT] AS s FROM range(5000) r(i);\n"
+        setup = "CREATE TABLE t AS SELECT base62_encode(i) || '-'[:(i >= 5990)::INT] AS s FROM range(6000) r(i);\n"
         calls = ("TRY(base62_decode(s))", "base62_try_decode(s)", "base62_try_decode_uhugeint_fixed(s, strlen(s))")
-        self.check_counts({f"{call} IS NOT NULL": 4990 for call in calls}, "t", setup)
+        self.check_counts({f"{call} IS NOT NULL": 5990 for call in calls}, "t", setup)
         ran = shell(setup + "SELECT max(base62_decode(s)) FROM t;\nSELECT 1337 AS next;")
-        self.assertIn("base62: Encoded input contains the invalid byte b'-' at index 3: '1IU-'", ran.stderr)
+        self.assertIn("base62: Encoded input contains the invalid byte b'-' at index 3: '1Yc-'", ran.stderr)
         self.assertIn("1337", ran.stdout)
 
 

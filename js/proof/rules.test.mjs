@@ -152,10 +152,8 @@ for (const [module, body] of REFUSED)
       m.functions.f(unknown(path, 5));
     });
   }, /^Error: test\.js:\d+: no rule for this$/));
-test('too many paths are an error', () => assert.throws(() => explore((path) => {
-  for (let i = 0; i < 10; i++) path.decide('true');
-}),
-  /1000 paths/));
+const branch = (path) => '0123456789'.replace(/./g, () => path.decide('true'));
+test('too many paths are an error', () => assert.throws(() => explore(branch), /1000 paths/));
 for (const body of BODIES) test(body, () => compare(body, pairs(numbers.filter((n) => isFinite(n))), () => true));
 test('a goal is open if it is false, not known or too hard, and an impossible path is found', async () => {
   const [path] = explore((path) => {

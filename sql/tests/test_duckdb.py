@@ -28,8 +28,9 @@ CALLS = calls_of(DUCKDB)
 FUNCTIONS = arguments_by_result(CALLS)
 # The types of numbers, to which DuckDB converts smaller integers.
 INTEGERS = {"BIGINT": 2**63, "UBIGINT": 2**64, "HUGEINT": 2**127, "UHUGEINT": 2**128}
-# An error takes DuckDB a millisecond, and a row of the file has several calls, so one in five of each function is computed.
-SAMPLE = sorted(CALLS, key=lambda call: call.name)[::5]
+# An error takes DuckDB a millisecond, so of each function one in five is computed.
+FAILING = sorted((call for call in CALLS if isinstance(call.result, Error)), key=lambda call: call.name)
+SAMPLE = [*(call for call in CALLS if not isinstance(call.result, Error)), *FAILING[::5]]
 
 
 def quoted(value: Any) -> str:

@@ -54,8 +54,8 @@ const ABSENT = {
   'IfStatement alternate': ';'
 };
 
-// The names of the language that functions may use, and later all that are declared.
-const names = new Set(['Infinity', 'undefined', 'Math', 'String']);
+// The names that functions may use: four of the language, and all that the modules declare.
+let names;
 
 // A form without a line above is an error where it runs.
 function formOf(node) {
@@ -111,6 +111,7 @@ const CHAR_CODE_AT = "''.charCodeAt.call.bind(''.charCodeAt)";
 export function read(files) {
   const functions = new Map(), variables = [], notes = { aliases: [], written: new Set() };
   let modules = '', hasCharCodeAt = false;
+  names = new Set(['Infinity', 'undefined', 'Math', 'String']);
   for (const [sourceFile, text] of files) {
     for (const node of parse(text, { ecmaVersion: 2022, sourceType: 'module', locations: true, sourceFile }).body) {
       if (node.type === 'ImportDeclaration') {

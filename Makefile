@@ -21,7 +21,7 @@ prove-c: ## prove c/base62.c with Frama-C; BITS=32 for 32-bit targets, MUTANTS=1
 	@$(if $(MUTANTS),c/proof/rejections.py && c/proof/mutate_specification.py,LIMIT=$${LIMIT:-180} c/proof/prove.py)
 
 generate: ## write the generated files anew, after a change of their sources
-	tests/model.py
+	tests/make_values.py
 	translate/rust.py --write
 	node js/commonjs.mjs
 

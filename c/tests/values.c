@@ -260,7 +260,7 @@ static void check_zeros(void) {
     expect_number(text, length, BASE62_NOT_CANONICAL, number_field(3));
 }
 
-static void check_refused(void) {
+static void check_decode_error(void) {
     char text[LINE];
     struct results wanted = unwritten;
     const size_t length = text_field(2, text);
@@ -288,7 +288,7 @@ static void check_fixed(void) {
 }
 
 /* A text of another length is not read: here it is in a guard page. */
-static void check_exact(void) {
+static void check_decode_fixed(void) {
     char text[LINE];
     struct results wanted = unwritten;
     const struct named *alphabet = alphabet_field(1);
@@ -357,7 +357,7 @@ static void check_message(void) {
     }
 }
 
-static void check_form(void) {
+static void check_uuid_string(void) {
     char string[LINE], bytes[BASE62_UUID_LENGTH];
     const size_t length = text_field(1, string);
     const char *from = copy_guarded(string, length);
@@ -376,13 +376,26 @@ static void check_form(void) {
                 "uuid_to_string");
 }
 
+/* Messages of the other packages have hints. */
+static void check_hint(void) {}
+
 static struct {
     const char *name;
     void (*check)(void);
 } kinds[] = {
-    {"alphabet", check_alphabet}, {"repeated", check_repeated}, {"encode", check_encode}, {"zeros", check_zeros},
-    {"refused", check_refused},   {"fixed", check_fixed},       {"narrow", check_fixed},  {"range", check_range},
-    {"uuid", check_uuid},         {"message", check_message},   {"form", check_form},     {"exact", check_exact},
+    {"alphabet", check_alphabet},
+    {"repeated", check_repeated},
+    {"encode", check_encode},
+    {"zeros", check_zeros},
+    {"decode_error", check_decode_error},
+    {"fixed", check_fixed},
+    {"too_narrow", check_fixed},
+    {"range", check_range},
+    {"uuid", check_uuid},
+    {"message", check_message},
+    {"uuid_string", check_uuid_string},
+    {"decode_fixed", check_decode_fixed},
+    {"hint", check_hint},
 };
 enum { KINDS = sizeof kinds / sizeof *kinds };
 

@@ -111,7 +111,7 @@ fn values_of_texts() {
         let lines = rows.iter().map(|row| (bytes(row[1]), Err(message("zero"))));
         check(&format!("decode -c {options}"), lines);
     });
-    each("refused", None, |options, rows| {
+    each("decode_error", None, |options, rows| {
         let lines = rows.iter().map(|row| (bytes(row[1]), result(&row[2..])));
         check(&format!("decode -u {options}"), lines.clone());
         check(&format!("decode -c {options}"), lines);
@@ -123,12 +123,12 @@ fn values_of_widths() {
     each("fixed", Some(2), |options, rows| {
         check(&format!("encode {options}"), pairs(rows, 1, 3));
     });
-    each("narrow", Some(2), |options, rows| {
+    each("too_narrow", Some(2), |options, rows| {
         let error = "Number needs more characters than the width";
         let lines = rows.iter().map(|row| (bytes(row[1]), Err(error.into())));
         check(&format!("encode {options}"), lines);
     });
-    each("exact", Some(1), |options, rows| {
+    each("decode_fixed", Some(1), |options, rows| {
         let lines = rows.iter().map(|row| match (row[3], bytes(row[2])) {
             ("length", string) => {
                 let (length, width) = (string.len(), row[1]);
@@ -168,7 +168,7 @@ fn uuids() {
     };
     // The command ignores blanks around a number.
     let is_bare = |row: &&Row| bytes(row[0]).trim_ascii() == bytes(row[0]);
-    check("encode -u", rows("form").iter().filter(is_bare).map(line));
+    check("encode -u", rows("uuid_string").iter().filter(is_bare).map(line));
 }
 
 #[test]
@@ -186,7 +186,7 @@ fn lines_of_base62_cli() {
         for row in of("zeros") {
             add(decode, &bytes(row[1]), bytes(row[2]));
         }
-        for row in of("refused") {
+        for row in of("decode_error") {
             let fault = format!("fault: {}", decode_error(&row[2..]).unwrap());
             add(decode, &bytes(row[1]), fault.into());
         }

@@ -75,17 +75,17 @@ const ROWS = {
     return [count, ...calls, ...decodings(alphabet, field, number)];
   },
   zeros: (alphabet, field, number) => decodings(alphabet, field, BigInt(number), errorOf('zero')),
-  refused: (alphabet, field, ...error) => decodings(alphabet, field, errorOf(...error)),
+  decode_error: (alphabet, field, ...error) => decodings(alphabet, field, errorOf(...error)),
   fixed(alphabet, number, width, field) {
     const values = valuesOf(BigInt(number));
     const keys = isKey(alphabet, width) ? [['encodeKey', textOf(field), values]] : [];
     const call = ['encodeFixed', textOf(field), values, alphabet, Number(width)];
-    return [call, ...keys, ...ROWS.exact(alphabet, width, field, 'number', number)];
+    return [call, ...keys, ...ROWS.decode_fixed(alphabet, width, field, 'number', number)];
   },
-  narrow(alphabet, number, width) {
+  too_narrow(alphabet, number, width) {
     return [['encodeFixed', { code: 'OUT_OF_RANGE' }, valuesOf(BigInt(number)), alphabet, Number(width)]];
   },
-  exact(alphabet, width, field, kind, ...numbers) {
+  decode_fixed(alphabet, width, field, kind, ...numbers) {
     const texts = formsOf(field);
     const result = kind === 'number' ? BigInt(numbers[0]) : errorOf(kind, ...numbers);
     const expected = isSafe(width) ? result : { code: 'OUT_OF_RANGE' };
@@ -101,7 +101,8 @@ const ROWS = {
     return [call, ['keyRange', expected, prefixes], ['keyBounds', keys, prefixes]];
   },
   uuid: (number, uuid, text) => [['encodeUuid', text, [uuid]], ['decodeUuid', uuid, [text]]],
-  form(field, uuid) {
+  hint: () => [],
+  uuid_string(field, uuid) {
     const string = decodeURIComponent(field);
     const text = uuid === 'none' ? undefined : encodingOf(BigInt(`0x${uuid.replaceAll('-', '')}`));
     const error = { code: 'INVALID_UUID' };
@@ -217,12 +218,13 @@ function drawRowsOver(base62, name, alphabet) {
   const any = resultOf(() => base62.decode(text, alphabet));
   const [kind, value] = any.split('\t');
   const isSame = any === resultOf(() => base62.decodeCanonical(text, alphabet));
-  const canonical = kind === 'number' ? `encode\t${name}\t${value}\t${field}` : `refused\t${name}\t${field}\t${any}`;
+  const canonical =
+    kind === 'number' ? `encode\t${name}\t${value}\t${field}` : `decode_error\t${name}\t${field}\t${any}`;
   return [
     `encode\t${name}\t${number}\t${fieldOf(base62.encode(number, alphabet))}`,
-    isNarrow ? `narrow\t${name}\t${number}\t${width}` : `fixed\t${name}\t${number}\t${width}\t${fixed}`,
+    isNarrow ? `too_narrow\t${name}\t${number}\t${width}` : `fixed\t${name}\t${number}\t${width}\t${fixed}`,
     isSame ? canonical : `zeros\t${name}\t${field}\t${value}`,
-    `exact\t${name}\t${width}\t${field}\t${resultOf(() => base62.decodeFixed(text, width, alphabet))}`,
+    `decode_fixed\t${name}\t${width}\t${field}\t${resultOf(() => base62.decodeFixed(text, width, alphabet))}`,
     `range\t${name}\t${width}\t${field}\t${resultOf(() => base62.prefixRange(text, width, alphabet))}`
   ];
 }

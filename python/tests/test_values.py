@@ -84,7 +84,7 @@ class Values(RaisesTestCase):
                     self.raises(["zero"], call, text, ALPHABETS[name])
 
     def test_invalid(self) -> None:
-        for name, escaped, *expected in rows("refused"):
+        for name, escaped, *expected in rows("decode_error"):
             for text in forms_of_text(escaped):
                 for call in DECODINGS:
                     self.raises(expected, call, text, ALPHABETS[name])
@@ -103,8 +103,8 @@ class Values(RaisesTestCase):
             if (name, width) == ("standard", "22"):
                 self.assertEqual({base62.encode_key(int(number)), *map(base62.encode_uuid_key, forms)}, {text})
 
-    def test_exact(self) -> None:
-        for name, width, escaped, *expected in rows("exact"):
+    def test_decode_fixed(self) -> None:
+        for name, width, escaped, *expected in rows("decode_fixed"):
             given: Any = int(width), ALPHABETS[name]
             calls: list[Call] = [lambda text: base62.decode_fixed(text, *given)]
             calls.append(lambda text: base62.decode_uuid_fixed(text, *given).int)
@@ -121,8 +121,8 @@ class Values(RaisesTestCase):
                 else:
                     self.raises(expected, call, text)
 
-    def test_narrow(self) -> None:
-        for name, number, width in rows("narrow"):
+    def test_too_narrow(self) -> None:
+        for name, number, width in rows("too_narrow"):
             if name in OF_ASCII:
                 given = int(width), ALPHABETS[name]
                 message, named = "the number needs more characters than the width", uuid.UUID(int=int(number))
@@ -141,8 +141,8 @@ class Values(RaisesTestCase):
                     else:
                         self.assertEqual(call(prefix), tuple(map(int, expected)) or None)
 
-    def test_forms(self) -> None:
-        for escaped, name in rows("form"):
+    def test_uuid_strings(self) -> None:
+        for escaped, name in rows("uuid_string"):
             string = unquote_to_bytes(escaped).decode()
             calls: list[Call] = [base62.encode_uuid, base62.encode_uuid_key]
             for call in calls:

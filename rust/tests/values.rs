@@ -50,7 +50,7 @@ fn number(field: &str) -> u128 {
 /// The UUID of a number is its bytes, the most significant first.
 #[test]
 fn decoding() {
-    for kind in ["encode", "zeros", "refused"] {
+    for kind in ["encode", "zeros", "decode_error"] {
         each(kind, |alphabet, row| {
             let error = || decode_error(&row[1..]).unwrap();
             let (text, num, canonical) = match kind {
@@ -177,7 +177,7 @@ type Filled<'a> = Result<&'a [u8], EncodeError>;
 /// If the buffer is too small, it is left unchanged.
 #[test]
 fn fixed_widths() {
-    for kind in ["fixed", "narrow"] {
+    for kind in ["fixed", "too_narrow"] {
         each(kind, |alphabet, row| {
             let (num, width) = (number(row[0]), row[1].parse().unwrap());
             let text = row.get(2).map(|text| bytes(text));
@@ -210,7 +210,7 @@ fn fixed_widths() {
 
 #[test]
 fn decoding_at_a_width() {
-    each("exact", |alphabet, row| {
+    each("decode_fixed", |alphabet, row| {
         // Not each machine has each width.
         let Ok(width) = row[0].parse() else { return };
         let text = bytes(row[1]);
@@ -250,7 +250,7 @@ fn ranges() {
 
 #[test]
 fn strings_of_uuids() {
-    for row in rows("form") {
+    for row in rows("uuid_string") {
         let uuid = uuid_from_string(bytes(row[0]));
         if row[1] == "none" {
             assert_eq!(uuid, Err(UuidError::InvalidUuid), "{}", row[0]);

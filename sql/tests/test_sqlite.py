@@ -93,7 +93,7 @@ class Functions(Case):
     def test_uuids(self) -> None:
         """Strings for UUIDs, and others, in which a null byte may be."""
         mistake = "base62: the UUID is not 32 hexadecimal digits or 16 bytes"
-        for field, form in rows("form"):
+        for field, form in rows("uuid_string"):
             given = Text(unquote_to_bytes(field))
             expected = mistake + shown(given) if form == "none" else string_of(UUID(form).int, 1)
             self.assertEqual(self.result("encode_uuid", given), expected)

@@ -176,7 +176,7 @@ def encoded_calls(database: Database) -> Iterator[Call]:
 
 
 def invalid_calls(database: Database) -> Iterator[Call]:
-    for letters, field, *fields in of_ascii("refused"):
+    for letters, field, *fields in of_ascii("decode_error"):
         text = Text(unquote_to_bytes(field))
         for form in ("", "_canonical"):
             yield from decoding(database, form, error_of(fields, text), text, letters)
@@ -186,7 +186,7 @@ def invalid_calls(database: Database) -> Iterator[Call]:
 
 def width_calls(database: Database) -> Iterator[Call]:
     """Of strings of a width, and of keys."""
-    for letters, width, text, *fields in of_widths("exact"):
+    for letters, width, text, *fields in of_widths("decode_fixed"):
         result = int(fields[1]) if fields[0] == "number" else error_of(fields, text, width)
         yield from decoding(database, "_fixed", result, text, width, letters)
         if (letters, width) == (STANDARD, KEY):
@@ -195,7 +195,7 @@ def width_calls(database: Database) -> Iterator[Call]:
         yield from encoding(database, "_fixed", int(digits), encoded, int(width), letters)
         if (letters, int(width)) == (STANDARD, KEY):
             yield from encoding(database, "_key", int(digits), encoded)
-    for letters, digits, width in of_ascii("narrow"):
+    for letters, digits, width in of_ascii("too_narrow"):
         narrow = f"the number needs {len(TEXTS[int(digits)])} characters, and the width is {width}"
         error = Error("22003", narrow) if int(width) else no_width(0)
         yield from encoding(database, "_fixed", int(digits), error, int(width), letters)

@@ -1,7 +1,7 @@
 #!/usr/bin/env python3
 """What each call has to return, by integers, and the file of such values that the tests of every language read.
 
-    python3 tests/model.py    writes tests/values.tsv
+    python3 tests/make_values.py    writes tests/values.tsv
 
 The functions follow docs/DEFINITIONS.md and know nothing of the library. As this file is imported, they are checked by
 values that are known from outside. A result is a word and its numbers, as in the rows.
@@ -15,7 +15,7 @@ from collections.abc import Iterator
 from pathlib import Path
 
 HEAD = r"""
-# Results that the calls have to return. tests/model.py generates this file: change the model, and run it.
+# Results that the calls have to return. tests/make_values.py generates this file: change the model, and run it.
 #
 # Tabs separate the fields of a row. The first is its kind. Numbers are decimal. In a text, each byte other than 33 to
 # 126, each % and each \ is % and two hexadecimal digits. An empty text is an empty field.
@@ -24,20 +24,23 @@ HEAD = r"""
 #   repeated  LETTERS  BYTE  INDEX             62 bytes that are not an alphabet: the first repeated byte, and its index
 #   encode    ALPHABET  NUMBER  TEXT           the canonical text: encoding returns it, and both decodings accept it
 #   zeros     ALPHABET  TEXT  NUMBER           decoding returns the number; canonical decoding rejects a leading zero
-#   refused   ALPHABET  TEXT  FAULT            both decodings reject the text with this error
+#   decode_error  ALPHABET  TEXT  FAULT        both decodings reject the text with this error
 #   fixed     ALPHABET  NUMBER  WIDTH  TEXT    the text of WIDTH letters, which decoding accepts
-#   narrow    ALPHABET  NUMBER  WIDTH          the number has no text of WIDTH letters
-#   exact     ALPHABET  WIDTH  TEXT  RESULT    what decoding returns that accepts only texts of WIDTH letters
+#   too_narrow  ALPHABET  NUMBER  WIDTH        the number has no text of WIDTH letters
+#   decode_fixed  ALPHABET  WIDTH  TEXT  RESULT  what decoding returns that accepts only texts of WIDTH letters
 #   range     ALPHABET  WIDTH  PREFIX  RANGE   the numbers whose texts of WIDTH letters begin with the prefix
 #   uuid      NUMBER  UUID  TEXT               the number as a UUID, and its canonical standard text
-#   form      STRING  UUID | none              a string, and the UUID that it stands for, in lowercase with hyphens
-#   message   TEXT  FAULT                      the text of an error, but that Rust has another one for overflow
+#   uuid_string  STRING  UUID | none           a string, and the UUID that it stands for, in lowercase with hyphens
+#   message   TEXT  FAULT                      the text of an error; for overflow, that of C
+#   hint      CALL  STRING  HINT               what an error of CALL for the string names, but in Rust and C
 #
 # FAULT  empty | overflow | byte BYTE INDEX
 #        in messages also: zero (a leading one) | narrow (a buffer is too small) | none (no text has the prefix) |
 #        length (is not the width) | uuid (a string is none) | wide (2^64 or more) | repeated BYTE INDEX (in an alphabet)
 # RESULT number NUMBER | length | FAULT
 # RANGE  numbers LEAST GREATEST | none | byte BYTE INDEX
+# CALL   encode (of numbers) | decode (in the standard alphabet)
+# HINT   uuid (a function or an option for UUIDs) | decimal (a conversion to an integer) | both | none
 #
 # The count of a number's digits is the length of its canonical text. An index or a width may be 2^32 - 1 or more: not
 # every machine, and not every call, takes it.
@@ -510,7 +513,7 @@ def rows_of_texts(alphabet: str, step: int) -> Iterator[Row]:
     for text in (over(letters, text) for text in ([text for text, _ in KNOWN_REFUSED] + [*refused_texts()])):
         result = decoded(letters, text)
         assert result[0] != "number", text
-        yield "refused", alphabet, text, *result
+        yield "decode_error", alphabet, text, *result
 
 
 def rows_of_widths(alphabet: str, step: int) -> Iterator[Row]:
@@ -523,7 +526,7 @@ def rows_of_widths(alphabet: str, step: int) -> Iterator[Row]:
     for number, width in dict.fromkeys(pairs):
         text = fixed_text(letters, number, width)
         if text is None:
-            yield "narrow", alphabet, number, width
+            yield "too_narrow", alphabet, number, width
         else:
             yield "fixed", alphabet, number, width, text
 
@@ -539,7 +542,7 @@ def rows_of_exact(alphabet: str, step: int) -> Iterator[Row]:
         pairs += [(len(text) + beside, text) for beside in (-1, 0, 1)] + [(KEY, text), (len(padded), padded)]
     for width, standard in dict.fromkeys(pairs):
         text = over(letters, standard)
-        yield "exact", alphabet, width, text, *decoded_fixed(letters, width, text)
+        yield "decode_fixed", alphabet, width, text, *decoded_fixed(letters, width, text)
 
 
 def rows_of_ranges(alphabet: str, step: int) -> Iterator[Row]:
@@ -562,6 +565,19 @@ def rows_of_messages() -> Iterator[Row]:
         yield "message", message(fault).encode(), *fault
 
 
+def rows_of_hints() -> Iterator[Row]:
+    """Strings that were given to a call of numbers. Those that decode, such as 32 zeros, have no error."""
+    strings = dict(forms()) | dict.fromkeys(["", "0", "1337", "007", str(LARGEST), str(LARGEST + 1), "9" * 100])
+    strings |= dict.fromkeys([" 1337", "1337\n", "+1337", "-5", "1,337", "1_337", "1337.0", "0x539", "1e3", "LZ", "null"])
+    strings |= dict.fromkeys(["\u0661\u0663\u0663\u0667", "\uff11\uff13\uff13\uff17", "\u00b2", "1337\u00b2", "\u2167"])
+    for string, name in strings.items():
+        is_decimal = string.isascii() and string.isdigit()
+        hint = ("both" if is_decimal else "uuid") if name else ("decimal" if is_decimal else "none")
+        yield "hint", "encode", string.encode(), hint
+        if decoded(STANDARD, string.encode())[0] != "number":
+            yield "hint", "decode", string.encode(), "uuid" if name else "none"
+
+
 def rows() -> Iterator[Row]:
     yield from rows_of_alphabets()
     yield from rows_of_repeats()
@@ -573,7 +589,8 @@ def rows() -> Iterator[Row]:
         yield from rows_of_ranges(alphabet, 2 * step)
     for number in [number for number, *_ in KNOWN_UUIDS] + numbers()[::8]:
         yield "uuid", number, str(uuid.UUID(int=number)), text_of(STANDARD, number)
-    yield from (("form", string.encode(), name or "none") for string, name in forms())
+    yield from (("uuid_string", string.encode(), name or "none") for string, name in forms())
+    yield from rows_of_hints()
     yield from rows_of_messages()
 
 

@@ -2,7 +2,8 @@
 """Checks the pages of the repository, which are its Markdown files.
 
     scripts/pages.py links [FOLDER]        checks that each link to a page, a heading or a file has a target, in the
-                                           pages that git tracks or in those of the folder, which they do not leave
+                                           pages that git tracks or in those of the folder, which they do not leave,
+                                           and that a power such as 2**63 is code: two of them would be bold
     scripts/pages.py write PAGE FOLDER     writes each block of PAGE whose fence names files, as in: ```c lz.c
     scripts/pages.py run PAGE FOLDER       runs PAGE in FOLDER: writes such files, runs blocks of sh in bash,
                                            and compares what one prints with the block of text after it
@@ -46,6 +47,12 @@ def lost_links(pages: list[Path], top: Path) -> Iterator[str]:
             to = (page.parent / path if path else page).resolve()
             if not to.is_relative_to(top.resolve()) or not to.exists() or heading and heading not in anchors(to):
                 yield f"{page}: {link} leads nowhere"
+
+
+def bare_powers(pages: list[Path]) -> Iterator[str]:
+    for page in pages:
+        for power in re.findall(r"\w+(?:\\?\*){2}\w+", re.sub("`[^`]+`", "", prose(page))):
+            yield f"{page}: {power} is not code"
 
 
 def write(page: Path, folder: Path) -> None:
@@ -94,8 +101,8 @@ def main() -> None:
         case ["links", *folder] if len(folder) < 2:
             names = subprocess.run(["git", "ls-files", "*.md"], check=True, capture_output=True, text=True).stdout
             pages = [*Path(*folder).rglob("*.md")] if folder else [*map(Path, names.splitlines())]
-            if lost := list(lost_links(pages, Path(*folder))):
-                raise SystemExit("\n".join(lost))
+            if errors := [*lost_links(pages, Path(*folder)), *bare_powers(pages)]:
+                raise SystemExit("\n".join(errors))
         case ["write", page, folder]:
             write(Path(page), Path(folder))
         case ["run", page, folder]:

@@ -4,6 +4,7 @@
 import ast
 import builtins
 import re
+from collections import defaultdict
 from pathlib import Path
 
 TOP = Path(__file__).resolve().parent.parent
@@ -17,18 +18,19 @@ NAMING = {
     "Python": (["python/tests/test_*.py", "python/README.md", "python/COLUMNS.md"], "#.*", '["`]'),
     "JavaScript": (["js/tests/calls.mjs", "js/README.md"], "//.*", BARE),
 }
-# Pages and types, and the languages whose names they have. In C and SQL these have a prefix. In others functions have verbs,
-# and errors an ending.
+# Pages and types, and the languages whose names they have. In C and SQL these have a prefix.
 SQL = ["SQLite", "DuckDB", "PostgreSQL"]
 PAGES = {
     **dict.fromkeys(["README.md", "command/README.md", "docs/CALLS.md", "docs/D[!E]*.md", "docs/DEC*.md"], [*NAMING, *SQL]),
     **dict.fromkeys(["js/README.md", "js/index.d.cts", "js/tests/types.ts"], ["JavaScript"]),
     **{"c/README.md": ["C"], "python/*.md": ["Python"], "rust/README.md": ["Rust"], "sql/*.md": SQL},
 }
-VERBS = (
-    r"(?<![\w./])(?:base62\.|columns\.|b\.)?"
-    r"((?:en|de)code\b|(?:(?:en|de)code|digit|prefix|key|uuid)(?:_[a-z]\w*|[A-Z]\w*)|[A-Z]\w+Error\b)"
-)
+# In the other pages a name before a parenthesis is a function, and so is the name of an error.
+CALL = r"(?<![\w.:/$'])(?:base62\.|columns\.|b\.)?([A-Za-z]\w*)\(|\b([A-Z]\w+Error)\b"
+# What languages and other libraries have.
+OTHERS = """
+    BigInt Decimal Err Ok Some String UUID constructor decimal128 derive fixed_size_binary fmt from_str main print printf require
+""".split()
 
 
 def text(*paths: str) -> str:
@@ -69,11 +71,14 @@ def columns_of(path: str, head: str) -> dict[str, set[str]]:
 
 def listed() -> dict[str, set[str]]:
     """The names of the page, and of SQL those of its README, which has more."""
-    columns, sql = columns_of("docs/CALLS.md", "function"), columns_of("sql/README.md", "returns")
+    names = defaultdict[str, set[str]](set)
+    for language, line in re.findall(r"(?m)^- \*\*(\w+)\*\*(.*)$", text("docs/CALLS.md")):
+        names[language] |= set(re.findall("`(.*?)`", line))
+    sql = columns_of("sql/README.md", "returns")
     in_all = sql.pop("in all three")
-    if differing := columns.pop("SQL") ^ in_all:
+    if differing := names.pop("SQL") ^ in_all:
         raise SystemExit(f"only one of docs/CALLS.md and sql/README.md has in all three databases: {' '.join(sorted(differing))}")
-    return columns | {title.removeprefix("only "): names | in_all for title, names in sql.items()}
+    return names | {title.removeprefix("only "): others | in_all for title, others in sql.items()}
 
 
 def used(path: str, comments: str, before: str) -> set[str]:
@@ -82,15 +87,23 @@ def used(path: str, comments: str, before: str) -> set[str]:
     return {("columns." if "COLUMNS" in path else module) + name for module, name in names}
 
 
+def column(path: str, title: str) -> str:
+    """The cells below a title, in all tables of a page."""
+    tables = re.findall(rf"(?m)^\|((?:[^|\n]*\|)*?) {title} \|.*\n\|[-|]+\n((?:\|.*\n)+)", text(path))
+    return "".join(row.split("|")[before.count("|") + 1] for before, rows in tables for row in rows.splitlines())
+
+
 def unknown(path: str, exports: set[str]) -> set[str]:
-    """The names in the code of a file that are of no export, no type of C or SQL, no language and no program, and not
-    defined there."""
+    """The names of functions and errors in a page or a file of types that are neither exported nor defined there, nor of
+    a language or another library."""
     blocks = re.findall(r"(?ms)^```[^\n]*\n(.*?)^```$|`([^`\n]+)`", text(path))
     code = "\n".join(map("".join, blocks)) if path.endswith(".md") else text(path)
-    names = re.findall(r"\bbase62_\w+", code) + ([] if path.startswith(("c/", "sql/")) else re.findall(VERBS, code))
+    names = re.findall(r"\bbase62_\w+", code)
+    if not path.startswith(("c/", "sql/")):
+        names += [*map("".join, re.findall(CALL, code)), *re.findall(r"`(\w+)[`(]", column(path, "function(?: or class)?"))]
     types = re.findall(r"(?m)(?:^} |CREATE DOMAIN )(\w+)", text("c/base62.h", "sql/postgresql/*.sql"))
-    defined = map("".join, re.findall(r"\b(?:def|fn) (\w+)|\b(\w+) ?=(?!=)", code))
-    known = {"base62_cli", "RangeError", *dir(builtins), *types, *defined, *exports}
+    defined = map("".join, re.findall(r"\b(?:def|fn|class|struct) (\w+)|\b(\w+) ?=(?!=)", code))
+    known = {"base62_cli", "RangeError", *OTHERS, *dir(builtins), *types, *defined, *exports}
     known |= {name.removeprefix("columns.") for name in exports}
     return {name for name in names if not {name, ALPHABETS.sub("", name)} & known}
 
@@ -98,13 +111,11 @@ def unknown(path: str, exports: set[str]) -> set[str]:
 def main() -> None:
     exports, lists = exported(), listed()
     if exports.keys() != lists.keys() or not all(exports.values()):
-        raise SystemExit(f"docs/CALLS.md has the columns {', '.join(lists)}")
+        raise SystemExit(f"docs/CALLS.md has lists for {', '.join(lists)}")
     errors = []
     for language, names in exports.items():
         errors += [f"{language}: {name} is exported, and not in docs/CALLS.md" for name in names - lists[language]]
         errors += [f"{language}: {name} is in docs/CALLS.md, and not exported" for name in lists[language] - names]
-        functions = (name for name in names if name[0].islower() and not name.startswith("base62_"))
-        errors += [f"{language}: {name} has no verb of VERBS" for name in functions if not re.fullmatch(VERBS, name)]
     for language, (paths, *syntax) in NAMING.items():
         for path in paths:
             missing = exports[language] - used(path, *syntax)

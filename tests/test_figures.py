@@ -50,7 +50,11 @@ def says(characters: str) -> list[str]:
     lengths = ", ".join(str(length(len(characters), 2**bits - 1)) for bits in (32, 64, 128))
     answers = [[*characters] == sorted(characters), len({*characters.lower()}) == len(characters)]
     # What begins with a hyphen is an option of a command.
-    return [lengths, *("yes" if answer else "no" for answer in answers), "begins with `-`" if "-" in characters else "yes" if is_plain else "no"]
+    return [
+        lengths,
+        *("yes" if answer else "no" for answer in answers),
+        "begins with `-`" if "-" in characters else "yes" if is_plain else "no",
+    ]
 
 
 def main() -> None:

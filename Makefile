@@ -29,9 +29,17 @@ version: ## set the version everywhere: make version V=X.Y.Z
 	scripts/version.py '$(V)'
 
 PREFIX = /usr/local
+prefix = $(DESTDIR)$(or $(PREFIX),$(error PREFIX is empty))
 install-command: ## install the command, its manual page and completions: make install-command PREFIX=..
-	cargo install --quiet --force --no-track --path command --root '$(DESTDIR)$(PREFIX)'
-	cp -R command/share '$(DESTDIR)$(PREFIX)'
+	@# Cargo builds a copy: in the clone of a user it would leave files of root.
+	@copy=$$(mktemp -d) && trap 'rm -rf "$$copy"' EXIT && mkdir "$$copy/rust" "$$copy/command" && \
+	    cp -R rust/Cargo.toml rust/README.md rust/src "$$copy/rust" && cp -R command/Cargo.toml command/src "$$copy/command" && \
+	    cargo install --quiet --force --no-track --path "$$copy/command" --root '$(prefix)'
+	cp -R command/share '$(prefix)'
+
+uninstall-command: ## remove what install-command has installed: make uninstall-command PREFIX=..
+	rm -f '$(prefix)/bin/base62' '$(prefix)/bin/base62_cli'
+	cd command && find share -type f | while read -r file; do rm -f '$(abspath $(prefix))'/"$$file"; done
 
 dist: ## pack all packages into a folder: make dist FOLDER=..
 	scripts/dist '$(FOLDER)'
@@ -45,5 +53,5 @@ setup-full: ## install also browsers, Wine, cross compilers, emulators and prove
 check-debian: ## try README's lines in a bare Debian, as root: make check-debian SUITE=trixie
 	scripts/check-debian '$(SUITE)'
 
-.PHONY: help check $(parts:%=check-%) prove prove-c generate version install-command dist setup setup-full \
+.PHONY: help check $(parts:%=check-%) prove prove-c generate version install-command uninstall-command dist setup setup-full \
     check-debian

@@ -21,6 +21,7 @@ def places(version: str) -> list[tuple[str, str, str]]:
         ("rust/Cargo.toml", r'(?m)^version = "(.*)"$', version),
         ("command/Cargo.toml", r'(?m)^version = "(.*)"$', version),
         ("command/Cargo.toml", r'(?m)^base62 = .* version = "(.*)" }$', version),
+        ("command/share/man/man1/base62.1", r'(?m)^\.TH .* "base62 (.*)" "User Commands"$', version),
         ("js/package.json", r'(?m)^  "version": "(.*)",$', version),
         *(("c/base62.h", rf"(?m)^#define BASE62_VERSION{name} (.*)$", value) for name, value in macros.items()),
         ("c/README.md", r"(?m)^find_package\(base62 (.*) CONFIG REQUIRED\)$", major),

@@ -3,11 +3,9 @@
 
 //! Parses the arguments.
 
-use crate::conversion::Settings;
 use crate::escape::Escaped;
 use crate::help::{COMMAND, VERSION};
-use crate::options::{CommandOption, find_option, needs_value};
-use crate::subcommands::{Subcommand, find_subcommand};
+use crate::options::{CommandOption, Settings, Subcommand, find_option, find_subcommand};
 
 pub(crate) enum Action {
     /// Boxed because its alphabet is large.
@@ -22,29 +20,48 @@ pub(crate) struct Task {
     pub(crate) operands: Vec<Vec<u8>>,
 }
 
+/// What is wrong with the arguments, and a hint.
+pub(crate) struct ArgumentError(pub(crate) String);
+
+impl From<String> for ArgumentError {
+    fn from(message: String) -> Self {
+        ArgumentError(message + ": try base62 --help")
+    }
+}
+
+type Parsed<T> = Result<T, ArgumentError>;
+
 /// An option and its value, which is empty if it has none.
 type Given = (CommandOption, Vec<u8>);
 
 type Rest<'a> = &'a mut dyn Iterator<Item = Vec<u8>>;
 
-/// Parses the arguments after the name of the program. An error says what is wrong with them.
-pub(crate) fn parse(mut rest: impl Iterator<Item = Vec<u8>>) -> Result<Action, String> {
+/// Parses the arguments after the name of the program.
+pub(crate) fn parse(mut rest: impl Iterator<Item = Vec<u8>>) -> Parsed<Action> {
     let (mut given, mut operands) = (Vec::new(), Vec::new());
-    // An invalid option after --help or --version is not an error, so `parsed?` comes below. Values are not checked then.
     let parsed = split(&mut rest, &mut given, &mut operands);
-    let mut operands = operands.into_iter();
-    let is_given = |wanted| given.iter().any(|((letter, _), _)| *letter == wanted);
-    if is_given(b'V') {
+    let is_given = |wanted| given.iter().any(|((letter, ..), _)| *letter == wanted);
+    if is_given('V') {
         return Ok(Action::Print(VERSION));
     }
-    if is_given(b'h') {
-        return help_of(operands);
+    // An invalid option after --help is not an error. Values are not checked then.
+    if !is_given('h') {
+        parsed?;
     }
-    parsed?;
-    let name = operands.next().ok_or("No subcommand is given")?;
-    if name == b"help" {
-        return help_of(operands);
+    let mut operands = operands.into_iter();
+    let name = operands.next();
+    if is_given('h') || name.as_deref() == Some(b"help") {
+        // `help --help` prints the help of the command.
+        let name = name
+            .into_iter()
+            .chain(operands)
+            .find(|name| name != b"help");
+        let subcommand = name.map(|name| find_subcommand(&name)).transpose()?;
+        return Ok(Action::Print(
+            subcommand.map_or(COMMAND, |(_, _, help, ..)| help),
+        ));
     }
+    let name = name.ok_or_else(|| "No subcommand is given".to_string())?;
     let subcommand = find_subcommand(&name)?;
     Ok(Action::Convert(Box::new(Task {
         subcommand,
@@ -54,72 +71,57 @@ pub(crate) fn parse(mut rest: impl Iterator<Item = Vec<u8>>) -> Result<Action, S
 }
 
 /// Splits the arguments into options and operands, up to an invalid option.
-fn split(rest: Rest, given: &mut Vec<Given>, operands: &mut Vec<Vec<u8>>) -> Result<(), String> {
+fn split(rest: Rest, given: &mut Vec<Given>, operands: &mut Vec<Vec<u8>>) -> Parsed<()> {
     while let Some(argument) = rest.next() {
         match argument.as_slice() {
             b"--" => operands.extend(&mut *rest),
-            [b'-', b'-', ..] => given.push(long_option(&argument, rest)?),
-            [b'-', letters @ ..] if !letters.is_empty() => short_options(letters, rest, given)?,
+            // Such as `--width` or `--width=11`.
+            [b'-', b'-', ..] => {
+                let end = argument.iter().position(|byte| *byte == b'=');
+                let (name, value) = argument.split_at(end.unwrap_or(argument.len()));
+                given.push(with_value(name, value.get(1..), rest)?);
+            }
+            // Such as `-auw11`.
+            [b'-', letters @ ..] if !letters.is_empty() => {
+                for (index, letter) in letters.iter().enumerate() {
+                    let name = [b'-', *letter];
+                    let (_, _, needs_value) = find_option(&name)?;
+                    let attached = Some(&letters[index + 1..]);
+                    let attached = attached.filter(|after| needs_value && !after.is_empty());
+                    given.push(with_value(&name, attached, rest)?);
+                    if needs_value {
+                        break;
+                    }
+                }
+            }
             _ => operands.push(argument),
         }
     }
     Ok(())
 }
 
-/// The help of the subcommand that the first operand names, or of the command. An operand `help` is skipped, since
-/// `SUBCOMMANDS` does not have it: `help --help` prints the help of the command.
-fn help_of(mut operands: impl Iterator<Item = Vec<u8>>) -> Result<Action, String> {
-    let name = operands.find(|name| name != b"help");
-    let subcommand = name.map(|name| find_subcommand(&name)).transpose()?;
-    Ok(Action::Print(
-        subcommand.map_or(COMMAND, |found| found.help),
-    ))
-}
-
-/// The option of an argument such as `--width` or `--width=11`.
-fn long_option(argument: &[u8], rest: Rest) -> Result<Given, String> {
-    let mut parts = argument.splitn(2, |byte| *byte == b'=');
-    let (name, attached) = (parts.next().unwrap_or_default(), parts.next());
-    let option = find_option(name)?;
-    if needs_value(option) {
-        return Ok((option, value_of(name, attached, rest)?));
-    }
-    match attached {
-        Some(_) => Err(format!("Option {} takes no value", Escaped(name))),
-        None => Ok((option, Vec::new())),
-    }
-}
-
-/// The options of an argument such as `-auw11`, without the hyphen.
-fn short_options(mut letters: &[u8], rest: Rest, given: &mut Vec<Given>) -> Result<(), String> {
-    while let [letter, after @ ..] = letters {
-        let name = [b'-', *letter];
-        let (option, mut value) = (find_option(&name)?, Vec::new());
-        letters = after;
-        if needs_value(option) {
-            let attached = Some(after).filter(|after| !after.is_empty());
-            value = value_of(&name, attached, rest)?;
-            letters = &[];
-        }
-        given.push((option, value));
-    }
-    Ok(())
-}
-
-/// The value of an option: the attached one, or else the next argument.
-fn value_of(name: &[u8], attached: Option<&[u8]>, rest: Rest) -> Result<Vec<u8>, String> {
-    let value = attached.map(<[u8]>::to_vec).or_else(|| rest.next());
-    value.ok_or_else(|| format!("Option {} needs a value", Escaped(name)))
+/// The option with its value: the attached one, or else the next argument.
+fn with_value(name: &[u8], attached: Option<&[u8]>, rest: Rest) -> Parsed<Given> {
+    let option @ (_, _, needs_value) = find_option(name)?;
+    let given = attached.map(<[u8]>::to_vec);
+    let value = match given {
+        given if needs_value => given.or_else(|| rest.next()).ok_or("needs a value"),
+        Some(_) => Err("takes no value"),
+        None => Ok(Vec::new()),
+    };
+    let value = value.map_err(|error| format!("Option {} {error}", Escaped(name)))?;
+    Ok((option, value))
 }
 
 /// The settings that the options of a subcommand make. The last one of a kind applies.
-fn settings_of(subcommand: &Subcommand, given: &[Given]) -> Result<Settings, String> {
+fn settings_of(
+    (subcommand, options, ..): &Subcommand,
+    given: &[Given],
+) -> Result<Settings, String> {
     let mut settings = Settings::default();
-    for ((letter, option), value) in given {
-        let row = format!("\n  -{}, ", char::from(*letter));
-        if !subcommand.help.contains(&row) {
-            let name = subcommand.name;
-            return Err(format!("Subcommand {name} has no option --{option}"));
+    for ((letter, name, _), value) in given {
+        if !options.contains(*letter) {
+            return Err(format!("Subcommand {subcommand} has no option --{name}"));
         }
         settings.set(*letter, value)?;
     }

@@ -7,13 +7,13 @@ mod arguments;
 mod conversion;
 mod escape;
 mod help;
+mod input_hint;
 mod line_end;
 mod memory;
 mod numbers;
 mod options;
 mod printer;
 mod streams;
-mod subcommands;
 
 // Translated from `crates/base62_cli`.
 mod generated {
@@ -21,7 +21,7 @@ mod generated {
 }
 use generated::*;
 
-use arguments::Action;
+use arguments::{Action, ArgumentError};
 use fault::ToolFault;
 use std::process::ExitCode;
 use std::{env, ffi::OsString};
@@ -35,8 +35,8 @@ fn main() -> ExitCode {
             let printed = print(text.as_bytes()).or(Err(ToolFault::Write));
             printed.map(|()| ExitCode::SUCCESS)
         }
-        Err(error) => {
-            report(format_args!("{error}: try base62 --help"));
+        Err(ArgumentError(error)) => {
+            report(error);
             return ExitCode::from(2);
         }
     };

@@ -2,7 +2,7 @@
 // Copyright (c) 2026 the maintainers of base62 for Rattle
 
 //! The help. The completions read that of the installed command, `tests/page` writes the manual page from it, and a test
-//! runs its examples. A subcommand has the options that its help lists.
+//! runs its examples.
 
 pub(crate) const VERSION: &str = concat!("base62 ", env!("CARGO_PKG_VERSION"), "\n");
 
@@ -25,6 +25,8 @@ operand or line it prints one line, which is empty if the input is invalid.
   $ base62 encode 1337
   LZ
 
+base62 help SUBCOMMAND lists the options of a subcommand.
+
 Exit status:
   0  all inputs are valid
   1  an input is invalid, or a read, a write or an allocation fails
@@ -39,12 +41,14 @@ around a number are ignored. An invalid number gives an empty line.
   -a, --alternative      use the alphabet 0 to 9, a to z, A to Z
   -A, --alphabet CHARACTERS  use these 62 printable ASCII characters, the zero first
   -w, --width N          N characters, with leading zeros; a key is -w 22
-  -u, --uuid             numbers are UUIDs
+  -u, --uuid             encode UUIDs, or decode to UUIDs
   -x, --hex              numbers are hexadecimal
   -e, --keep-empty       an empty input gives an empty line, and is not an error
 
   $ echo 1337 | base62 encode -w 4
   00LZ
+  $ base62 encode -u -w 22 017f22e2-79b0-7cc3-98c4-dc0c0c07398f
+  02p5oQZoHTv0zeY5yG21K3
 ";
 
 pub(crate) const DECODE: &str = "\
@@ -58,12 +62,14 @@ otherwise, strings with any number of leading zeros.
   -A, --alphabet CHARACTERS  use these 62 printable ASCII characters, the zero first
   -w, --width N          N characters, with leading zeros; a key is -w 22
   -c, --canonical        reject strings with leading zeros
-  -u, --uuid             numbers are UUIDs
+  -u, --uuid             encode UUIDs, or decode to UUIDs
   -x, --hex              numbers are hexadecimal
   -e, --keep-empty       an empty input gives an empty line, and is not an error
 
   $ base62 decode LZ
   1337
+  $ base62 decode -u -w 22 02p5oQZoHTv0zeY5yG21K3
+  017f22e2-79b0-7cc3-98c4-dc0c0c07398f
 ";
 
 pub(crate) const RANGE: &str = "\

@@ -1,52 +1,107 @@
 // SPDX-License-Identifier: MIT
 // Copyright (c) 2026 the maintainers of base62 for Rattle
 
-//! The options, and what each of them sets.
+//! The subcommands and the options, and what each option sets.
 
-use crate::conversion::{Notation, Settings};
+use crate::arguments::ArgumentError;
+use crate::conversion::{Converter, decode, encode, range};
 use crate::escape::Escaped;
+use crate::help::{DECODE, ENCODE, RANGE};
 use crate::numbers::parse_decimal;
 use base62::Alphabet;
 
-/// An option, such as `-w` or `--width`: its letter and its name.
-pub(crate) type CommandOption = (u8, &'static str);
+/// A subcommand: its name, the letters of its options, its help, a line of input, and what it does with one.
+pub(crate) type Subcommand = (
+    &'static str,
+    &'static str,
+    &'static str,
+    &'static str,
+    Converter,
+);
+
+static SUBCOMMANDS: [Subcommand; 3] = [
+    ("encode", "aAwuxe", ENCODE, "1337", encode),
+    ("decode", "aAwcuxe", DECODE, "LZ", decode),
+    ("range", "aAw", RANGE, "000L", range),
+];
+
+pub(crate) fn find_subcommand(name: &[u8]) -> Result<&'static Subcommand, ArgumentError> {
+    if let Some(subcommand) = SUBCOMMANDS
+        .iter()
+        .find(|(known, ..)| known.as_bytes() == name)
+    {
+        return Ok(subcommand);
+    }
+    let error = format!("There is no subcommand {}", Escaped(name));
+    // A misspelled name mostly begins with the right letter.
+    match SUBCOMMANDS
+        .iter()
+        .find(|(known, ..)| known.as_bytes().first() == name.first())
+    {
+        Some((meant, ..)) => Err(ArgumentError(format!("{error}: try base62 {meant}"))),
+        None => Err(error.into()),
+    }
+}
+
+/// The letter and the name of an option, such as `-w` and `--width`, and whether it needs a value.
+pub(crate) type CommandOption = (char, &'static str, bool);
 
 static OPTIONS: [CommandOption; 9] = [
-    (b'a', "alternative"),
-    (b'A', "alphabet"),
-    (b'w', "width"),
-    (b'c', "canonical"),
-    (b'u', "uuid"),
-    (b'x', "hex"),
-    (b'e', "keep-empty"),
-    (b'h', "help"),
-    (b'V', "version"),
+    ('a', "alternative", false),
+    ('A', "alphabet", true),
+    ('w', "width", true),
+    ('c', "canonical", false),
+    ('u', "uuid", false),
+    ('x', "hex", false),
+    ('e', "keep-empty", false),
+    ('h', "help", false),
+    ('V', "version", false),
 ];
 
 /// The option of a name such as `-w` or `--width`.
-pub(crate) fn find_option(name: &[u8]) -> Result<CommandOption, String> {
-    let named = OPTIONS.iter().copied().find(|(letter, long)| match name {
-        [b'-', b'-', name @ ..] => long.as_bytes() == name,
-        _ => name == [b'-', *letter],
-    });
-    named.ok_or_else(|| format!("There is no option {}", Escaped(name)))
+pub(crate) fn find_option(name: &[u8]) -> Result<CommandOption, ArgumentError> {
+    let named = OPTIONS
+        .iter()
+        .copied()
+        .find(|(letter, long, _)| match name {
+            [b'-', b'-', name @ ..] => long.as_bytes() == name,
+            _ => name == [b'-', *letter as u8],
+        });
+    let error = format!("There is no option {}", Escaped(name));
+    named.ok_or_else(|| match name {
+        [b'-', b'0'..=b'9'] => ArgumentError(format!("{error}: numbers are not negative")),
+        _ => error.into(),
+    })
 }
 
-pub(crate) fn needs_value((letter, _): CommandOption) -> bool {
-    matches!(letter, b'A' | b'w')
+/// How numbers are read and printed, if not in decimal.
+pub(crate) enum Notation {
+    Hexadecimal,
+    Uuid,
+}
+
+/// What the options set.
+#[derive(Default)]
+pub(crate) struct Settings {
+    pub(crate) alphabet: Alphabet,
+    pub(crate) width: Option<usize>,
+    /// Whether a string has to be canonical.
+    pub(crate) is_canonical: bool,
+    pub(crate) notation: Option<Notation>,
+    pub(crate) keeps_empty: bool,
 }
 
 impl Settings {
     /// Sets what an option means. An error says what is wrong with its value.
-    pub(crate) fn set(&mut self, letter: u8, value: &[u8]) -> Result<(), String> {
+    pub(crate) fn set(&mut self, letter: char, value: &[u8]) -> Result<(), String> {
         match letter {
-            b'a' => self.alphabet = Alphabet::alternative(),
-            b'A' => self.alphabet = parse_alphabet(value)?,
-            b'w' => self.width = Some(parse_width(value)?),
-            b'c' => self.is_canonical = true,
-            b'u' => self.notation = Some(Notation::Uuid),
-            b'x' => self.notation = Some(Notation::Hexadecimal),
-            b'e' => self.keeps_empty = true,
+            'a' => self.alphabet = Alphabet::alternative(),
+            'A' => self.alphabet = parse_alphabet(value)?,
+            'w' => self.width = Some(parse_width(value)?),
+            'c' => self.is_canonical = true,
+            'u' => self.notation = Some(Notation::Uuid),
+            'x' => self.notation = Some(Notation::Hexadecimal),
+            'e' => self.keeps_empty = true,
             _ => (),
         }
         Ok(())
@@ -68,9 +123,34 @@ fn parse_alphabet(value: &[u8]) -> Result<Alphabet, String> {
     if !value.iter().all(|byte| matches!(byte, b' '..=b'~')) {
         return Err("Alphabet has a character that is not printable ASCII".into());
     }
-    let characters: &[u8; 62] = value.try_into().map_err(|_| match value.len() {
-        1 => "Alphabet has 1 character, not 62".into(),
-        count => format!("Alphabet has {count} characters, not 62"),
+    let characters: &[u8; 62] = value.try_into().map_err(|_| match value {
+        b"alternative" => "For this alphabet there is --alternative".into(),
+        [_] => "Alphabet has 1 character, not 62".into(),
+        _ => format!("Alphabet has {} characters, not 62", value.len()),
     })?;
     Alphabet::new(*characters).map_err(|error| error.to_string())
+}
+
+#[cfg(test)]
+#[test]
+fn options_in_help() {
+    let all = [("", "hV", crate::help::COMMAND, "", encode as Converter)];
+    for (name, letters, help, ..) in SUBCOMMANDS.iter().chain(&all) {
+        let rows = help.lines().filter(|row| row.starts_with("  -"));
+        let mut listed: Vec<_> = rows
+            .map(|row| row[2..].split("  ").next().unwrap())
+            .collect();
+        let options = OPTIONS
+            .iter()
+            .filter(|(letter, ..)| letters.contains(*letter));
+        for (letter, name, needs_value) in options {
+            let row = format!("-{letter}, --{name}");
+            let is_row = |listed: &&str| match listed.strip_prefix(&row) {
+                Some(value) => value.starts_with(' ') == *needs_value,
+                None => false,
+            };
+            listed.remove(listed.iter().position(is_row).expect(&row));
+        }
+        assert!(listed.is_empty(), "{name}: {listed:?}");
+    }
 }

@@ -7,6 +7,7 @@ use crate::arguments::Task;
 use crate::conversion::ConversionError;
 use crate::escape::Escaped;
 use crate::fault::ToolFault;
+use crate::input_hint::InputHint;
 use crate::line_end::line_end;
 use crate::memory::Bytes;
 use crate::numbers::append;
@@ -49,11 +50,11 @@ impl Printer<'_> {
     /// Prints the result for an operand, or for the line of this number. If the input is invalid, first prints the
     /// results so far and reports the error. Then the line of output is empty.
     fn print(&mut self, input: &[u8], line: Option<u64>) -> Result<(), ToolFault> {
-        let settings = &self.task.settings;
+        let (settings, (.., convert)) = (&self.task.settings, self.task.subcommand);
         let result = if input.is_empty() && settings.keeps_empty {
             Ok(())
         } else {
-            (self.task.subcommand.convert)(settings, input, &mut self.buffer)
+            convert(settings, input, &mut self.buffer)
         };
         if let Err(error) = result {
             if let ConversionError::Failure(failure) = error {
@@ -71,13 +72,19 @@ impl Printer<'_> {
     }
 
     fn report(&self, input: &[u8], line: Option<u64>, error: &ConversionError) {
-        let (name, shown) = (self.task.subcommand.name, Escaped(input));
+        let (subcommand, ..) = *self.task.subcommand;
+        let (settings, is_operand) = (&self.task.settings, line.is_none());
+        let hint = InputHint {
+            subcommand,
+            settings,
+            input,
+            is_operand,
+            error,
+        };
+        let shown = Escaped(input);
         match line {
-            Some(number) => report(format_args!("line {number}: {shown}: {error}")),
-            None if input == b"-" => {
-                report(format_args!("{shown}: {error}: try base62 {name} <FILE"))
-            }
-            None => report(format_args!("{shown}: {error}")),
+            Some(number) => report(format_args!("line {number}: {shown}: {error}{hint}")),
+            None => report(format_args!("{shown}: {error}{hint}")),
         }
     }
 
@@ -89,6 +96,11 @@ impl Printer<'_> {
 
     /// Prints the result for each line of standard input. Writes the results so far before a read, which may block.
     fn print_lines(&mut self) -> Result<(), ToolFault> {
+        if io::stdin().is_terminal() {
+            let (name, _, _, example, _) = self.task.subcommand;
+            let start = format_args!("It reads lines such as `{example}`");
+            report(format_args!("{start}: try base62 {name} --help"));
+        }
         let (mut chunk, mut start, mut number) = ([0; CHUNK_LEN], Bytes::new(), 0);
         loop {
             self.flush()?;

@@ -21,9 +21,13 @@ fn fails(line: &str, error: &str) {
 /// The arguments are rejected before anything is read or written.
 #[track_caller]
 fn is_wrong(arguments: &str, error: &str) {
+    has_hint(arguments, &format!("{error}: try base62 --help"));
+}
+
+#[track_caller]
+fn has_hint(arguments: &str, error: &str) {
     let line = format!("{{ base62 {arguments}; status=$?; cat; exit $status; }} <<<unread");
-    let error = format!("base62: {error}: try base62 --help\n");
-    ends(&line, 2, "unread\n", &error);
+    ends(&line, 2, "unread\n", &format!("base62: {error}\n"));
 }
 
 #[test]
@@ -98,6 +102,40 @@ fn invalid_inputs() {
     ends(line, 1, &mixed, "");
 }
 
+/// A hint names what the input may be. The conversions that it names have the right results.
+#[test]
+fn hints() {
+    let table = r"
+        encode 0x539 -> --hex
+        encode -x 017f22e2-79b0-7cc3-98c4-dc0c0c07398f -> --uuid
+        encode 1,337 -> the digits alone
+        encode 1_337 -> the digits alone
+        encode 1337' -> the digits alone
+        encode ١٣ -> the digits 0 to 9
+        encode ids.txt -> base62 encode <FILE
+        encode -u ./ids -> base62 encode <FILE
+        decode ids.txt -> base62 decode <FILE
+        range 017f22e279b07cc398c4dc0c0c07398f -> base62 encode --uuid";
+    for (arguments, hint) in sides(table) {
+        let (name, input) = arguments.trim().rsplit_once(' ').unwrap();
+        let (status, _, errors) = run(&format!("base62 {name} $'{}'", input.replace('\'', r"\'")));
+        assert!(
+            status == Some(1) && errors.ends_with(&format!(": try {hint}\n")),
+            "{errors}"
+        );
+    }
+    rejects(
+        "base62 encode -- -5",
+        &format!("-5: {NO_NUMBER}: numbers are not negative"),
+    );
+    // A line is no file.
+    rejects(
+        "base62 encode <<<ids.txt",
+        &format!("line 1: ids.txt: {NO_NUMBER}"),
+    );
+    prints("base62 encode --hex 0x539", "LZ\n");
+}
+
 /// A message shows an input up to 100 bytes, and without what would control a terminal.
 #[test]
 fn inputs_in_messages() {
@@ -105,7 +143,7 @@ fn inputs_in_messages() {
     let too_large = u128::MAX.to_string().replace("1455", "1456");
     let mut inputs = vec![(r"\e[2J", r"\x1b[2J"), (&long, &cut)];
     inputs.extend([&long[1..], &too_large, r"\xff", r"\xef\xbb\xbf1"].map(|input| (input, input)));
-    inputs.extend(["0x10", "+5", "-5", "5.0", "1e3", "1_000"].map(|input| (input, input)));
+    inputs.extend(["+5", "5.0", "1e3"].map(|input| (input, input)));
     for (input, shown) in inputs {
         let error = format!("{shown}: {NO_NUMBER}");
         rejects(&format!("base62 encode -- $'{input}'"), &error);
@@ -203,6 +241,7 @@ fn wrong_arguments() {
         encode --alphabet -> Option --alphabet needs a value
         encode -w '' 5 -> A width is an integer of 1 or more, not ''
         encode -w $'\xff' -> A width is an integer of 1 or more, not \xff
+        encode -A alternative -> For this alphabet there is --alternative
         encode -A '' -> Alphabet has 0 characters, not 62
         encode -A 5 -> Alphabet has 1 character, not 62
         encode -A ${letters:1} -> Alphabet has 61 characters, not 62
@@ -212,6 +251,14 @@ fn wrong_arguments() {
     for (arguments, error) in sides(table) {
         is_wrong(arguments, error);
     }
+    for (name, meant) in [("enc", "encode"), ("encoed", "encode"), ("dec", "decode")] {
+        let error = format!("There is no subcommand {name}: try base62 {meant}");
+        has_hint(&format!("{name} 5"), &error);
+    }
+    has_hint(
+        "encode -5",
+        "There is no option -5: numbers are not negative",
+    );
     for option in ["help", "version", "hex", "canonical", "uuid", "keep-empty"] {
         let error = format!("Option --{option} takes no value");
         is_wrong(&format!("--{option}=5"), &error);
@@ -279,10 +326,8 @@ fn a_terminal() {
     let shown = at_terminal("base62_cli", "<<<'enc 1337'");
     assert!(shown.contains(help) && shown.ends_with("LZ\r\n"), "{shown}");
     let shown = at_terminal("base62 encode", "<<<1337");
-    assert!(
-        !shown.contains("base62:") && shown.ends_with("LZ\r\n"),
-        "{shown}"
-    );
+    let help = "base62: It reads lines such as `1337`: try base62 encode --help\r\n";
+    assert!(shown.contains(help) && shown.ends_with("LZ\r\n"), "{shown}");
     // From here on the output alone is a terminal.
     assert_eq!(at_terminal("base62_cli </dev/null", "</dev/null"), "");
     // Each result is a write, which Linux counts.

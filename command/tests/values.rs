@@ -30,7 +30,13 @@ fn check_program(command: &str, lines: impl IntoIterator<Item = Line>) {
         input.extend([&line[..], b"\n"].concat());
         match expected {
             Ok(text) => output.extend(text),
-            Err(error) => errors.push((format!("base62: line {number}: "), format!(": {error}"))),
+            Err(mut error) => {
+                // As what a decoder rejects.
+                if command.starts_with("base62 decode") && base62::uuid_from_string(&line).is_ok() {
+                    error += ": try base62 encode --uuid";
+                }
+                errors.push((format!("base62: line {number}: "), format!(": {error}")));
+            }
         }
         output.push(b'\n');
     }
@@ -48,6 +54,8 @@ fn check_program(command: &str, lines: impl IntoIterator<Item = Line>) {
     assert_eq!(status, Some(i32::from(!errors.is_empty())));
 }
 
+const OVERFLOW: &str = "Encoded input represents 2^128 or more, or has more than 22 characters";
+
 /// The shared message of an error.
 fn message(error: &str) -> String {
     let row = rows("message").into_iter().find(|row| row[1..] == [error]);
@@ -59,8 +67,9 @@ fn result(fields: &[&str]) -> Result<Vec<u8>, String> {
     match fields {
         ["number", number] => Ok(number.as_bytes().into()),
         ["numbers", least, greatest] => Ok(format!("{least} {greatest}").into()),
-        // The library's message of an overflow is another one, which names a type of Rust.
-        [error @ ("none" | "overflow")] => Err(message(error)),
+        [error @ "none"] => Err(message(error)),
+        // Unlike the library's.
+        ["overflow"] => Err(OVERFLOW.into()),
         _ => Err(decode_error(fields).unwrap().to_string()),
     }
 }
@@ -124,8 +133,12 @@ fn values_of_widths() {
         check(&format!("encode {options}"), pairs(rows, 1, 3));
     });
     each("too_narrow", Some(2), |options, rows| {
-        let error = "Number needs more characters than the width";
-        let lines = rows.iter().map(|row| (bytes(row[1]), Err(error.into())));
+        let lines = rows.iter().map(|row| {
+            let count = base62::digit_count(row[1].parse::<u128>().unwrap());
+            let width = row[2];
+            let error = format!("Number needs {count} characters, and the width is {width}");
+            (bytes(row[1]), Err(error))
+        });
         check(&format!("encode {options}"), lines);
     });
     each("decode_fixed", Some(1), |options, rows| {
@@ -168,7 +181,35 @@ fn uuids() {
     };
     // The command ignores blanks around a number.
     let is_bare = |row: &&Row| bytes(row[0]).trim_ascii() == bytes(row[0]);
-    check("encode -u", rows("uuid_string").iter().filter(is_bare).map(line));
+    check(
+        "encode -u",
+        rows("uuid_string").iter().filter(is_bare).map(line),
+    );
+}
+
+/// An error for the string of a UUID, and no other one, names the option for UUIDs.
+#[test]
+fn hints() {
+    for (name, hint) in [
+        ("encode", ": try --uuid"),
+        ("decode", ": try base62 encode --uuid"),
+    ] {
+        let rows = rows("hint").into_iter().filter(|row| row[0] == name);
+        let rows: Vec<_> = rows.filter(|row| !row[1].contains("%0A")).collect();
+        let input: Vec<_> = rows
+            .iter()
+            .map(|row| [&bytes(row[1])[..], b"\n"].concat())
+            .collect();
+        let file = format!("{}/hints", env!("CARGO_TARGET_TMPDIR"));
+        fs::write(&file, input.concat()).unwrap();
+        let (_, _, errors) = run(&format!("base62 {name} <'{file}'"));
+        for (number, row) in (1..).zip(rows) {
+            let start = format!("base62: line {number}: ");
+            let error = errors.lines().find(|error| error.starts_with(&start));
+            let is_named = error.is_some_and(|error| error.ends_with(hint));
+            assert_eq!(is_named, row[2] == "uuid", "{name}: {row:?}: {error:?}");
+        }
+    }
 }
 
 #[test]

@@ -45,9 +45,9 @@ pub fn is_installed(tool: &str) -> bool {
     is_installed
 }
 
-/// The line, with `$file` as the name of a new file, which is removed.
+/// The line, with `$file` as the name of a new file in a folder of its own, which is removed.
 pub fn in_a_file(line: &str) -> String {
-    format!("file=$(mktemp -u); trap 'rm -f $file' EXIT; {line}")
+    format!("folder=$(mktemp -d); file=$folder/file; trap 'rm -r $folder' EXIT; {line}")
 }
 
 /// Both sides of each row of a table, in which ` -> ` separates them.

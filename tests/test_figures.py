@@ -23,8 +23,7 @@ ALPHABETS = {
 # What states the least version.
 SOURCES = {
     "Rust": ("rust/Cargo.toml", r'rust-version = "(.*)"'),
-    "C": ("c/CMakeLists.txt", r"c_std_(99)"),
-    "CMake": ("c/CMakeLists.txt", r"VERSION (.*)\.\.\."),
+    "C, CMake": ("c/CMakeLists.txt", r"VERSION (.*)\.\.\."),
     "CPython": ("python/pyproject.toml", r'requires-python = ">=(.*)"'),
     "Node": ("js/package.json", r'"node": ">=(.*)"'),
     **{name: ("sql/README.md", rf"{name} ([\d.]+) and later") for name in ("SQLite", "PostgreSQL", "DuckDB")},
@@ -53,7 +52,7 @@ def says(characters: str) -> list[str]:
     return [
         lengths,
         *("yes" if answer else "no" for answer in answers),
-        "begins with `-`" if "-" in characters else "yes" if is_plain else "no",
+        "may begin with `-`" if "-" in characters else "yes" if is_plain else "no",
     ]
 
 
@@ -62,7 +61,8 @@ def main() -> None:
     assert dict(zip(encodings[""], zip(*[*encodings.values()][2:]))) == {name: (*says(text),) for name, text in ALPHABETS.items()}
     versions = table("Rust")
     least = {name: re.search(pattern, (TOP / path).read_text())[1] for name, (path, pattern) in SOURCES.items()}
-    assert dict(zip(versions[""], versions["least"])) == least | {"C": "C99"}, least
+    least["C, CMake"] = f"C99, {least['C, CMake']}"
+    assert dict(zip(versions[""], versions["least"])) == least, least
     # The upper 48 bits of such a UUID are milliseconds since 1970.
     years = [(datetime(1970, 1, 1) + timedelta(milliseconds=62**power >> 80)).year for power in (20, 21)]
     assert f"from {years[0]} to {years[1]}" in (TOP / "docs/CALLS.md").read_text(), years

@@ -379,7 +379,7 @@ static B62_ALWAYS_INLINE uint64_t last_10_as_fraction(u128 n) {
  * Returns n / 62^20, at most five units above it: 4 are added for what is rounded down. Each 2^64 in n adds
  * 2^128 / 62^20 units: 483, plus the factor / 2^64, rounded up. For n.low, 483 is enough.
  */
-static B62_ALWAYS_INLINE u128 over_62_20(u128 n) {
+static B62_ALWAYS_INLINE u128 scaled_by_62_20(u128 n) {
     const uint64_t rest = u128_mul_64(n.high, UINT64_C(1200736830183971319)).high;
     return u128_add(u128_mul_64(n.high, 483), u128_of(rest + ((n.low >> 32) * 483 >> 32) + 4));
 }
@@ -388,10 +388,10 @@ static B62_ALWAYS_INLINE u128 over_62_20(u128 n) {
  * Divides by 62^20, given low, the fraction of the last ten digits. The fraction of the result is that of the ten
  * digits before them. Let g be low / 2^64. The last ten digits add at most 22 * g units to it, since 2^64 / 62^10 is
  * below 22. Subtracting low >> 60, which is 16 * g rounded down, leaves at most seven of these. With the five of
- * over_62_20 that is twelve; up to 20 the digits are right.
+ * scaled_by_62_20 that is twelve; up to 20 the digits are right.
  */
 static B62_ALWAYS_INLINE u128 divide_by_62_20(u128 n, uint64_t low) {
-    return u128_sub(over_62_20(n), u128_of(low >> 60));
+    return u128_sub(scaled_by_62_20(n), u128_of(low >> 60));
 }
 
 static void write_narrow(const Tables *tables, uint64_t n, size_t count, uint8_t *buffer) {
@@ -493,7 +493,8 @@ size_t base62_digit_count(base62_number number) { return digit_count(number); }
 #define B62_GREATEST_FIRST_10 UINT64_C(105472483207813235)
 
 /* Appends at most five digits to a number of at most five digits, below 64^5. */
-static B62_ALWAYS_INLINE uint64_t read_more(const Tables *tables, uint64_t number, const uint8_t *text, size_t count) {
+static B62_ALWAYS_INLINE uint64_t read_up_to_5_more(const Tables *tables, uint64_t number, const uint8_t *text,
+                                                    size_t count) {
     //@ assert requires: number < 0x40000000 && count <= 5;
     for (size_t i = 0; i < count; i++) {
         const uint8_t digit = tables->digits[text[i]];
@@ -518,10 +519,10 @@ static B62_ALWAYS_INLINE uint64_t read_10(const Tables *tables, const uint8_t *t
 
 static B62_ALWAYS_INLINE uint64_t read_up_to_10(const Tables *tables, const uint8_t *text, size_t count) {
     //@ assert requires: count <= 10;
-    if (count < 5) return read_more(tables, 0, text, count);
+    if (count < 5) return read_up_to_5_more(tables, 0, text, count);
     const uint64_t first = read_5(tables, text);
     if (first == B62_NO_VALUE) return B62_NO_VALUE;
-    return read_more(tables, first, text + 5, count - 5);
+    return read_up_to_5_more(tables, first, text + 5, count - 5);
 }
 
 /* Stores the number of at most ten digits, unless a byte is invalid. Returns whether it is stored. */
@@ -547,7 +548,7 @@ static B62_ALWAYS_INLINE bool decode_11_to_20(const Tables *tables, const uint8_
 static B62_ALWAYS_INLINE base62_status decode_21_or_22(const Tables *tables, const uint8_t *text, size_t count,
                                                        u128 *number) {
     //@ assert requires: 20 < count && count <= 22;
-    const uint64_t high = read_more(tables, 0, text, count - 20);
+    const uint64_t high = read_up_to_5_more(tables, 0, text, count - 20);
     if (high == B62_NO_VALUE) return BASE62_INVALID_BYTE;
     const uint64_t middle = read_10(tables, text + (count - 20));
     if (middle == B62_NO_VALUE) return BASE62_INVALID_BYTE;
@@ -927,7 +928,7 @@ static size_t append_byte_at_index(uint8_t *message, size_t length, uint8_t byte
 }
 
 /* Writes the message of a status, and returns its length, at most BASE62_MAX_ERROR_MESSAGE. */
-static size_t text_of(base62_status status, base62_bad_byte bad, uint8_t *message) {
+static size_t format_message(base62_status status, base62_bad_byte bad, uint8_t *message) {
     if (status == BASE62_BUFFER_TOO_SMALL) return append(message, 0, B62_TEXT(B62_TOO_SMALL_TEXT));
     if (status == BASE62_EMPTY_INPUT) return append(message, 0, B62_TEXT(B62_EMPTY_TEXT));
     if (status == BASE62_OVERFLOW) return append(message, 0, B62_TEXT(B62_OVERFLOW_TEXT));
@@ -949,7 +950,7 @@ static size_t text_of(base62_status status, base62_bad_byte bad, uint8_t *messag
 
 size_t base62_error_message(base62_status status, base62_bad_byte bad, char *buffer, size_t size) {
     uint8_t message[BASE62_MAX_ERROR_MESSAGE] = {0};
-    const size_t length = text_of(status, bad, message);
+    const size_t length = format_message(status, bad, message);
     if (size < length) return 0;
     copy_bytes((uint8_t *)buffer, message, length);
     return length;

@@ -16,7 +16,7 @@ write_basic_package_version_file("${CMAKE_CURRENT_BINARY_DIR}/base62-config-vers
 install(FILES "${CMAKE_CURRENT_BINARY_DIR}/base62-config.cmake"
     "${CMAKE_CURRENT_BINARY_DIR}/base62-config-version.cmake" DESTINATION "${base62_package}")
 
-# It names all places from where it lies.
+# It names all folders relative to its own.
 set(base62_pkgconfig "${CMAKE_INSTALL_FULL_LIBDIR}/pkgconfig")
 file(RELATIVE_PATH base62_to_prefix "${base62_pkgconfig}" "${CMAKE_INSTALL_PREFIX}")
 file(RELATIVE_PATH base62_to_include "${base62_pkgconfig}" "${CMAKE_INSTALL_FULL_INCLUDEDIR}")

@@ -11,9 +11,9 @@
  * requires" is a precondition for Frama-C. A function that writes count digits of n also requires n < 62^count.
  * u128_mul_64 and u64_ilog2 use an extension of the compiler if it has one, which is tested, not proved.
  *
- * Indexes are not checked: the proof shows that each is in bounds. Nothing is allocated, and there is no state. It is
- * C99, for machines of 32 or 64 bits and of either byte order. With BASE62_NO_INT128, u128_mul_64 uses no integer of
- * 128 bits.
+ * Indexes are not checked: the proof shows that each is in bounds. None rests on what was read of a byte before, which
+ * another thread may have changed since. Nothing is allocated, and there is no state. It is C99, for machines of 32 or
+ * 64 bits and of either byte order. With BASE62_NO_INT128, u128_mul_64 uses no integer of 128 bits.
  */
 #include "base62.h"
 
@@ -590,12 +590,14 @@ static base62_status store_bad_byte(const uint8_t *text, size_t index, base62_ba
     return BASE62_INVALID_BYTE;
 }
 
-/* Returns the error of a text that has an invalid byte among the at most 22 that follow its leading zeros. */
+/* Returns the error of a text that has an invalid byte among the at most 22 that follow its leading zeros. If a thread
+   has made all of them valid since, it takes the last one for invalid: no byte behind the text is read. */
 static base62_status find_error(const Tables *tables, const uint8_t *text, size_t length, size_t zeros,
                                 base62_bad_byte *bad) {
+    //@ assert requires: zeros < length && length - zeros <= 22;
     const size_t count = length - zeros;
     const uint8_t *rest = text + zeros;
-    const size_t valid = count_valid(tables, rest, count);
+    const size_t valid = count_valid(tables, rest, count - 1);
     if (count == 22 && valid >= 10) {
         const uint64_t first = read_10(tables, rest);
         if (first > B62_GREATEST_FIRST_10) return BASE62_OVERFLOW;
@@ -782,11 +784,20 @@ static const uint8_t B62_PAIR_INDEXES[BASE62_UUID_LENGTH] = {
 static const uint8_t B62_HEX_DIGITS[16] = {
     '0', '1', '2', '3', '4', '5', '6', '7', '8', '9', 'a', 'b', 'c', 'd', 'e', 'f',
 };
-/* The values of hexadecimal digits, from '0' to 'f', and 16 for the other bytes between them. */
-static const uint8_t B62_HEX_VALUES[55] = {
-    0,  1,  2,  3,  4,  5,  6,  7,  8,  9,  16, 16, 16, 16, 16, 16, 16, 10, 11, 12, 13, 14, 15, 16, 16, 16, 16, 16,
-    16, 16, 16, 16, 16, 16, 16, 16, 16, 16, 16, 16, 16, 16, 16, 16, 16, 16, 16, 16, 16, 10, 11, 12, 13, 14, 15,
-};
+/* The value of each hexadecimal digit, and 255 for any other byte. */
+static const uint8_t B62_HEX_VALUES[256] = {
+    255, 255, 255, 255, 255, 255, 255, 255, 255, 255, 255, 255, 255, 255, 255, 255, 255, 255, 255, 255, 255, 255,
+    255, 255, 255, 255, 255, 255, 255, 255, 255, 255, 255, 255, 255, 255, 255, 255, 255, 255, 255, 255, 255, 255,
+    255, 255, 255, 255, 0,   1,   2,   3,   4,   5,   6,   7,   8,   9,   255, 255, 255, 255, 255, 255, 255, 10,
+    11,  12,  13,  14,  15,  255, 255, 255, 255, 255, 255, 255, 255, 255, 255, 255, 255, 255, 255, 255, 255, 255,
+    255, 255, 255, 255, 255, 255, 255, 255, 255, 10,  11,  12,  13,  14,  15,  255, 255, 255, 255, 255, 255, 255,
+    255, 255, 255, 255, 255, 255, 255, 255, 255, 255, 255, 255, 255, 255, 255, 255, 255, 255, 255, 255, 255, 255,
+    255, 255, 255, 255, 255, 255, 255, 255, 255, 255, 255, 255, 255, 255, 255, 255, 255, 255, 255, 255, 255, 255,
+    255, 255, 255, 255, 255, 255, 255, 255, 255, 255, 255, 255, 255, 255, 255, 255, 255, 255, 255, 255, 255, 255,
+    255, 255, 255, 255, 255, 255, 255, 255, 255, 255, 255, 255, 255, 255, 255, 255, 255, 255, 255, 255, 255, 255,
+    255, 255, 255, 255, 255, 255, 255, 255, 255, 255, 255, 255, 255, 255, 255, 255, 255, 255, 255, 255, 255, 255,
+    255, 255, 255, 255, 255, 255, 255, 255, 255, 255, 255, 255, 255, 255, 255, 255, 255, 255, 255, 255, 255, 255,
+    255, 255, 255, 255, 255, 255, 255, 255, 255, 255, 255, 255, 255, 255};
 
 /* Returns the character of a hexadecimal digit. */
 static uint8_t hex_digit(uint32_t digit) {
@@ -797,11 +808,8 @@ static uint8_t hex_digit(uint32_t digit) {
 /* Returns an uppercase character of ASCII in lowercase, and any other byte as it is. */
 static uint8_t lower(uint8_t byte) { return byte >= 'A' && byte <= 'Z' ? (uint8_t)(byte + 32) : byte; }
 
-/* Returns the value of a hexadecimal digit in either case, or 16 for any other byte. */
-static B62_ALWAYS_INLINE uint32_t hex_value(uint8_t byte) {
-    if (byte < '0' || byte > 'f') return 16;
-    return B62_HEX_VALUES[byte - '0'];
-}
+/* Returns the value of a hexadecimal digit in either case, or 255 for any other byte. */
+static B62_ALWAYS_INLINE uint32_t hex_value(uint8_t byte) { return B62_HEX_VALUES[byte]; }
 
 /* Returns the index of the two digits of a byte in a string for a UUID, with hyphens or without. */
 static B62_ALWAYS_INLINE size_t pair_index(size_t byte, bool hyphens) {
@@ -809,15 +817,18 @@ static B62_ALWAYS_INLINE size_t pair_index(size_t byte, bool hyphens) {
     return hyphens ? B62_PAIR_INDEXES[byte] : byte * 2;
 }
 
-/* Stores the bytes of 32 digits from start on, unless one is invalid. Returns whether they are stored. */
+/* Stores the bytes of 32 digits from start on, unless one is invalid: then the bitwise OR of all exceeds 63. Returns
+   whether they are stored. */
 static B62_ALWAYS_INLINE bool read_pairs(const uint8_t *text, size_t start, bool hyphens, uint8_t *uuid) {
     uint8_t bytes[BASE62_UUID_LENGTH] = {0};
+    uint32_t all = 0;
     for (size_t i = 0; i < BASE62_UUID_LENGTH; i++) {
         const size_t index = start + pair_index(i, hyphens);
         const uint32_t high = hex_value(text[index]), low = hex_value(text[index + 1]);
-        if (high > 15 || low > 15) return false;
+        all = all | high | low;
         bytes[i] = (uint8_t)(high * 16 + low);
     }
+    if (all > 63) return false;
     copy_bytes(uuid, bytes, BASE62_UUID_LENGTH);
     return true;
 }

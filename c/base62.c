@@ -11,9 +11,9 @@
  * requires" is a precondition for Frama-C. A function that writes count digits of n also requires n < 62^count.
  * u128_mul_64 and u64_ilog2 use an extension of the compiler if it has one, which is tested, not proved.
  *
- * Indexes are not checked: the proof shows that each is in bounds. None rests on what was read of a byte before, which
- * another thread may have changed since. Nothing is allocated, and there is no state. It is C99, for machines of 32 or
- * 64 bits and of either byte order. With BASE62_NO_INT128, u128_mul_64 uses no integer of 128 bits.
+ * Indexes are not checked: the proof shows that each is in bounds. They stay so if another thread changes what is read.
+ * Nothing is allocated, and there is no state. It is C99, for machines of 32 or 64 bits and of either byte order. With
+ * BASE62_NO_INT128, u128_mul_64 uses no integer of 128 bits.
  */
 #include "base62.h"
 

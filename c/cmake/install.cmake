@@ -30,7 +30,7 @@ endif()
 install(FILES LICENSE README.md DESTINATION "${base62_pages}")
 # In the repository of the project it is one folder above.
 set(base62_changes CHANGELOG.md)
-if(EXISTS "${CMAKE_CURRENT_SOURCE_DIR}/../crates/base62")
+if(EXISTS "${CMAKE_CURRENT_SOURCE_DIR}/../tests/values.tsv")
     set(base62_changes ../CHANGELOG.md)
 endif()
 install(FILES ${base62_changes} DESTINATION "${base62_pages}" OPTIONAL)

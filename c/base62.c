@@ -778,12 +778,9 @@ void base62_to_uuid(base62_number number, unsigned char uuid[BASE62_UUID_LENGTH]
 
 static const uint8_t B62_URN_TEXT[] = "urn:uuid:";
 /* Where the two digits of each byte are in a string with hyphens. */
-static const uint8_t B62_PAIR_INDEXES[BASE62_UUID_LENGTH] = {
-    0, 2, 4, 6, 9, 11, 14, 16, 19, 21, 24, 26, 28, 30, 32, 34,
-};
-static const uint8_t B62_HEX_DIGITS[16] = {
-    '0', '1', '2', '3', '4', '5', '6', '7', '8', '9', 'a', 'b', 'c', 'd', 'e', 'f',
-};
+static const uint8_t B62_PAIR_INDEXES[BASE62_UUID_LENGTH] = {0, 2, 4, 6, 9, 11, 14, 16, 19, 21, 24, 26, 28, 30, 32, 34};
+static const uint8_t B62_HEX_DIGITS[16] = {'0', '1', '2', '3', '4', '5', '6', '7',
+                                           '8', '9', 'a', 'b', 'c', 'd', 'e', 'f'};
 /* The value of each hexadecimal digit, and 255 for any other byte. */
 static const uint8_t B62_HEX_VALUES[256] = {
     255, 255, 255, 255, 255, 255, 255, 255, 255, 255, 255, 255, 255, 255, 255, 255, 255, 255, 255, 255, 255, 255,

@@ -1,4 +1,4 @@
-#include <base62.h>
+#include "base62.h"
 #include <stdio.h>
 
 int main(void) {

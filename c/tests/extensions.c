@@ -1,8 +1,7 @@
 /*
  * Tests what base62.c does by extensions of the compiler, if it has them: u128_mul_64, u64_ilog2, and copies of
- * alphabets. Each result of the two functions is compared with long multiplication and with a shift by one bit at a
- * time. With TEST_OTHER_COMPILERS base62.c is compiled in the forms for compilers without these extensions. It tests
- * find_error too, on a text that no call of base62.h can pass to it unless another thread changes the text.
+ * alphabets; and find_error. Each result of the first two is compared with long multiplication and with a shift by one
+ * bit at a time. With TEST_OTHER_COMPILERS base62.c is compiled in the forms for compilers without these extensions.
  */
 #include <inttypes.h>
 #include <limits.h>
@@ -74,14 +73,14 @@ static void test_copy(void) {
 #endif
 }
 
-/* If no byte is invalid any more, it takes the last one for invalid. Behind the text is a guard page. */
+/* If another thread has replaced the invalid byte, find_error stores the last one. Behind it is a guard page. */
 static void test_changed_text(void) {
     char *memory = map_guarded();
+    base62_bad_byte bad = {0, 0};
     for (size_t length = 1; length <= BASE62_MAX_DIGITS; length++) {
-        base62_bad_byte bad = {0, 0};
         const uint8_t *text = memset(place_in(memory, 1, length), '1', length);
-        expect(find_error(&B62_STANDARD, text, length, 0, &bad) == BASE62_INVALID_BYTE, "find_error");
-        expect(bad.byte == '1' && bad.index == length - 1, "the byte of find_error");
+        const base62_status status = find_error(&B62_STANDARD, text, length, 0, &bad);
+        expect(status == BASE62_INVALID_BYTE && bad.byte == '1' && bad.index == length - 1, "find_error");
     }
 }
 

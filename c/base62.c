@@ -11,9 +11,9 @@
  * requires" is a precondition for Frama-C. A function that writes count digits of n also requires n < 62^count.
  * u128_mul_64 and u64_ilog2 use an extension of the compiler if it has one, which is tested, not proved.
  *
- * Indexes are not checked: the proof shows that each is in bounds. Nothing is allocated, and there is no state. It is
- * C99, for machines of 32 or 64 bits and of either byte order. With BASE62_NO_INT128, u128_mul_64 uses no integer of
- * 128 bits.
+ * Indexes are not checked: the proof shows that each is in bounds. They stay so if another thread changes what is read.
+ * Nothing is allocated, and there is no state. It is C99, for machines of 32 or 64 bits and of either byte order. With
+ * BASE62_NO_INT128, u128_mul_64 uses no integer of 128 bits.
  */
 #include "base62.h"
 
@@ -379,7 +379,7 @@ static B62_ALWAYS_INLINE uint64_t last_10_as_fraction(u128 n) {
  * Returns n / 62^20, at most five units above it: 4 are added for what is rounded down. Each 2^64 in n adds
  * 2^128 / 62^20 units: 483, plus the factor / 2^64, rounded up. For n.low, 483 is enough.
  */
-static B62_ALWAYS_INLINE u128 over_62_20(u128 n) {
+static B62_ALWAYS_INLINE u128 scaled_by_62_20(u128 n) {
     const uint64_t rest = u128_mul_64(n.high, UINT64_C(1200736830183971319)).high;
     return u128_add(u128_mul_64(n.high, 483), u128_of(rest + ((n.low >> 32) * 483 >> 32) + 4));
 }
@@ -388,10 +388,10 @@ static B62_ALWAYS_INLINE u128 over_62_20(u128 n) {
  * Divides by 62^20, given low, the fraction of the last ten digits. The fraction of the result is that of the ten
  * digits before them. Let g be low / 2^64. The last ten digits add at most 22 * g units to it, since 2^64 / 62^10 is
  * below 22. Subtracting low >> 60, which is 16 * g rounded down, leaves at most seven of these. With the five of
- * over_62_20 that is twelve; up to 20 the digits are right.
+ * scaled_by_62_20 that is twelve; up to 20 the digits are right.
  */
 static B62_ALWAYS_INLINE u128 divide_by_62_20(u128 n, uint64_t low) {
-    return u128_sub(over_62_20(n), u128_of(low >> 60));
+    return u128_sub(scaled_by_62_20(n), u128_of(low >> 60));
 }
 
 static void write_narrow(const Tables *tables, uint64_t n, size_t count, uint8_t *buffer) {
@@ -493,7 +493,8 @@ size_t base62_digit_count(base62_number number) { return digit_count(number); }
 #define B62_GREATEST_FIRST_10 UINT64_C(105472483207813235)
 
 /* Appends at most five digits to a number of at most five digits, below 64^5. */
-static B62_ALWAYS_INLINE uint64_t read_more(const Tables *tables, uint64_t number, const uint8_t *text, size_t count) {
+static B62_ALWAYS_INLINE uint64_t read_up_to_5_more(const Tables *tables, uint64_t number, const uint8_t *text,
+                                                    size_t count) {
     //@ assert requires: number < 0x40000000 && count <= 5;
     for (size_t i = 0; i < count; i++) {
         const uint8_t digit = tables->digits[text[i]];
@@ -518,10 +519,10 @@ static B62_ALWAYS_INLINE uint64_t read_10(const Tables *tables, const uint8_t *t
 
 static B62_ALWAYS_INLINE uint64_t read_up_to_10(const Tables *tables, const uint8_t *text, size_t count) {
     //@ assert requires: count <= 10;
-    if (count < 5) return read_more(tables, 0, text, count);
+    if (count < 5) return read_up_to_5_more(tables, 0, text, count);
     const uint64_t first = read_5(tables, text);
     if (first == B62_NO_VALUE) return B62_NO_VALUE;
-    return read_more(tables, first, text + 5, count - 5);
+    return read_up_to_5_more(tables, first, text + 5, count - 5);
 }
 
 /* Stores the number of at most ten digits, unless a byte is invalid. Returns whether it is stored. */
@@ -547,7 +548,7 @@ static B62_ALWAYS_INLINE bool decode_11_to_20(const Tables *tables, const uint8_
 static B62_ALWAYS_INLINE base62_status decode_21_or_22(const Tables *tables, const uint8_t *text, size_t count,
                                                        u128 *number) {
     //@ assert requires: 20 < count && count <= 22;
-    const uint64_t high = read_more(tables, 0, text, count - 20);
+    const uint64_t high = read_up_to_5_more(tables, 0, text, count - 20);
     if (high == B62_NO_VALUE) return BASE62_INVALID_BYTE;
     const uint64_t middle = read_10(tables, text + (count - 20));
     if (middle == B62_NO_VALUE) return BASE62_INVALID_BYTE;
@@ -589,12 +590,14 @@ static base62_status store_bad_byte(const uint8_t *text, size_t index, base62_ba
     return BASE62_INVALID_BYTE;
 }
 
-/* Returns the error of a text that has an invalid byte among the at most 22 that follow its leading zeros. */
+/* Returns the error of a text that has an invalid byte among the at most 22 that follow its leading zeros. If a thread
+   has made all of them valid since, it takes the last one for invalid: no byte behind the text is read. */
 static base62_status find_error(const Tables *tables, const uint8_t *text, size_t length, size_t zeros,
                                 base62_bad_byte *bad) {
+    //@ assert requires: zeros < length && length - zeros <= 22;
     const size_t count = length - zeros;
     const uint8_t *rest = text + zeros;
-    const size_t valid = count_valid(tables, rest, count);
+    const size_t valid = count_valid(tables, rest, count - 1);
     if (count == 22 && valid >= 10) {
         const uint64_t first = read_10(tables, rest);
         if (first > B62_GREATEST_FIRST_10) return BASE62_OVERFLOW;
@@ -775,17 +778,23 @@ void base62_to_uuid(base62_number number, unsigned char uuid[BASE62_UUID_LENGTH]
 
 static const uint8_t B62_URN_TEXT[] = "urn:uuid:";
 /* Where the two digits of each byte are in a string with hyphens. */
-static const uint8_t B62_PAIR_INDEXES[BASE62_UUID_LENGTH] = {
-    0, 2, 4, 6, 9, 11, 14, 16, 19, 21, 24, 26, 28, 30, 32, 34,
-};
-static const uint8_t B62_HEX_DIGITS[16] = {
-    '0', '1', '2', '3', '4', '5', '6', '7', '8', '9', 'a', 'b', 'c', 'd', 'e', 'f',
-};
-/* The values of hexadecimal digits, from '0' to 'f', and 16 for the other bytes between them. */
-static const uint8_t B62_HEX_VALUES[55] = {
-    0,  1,  2,  3,  4,  5,  6,  7,  8,  9,  16, 16, 16, 16, 16, 16, 16, 10, 11, 12, 13, 14, 15, 16, 16, 16, 16, 16,
-    16, 16, 16, 16, 16, 16, 16, 16, 16, 16, 16, 16, 16, 16, 16, 16, 16, 16, 16, 16, 16, 10, 11, 12, 13, 14, 15,
-};
+static const uint8_t B62_PAIR_INDEXES[BASE62_UUID_LENGTH] = {0, 2, 4, 6, 9, 11, 14, 16, 19, 21, 24, 26, 28, 30, 32, 34};
+static const uint8_t B62_HEX_DIGITS[16] = {'0', '1', '2', '3', '4', '5', '6', '7',
+                                           '8', '9', 'a', 'b', 'c', 'd', 'e', 'f'};
+/* The value of each hexadecimal digit, and 255 for any other byte. */
+static const uint8_t B62_HEX_VALUES[256] = {
+    255, 255, 255, 255, 255, 255, 255, 255, 255, 255, 255, 255, 255, 255, 255, 255, 255, 255, 255, 255, 255, 255,
+    255, 255, 255, 255, 255, 255, 255, 255, 255, 255, 255, 255, 255, 255, 255, 255, 255, 255, 255, 255, 255, 255,
+    255, 255, 255, 255, 0,   1,   2,   3,   4,   5,   6,   7,   8,   9,   255, 255, 255, 255, 255, 255, 255, 10,
+    11,  12,  13,  14,  15,  255, 255, 255, 255, 255, 255, 255, 255, 255, 255, 255, 255, 255, 255, 255, 255, 255,
+    255, 255, 255, 255, 255, 255, 255, 255, 255, 10,  11,  12,  13,  14,  15,  255, 255, 255, 255, 255, 255, 255,
+    255, 255, 255, 255, 255, 255, 255, 255, 255, 255, 255, 255, 255, 255, 255, 255, 255, 255, 255, 255, 255, 255,
+    255, 255, 255, 255, 255, 255, 255, 255, 255, 255, 255, 255, 255, 255, 255, 255, 255, 255, 255, 255, 255, 255,
+    255, 255, 255, 255, 255, 255, 255, 255, 255, 255, 255, 255, 255, 255, 255, 255, 255, 255, 255, 255, 255, 255,
+    255, 255, 255, 255, 255, 255, 255, 255, 255, 255, 255, 255, 255, 255, 255, 255, 255, 255, 255, 255, 255, 255,
+    255, 255, 255, 255, 255, 255, 255, 255, 255, 255, 255, 255, 255, 255, 255, 255, 255, 255, 255, 255, 255, 255,
+    255, 255, 255, 255, 255, 255, 255, 255, 255, 255, 255, 255, 255, 255, 255, 255, 255, 255, 255, 255, 255, 255,
+    255, 255, 255, 255, 255, 255, 255, 255, 255, 255, 255, 255, 255, 255};
 
 /* Returns the character of a hexadecimal digit. */
 static uint8_t hex_digit(uint32_t digit) {
@@ -796,11 +805,8 @@ static uint8_t hex_digit(uint32_t digit) {
 /* Returns an uppercase character of ASCII in lowercase, and any other byte as it is. */
 static uint8_t lower(uint8_t byte) { return byte >= 'A' && byte <= 'Z' ? (uint8_t)(byte + 32) : byte; }
 
-/* Returns the value of a hexadecimal digit in either case, or 16 for any other byte. */
-static B62_ALWAYS_INLINE uint32_t hex_value(uint8_t byte) {
-    if (byte < '0' || byte > 'f') return 16;
-    return B62_HEX_VALUES[byte - '0'];
-}
+/* Returns the value of a hexadecimal digit in either case, or 255 for any other byte. */
+static B62_ALWAYS_INLINE uint32_t hex_value(uint8_t byte) { return B62_HEX_VALUES[byte]; }
 
 /* Returns the index of the two digits of a byte in a string for a UUID, with hyphens or without. */
 static B62_ALWAYS_INLINE size_t pair_index(size_t byte, bool hyphens) {
@@ -808,15 +814,18 @@ static B62_ALWAYS_INLINE size_t pair_index(size_t byte, bool hyphens) {
     return hyphens ? B62_PAIR_INDEXES[byte] : byte * 2;
 }
 
-/* Stores the bytes of 32 digits from start on, unless one is invalid. Returns whether they are stored. */
+/* Stores the bytes of 32 digits from start on, unless one is invalid: then the bitwise OR of all exceeds 63. Returns
+   whether they are stored. */
 static B62_ALWAYS_INLINE bool read_pairs(const uint8_t *text, size_t start, bool hyphens, uint8_t *uuid) {
     uint8_t bytes[BASE62_UUID_LENGTH] = {0};
+    uint32_t all = 0;
     for (size_t i = 0; i < BASE62_UUID_LENGTH; i++) {
         const size_t index = start + pair_index(i, hyphens);
         const uint32_t high = hex_value(text[index]), low = hex_value(text[index + 1]);
-        if (high > 15 || low > 15) return false;
+        all = all | high | low;
         bytes[i] = (uint8_t)(high * 16 + low);
     }
+    if (all > 63) return false;
     copy_bytes(uuid, bytes, BASE62_UUID_LENGTH);
     return true;
 }
@@ -927,7 +936,7 @@ static size_t append_byte_at_index(uint8_t *message, size_t length, uint8_t byte
 }
 
 /* Writes the message of a status, and returns its length, at most BASE62_MAX_ERROR_MESSAGE. */
-static size_t text_of(base62_status status, base62_bad_byte bad, uint8_t *message) {
+static size_t format_message(base62_status status, base62_bad_byte bad, uint8_t *message) {
     if (status == BASE62_BUFFER_TOO_SMALL) return append(message, 0, B62_TEXT(B62_TOO_SMALL_TEXT));
     if (status == BASE62_EMPTY_INPUT) return append(message, 0, B62_TEXT(B62_EMPTY_TEXT));
     if (status == BASE62_OVERFLOW) return append(message, 0, B62_TEXT(B62_OVERFLOW_TEXT));
@@ -949,7 +958,7 @@ static size_t text_of(base62_status status, base62_bad_byte bad, uint8_t *messag
 
 size_t base62_error_message(base62_status status, base62_bad_byte bad, char *buffer, size_t size) {
     uint8_t message[BASE62_MAX_ERROR_MESSAGE] = {0};
-    const size_t length = text_of(status, bad, message);
+    const size_t length = format_message(status, bad, message);
     if (size < length) return 0;
     copy_bytes((uint8_t *)buffer, message, length);
     return length;

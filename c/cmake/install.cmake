@@ -4,8 +4,8 @@ include(CMakePackageConfigHelpers)
 install(TARGETS ${base62_targets} EXPORT base62-targets
     RUNTIME DESTINATION "${CMAKE_INSTALL_BINDIR}"
     LIBRARY DESTINATION "${CMAKE_INSTALL_LIBDIR}"
-    ARCHIVE DESTINATION "${CMAKE_INSTALL_LIBDIR}"
-    PUBLIC_HEADER DESTINATION "${CMAKE_INSTALL_INCLUDEDIR}")
+    ARCHIVE DESTINATION "${CMAKE_INSTALL_LIBDIR}")
+install(FILES base62.h DESTINATION "${CMAKE_INSTALL_INCLUDEDIR}")
 
 set(base62_package "${CMAKE_INSTALL_LIBDIR}/cmake/base62")
 install(EXPORT base62-targets NAMESPACE base62:: DESTINATION "${base62_package}")
@@ -16,7 +16,7 @@ write_basic_package_version_file("${CMAKE_CURRENT_BINARY_DIR}/base62-config-vers
 install(FILES "${CMAKE_CURRENT_BINARY_DIR}/base62-config.cmake"
     "${CMAKE_CURRENT_BINARY_DIR}/base62-config-version.cmake" DESTINATION "${base62_package}")
 
-# It names all places from where it lies.
+# It names all folders relative to its own.
 set(base62_pkgconfig "${CMAKE_INSTALL_FULL_LIBDIR}/pkgconfig")
 file(RELATIVE_PATH base62_to_prefix "${base62_pkgconfig}" "${CMAKE_INSTALL_PREFIX}")
 file(RELATIVE_PATH base62_to_include "${base62_pkgconfig}" "${CMAKE_INSTALL_FULL_INCLUDEDIR}")
@@ -30,7 +30,7 @@ endif()
 install(FILES LICENSE README.md DESTINATION "${base62_pages}")
 # In the repository of the project it is one folder above.
 set(base62_changes CHANGELOG.md)
-if(EXISTS "${CMAKE_CURRENT_SOURCE_DIR}/../crates/base62")
+if(EXISTS "${CMAKE_CURRENT_SOURCE_DIR}/../tests/values.tsv")
     set(base62_changes ../CHANGELOG.md)
 endif()
 install(FILES ${base62_changes} DESTINATION "${base62_pages}" OPTIONAL)

@@ -218,7 +218,7 @@ static void is_decoded(const unsigned char *letters, const unsigned char *p, siz
 #define OVER const unsigned char *letters, const base62_alphabet *alphabet
 #define APART(written) \separated(written, letters + (0 .. 61)) && \separated(written, alphabet)
 
-/* The shortest text, one of as many letters as there are places, or a key. Calls over the alternative letters only write
+/* The shortest text, one of the width of its buffer, or a key. Calls over the alternative letters only write
    shortest texts, and decode any. */
 typedef enum { SHORTEST, FIXED, KEY } form;
 #define FORM(size) (how == KEY ==> letters == STANDARD_LETTERS && size == BASE62_KEY_LENGTH) \

@@ -195,7 +195,7 @@ WRONG = [
     ("standard_letter", "'9', 'A', 'B'", "'9', 'B', 'A'"), ("texts_are_same", "Not a UUID", "Not an UUID"),
     # A width, and strings for UUIDs: one byte is read behind the text, one of two digits is not compared.
     ("decode_fixed_over", "if (length != width)", "if (length < width)"), ("has_urn", "if (length < 9)", "if (length < 8)"),
-    ("read_pairs", "if (high > 15 || low > 15)", "if (high > 15)"), ("has_hyphens", "text[start + 18] == '-' && ", ""),
+    ("read_pairs", "all | high | low;", "all | high;"), ("has_hyphens", "text[start + 18] == '-' && ", ""),
     # A pointer out of bounds that nothing reads: only the option -warn-invalid-pointer finds it.
     ("here", "/**/", "const uint8_t *const past = part + 5;"),
 ]

@@ -32,20 +32,20 @@
     // or without; and whether they are read so.
     predicate is_text_of{L}(unsigned char *text, unsigned char *uuid) = \forall integer k; 0 <= k < 16 ==>
         text[pair_index(k, 36)] == hexadecimal(uuid[k] / 16) && text[pair_index(k, 36) + 1] == hexadecimal(uuid[k] % 16);
-    predicate are_written{L}(unsigned char *p, integer start, integer places, unsigned char *text, integer n) =
-        \forall integer k; 0 <= k < n ==> lower_of(p[start + pair_index(k, places)]) == text[pair_index(k, 36)]
-            && lower_of(p[start + pair_index(k, places) + 1]) == text[pair_index(k, 36) + 1];
-    predicate are_read{L}(unsigned char *p, integer start, integer places, unsigned char *uuid, integer n) =
-        \forall integer k; 0 <= k < n ==> hexadecimal_value(p[start + pair_index(k, places)]) == uuid[k] / 16
-            && hexadecimal_value(p[start + pair_index(k, places) + 1]) == uuid[k] % 16;
+    predicate are_written{L}(unsigned char *p, integer start, integer count, unsigned char *text, integer n) =
+        \forall integer k; 0 <= k < n ==> lower_of(p[start + pair_index(k, count)]) == text[pair_index(k, 36)]
+            && lower_of(p[start + pair_index(k, count) + 1]) == text[pair_index(k, 36) + 1];
+    predicate are_read{L}(unsigned char *p, integer start, integer count, unsigned char *uuid, integer n) =
+        \forall integer k; 0 <= k < n ==> hexadecimal_value(p[start + pair_index(k, count)]) == uuid[k] / 16
+            && hexadecimal_value(p[start + pair_index(k, count) + 1]) == uuid[k] % 16;
 */
 
 //@ assigns \nothing; ensures \result == lower_of(c);
 static unsigned char lower(unsigned char c) { return c >= 'A' && c <= 'Z' ? c + 32 : c; }
 
-//@ requires k < 16 && (places == 32 || places == 36); assigns \nothing; ensures \result == pair_index(k, places) <= 34;
-static size_t compute_index(size_t k, size_t places) {
-    return 2 * k + (places == 32 || k < 4 ? 0 : k < 6 ? 1 : k < 8 ? 2 : k < 10 ? 3 : 4);
+//@ requires k < 16 && (count == 32 || count == 36); assigns \nothing; ensures \result == pair_index(k, count) <= 34;
+static size_t compute_index(size_t k, size_t count) {
+    return 2 * k + (count == 32 || k < 4 ? 0 : k < 6 ? 1 : k < 8 ? 2 : k < 10 ? 3 : 4);
 }
 
 /* Two digits denote a byte, and a hyphen nothing. */
@@ -93,18 +93,18 @@ static int compute_hyphens(const unsigned char *p, size_t start) {
     return p[start + 8] == '-' && p[start + 13] == '-' && p[start + 18] == '-' && p[start + 23] == '-';
 }
 
-/*@ requires TEXT_VALID(p, start + places) && TEXT_VALID(text, 36) && start < 10; assigns \nothing;
+/*@ requires TEXT_VALID(p, start + count) && TEXT_VALID(text, 36) && start < 10; assigns \nothing;
     ensures \result == 0 || \result == 1;
-    ensures \result == 1 <==> (places == 32 || (places == 36 && has_four_hyphens(p, start)))
-        && are_written(p, start, places, text, 16);
+    ensures \result == 1 <==> (count == 32 || (count == 36 && has_four_hyphens(p, start)))
+        && are_written(p, start, count, text, 16);
 */
-static int is_written(const unsigned char *p, size_t start, size_t places, const unsigned char *text) {
-    if (places != 32 && places != 36) return 0;
-    if (places == 36 && !compute_hyphens(p, start)) return 0;
-    /*@ loop invariant 0 <= k <= 16 && are_written(p, start, places, text, k);
+static int is_written(const unsigned char *p, size_t start, size_t count, const unsigned char *text) {
+    if (count != 32 && count != 36) return 0;
+    if (count == 36 && !compute_hyphens(p, start)) return 0;
+    /*@ loop invariant 0 <= k <= 16 && are_written(p, start, count, text, k);
         loop assigns k; loop variant 16 - k; */
     for (size_t k = 0; k < 16; k++) {
-        const size_t in_text = compute_index(k, 36), in_p = start + compute_index(k, places);
+        const size_t in_text = compute_index(k, 36), in_p = start + compute_index(k, count);
         if (lower(p[in_p]) != text[in_text] || lower(p[in_p + 1]) != text[in_text + 1]) return 0;
     }
     return 1;
@@ -128,18 +128,18 @@ static int begins_with_urn(const unsigned char *p, size_t n) {
 static int compute_braces(const unsigned char *p, size_t n) { return n > 1 && p[0] == '{' && p[n - 1] == '}'; }
 
 /* What is written is read, and what is read is written. */
-/*@ requires TEXT_VALID(p, start + places) && (places == 32 || places == 36) && start < 10;
+/*@ requires TEXT_VALID(p, start + count) && (count == 32 || count == 36) && start < 10;
     requires \valid_read(uuid + (0 .. 15)) && TEXT_VALID(text, 36) && is_text_of(text, uuid); assigns \nothing;
-    ensures are_written(p, start, places, text, 16) <==> are_read(p, start, places, uuid, 16);
+    ensures are_written(p, start, count, text, 16) <==> are_read(p, start, count, uuid, 16);
 */
-static void same_digits(const unsigned char *p, size_t start, size_t places, const unsigned char *uuid,
+static void same_digits(const unsigned char *p, size_t start, size_t count, const unsigned char *uuid,
                         const unsigned char *text) {
     /*@ loop invariant 0 <= k <= 16;
-        loop invariant read: are_written(p, start, places, text, 16) ==> are_read(p, start, places, uuid, k);
-        loop invariant written: are_read(p, start, places, uuid, 16) ==> are_written(p, start, places, text, k);
+        loop invariant read: are_written(p, start, count, text, 16) ==> are_read(p, start, count, uuid, k);
+        loop invariant written: are_read(p, start, count, uuid, 16) ==> are_written(p, start, count, text, k);
         loop assigns k; loop variant 16 - k; */
     for (size_t k = 0; k < 16; k++) {
-        const size_t in_p = start + compute_index(k, places);
+        const size_t in_p = start + compute_index(k, count);
         /*@ assert first: lower_of(p[in_p]) == text[pair_index(k, 36)] <==> hexadecimal_value(p[in_p]) == uuid[k] / 16; */
         /*@ assert second: lower_of(p[in_p + 1]) == text[pair_index(k, 36) + 1]
                 <==> hexadecimal_value(p[in_p + 1]) == uuid[k] % 16; */
@@ -159,9 +159,9 @@ static void one_kind(const unsigned char *p, size_t n) {
 }
 
 /* Of a string in braces, after urn:uuid: or alone the digits are read. Otherwise nothing is stored. */
-#define READS(kind, start, places) \
-    ensures kind ==> (\result == BASE62_OK <==> are_uuid_digits(BYTES(p), start, places)); \
-    ensures kind && \result == BASE62_OK ==> are_digits_of{Post, Post}(BYTES(p), start, places, uuid);
+#define READS(kind, start, count) \
+    ensures kind ==> (\result == BASE62_OK <==> are_uuid_digits(BYTES(p), start, count)); \
+    ensures kind && \result == BASE62_OK ==> are_digits_of{Post, Post}(BYTES(p), start, count, uuid);
 #define IS_BARE (!has_urn(BYTES(p), n) && !is_in_braces(BYTES(p), n))
 /*@ requires TEXT_VALID(p, n) && \valid(uuid + (0 .. 15)) && \separated(uuid + (0 .. 15), p + (0 .. n - 1));
     assigns uuid[0 .. 15];
@@ -182,20 +182,20 @@ base62_status read_uuid(const char *p, size_t n, unsigned char *uuid) {
 }
 
 /* Digits are read as a UUID exactly if they are those that are written for it. */
-/*@ requires TEXT_VALID(p, start + places) && start < 10 && \valid_read(uuid + (0 .. 15)) && \valid_read(again + (0 .. 15));
+/*@ requires TEXT_VALID(p, start + count) && start < 10 && \valid_read(uuid + (0 .. 15)) && \valid_read(again + (0 .. 15));
     requires TEXT_VALID(text, 36) && is_text_of(text, uuid);
-    requires is_read ==> are_digits_of{Here, Here}(p, start, places, again);
-    requires is_read <==> are_uuid_digits(p, start, places);
+    requires is_read ==> are_digits_of{Here, Here}(p, start, count, again);
+    requires is_read <==> are_uuid_digits(p, start, count);
     assigns \nothing;
     ensures \result == 1;
 */
-static int one_text_of_uuid(const unsigned char *uuid, const unsigned char *p, size_t start, size_t places,
+static int one_text_of_uuid(const unsigned char *uuid, const unsigned char *p, size_t start, size_t count,
                             const unsigned char *text, const unsigned char *again, int is_read) {
-    if (places == 32 || places == 36) same_digits(p, start, places, uuid, text);
-    const int is_right = is_written(p, start, places, text);
+    if (count == 32 || count == 36) same_digits(p, start, count, uuid, text);
+    const int is_right = is_written(p, start, count, text);
     const int is_same = compare((const char *)again, (const char *)uuid, 16) == 0;
-    //@ assert right: is_right == 1 ==> are_read(p, start, places, uuid, 16);
-    //@ assert read: is_read && is_same == 1 ==> are_read(p, start, places, uuid, 16);
+    //@ assert right: is_right == 1 ==> are_read(p, start, count, uuid, 16);
+    //@ assert read: is_read && is_same == 1 ==> are_read(p, start, count, uuid, 16);
     //@ assert accepted: is_right == 1 ==> is_read;
     //@ assert same: is_right == 1 ==> are_same(again, uuid, 16);
     return (is_read && is_same) == is_right;

@@ -1,11 +1,12 @@
 /*
  * Tests what base62.c does by extensions of the compiler, if it has them: u128_mul_64, u64_ilog2, and copies of
- * alphabets. Each result of the two functions is compared with long multiplication and with a shift by one bit at a
- * time. With TEST_OTHER_COMPILERS base62.c is compiled in the forms for compilers without these extensions.
+ * alphabets; and find_error. Each result of the first two is compared with long multiplication and with a shift by one
+ * bit at a time. With TEST_OTHER_COMPILERS base62.c is compiled in the forms for compilers without these extensions.
  */
 #include <inttypes.h>
 #include <limits.h>
 #include <stdbool.h>
+#include <string.h>
 #include <time.h>
 
 #include "guard_pages.h"
@@ -72,9 +73,21 @@ static void test_copy(void) {
 #endif
 }
 
+/* If another thread has replaced the invalid byte, find_error stores the last one. Behind it is a guard page. */
+static void test_changed_text(void) {
+    char *memory = map_guarded();
+    base62_bad_byte bad = {0, 0};
+    for (size_t length = 1; length <= BASE62_MAX_DIGITS; length++) {
+        const uint8_t *text = memset(place_in(memory, 1, length), '1', length);
+        const base62_status status = find_error(&B62_STANDARD, text, length, 0, &bad);
+        expect(status == BASE62_INVALID_BYTE && bad.byte == '1' && bad.index == length - 1, "find_error");
+    }
+}
+
 int main(void) {
     state = (uint64_t)time(NULL);
     test_copy();
+    test_changed_text();
     for (size_t i = 0; i < CORNERS * CORNERS; i++)
         for (size_t k = 0; k < CORNERS * CORNERS; k++) test(corner(i), corner(k));
     for (int i = 0; i < 100000; i++) {

@@ -162,17 +162,6 @@ class Header(unittest.TestCase):
             self.assertEqual(raised.exception.stderr.count("error: "), 1)
         compiled(other.format("SIZE_MAX", "0xffffffff"), "-fsyntax-only")
 
-    def test_example(self):
-        """That of its first comment, in C and C++."""
-        found = re.search(r"(?s)(\n \*     .*?)\n \*\n \* It prints (\w+), and (.*?)\.", (FOLDER / "base62.h").read_text())
-        example, *printed = found.groups()
-        program = f"{HEADER}#include <stdio.h>\nint main(void) {{{example}\nreturn 0; }}\n".replace("\n *", "\n")
-        with tempfile.TemporaryDirectory() as folder:
-            compiled(SOURCE, "-c", f"-o{folder}/base62.o")
-            for language in ("c", "c++"):
-                compiled(program, f"{folder}/base62.o", f"-o{folder}/example", language=language)
-                self.assertEqual(subprocess.check_output(f"{folder}/example"), "\n".join([*printed, ""]).encode())
-
     def test_includes(self):
         """They stand outside of extern "C": there no template may stand, as some systems' headers have them."""
         with tempfile.TemporaryDirectory() as folder:

@@ -29,7 +29,7 @@ test('npm packs these files alone', () => {
 });
 
 test('commonjs/index.js is generated from the modules', () => {
-  const generated = execFileSync(process.execPath, [pathOf('commonjs.mjs'), '-'], { encoding: 'utf8' });
+  const generated = execFileSync(process.execPath, [pathOf('join_modules.mjs'), '-'], { encoding: 'utf8' });
   assert.equal(read('commonjs/index.js'), generated);
 });
 

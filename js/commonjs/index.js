@@ -186,26 +186,49 @@ const define = (object, name, value, others) =>
   Object.defineProperty(object, name, { __proto__: null, value, ...others });
 function defineReadOnly(object, name, value) { define(object, name, value, { enumerable: true }); }
 
+const FIELD = {
+  writable: true,
+  enumerable: true,
+  configurable: true
+};
+
 class Base62Error extends RangeError {
   constructor(message, code, byte, index) {
     super(message);
-    this.code = code;
-    if (byte !== undefined) Object.assign(this, { byte, index });
+    define(this, 'code', code, FIELD);
+    if (byte === undefined) return;
+    define(this, 'byte', byte, FIELD);
+    define(this, 'index', index, FIELD);
   }
 }
 
 define(Base62Error.prototype, 'name', 'Base62Error', { writable: true, configurable: true });
 
-const overflow = () => new Base62Error('Decoded number is 2^128 or more', 'OVERFLOW');
+const quantity = (count, unit) => `${count} ${unit}${count === 1 ? '' : 's'}`;
 
 const ESCAPES = new Map([[9, 't'], [10, 'n'], [13, 'r'], [34, '"'], [39, "'"], [92, '\\']]);
 
-// An error whose message shows a byte as C does.
-function errorAt(message, code, byte, index) {
+// Shows a byte as C does.
+function showByte(byte, index) {
   let shown = `\\${ESCAPES.get(byte) ?? `x${byte.toString(16).padStart(2, '0')}`}`;
   if (byte >= 32 && byte < 127 && !ESCAPES.has(byte)) shown = String.fromCharCode(byte);
-  return new Base62Error(`${message} byte b'${shown}' at index ${index}`, code, byte, index);
+  return `byte b'${shown}' at index ${index}`;
 }
+
+// What an error names for a string that is a UUID or, in the place of a number, has only digits. In a bundle of `encode`
+// alone this regular expression takes less than readUuid.
+const UUID = /^[\da-f]{8}(-?)([\da-f]{4}\1){3}[\da-f]{12}$/i;
+function hintFor(given, isForNumber) {
+  if (typeof given !== 'string') return '';
+  const hints = [];
+  if (isForNumber && /^\d+$/.test(given)) hints.push('convert decimal digits with BigInt');
+  if (UUID.test(given.replace(/^{(.*)}$|^urn:uuid:/i, '$1'))) hints.push('encode UUIDs with encodeKey or encodeUuid');
+  return hints.length > 0 ? `: ${hints.join(', or ')}` : '';
+}
+
+const inputError = (text, message, code, byte, index) =>
+  new Base62Error(`Encoded input ${message}${hintFor(text)}`, code, byte, index);
+const overflow = (text) => inputError(text, 'represents 2**128 or more, or has more than 22 characters', 'OVERFLOW');
 
 // A subclass can override `length` and the like, so the getters of %TypedArray% read them.
 const typedArray = Object.getPrototypeOf(Uint8Array.prototype);
@@ -304,25 +327,21 @@ function invalidByte(text, index) {
   const unit = typeof text === 'string' ? codePointAt(text, index) : text[index];
   const others = typeof text === 'string' ? sizeOfPoint(unit) - 1 : 0;
   const byte = others === 0 ? unit : ((-128 >> others) & 255) | (unit >> (6 * others));
-  return errorAt('Encoded input contains the invalid', 'INVALID_BYTE', byte, index);
+  return inputError(text, `contains the invalid ${showByte(byte, index)}`, 'INVALID_BYTE', byte, index);
 }
 
 function decodeText(text, length) {
   if (!readShort(text, length)) decodeByRules(text, length);
 }
 
-const showBytes = (count) => `${count} byte${count === 1 ? '' : 's'}`;
-
 function decodeFixedText(text, length, width) {
   if (length !== width || !readShort(text, length)) decodeFixedByRules(text, length, width);
 }
 
 function decodeFixedByRules(text, length, width) {
-  // If there are more units than the width, no bytes are counted.
-  const size = length > width ? Infinity : countBytes(text, 0, length);
+  const size = countBytes(text, 0, length);
   if (size === width) return decodeByRules(text, length);
-  const found = size > width ? `more than ${showBytes(width)}` : `${showBytes(size)}, not ${width}`;
-  throw new Base62Error(`Encoded input has ${found}`, 'WRONG_LENGTH');
+  throw inputError(text, `has ${quantity(size, 'byte')}, not ${width}`, 'WRONG_LENGTH');
 }
 
 // Most texts are valid, and have at most 22 characters.
@@ -330,20 +349,20 @@ const readShort = (text, length) => length > 0 && length <= MAX_DIGITS && readDi
 
 // The rules of docs/DECODING.md of the repository, in their order.
 function decodeByRules(text, length) {
-  if (length === 0) throw new Base62Error('Encoded input is an empty string', 'EMPTY_INPUT');
+  if (length === 0) throw inputError(text, 'is an empty string', 'EMPTY_INPUT');
   const start = countZeros(text, length);
   const remaining = length - start > MAX_DIGITS ? Infinity : countBytes(text, start, length);
-  if (remaining > MAX_DIGITS) throw overflow();
+  if (remaining > MAX_DIGITS) throw overflow(text);
   const invalid = indexOfInvalid(text, start, length);
   if (invalid < Math.min(start + 10, length)) throw invalidByte(text, invalid);
   const isFull = remaining === MAX_DIGITS && readDigits(text, start, start + 10);
-  if (isFull && bigIntOfWords() * POWERS_OF_62[12] >= TWO_TO_128) throw overflow();
+  if (isFull && bigIntOfWords() * POWERS_OF_62[12] >= TWO_TO_128) throw overflow(text);
   if (invalid < length) throw invalidByte(text, invalid);
-  if (!readDigits(text, start, length)) throw overflow();
+  if (!readDigits(text, start, length)) throw overflow(text);
 }
 
 function checkCanonical(text, length) {
-  if (digitAt(text, 0) === 0 && length > 1) throw new Base62Error('Encoded input has a leading zero', 'NOT_CANONICAL');
+  if (digitAt(text, 0) === 0 && length > 1) throw inputError(text, 'has a leading zero', 'NOT_CANONICAL');
 }
 // UUIDs, as strings and bytes, to and from the words of their numbers.
 
@@ -425,13 +444,13 @@ class Alphabet {
   constructor(characters) {
     if (typeof characters !== 'string') throw new TypeError('the characters of an alphabet are a string');
     const { length } = characters;
-    let wrong = length !== 62 && `has ${length} character${length === 1 ? '' : 's'}, not 62`;
+    let wrong = length !== 62 && `has ${quantity(length, 'character')}, not 62`;
     if (/[^\0-\x7f]/.test(characters)) wrong = 'has a non-ASCII character';
     if (wrong) throw new Base62Error(`the alphabet ${wrong}`, 'INVALID_ALPHABET');
     const digits = new Float64Array(129).fill(Infinity);
     for (let digit = 0; digit < 62; digit++) {
       const code = characters.charCodeAt(digit);
-      if (digits[code] < 62) throw errorAt('Alphabet repeats the', 'REPEATED_CHARACTER', code, digit);
+      if (digits[code] < 62) throw repeatedCharacter(code, digit);
       digits[code] = digit;
     }
     const pairs = new Uint16Array(62 ** 2);
@@ -440,6 +459,9 @@ class Alphabet {
     defineReadOnly(this, 'characters', characters);
   }
 }
+
+const repeatedCharacter = (byte, index) =>
+  new Base62Error(`Alphabet repeats the ${showByte(byte, index)}`, 'REPEATED_CHARACTER', byte, index);
 
 defineReadOnly(Alphabet, 'standard', new Alphabet('0123456789ABCDEFGHIJKLMNOPQRSTUVWXYZabcdefghijklmnopqrstuvwxyz'));
 defineReadOnly(Alphabet, 'alternative', new Alphabet('0123456789abcdefghijklmnopqrstuvwxyzABCDEFGHIJKLMNOPQRSTUVWXYZ'));
@@ -466,7 +488,11 @@ function replaceCurrent(alphabet) {
 
 function notAnAlphabet(given) {
   const expected = 'an alphabet is an Alphabet';
-  if (typeof given === 'string') return new TypeError(`${expected}, not a string: create one with new Alphabet(..)`);
+  if (typeof given === 'string') {
+    const isName = given === 'standard' || given === 'alternative';
+    const hint = isName ? `use Alphabet.${given}` : 'create one with new Alphabet(..)';
+    return new TypeError(`${expected}, not a string: ${hint}`);
+  }
   if (typeof given !== 'number') return new TypeError(`${expected} of this copy of base62-proved`);
   // Methods such as map pass an index as the second argument.
   return new TypeError(`${expected}, not ${given}: give map a function such as (n) => encode(n)`);
@@ -484,20 +510,16 @@ function checkWidth(width) {
 function splitNumber(number) {
   let count = 0;
   if (typeof number === 'bigint') count = splitBigInt(number);
-  else if (typeof number !== 'number') throw notANumber(number);
+  else if (typeof number !== 'number')
+    throw wrongType('a number is a Number or a BigInt', number, hintFor(number, true));
   else if (isUnsignedSafeInteger(number)) count = splitInteger(number);
   if (count > 0) return count;
   throw new Base62Error('a number is an integer from 0 to 2**128 - 1, or to 2**53 - 1 as a Number', 'OUT_OF_RANGE');
 }
 
-function notANumber(given) {
-  const hint = typeof given === 'string' ? ": give BigInt('1337')" : '';
-  return wrongType('a number is a Number or a BigInt', given, hint);
-}
-
-function splitUuid(uuid) {
+function splitUuid(uuid, mayBeNumber = false) {
   if (typeof uuid === 'string') {
-    if (!readUuid(uuid)) throw invalidUuid();
+    if (!readUuid(uuid)) throw invalidUuid(mayBeNumber ? hintFor(uuid, true) : '');
   } else {
     if (!isUint8Array(uuid)) throw wrongType('a UUID is a string or a Uint8Array', uuid);
     if (lengthOf.call(uuid) !== 16) throw invalidUuid();
@@ -506,9 +528,9 @@ function splitUuid(uuid) {
   return splitWords();
 }
 
-function invalidUuid() {
+function invalidUuid(hint = '') {
   const forms = 'with hyphens or without, in braces or after urn:uuid:';
-  return new Base62Error(`a UUID is 32 hexadecimal digits, ${forms}, or 16 bytes`, 'INVALID_UUID');
+  return new Base62Error(`a UUID is 32 hexadecimal digits, ${forms}, or 16 bytes${hint}`, 'INVALID_UUID');
 }
 
 const encode = (number, alphabet = standard) => stringOfGroups(splitNumber(number), use(alphabet));
@@ -516,7 +538,7 @@ const encodeUuid = (uuid, alphabet = standard) => stringOfGroups(splitUuid(uuid)
 
 function splitValue(value) {
   if (typeof value === 'number' || typeof value === 'bigint') return splitNumber(value);
-  if (typeof value === 'string' || isUint8Array(value)) return splitUuid(value);
+  if (typeof value === 'string' || isUint8Array(value)) return splitUuid(value, true);
   throw wrongType('a value is a Number, a BigInt, or a UUID as a string or a Uint8Array', value);
 }
 
@@ -524,31 +546,34 @@ function encodeFixed(value, width, alphabet = standard) {
   checkWidth(width);
   const count = splitValue(value);
   const pairs = use(alphabet);
-  if (count > width) throw new Base62Error('the number needs more characters than the width', 'OUT_OF_RANGE');
+  if (count > width) throw tooNarrow(count, width);
   const string = stringOfGroups(Math.min(width, MAX_DIGITS), pairs);
   return width > MAX_DIGITS ? string.padStart(width, alphabet.characters[0]) : string;
 }
+
+const tooNarrow = (count, width) =>
+  new Base62Error(`the number needs ${quantity(count, 'character')}, and the width is ${width}`, 'OUT_OF_RANGE');
 
 // A key is a string of KEY_LENGTH characters of the standard alphabet.
 const encodeKey = (value) => encodeFixed(value, KEY_LENGTH);
 const digitCount = (number) => splitNumber(number);
 
-// The functions read.. write the words of the number of a text, and return its length, which is not 0.
+// The functions decode..Over write the words of the number of a text, and return its length, which is not 0.
 
-function read(text, alphabet) {
+function decodeOver(text, alphabet) {
   const length = lengthOfText(text);
   use(alphabet);
   decodeText(text, length);
   return length;
 }
 
-function readCanonical(text, alphabet) {
-  const length = read(text, alphabet);
+function decodeCanonicalOver(text, alphabet) {
+  const length = decodeOver(text, alphabet);
   checkCanonical(text, length);
   return length;
 }
 
-function readFixed(text, width, alphabet) {
+function decodeFixedOver(text, width, alphabet) {
   checkWidth(width);
   const length = lengthOfText(text);
   use(alphabet);
@@ -562,19 +587,19 @@ function safeIntegerOfWords(instead) {
   return number;
 }
 
-const decode = (text, alphabet = standard) => read(text, alphabet) && bigIntOfWords();
-const decodeNumber = (text, alphabet = standard) => read(text, alphabet) && safeIntegerOfWords('decode');
-const decodeUuid = (text, alphabet = standard) => read(text, alphabet) && uuidOfWords();
+const decode = (text, alphabet = standard) => decodeOver(text, alphabet) && bigIntOfWords();
+const decodeNumber = (text, alphabet = standard) => decodeOver(text, alphabet) && safeIntegerOfWords('decode');
+const decodeUuid = (text, alphabet = standard) => decodeOver(text, alphabet) && uuidOfWords();
 
-const decodeCanonical = (text, alphabet = standard) => readCanonical(text, alphabet) && bigIntOfWords();
+const decodeCanonical = (text, alphabet = standard) => decodeCanonicalOver(text, alphabet) && bigIntOfWords();
 const decodeNumberCanonical = (text, alphabet = standard) =>
-  readCanonical(text, alphabet) && safeIntegerOfWords('decodeCanonical');
-const decodeUuidCanonical = (text, alphabet = standard) => readCanonical(text, alphabet) && uuidOfWords();
+  decodeCanonicalOver(text, alphabet) && safeIntegerOfWords('decodeCanonical');
+const decodeUuidCanonical = (text, alphabet = standard) => decodeCanonicalOver(text, alphabet) && uuidOfWords();
 
-const decodeFixed = (text, width, alphabet = standard) => readFixed(text, width, alphabet) && bigIntOfWords();
+const decodeFixed = (text, width, alphabet = standard) => decodeFixedOver(text, width, alphabet) && bigIntOfWords();
 const decodeNumberFixed = (text, width, alphabet = standard) =>
-  readFixed(text, width, alphabet) && safeIntegerOfWords('decodeFixed');
-const decodeUuidFixed = (text, width, alphabet = standard) => readFixed(text, width, alphabet) && uuidOfWords();
+  decodeFixedOver(text, width, alphabet) && safeIntegerOfWords('decodeFixed');
+const decodeUuidFixed = (text, width, alphabet = standard) => decodeFixedOver(text, width, alphabet) && uuidOfWords();
 
 const decodeKey = (text) => decodeFixed(text, KEY_LENGTH);
 const decodeUuidKey = (text) => decodeUuidFixed(text, KEY_LENGTH);

@@ -18,6 +18,14 @@ const CODES = {
   zero: 'NOT_CANONICAL'
 };
 
+// The ends of messages by the hints of the rows.
+const HINTS = {
+  none: '',
+  uuid: ': encode UUIDs with encodeKey or encodeUuid',
+  decimal: ': convert decimal digits with BigInt',
+  both: ': convert decimal digits with BigInt, or encode UUIDs with encodeKey or encodeUuid'
+};
+
 const errorOf = (kind, byte, index) =>
   byte === undefined ? { code: CODES[kind] } : { code: CODES[kind], byte: Number(byte), index: Number(index) };
 
@@ -39,6 +47,12 @@ const uuidsOf = (number) => [uuidOf(number), bytesOf(hexOf(number).replace(/../g
 const isSafe = (number) => number <= Number.MAX_SAFE_INTEGER;
 const numbersOf = (number) => (isSafe(number) ? [number, Number(number)] : [number]);
 const valuesOf = (number) => [...numbersOf(number), ...uuidsOf(number)];
+const numberOf = (uuid) => BigInt(`0x${uuid.replace(/^urn:uuid:|[-{}]/gi, '')}`);
+function isUuid(text) {
+  const digits = typeof text === 'string' && /[\da-f]{32}/i.exec(text.replaceAll('-', ''))?.[0];
+  const uuids = digits ? [digits.toLowerCase(), uuidOf(numberOf(digits))] : [];
+  return uuids.some((uuid) => [uuid, `{${uuid}}`, `urn:uuid:${uuid}`].includes(text.toLowerCase()));
+}
 const isKey = (alphabet, width) => alphabet === 'standard' && width === '22';
 
 // What a function with this name returns for a string of the number, or the error.
@@ -101,10 +115,20 @@ const ROWS = {
     return [call, ['keyRange', expected, prefixes], ['keyBounds', keys, prefixes]];
   },
   uuid: (number, uuid, text) => [['encodeUuid', text, [uuid]], ['decodeUuid', uuid, [text]]],
-  hint: () => [],
+  // What the hint names returns the right string.
+  hint(call, field, hint) {
+    const string = decodeURIComponent(field);
+    const names = HINTS[hint].match(/BigInt|encode[A-Z]\w+/g) ?? [];
+    return names.map((name) => {
+      if (name !== 'BigInt')
+        return [name, encodingOf(numberOf(string)).padStart(name === 'encodeKey' ? 22 : 1, '0'), [string]];
+      const number = [...string].reduce((sum, digit) => 10n * sum + BigInt(digit), 0n);
+      return ['encode', number < 2n ** 128n ? encodingOf(number) : { code: 'OUT_OF_RANGE' }, [BigInt(string)]];
+    });
+  },
   uuid_string(field, uuid) {
     const string = decodeURIComponent(field);
-    const text = uuid === 'none' ? undefined : encodingOf(BigInt(`0x${uuid.replaceAll('-', '')}`));
+    const text = uuid === 'none' ? undefined : encodingOf(numberOf(uuid));
     const error = { code: 'INVALID_UUID' };
     return [['encodeUuid', text ?? error, [string]], ['encodeKey', text?.padStart(22, '0') ?? error, [string]]];
   }
@@ -118,20 +142,21 @@ export class Checks {
   calls = 0;
   called = new Set();
   #base62;
-  #messages = {};
+  #messages = { 'OVERFLOW,': 'Encoded input represents 2**128 or more, or has more than 22 characters' };
   // The ways to give a function an alphabet as the last argument. One that is not of ASCII has none.
   #alphabets = { none: [[]] };
 
   constructor(base62, file) {
     this.#base62 = base62;
-    // The message of another length is not that of C.
-    for (const [, text, kind, byte] of file.matchAll(/^message\t(\S+)\t(?!length)(\w+)\t?(\d*)/gm))
+    // The messages for another length and for overflow are not those of C.
+    for (const [, text, kind, byte] of file.matchAll(/^message\t(\S+)\t(?!length|overflow)(\w+)\t?(\d*)/gm))
       this.#messages[[CODES[kind], byte]] = textOf(text).replace(/\d+$/, '');
     for (const row of file.match(/^(?!message)\w.*/gm)) this.check(row);
   }
 
   check(row) {
     const [kind, ...fields] = row.split('\t');
+    if (kind === 'hint') this.#checkHint(...fields);
     if (!ROWS[kind]) throw new Error(`js/tests/calls.mjs has no calls for rows of the kind ${kind}`);
     if (kind === 'alphabet') this.#addAlphabet(...fields);
     for (const [name, expected, values, alphabet = 'none', ...others] of ROWS[kind](...fields)) {
@@ -142,6 +167,21 @@ export class Checks {
           throw new Error(`${row.slice(0, 200)}: ${name} of ${typeof value}: ${show(result)} is not ${show(expected)}`);
         }
       }
+    }
+  }
+
+  // Whether the error of each function that is not for the string has this hint.
+  #checkHint(call, field, expected) {
+    const string = decodeURIComponent(field);
+    const ofValue = /none|decimal/.test(expected) ? ['encodeFixed', 'encodeKey'] : [];  // These accept a UUID.
+    for (const name of call === 'encode' ? ['encode', 'digitCount', ...ofValue] : Object.values(DECODERS).flat()) {
+      let message = 'no error';
+      try {
+        this.#base62[name](string, ...(name.endsWith('Fixed') ? [22] : []));
+      } catch (error) { ({ message } = error); }
+      const hint = Object.keys(HINTS).filter((key) => message.endsWith(HINTS[key])).pop();
+      if (message === 'no error' || hint !== expected)
+        throw new Error(`${name} of '${string}': ${message} is not an error with this hint: ${expected}`);
     }
   }
 
@@ -161,7 +201,8 @@ export class Checks {
     } catch (error) {
       const { code, byte = '', index = '' } = error;
       const message = this.#messages[[code, byte]];
-      const isExpected = message === undefined || error.message === message + index;
+      const hint = isUuid(given[0]) ? HINTS.uuid : '';
+      const isExpected = message === undefined || error.message === message + index + hint;
       return error instanceof Base62Error && isExpected ? {...error } : `${error}`;
     }
   }

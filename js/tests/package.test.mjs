@@ -73,7 +73,7 @@ const noEsbuild = isMissing('esbuild');
 test('a bundle has one copy, of the size in README, or nothing without a call', { skip: noEsbuild }, () => {
   const both =
     bundle("import { decodeCanonical } from 'base62-proved'; f(decodeCanonical, require('base62-proved').decode);");
-  assert.equal(both.split('Encoded input has a leading zero').length, 2);
+  assert.equal(both.split('has a leading zero').length, 2);
   assert.ok(bundle("import { encode } from 'base62-proved';").length < 100);
   const bundles = ['{ encode }', '* as encode'].map((all) => bundle(`import ${all} from 'base62-proved'; f(encode);`));
   const sizes = bundles.flatMap((code) => [code.length, gzipSync(code, { level: 9 }).length]);
@@ -127,12 +127,17 @@ function pageAfter(code) {
 }
 
 test('a script of a page has one name, inherits nothing from Object.prototype, and needs little-endian words', () => {
-  const expected = { value: 2, writable: true, enumerable: true, configurable: true };
-  for (const name of ['configurable', 'get', 'set', 'writable']) {
-    const page = pageAfter(`const decode = 1; Object.prototype.${name} = true`);
+  const fields = { code: 'INVALID_BYTE', byte: 45, index: 2 };
+  const names = ['configurable', 'get', 'set', 'writable', ...Object.keys(fields)];
+  for (const [name, writable] of names.flatMap((name) => [[name, true], [name, false]])) {
+    const property = `{ value: 5, enumerable: true, writable: ${writable} }`;
+    const page = pageAfter(`const decode = 1; Object.defineProperty(Object.prototype, '${name}', ${property})`);
     assert.deepEqual(Object.keys(page), ['base62']);
     assert.throws(() => page.base62.decode('LZ-'), (error) => {
-      assert.deepEqual(Object.getOwnPropertyDescriptor(error, 'index'), expected);
+      for (const [field, value] of Object.entries(fields)) {
+        const expected = { value, writable: true, enumerable: true, configurable: true };
+        assert.deepEqual(Object.getOwnPropertyDescriptor(error, field), expected);
+      }
       Object.assign(error, { name: 'Other', code: 5, byte: 5, index: 5 });
       return error instanceof page.base62.Base62Error && `${error}`.startsWith('Other: ');
     });
@@ -141,12 +146,10 @@ test('a script of a page has one name, inherits nothing from Object.prototype, a
     () => pageAfter('Uint16Array.of = () => Uint8Array.of(0, 1)'), /base62-proved needs a little-endian processor$/);
 });
 
-test('in Turkish urn:uuid: is the same, and no more bytes of a text are counted than the width', () => {
-  const { base62: inPage } = pageAfter(`
-    String.prototype.toLocaleLowerCase = function() { return this.toLowerCase().replaceAll('i', '\u0131'); };
-    String.prototype.codePointAt = () => { throw new Error('a text is counted'); };`);
+test('in Turkish urn:uuid: is the same', () => {
+  const { base62: inPage } = pageAfter(
+    "String.prototype.toLocaleLowerCase = function() { return this.toLowerCase().replaceAll('i', '\u0131'); };");
   assert.equal(inPage.encodeUuid('URN:UUID:00000000-0000-0000-0000-000000000539'), 'LZ');
-  assert.throws(() => inPage.decodeKey('\u00e9'.repeat(23)), { code: 'WRONG_LENGTH' });
 });
 
 test('a runtime without WebAssembly and without a compiler has all functions', () => {

@@ -59,6 +59,13 @@ for (const [, name, parameters] of functions) {
 const ofNumber = [...callsOf.Integer, ...callsOf['Integer | Uuid']];
 const ofUuid = [...callsOf.Uuid, ...callsOf['Integer | Uuid']];
 
+// The codes of errors that index.d.cts lists for a function.
+const comments = declarations.split('export function ');
+function codesOf(name) {
+  const [, thrown] = /\{Base62Error\}([^]+)@example/.exec(comments[functions.findIndex(([, other]) => other === name)]);
+  return [...thrown.match(/[A-Z_]{5,}/g) ?? [], ...(thrown.match(/(?<=@link )\w+/g) ?? []).flatMap(codesOf)];
+}
+
 test('functions have the types of index.d.cts, and those of one argument work with map', () => {
   const typeOf = (result) => Array.isArray(result) ? `[${result.map(typeOf).join(', ')}]` :
     result === null ? 'null' :
@@ -66,9 +73,15 @@ test('functions have the types of index.d.cts, and those of one argument work wi
   const found = Object.fromEntries(functions.map(([, name]) => [name, new Set()]));
   assert.deepEqual(['Alphabet', 'Base62Error', ...Object.keys(found)].sort(), NAMES);
   const recording = (name) => (...given) => {
-    const result = base62[name](...given);
-    found[name].add(typeOf(result));
-    return result;
+    try {
+      const result = base62[name](...given);
+      found[name].add(typeOf(result));
+      return result;
+    } catch (error) {
+      if (error.code && !codesOf(name).includes(error.code))
+        error.message = `index.d.cts has no ${error.code} of ${name}`;
+      throw error;
+    }
   };
   new Checks({...base62, ...Object.fromEntries(Object.keys(found).map((name) => [name, recording(name)])) }, file);
   for (const [, name, parameters, type] of functions) {
@@ -148,6 +161,7 @@ test('invalid UUIDs, characters and lengths are rejected', () => {
   const uuids = ['-', new Uint8Array(0), new Uint8Array(15), new Uint8Array(17)];
   const forms = 'with hyphens or without, in braces or after urn:uuid:, or 16 bytes';
   rejects(ofUuid, uuids, 'INVALID_UUID', `a UUID is 32 hexadecimal digits, ${forms}`);
+  rejects(callsOf.Uuid, ['5'], 'INVALID_UUID', `a UUID is 32 hexadecimal digits, ${forms}`);
   const create = (characters) => new Alphabet(characters);
   for (const [characters, found] of [['', '0 characters'], ['0', '1 character'], ['00', '2 characters']])
     rejects([create], [characters], 'INVALID_ALPHABET', `the alphabet has ${found}, not 62`);

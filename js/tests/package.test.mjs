@@ -19,6 +19,7 @@ import {Checks} from './calls.mjs';
 const pathOf = (name) => fileURLToPath(new URL(`../${name}`, import.meta.url));
 const read = (name) => readFileSync(pathOf(name), 'utf8');
 const cwd = pathOf('.');
+const declarations = read('index.d.cts');
 
 test('npm packs these files alone', () => {
   // A list, or from npm 12 on an object by the names of packages.
@@ -33,8 +34,10 @@ test('commonjs/index.js is generated from the modules', () => {
   assert.equal(read('commonjs/index.js'), generated);
 });
 
-test('each path in package.json leads to a file', () => {
-  const { exports, main, module, types } = JSON.parse(read('package.json'));
+test('package.json has the licence of the sources, and each path in it leads to a file', () => {
+  const { exports, license, main, module, types } = JSON.parse(read('package.json'));
+  assert.equal(read('LICENSE').split('\n')[0], `${license} License`);
+  assert.equal(/SPDX-License-Identifier: (.+)/.exec(read('index.js'))[1], license);
   const { import: forImport, require: forRequire } = exports['.'];
   // What reads no exports reads these.
   assert.deepEqual([main, module, types], [forRequire.default, forImport.default, forImport.types]);
@@ -45,16 +48,31 @@ test('README has the oldest Node and the codes of the types', () => {
   const readme = read('README.md');
   const { engines } = JSON.parse(read('package.json'));
   assert.equal(/for Node (\d+) and later/.exec(readme)[1], engines.node.slice('>='.length));
-  const [, union] = / {2}code:([^;]+);/.exec(read('index.d.cts'));
+  const [, union] = / {2}code:([^;]+);/.exec(declarations);
   assert.deepEqual(readme.match(/(?<=^\| `)[A-Z_]+(?=`)/gm).sort(), union.match(/\w+/g).sort());
 });
 
+test('the types describe each parameter, result and error of a function', () => {
+  const functions = [...declarations.matchAll(/\/\*\*\n((?: \*.*\n)+)export function \w+\(([^)]*)\)/g)];
+  assert.equal(functions.length, declarations.match(/^export function/gm).length);
+  for (const [, comment, parameters] of functions) {
+    const names = parameters.match(/\w+(?=\??:)/g).map((name) => `@param ${name}`);
+    const tags = comment.match(/(?<=^ \* )@(param \w+|throws \{\w+\}|\w+)(?=( \S.*)?$)/gm);
+    assert.deepEqual(tags, [...names, '@returns', '@throws {TypeError}', '@throws {Base62Error}', '@example']);
+  }
+});
+
 test('calls return and throw what the examples of the types and README say', () => {
-  const call = (code) => runInNewContext(code, {...modules });
-  const types = read('index.d.cts');
-  const examples = [...types.matchAll(/@example\n \* console\.log\((.+)\); \/\/ (.+)$/gm)];
-  assert.equal(examples.length, types.split('@example').length - 1);
-  for (const [, code, printed] of examples) assert.equal(format(call(code)), printed);
+  const call = (code, console) => runInNewContext(code, {...modules, console });
+  const examples = [...declarations.matchAll(/@example\n((?: +\* .+\n)+?) +\*(?:\/\n|(?= @))/g)];
+  assert.equal(examples.length, declarations.split('@example').length - 1);
+  for (const [, example] of examples) {
+    const printed = [];
+    const code = example.replace(/^ +\* /gm, '');
+    call(code, { log: (...values) => printed.push(format(...values)) });
+    assert.deepEqual(printed, Array.from(code.matchAll(/; \/\/ (.+)$/gm), ([, line]) => line));
+    assert.ok(printed.length > 0);
+  }
   const claims = [...read('README.md').matchAll(/`(\w+\([^`]+)` (returns|throws) `([^`]+)`/g)];
   assert.deepEqual(claims.map(([, , verb]) => verb).sort(), ['returns', 'returns', 'throws']);
   for (const [, code, verb, expected] of claims) {

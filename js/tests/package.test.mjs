@@ -66,6 +66,7 @@ test('calls return and throw what the examples of the types and README say', () 
   const call = (code, console) => runInNewContext(code, {...modules, console });
   const examples = [...declarations.matchAll(/@example\n((?: +\* .+\n)+?) +\*(?:\/\n|(?= @))/g)];
   assert.equal(examples.length, declarations.split('@example').length - 1);
+  examples.push(/```js first.mjs\nimport .*\n([^`]+)/.exec(read('README.md')));
   for (const [, example] of examples) {
     const printed = [];
     const code = example.replace(/^ +\* /gm, '');

@@ -20,8 +20,7 @@ export type Uuid = string | Uint8Array;
  * @returns 1 to 22 characters, without leading zeros
  * @throws {TypeError} if an argument has another type
  * @throws {Base62Error} `OUT_OF_RANGE` for any other number, such as 1.5, -1 or NaN
- * @example
- * console.log(encode(1337)); // LZ
+ * @example console.log(encode(1337)); // LZ
  */
 export function encode(number: Integer, alphabet?: Alphabet): string;
 
@@ -35,8 +34,7 @@ export function encode(number: Integer, alphabet?: Alphabet): string;
  * @throws {TypeError} if an argument has another type
  * @throws {Base62Error} `INVALID_UUID` for any other string or bytes; `OUT_OF_RANGE` for any other number or width, or a
  *   number that needs more characters
- * @example
- * console.log(encodeFixed(1337, 4)); // 00LZ
+ * @example console.log(encodeFixed(1337, 4)); // 00LZ
  */
 export function encodeFixed(value: Integer | Uuid, width: number, alphabet?: Alphabet): string;
 
@@ -46,8 +44,7 @@ export function encodeFixed(value: Integer | Uuid, width: number, alphabet?: Alp
  * @returns exactly 22 characters of the standard alphabet
  * @throws {TypeError} if the argument has another type
  * @throws {Base62Error} `INVALID_UUID` for any other string or bytes; `OUT_OF_RANGE` for any other number
- * @example
- * console.log(encodeKey('017f22e2-79b0-7cc3-98c4-dc0c0c07398f')); // 02p5oQZoHTv0zeY5yG21K3
+ * @example console.log(encodeKey('017f22e2-79b0-7cc3-98c4-dc0c0c07398f')); // 02p5oQZoHTv0zeY5yG21K3
  */
 export function encodeKey(value: Integer | Uuid): string;
 
@@ -58,8 +55,7 @@ export function encodeKey(value: Integer | Uuid): string;
  * @returns 1 to 22 characters, without leading zeros
  * @throws {TypeError} if an argument has another type
  * @throws {Base62Error} `INVALID_UUID` for any other string or bytes
- * @example
- * console.log(encodeUuid('017f22e2-79b0-7cc3-98c4-dc0c0c07398f')); // 2p5oQZoHTv0zeY5yG21K3
+ * @example console.log(encodeUuid('017f22e2-79b0-7cc3-98c4-dc0c0c07398f')); // 2p5oQZoHTv0zeY5yG21K3
  */
 export function encodeUuid(uuid: Uuid, alphabet?: Alphabet): string;
 
@@ -69,8 +65,7 @@ export function encodeUuid(uuid: Uuid, alphabet?: Alphabet): string;
  * @returns 1 to 22
  * @throws {TypeError} if the argument has another type
  * @throws {Base62Error} `OUT_OF_RANGE` for any other number
- * @example
- * console.log(digitCount(1337)); // 2
+ * @example console.log(digitCount(1337)); // 2
  */
 export function digitCount(number: Integer): number;
 
@@ -82,8 +77,7 @@ export function digitCount(number: Integer): number;
  * @throws {TypeError} if an argument has another type
  * @throws {Base62Error} `EMPTY_INPUT`; `INVALID_BYTE` if a byte is not in the alphabet; `OVERFLOW` for 2 ** 128 or more,
  *   or more than 22 bytes after the leading zeros. docs/DECODING.md of the repository says which of several is thrown.
- * @example
- * console.log(decode('00LZ')); // 1337n
+ * @example console.log(decode('00LZ')); // 1337n
  */
 export function decode(text: EncodedString, alphabet?: Alphabet): bigint;
 
@@ -94,8 +88,7 @@ export function decode(text: EncodedString, alphabet?: Alphabet): bigint;
  * @returns a number from 0 to 2 ** 53 - 1
  * @throws {TypeError} if an argument has another type
  * @throws {Base62Error} the codes of {@link decode}; `UNSAFE_INTEGER` for 2 ** 53 or more
- * @example
- * console.log(decodeNumber('00LZ')); // 1337
+ * @example console.log(decodeNumber('00LZ')); // 1337
  */
 export function decodeNumber(text: EncodedString, alphabet?: Alphabet): number;
 
@@ -106,8 +99,7 @@ export function decodeNumber(text: EncodedString, alphabet?: Alphabet): number;
  * @returns a number from 0n to 2n ** 128n - 1n
  * @throws {TypeError} if an argument has another type
  * @throws {Base62Error} the codes of {@link decode}; `NOT_CANONICAL` for a leading zero
- * @example
- * console.log(decodeCanonical('LZ')); // 1337n
+ * @example console.log(decodeCanonical('LZ')); // 1337n
  */
 export function decodeCanonical(text: EncodedString, alphabet?: Alphabet): bigint;
 
@@ -118,8 +110,7 @@ export function decodeCanonical(text: EncodedString, alphabet?: Alphabet): bigin
  * @returns a number from 0 to 2 ** 53 - 1
  * @throws {TypeError} if an argument has another type
  * @throws {Base62Error} the codes of {@link decodeCanonical}; `UNSAFE_INTEGER` for 2 ** 53 or more
- * @example
- * console.log(decodeNumberCanonical('LZ')); // 1337
+ * @example console.log(decodeNumberCanonical('LZ')); // 1337
  */
 export function decodeNumberCanonical(text: EncodedString, alphabet?: Alphabet): number;
 
@@ -132,8 +123,7 @@ export function decodeNumberCanonical(text: EncodedString, alphabet?: Alphabet):
  * @throws {TypeError} if an argument has another type
  * @throws {Base62Error} `OUT_OF_RANGE` for any other width; `WRONG_LENGTH` for any other number of bytes; then the codes
  *   of {@link decode}
- * @example
- * console.log(decodeFixed('00LZ', 4)); // 1337n
+ * @example console.log(decodeFixed('00LZ', 4)); // 1337n
  */
 export function decodeFixed(text: EncodedString, width: number, alphabet?: Alphabet): bigint;
 
@@ -145,8 +135,7 @@ export function decodeFixed(text: EncodedString, width: number, alphabet?: Alpha
  * @returns a number from 0 to 2 ** 53 - 1
  * @throws {TypeError} if an argument has another type
  * @throws {Base62Error} the codes of {@link decodeFixed}; `UNSAFE_INTEGER` for 2 ** 53 or more
- * @example
- * console.log(decodeNumberFixed('00LZ', 4)); // 1337
+ * @example console.log(decodeNumberFixed('00LZ', 4)); // 1337
  */
 export function decodeNumberFixed(text: EncodedString, width: number, alphabet?: Alphabet): number;
 
@@ -156,8 +145,7 @@ export function decodeNumberFixed(text: EncodedString, width: number, alphabet?:
  * @returns a number from 0n to 2n ** 128n - 1n
  * @throws {TypeError} if the argument has another type
  * @throws {Base62Error} `WRONG_LENGTH` for any other number of bytes; then the codes of {@link decode}
- * @example
- * console.log(decodeKey('00000000000000000000LZ')); // 1337n
+ * @example console.log(decodeKey('00000000000000000000LZ')); // 1337n
  */
 export function decodeKey(text: EncodedString): bigint;
 
@@ -168,8 +156,7 @@ export function decodeKey(text: EncodedString): bigint;
  * @returns the UUID, in lowercase with hyphens
  * @throws {TypeError} if an argument has another type
  * @throws {Base62Error} the codes of {@link decode}
- * @example
- * console.log(decodeUuid('2p5oQZoHTv0zeY5yG21K3')); // 017f22e2-79b0-7cc3-98c4-dc0c0c07398f
+ * @example console.log(decodeUuid('2p5oQZoHTv0zeY5yG21K3')); // 017f22e2-79b0-7cc3-98c4-dc0c0c07398f
  */
 export function decodeUuid(text: EncodedString, alphabet?: Alphabet): string;
 
@@ -180,8 +167,7 @@ export function decodeUuid(text: EncodedString, alphabet?: Alphabet): string;
  * @returns the UUID, in lowercase with hyphens
  * @throws {TypeError} if an argument has another type
  * @throws {Base62Error} the codes of {@link decodeCanonical}
- * @example
- * console.log(decodeUuidCanonical('2p5oQZoHTv0zeY5yG21K3')); // 017f22e2-79b0-7cc3-98c4-dc0c0c07398f
+ * @example console.log(decodeUuidCanonical('2p5oQZoHTv0zeY5yG21K3')); // 017f22e2-79b0-7cc3-98c4-dc0c0c07398f
  */
 export function decodeUuidCanonical(text: EncodedString, alphabet?: Alphabet): string;
 
@@ -193,8 +179,7 @@ export function decodeUuidCanonical(text: EncodedString, alphabet?: Alphabet): s
  * @returns the UUID, in lowercase with hyphens
  * @throws {TypeError} if an argument has another type
  * @throws {Base62Error} the codes of {@link decodeFixed}
- * @example
- * console.log(decodeUuidFixed('02p5oQZoHTv0zeY5yG21K3', 22)); // 017f22e2-79b0-7cc3-98c4-dc0c0c07398f
+ * @example console.log(decodeUuidFixed('02p5oQZoHTv0zeY5yG21K3', 22)); // 017f22e2-79b0-7cc3-98c4-dc0c0c07398f
  */
 export function decodeUuidFixed(text: EncodedString, width: number, alphabet?: Alphabet): string;
 
@@ -204,8 +189,7 @@ export function decodeUuidFixed(text: EncodedString, width: number, alphabet?: A
  * @returns the UUID, in lowercase with hyphens
  * @throws {TypeError} if the argument has another type
  * @throws {Base62Error} the codes of {@link decodeKey}
- * @example
- * console.log(decodeUuidKey('02p5oQZoHTv0zeY5yG21K3')); // 017f22e2-79b0-7cc3-98c4-dc0c0c07398f
+ * @example console.log(decodeUuidKey('02p5oQZoHTv0zeY5yG21K3')); // 017f22e2-79b0-7cc3-98c4-dc0c0c07398f
  */
 export function decodeUuidKey(text: EncodedString): string;
 
@@ -218,8 +202,7 @@ export function decodeUuidKey(text: EncodedString): string;
  * @returns both numbers, or null if there are none
  * @throws {TypeError} if an argument has another type
  * @throws {Base62Error} `INVALID_BYTE` if a byte is not in the alphabet; `OUT_OF_RANGE` for any other width
- * @example
- * console.log(prefixRange('00a', 7)); // [ 531948096n, 546724431n ]
+ * @example console.log(prefixRange('00a', 7)); // [ 531948096n, 546724431n ]
  */
 export function prefixRange(prefix: EncodedString, width: number, alphabet?: Alphabet):
   [least: bigint, greatest: bigint] | null;
@@ -230,8 +213,7 @@ export function prefixRange(prefix: EncodedString, width: number, alphabet?: Alp
  * @returns both numbers, or null if there are none
  * @throws {TypeError} if the argument has another type
  * @throws {Base62Error} `INVALID_BYTE` if a byte is not in the alphabet
- * @example
- * console.log(keyRange('00000000000000000000L')); // [ 1302n, 1363n ]
+ * @example console.log(keyRange('00000000000000000000L')); // [ 1302n, 1363n ]
  */
 export function keyRange(prefix: EncodedString): [least: bigint, greatest: bigint] | null;
 
@@ -242,8 +224,7 @@ export function keyRange(prefix: EncodedString): [least: bigint, greatest: bigin
  * @returns both keys, or null if there are none
  * @throws {TypeError} if the argument has another type
  * @throws {Base62Error} `INVALID_BYTE` if a byte is not in the alphabet
- * @example
- * console.log(keyBounds('00000000000000000000L')); // [ '00000000000000000000L0', '00000000000000000000Lz' ]
+ * @example console.log(keyBounds('00000000000000000000L')); // [ '00000000000000000000L0', '00000000000000000000Lz' ]
  */
 export function keyBounds(prefix: EncodedString): [least: string, greatest: string] | null;
 

@@ -23,7 +23,8 @@ class Alphabet {
     const digits = new Float64Array(129).fill(Infinity);
     for (let digit = 0; digit < 62; digit++) {
       const code = characters.charCodeAt(digit);
-      if (digits[code] < 62) throw repeatedCharacter(code, digit);
+      if (digits[code] < 62)
+        throw new Base62Error(`Alphabet repeats the ${showByte(code, digit)}`, 'REPEATED_CHARACTER', code, digit);
       digits[code] = digit;
     }
     const pairs = new Uint16Array(62 ** 2);
@@ -32,9 +33,6 @@ class Alphabet {
     defineReadOnly(this, 'characters', characters);
   }
 }
-
-const repeatedCharacter = (byte, index) =>
-  new Base62Error(`Alphabet repeats the ${showByte(byte, index)}`, 'REPEATED_CHARACTER', byte, index);
 
 defineReadOnly(Alphabet, 'standard', new Alphabet('0123456789ABCDEFGHIJKLMNOPQRSTUVWXYZabcdefghijklmnopqrstuvwxyz'));
 defineReadOnly(Alphabet, 'alternative', new Alphabet('0123456789abcdefghijklmnopqrstuvwxyzABCDEFGHIJKLMNOPQRSTUVWXYZ'));
@@ -61,11 +59,8 @@ function replaceCurrent(alphabet) {
 
 function notAnAlphabet(given) {
   const expected = 'an alphabet is an Alphabet';
-  if (typeof given === 'string') {
-    const isName = given === 'standard' || given === 'alternative';
-    const hint = isName ? `use Alphabet.${given}` : 'create one with new Alphabet(..)';
-    return new TypeError(`${expected}, not a string: ${hint}`);
-  }
+  if (given === 'standard' || given === 'alternative') return new TypeError(`${expected}: use Alphabet.${given}`);
+  if (typeof given === 'string') return new TypeError(`${expected}, not a string: create one with new Alphabet(..)`);
   if (typeof given !== 'number') return new TypeError(`${expected} of this copy of base62-proved`);
   // Methods such as map pass an index as the second argument.
   return new TypeError(`${expected}, not ${given}: give map a function such as (n) => encode(n)`);
@@ -119,13 +114,12 @@ function encodeFixed(value, width, alphabet = standard) {
   checkWidth(width);
   const count = splitValue(value);
   const pairs = use(alphabet);
-  if (count > width) throw tooNarrow(count, width);
+  if (count > width)
+    throw new Base62Error(
+      `the number needs ${quantity(count, 'character')}, and the width is ${width}`, 'OUT_OF_RANGE');
   const string = stringOfGroups(Math.min(width, MAX_DIGITS), pairs);
   return width > MAX_DIGITS ? string.padStart(width, alphabet.characters[0]) : string;
 }
-
-const tooNarrow = (count, width) =>
-  new Base62Error(`the number needs ${quantity(count, 'character')}, and the width is ${width}`, 'OUT_OF_RANGE');
 
 // A key is a string of KEY_LENGTH characters of the standard alphabet.
 const encodeKey = (value) => encodeFixed(value, KEY_LENGTH);

@@ -10,28 +10,26 @@ export const MAX_DIGITS = 22;
 export const POWERS_OF_62 = [1n];
 for (let i = 0; i < MAX_DIGITS; i++) POWERS_OF_62.push(POWERS_OF_62[i] * 62n);
 
-// Descriptors inherit nothing, since a program may give Object.prototype a property such as `get`.
-const define = (object, name, value, others) =>
-  Object.defineProperty(object, name, { __proto__: null, value, ...others });
-export function defineReadOnly(object, name, value) { define(object, name, value, { enumerable: true }); }
-
-const FIELD = {
-  writable: true,
+// Descriptors inherit nothing, since a program may give Object.prototype a property such as `get`. An assignment would
+// fail if it had a read-only `code`.
+const define = (object, name, value, others = {
+  configurable: true,
   enumerable: true,
-  configurable: true
-};
+  writable: true
+}) => Object.defineProperty(object, name, { __proto__: null, value, ...others });
+export function defineReadOnly(object, name, value) { define(object, name, value, { enumerable: true }); }
 
 export class Base62Error extends RangeError {
   constructor(message, code, byte, index) {
     super(message);
-    define(this, 'code', code, FIELD);
+    define(this, 'code', code);
     if (byte === undefined) return;
-    define(this, 'byte', byte, FIELD);
-    define(this, 'index', index, FIELD);
+    define(this, 'byte', byte);
+    define(this, 'index', index);
   }
 }
 
-define(Base62Error.prototype, 'name', 'Base62Error', { writable: true, configurable: true });
+define(Base62Error.prototype, 'name', 'Base62Error', { configurable: true, writable: true });
 
 export const quantity = (count, unit) => `${count} ${unit}${count === 1 ? '' : 's'}`;
 

@@ -181,28 +181,26 @@ const MAX_DIGITS = 22;
 const POWERS_OF_62 = [1n];
 for (let i = 0; i < MAX_DIGITS; i++) POWERS_OF_62.push(POWERS_OF_62[i] * 62n);
 
-// Descriptors inherit nothing, since a program may give Object.prototype a property such as `get`.
-const define = (object, name, value, others) =>
-  Object.defineProperty(object, name, { __proto__: null, value, ...others });
-function defineReadOnly(object, name, value) { define(object, name, value, { enumerable: true }); }
-
-const FIELD = {
-  writable: true,
+// Descriptors inherit nothing, since a program may give Object.prototype a property such as `get`. An assignment would
+// fail if it had a read-only `code`.
+const define = (object, name, value, others = {
+  configurable: true,
   enumerable: true,
-  configurable: true
-};
+  writable: true
+}) => Object.defineProperty(object, name, { __proto__: null, value, ...others });
+function defineReadOnly(object, name, value) { define(object, name, value, { enumerable: true }); }
 
 class Base62Error extends RangeError {
   constructor(message, code, byte, index) {
     super(message);
-    define(this, 'code', code, FIELD);
+    define(this, 'code', code);
     if (byte === undefined) return;
-    define(this, 'byte', byte, FIELD);
-    define(this, 'index', index, FIELD);
+    define(this, 'byte', byte);
+    define(this, 'index', index);
   }
 }
 
-define(Base62Error.prototype, 'name', 'Base62Error', { writable: true, configurable: true });
+define(Base62Error.prototype, 'name', 'Base62Error', { configurable: true, writable: true });
 
 const quantity = (count, unit) => `${count} ${unit}${count === 1 ? '' : 's'}`;
 
@@ -450,7 +448,8 @@ class Alphabet {
     const digits = new Float64Array(129).fill(Infinity);
     for (let digit = 0; digit < 62; digit++) {
       const code = characters.charCodeAt(digit);
-      if (digits[code] < 62) throw repeatedCharacter(code, digit);
+      if (digits[code] < 62)
+        throw new Base62Error(`Alphabet repeats the ${showByte(code, digit)}`, 'REPEATED_CHARACTER', code, digit);
       digits[code] = digit;
     }
     const pairs = new Uint16Array(62 ** 2);
@@ -459,9 +458,6 @@ class Alphabet {
     defineReadOnly(this, 'characters', characters);
   }
 }
-
-const repeatedCharacter = (byte, index) =>
-  new Base62Error(`Alphabet repeats the ${showByte(byte, index)}`, 'REPEATED_CHARACTER', byte, index);
 
 defineReadOnly(Alphabet, 'standard', new Alphabet('0123456789ABCDEFGHIJKLMNOPQRSTUVWXYZabcdefghijklmnopqrstuvwxyz'));
 defineReadOnly(Alphabet, 'alternative', new Alphabet('0123456789abcdefghijklmnopqrstuvwxyzABCDEFGHIJKLMNOPQRSTUVWXYZ'));
@@ -488,11 +484,8 @@ function replaceCurrent(alphabet) {
 
 function notAnAlphabet(given) {
   const expected = 'an alphabet is an Alphabet';
-  if (typeof given === 'string') {
-    const isName = given === 'standard' || given === 'alternative';
-    const hint = isName ? `use Alphabet.${given}` : 'create one with new Alphabet(..)';
-    return new TypeError(`${expected}, not a string: ${hint}`);
-  }
+  if (given === 'standard' || given === 'alternative') return new TypeError(`${expected}: use Alphabet.${given}`);
+  if (typeof given === 'string') return new TypeError(`${expected}, not a string: create one with new Alphabet(..)`);
   if (typeof given !== 'number') return new TypeError(`${expected} of this copy of base62-proved`);
   // Methods such as map pass an index as the second argument.
   return new TypeError(`${expected}, not ${given}: give map a function such as (n) => encode(n)`);
@@ -546,13 +539,12 @@ function encodeFixed(value, width, alphabet = standard) {
   checkWidth(width);
   const count = splitValue(value);
   const pairs = use(alphabet);
-  if (count > width) throw tooNarrow(count, width);
+  if (count > width)
+    throw new Base62Error(
+      `the number needs ${quantity(count, 'character')}, and the width is ${width}`, 'OUT_OF_RANGE');
   const string = stringOfGroups(Math.min(width, MAX_DIGITS), pairs);
   return width > MAX_DIGITS ? string.padStart(width, alphabet.characters[0]) : string;
 }
-
-const tooNarrow = (count, width) =>
-  new Base62Error(`the number needs ${quantity(count, 'character')}, and the width is ${width}`, 'OUT_OF_RANGE');
 
 // A key is a string of KEY_LENGTH characters of the standard alphabet.
 const encodeKey = (value) => encodeFixed(value, KEY_LENGTH);

@@ -6,21 +6,15 @@ import {text} from 'node:stream/consumers';
 
 const links = [];  // The index is the id.
 
-// Returns the path of the link to the URL in the body.
-async function addLink(request) {
-  const { href, protocol } = new URL(await text(request));
-  // A link to javascript: or data: would run code.
-  if (!['http:', 'https:'].includes(protocol)) throw new Error('Not a URL of http: or https:');
-  return `/${encode(links.push(href) - 1)}`;
-}
-
 export const server = createServer(async (request, response) => {
   try {
     if (request.method === 'POST') {
       // Node reads no more bytes than this header says. Without it there may be any number.
       if (!(request.headers['content-length'] <= 8192)) return response.writeHead(413).end();
-      const path = await addLink(request);
-      return response.writeHead(201).end(path);
+      const { href, protocol } = new URL(await text(request));
+      // A link to javascript: or data: would run code.
+      if (!['http:', 'https:'].includes(protocol)) throw new Error('Not a URL of http: or https:');
+      return response.writeHead(201).end(`/${encode(links.push(href) - 1)}`);
     }
     // It accepts only what encode returns, so each link has one path.
     const id = decodeNumberCanonical(request.url.slice(1));

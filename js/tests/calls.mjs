@@ -47,12 +47,6 @@ const uuidsOf = (number) => [uuidOf(number), bytesOf(hexOf(number).replace(/../g
 const isSafe = (number) => number <= Number.MAX_SAFE_INTEGER;
 const numbersOf = (number) => (isSafe(number) ? [number, Number(number)] : [number]);
 const valuesOf = (number) => [...numbersOf(number), ...uuidsOf(number)];
-const numberOf = (uuid) => BigInt(`0x${uuid.replace(/^urn:uuid:|[-{}]/gi, '')}`);
-function isUuid(text) {
-  const digits = typeof text === 'string' && /[\da-f]{32}/i.exec(text.replaceAll('-', ''))?.[0];
-  const uuids = digits ? [digits.toLowerCase(), uuidOf(numberOf(digits))] : [];
-  return uuids.some((uuid) => [uuid, `{${uuid}}`, `urn:uuid:${uuid}`].includes(text.toLowerCase()));
-}
 const isKey = (alphabet, width) => alphabet === 'standard' && width === '22';
 
 // What a function with this name returns for a string of the number, or the error.
@@ -115,20 +109,16 @@ const ROWS = {
     return [call, ['keyRange', expected, prefixes], ['keyBounds', keys, prefixes]];
   },
   uuid: (number, uuid, text) => [['encodeUuid', text, [uuid]], ['decodeUuid', uuid, [text]]],
-  // What the hint names returns the right string.
+  // The end of each error. Rows of uuid_string have the same UUIDs for the functions that it names.
   hint(call, field, hint) {
-    const string = decodeURIComponent(field);
-    const names = HINTS[hint].match(/BigInt|encode[A-Z]\w+/g) ?? [];
-    return names.map((name) => {
-      if (name !== 'BigInt')
-        return [name, encodingOf(numberOf(string)).padStart(name === 'encodeKey' ? 22 : 1, '0'), [string]];
-      const number = [...string].reduce((sum, digit) => 10n * sum + BigInt(digit), 0n);
-      return ['encode', number < 2n ** 128n ? encodingOf(number) : { code: 'OUT_OF_RANGE' }, [BigInt(string)]];
-    });
+    const encoders = ['encode', 'digitCount', ...(/uuid|both/.test(hint) ? [] : ['encodeFixed', 'encodeKey'])];
+    const names = call === 'encode' ? encoders : Object.values(DECODERS).flat();
+    const widthOf = (name) => (name.endsWith('Fixed') ? [22] : []);
+    return names.map((name) => [name, HINTS[hint], [decodeURIComponent(field)], 'none', ...widthOf(name)]);
   },
   uuid_string(field, uuid) {
     const string = decodeURIComponent(field);
-    const text = uuid === 'none' ? undefined : encodingOf(numberOf(uuid));
+    const text = uuid === 'none' ? undefined : encodingOf(BigInt(`0x${uuid.replaceAll('-', '')}`));
     const error = { code: 'INVALID_UUID' };
     return [['encodeUuid', text ?? error, [string]], ['encodeKey', text?.padStart(22, '0') ?? error, [string]]];
   }
@@ -156,32 +146,16 @@ export class Checks {
 
   check(row) {
     const [kind, ...fields] = row.split('\t');
-    if (kind === 'hint') this.#checkHint(...fields);
     if (!ROWS[kind]) throw new Error(`js/tests/calls.mjs has no calls for rows of the kind ${kind}`);
     if (kind === 'alphabet') this.#addAlphabet(...fields);
     for (const [name, expected, values, alphabet = 'none', ...others] of ROWS[kind](...fields)) {
       for (const value of values) {
         for (const last of this.#alphabets[alphabet]) {
-          const result = this.#resultOf(name, [value, ...others, ...last]);
+          const result = this.#resultOf(kind, name, [value, ...others, ...last]);
           if (Object.is(result, expected) || show(result) === show(expected)) continue;
           throw new Error(`${row.slice(0, 200)}: ${name} of ${typeof value}: ${show(result)} is not ${show(expected)}`);
         }
       }
-    }
-  }
-
-  // Whether the error of each function that is not for the string has this hint.
-  #checkHint(call, field, expected) {
-    const string = decodeURIComponent(field);
-    const ofValue = /none|decimal/.test(expected) ? ['encodeFixed', 'encodeKey'] : [];  // These accept a UUID.
-    for (const name of call === 'encode' ? ['encode', 'digitCount', ...ofValue] : Object.values(DECODERS).flat()) {
-      let message = 'no error';
-      try {
-        this.#base62[name](string, ...(name.endsWith('Fixed') ? [22] : []));
-      } catch (error) { ({ message } = error); }
-      const hint = Object.keys(HINTS).filter((key) => message.endsWith(HINTS[key])).pop();
-      if (message === 'no error' || hint !== expected)
-        throw new Error(`${name} of '${string}': ${message} is not an error with this hint: ${expected}`);
     }
   }
 
@@ -191,18 +165,18 @@ export class Checks {
     if (name === 'standard') this.#alphabets[name].push([]);
   }
 
-  // What a function returns, or the properties of its error, if this has the message that a row has for it.
-  #resultOf(name, given) {
+  // What a function returns, or the properties of its error, if this has the message that a row has for it, or of a hint.
+  #resultOf(kind, name, given) {
     const { [name]: call, Base62Error } = this.#base62;
     this.calls++;
     this.called.add(name);
     try {
       return name === 'Alphabet' ? new call(...given) : call(...given);
     } catch (error) {
+      if (kind === 'hint') return /(: (convert|encode) .*)?$/.exec(error.message)[0];
       const { code, byte = '', index = '' } = error;
       const message = this.#messages[[code, byte]];
-      const hint = isUuid(given[0]) ? HINTS.uuid : '';
-      const isExpected = message === undefined || error.message === message + index + hint;
+      const isExpected = message === undefined || error.message.replace(HINTS.uuid, '') === message + index;
       return error instanceof Base62Error && isExpected ? {...error } : `${error}`;
     }
   }

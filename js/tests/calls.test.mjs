@@ -47,9 +47,14 @@ const validOf = (types) => types.map((type) => (`${types}` === 'EncodedString' ?
 // By the type of a parameter in index.d.cts, the functions that have one. All arguments that they check later are wrong.
 const callsOf = Object.fromEntries(ORDER.map((type) => [type, []]));
 const declarations = readFileSync(new URL('../index.d.cts', import.meta.url), 'utf8');
-const functions = [...declarations.matchAll(/^export function (\w+)\(([^)]*)\):\s+([^;]+);/gm)];
+const functions = [...declarations.matchAll(/\/\*\*\n((?: \*.*\n)+)export function (\w+)\(([^)]*)\):\s+([^;]+);/g)];
+// The codes of errors in the comment of a function.
+function codesOf(name) {
+  const [, thrown] = /\{Base62Error\}([^]+)@example /.exec(functions.find(([, , other]) => other === name)[1]);
+  return [...thrown.match(/[A-Z_]{5,}/g) ?? [], ...(thrown.match(/(?<=@link )\w+/g) ?? []).flatMap(codesOf)];
+}
 const typesOf = (parameters) => Array.from(parameters.matchAll(/: (\w[\w |]*)/g), ([, type]) => type);
-for (const [, name, parameters] of functions) {
+for (const [, , name, parameters] of functions) {
   const types = typesOf(parameters);
   for (const type of types) {
     const others = validOf(types).map((valid, i) => (ORDER.indexOf(types[i]) > ORDER.indexOf(type) ? trap : valid));
@@ -59,18 +64,11 @@ for (const [, name, parameters] of functions) {
 const ofNumber = [...callsOf.Integer, ...callsOf['Integer | Uuid']];
 const ofUuid = [...callsOf.Uuid, ...callsOf['Integer | Uuid']];
 
-// The codes of errors that index.d.cts lists for a function.
-const comments = declarations.split('export function ');
-function codesOf(name) {
-  const [, thrown] = /\{Base62Error\}([^]+)@example/.exec(comments[functions.findIndex(([, other]) => other === name)]);
-  return [...thrown.match(/[A-Z_]{5,}/g) ?? [], ...(thrown.match(/(?<=@link )\w+/g) ?? []).flatMap(codesOf)];
-}
-
-test('functions have the types of index.d.cts, and those of one argument work with map', () => {
+test('functions have the types, parameters and errors of index.d.cts, and those of one argument work with map', () => {
   const typeOf = (result) => Array.isArray(result) ? `[${result.map(typeOf).join(', ')}]` :
     result === null ? 'null' :
                       typeof result;
-  const found = Object.fromEntries(functions.map(([, name]) => [name, new Set()]));
+  const found = Object.fromEntries(functions.map(([, , name]) => [name, new Set()]));
   assert.deepEqual(['Alphabet', 'Base62Error', ...Object.keys(found)].sort(), NAMES);
   const recording = (name) => (...given) => {
     try {
@@ -78,13 +76,15 @@ test('functions have the types of index.d.cts, and those of one argument work wi
       found[name].add(typeOf(result));
       return result;
     } catch (error) {
-      if (error.code && !codesOf(name).includes(error.code))
-        error.message = `index.d.cts has no ${error.code} of ${name}`;
+      if (error.code && !codesOf(name).includes(error.code)) error.message = 'its code is not in index.d.cts';
       throw error;
     }
   };
   new Checks({...base62, ...Object.fromEntries(Object.keys(found).map((name) => [name, recording(name)])) }, file);
-  for (const [, name, parameters, type] of functions) {
+  for (const [, comment, name, parameters, type] of functions) {
+    const tags = comment.match(/(?<=^ \* )@(param \w+|throws \{\w+\}|\w+)(?= \S)/gm);
+    const names = parameters.match(/\w+(?=\??:)/g).map((parameter) => `@param ${parameter}`);
+    assert.deepEqual(tags, [...names, '@returns', '@throws {TypeError}', '@throws {Base62Error}', '@example'], name);
     assert.deepEqual([...found[name]].sort(), type.replace(/\w+: /g, '').split(' | ').sort(), name);
     const valid = validOf(typesOf(parameters));
     const result = base62[name](...valid);
@@ -124,7 +124,7 @@ test('other alphabets are rejected', () => {
   reject([null, {}, ...likenesses], ' of this copy of base62-proved');
   reject(['0', 'Standard', 'name'], ', not a string: create one with new Alphabet(..)');
   for (const [name, encoded] of [['standard', 'LZ'], ['alternative', 'lz']]) {
-    reject([name], `, not a string: use Alphabet.${name}`);
+    reject([name], `: use Alphabet.${name}`);
     assert.equal(encode(1337, Alphabet[name]), encoded);
   }
   reject([5], ', not 5: give map a function such as (n) => encode(n)');
@@ -142,10 +142,9 @@ test('numbers and widths out of range are rejected', () => {
   rejects(ofNumber, numbers, 'OUT_OF_RANGE', outOfRange);
   rejects(
     callsOf.number, [-1, 1.5, NaN, Infinity, 2 ** 53], 'OUT_OF_RANGE', 'a width is an integer from 0 to 2**53 - 1');
-  for (const [number, width, counts] of [
-         [5, 0, '1 character, and the width is 0'], [62, 1, '2 characters, and the width is 1']])
-    rejects(
-      [(value) => encodeFixed(value, width)], [number, BigInt(number)], 'OUT_OF_RANGE', `the number needs ${counts}`);
+  rejects([(width) => encodeFixed(5, width)], [0], 'OUT_OF_RANGE', 'the number needs 1 character, and the width is 0');
+  rejects(
+    [(width) => encodeFixed(62, width)], [1], 'OUT_OF_RANGE', 'the number needs 2 characters, and the width is 1');
   // No string has this width.
   assert.throws(() => encodeFixed(5, 2 ** 40), (error) => error instanceof RangeError && !('code' in error));
   for (const end of ['', 'Canonical', 'Fixed']) {
@@ -178,6 +177,7 @@ test('invalid UUIDs, characters and lengths are rejected', () => {
   const invalid = "Encoded input contains the invalid byte b'\\xed' at index 1";
   rejects([decode, (text) => decodeFixed(text, 4)], ['0\ud800', '0\udfff'], 'INVALID_BYTE', invalid);
   rejects([decode], ['\ud800'.repeat(8)], 'OVERFLOW', OVERFLOW);
+  rejects([base62.decodeCanonical], ['1'.padStart(32, '0')], 'NOT_CANONICAL', /zero: encode UUIDs with encodeKey or/);
   // After other calls too.
   encodeUuid('550e8400-e29b-41d4-a716-446655440000');
   rejects([decode], ['LZ-', 'LZ-'], 'INVALID_BYTE', "Encoded input contains the invalid byte b'-' at index 2");

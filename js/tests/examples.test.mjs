@@ -18,13 +18,12 @@ test('a short link leads to its URL, which is of http: or https: and has at most
     return `${response.status} ${await response.text()}`;
   };
   const url = 'http://a/'.padEnd(8192, 'z');
+  const other = '400 Not a URL of http: or https:';
   try {
     for (const [body, result] of [['HTTP://a/0', '201 /0'], ['https://a/1', '201 /1'], ['', '400 Invalid URL'],
-           [url, '201 /2'], [`${url}z`, '413 '], [new Blob([url]).stream(), '413 ']])
+           ['javascript:alert(1)', other], ['data:,a', other], ['httpx://a', other], ['ftp://a/https:', other],
+           [url, '201 /2'], [`${url}z`, '413 '], [new Blob([url]).stream(), '413 '], ['http://a/3', '201 /3']])
       assert.equal(await post(body), result);
-    for (const scheme of ['javascript', 'data', 'file', 'ftp', 'httpx'])
-      assert.equal(await post(`${scheme}://a/`), '400 Not a URL of http: or https:');
-    assert.equal(await post('http://a/3'), '201 /3');
     assert.equal((await request('3')).headers.get('location'), 'http://a/3');
     assert.equal((await request('2')).headers.get('location'), url);
     for (const [path, status] of [['0', 302], ['4', 404], ['00', 400]])

@@ -52,19 +52,9 @@ test('README has the oldest Node and the codes of the types', () => {
   assert.deepEqual(readme.match(/(?<=^\| `)[A-Z_]+(?=`)/gm).sort(), union.match(/\w+/g).sort());
 });
 
-test('the types describe each parameter, result and error of a function', () => {
-  const functions = [...declarations.matchAll(/\/\*\*\n((?: \*.*\n)+)export function \w+\(([^)]*)\)/g)];
-  assert.equal(functions.length, declarations.match(/^export function/gm).length);
-  for (const [, comment, parameters] of functions) {
-    const names = parameters.match(/\w+(?=\??:)/g).map((name) => `@param ${name}`);
-    const tags = comment.match(/(?<=^ \* )@(param \w+|throws \{\w+\}|\w+)(?=( \S.*)?$)/gm);
-    assert.deepEqual(tags, [...names, '@returns', '@throws {TypeError}', '@throws {Base62Error}', '@example']);
-  }
-});
-
 test('calls return and throw what the examples of the types and README say', () => {
   const call = (code, console) => runInNewContext(code, {...modules, console });
-  const examples = [...declarations.matchAll(/@example\n((?: +\* .+\n)+?) +\*(?:\/\n|(?= @))/g)];
+  const examples = [...declarations.matchAll(/@example((?: .+)?\n(?: +\* .+\n)*) +\*\/\n/g)];
   assert.equal(examples.length, declarations.split('@example').length - 1);
   examples.push(/```js first.mjs\nimport .*\n([^`]+)/.exec(read('README.md')));
   for (const [, example] of examples) {
@@ -147,16 +137,12 @@ function pageAfter(code) {
 
 test('a script of a page has one name, inherits nothing from Object.prototype, and needs little-endian words', () => {
   const fields = { code: 'INVALID_BYTE', byte: 45, index: 2 };
-  const names = ['configurable', 'get', 'set', 'writable', ...Object.keys(fields)];
-  for (const [name, writable] of names.flatMap((name) => [[name, true], [name, false]])) {
-    const property = `{ value: 5, enumerable: true, writable: ${writable} }`;
+  for (const name of ['configurable', 'get', 'set', 'writable', ...Object.keys(fields)]) {
+    const property = `{ value: 5, enumerable: true, writable: ${!(name in fields)} }`;
     const page = pageAfter(`const decode = 1; Object.defineProperty(Object.prototype, '${name}', ${property})`);
     assert.deepEqual(Object.keys(page), ['base62']);
     assert.throws(() => page.base62.decode('LZ-'), (error) => {
-      for (const [field, value] of Object.entries(fields)) {
-        const expected = { value, writable: true, enumerable: true, configurable: true };
-        assert.deepEqual(Object.getOwnPropertyDescriptor(error, field), expected);
-      }
+      assert.deepEqual({...error }, fields);
       Object.assign(error, { name: 'Other', code: 5, byte: 5, index: 5 });
       return error instanceof page.base62.Base62Error && `${error}`.startsWith('Other: ');
     });

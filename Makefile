@@ -23,7 +23,7 @@ prove-c: ## prove c/base62.c with Frama-C; BITS=32 for 32-bit targets, MUTANTS=1
 generate: ## write the generated files anew, after a change of their sources
 	tests/make_values.py
 	translate/rust.py --write
-	node js/commonjs.mjs
+	node js/join_modules.mjs
 
 version: ## set the version everywhere: make version V=X.Y.Z
 	scripts/version.py '$(V)'

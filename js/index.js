@@ -3,7 +3,7 @@
 
 // The public functions, which index.d.cts describes. The default export has all of them, as in Node.
 import {bigIntOfWords, integerOfWords, splitBigInt, splitInteger, splitWords, stringOfGroups, TWO_TO_128} from './digits.js';
-import {Base62Error, checkCanonical, countZeros, decodeFixedText, decodeText, defineReadOnly, errorAt, indexOfInvalid, invalidByte, isUint8Array, lengthOf, lengthOfText, MAX_DIGITS, POWERS_OF_62, readDigits, useDigits, wrongType} from './strings.js';
+import {Base62Error, checkCanonical, countZeros, decodeFixedText, decodeText, defineReadOnly, hintFor, indexOfInvalid, invalidByte, isUint8Array, lengthOf, lengthOfText, MAX_DIGITS, POWERS_OF_62, quantity, readDigits, showByte, useDigits, wrongType} from './strings.js';
 import {readUuid, readUuidBytes, uuidOfWords} from './uuid.js';
 
 const KEY_LENGTH = 22;
@@ -17,13 +17,14 @@ class Alphabet {
   constructor(characters) {
     if (typeof characters !== 'string') throw new TypeError('the characters of an alphabet are a string');
     const { length } = characters;
-    let wrong = length !== 62 && `has ${length} character${length === 1 ? '' : 's'}, not 62`;
+    let wrong = length !== 62 && `has ${quantity(length, 'character')}, not 62`;
     if (/[^\0-\x7f]/.test(characters)) wrong = 'has a non-ASCII character';
     if (wrong) throw new Base62Error(`the alphabet ${wrong}`, 'INVALID_ALPHABET');
     const digits = new Float64Array(129).fill(Infinity);
     for (let digit = 0; digit < 62; digit++) {
       const code = characters.charCodeAt(digit);
-      if (digits[code] < 62) throw errorAt('Alphabet repeats the', 'REPEATED_CHARACTER', code, digit);
+      if (digits[code] < 62)
+        throw new Base62Error(`Alphabet repeats the ${showByte(code, digit)}`, 'REPEATED_CHARACTER', code, digit);
       digits[code] = digit;
     }
     const pairs = new Uint16Array(62 ** 2);
@@ -58,6 +59,7 @@ function replaceCurrent(alphabet) {
 
 function notAnAlphabet(given) {
   const expected = 'an alphabet is an Alphabet';
+  if (given === 'standard' || given === 'alternative') return new TypeError(`${expected}: use Alphabet.${given}`);
   if (typeof given === 'string') return new TypeError(`${expected}, not a string: create one with new Alphabet(..)`);
   if (typeof given !== 'number') return new TypeError(`${expected} of this copy of base62-proved`);
   // Methods such as map pass an index as the second argument.
@@ -76,20 +78,16 @@ function checkWidth(width) {
 function splitNumber(number) {
   let count = 0;
   if (typeof number === 'bigint') count = splitBigInt(number);
-  else if (typeof number !== 'number') throw notANumber(number);
+  else if (typeof number !== 'number')
+    throw wrongType('a number is a Number or a BigInt', number, hintFor(number, true));
   else if (isUnsignedSafeInteger(number)) count = splitInteger(number);
   if (count > 0) return count;
   throw new Base62Error('a number is an integer from 0 to 2**128 - 1, or to 2**53 - 1 as a Number', 'OUT_OF_RANGE');
 }
 
-function notANumber(given) {
-  const hint = typeof given === 'string' ? ": give BigInt('1337')" : '';
-  return wrongType('a number is a Number or a BigInt', given, hint);
-}
-
-function splitUuid(uuid) {
+function splitUuid(uuid, mayBeNumber = false) {
   if (typeof uuid === 'string') {
-    if (!readUuid(uuid)) throw invalidUuid();
+    if (!readUuid(uuid)) throw invalidUuid(mayBeNumber ? hintFor(uuid, true) : '');
   } else {
     if (!isUint8Array(uuid)) throw wrongType('a UUID is a string or a Uint8Array', uuid);
     if (lengthOf.call(uuid) !== 16) throw invalidUuid();
@@ -98,9 +96,9 @@ function splitUuid(uuid) {
   return splitWords();
 }
 
-function invalidUuid() {
+function invalidUuid(hint = '') {
   const forms = 'with hyphens or without, in braces or after urn:uuid:';
-  return new Base62Error(`a UUID is 32 hexadecimal digits, ${forms}, or 16 bytes`, 'INVALID_UUID');
+  return new Base62Error(`a UUID is 32 hexadecimal digits, ${forms}, or 16 bytes${hint}`, 'INVALID_UUID');
 }
 
 const encode = (number, alphabet = standard) => stringOfGroups(splitNumber(number), use(alphabet));
@@ -108,7 +106,7 @@ const encodeUuid = (uuid, alphabet = standard) => stringOfGroups(splitUuid(uuid)
 
 function splitValue(value) {
   if (typeof value === 'number' || typeof value === 'bigint') return splitNumber(value);
-  if (typeof value === 'string' || isUint8Array(value)) return splitUuid(value);
+  if (typeof value === 'string' || isUint8Array(value)) return splitUuid(value, true);
   throw wrongType('a value is a Number, a BigInt, or a UUID as a string or a Uint8Array', value);
 }
 
@@ -116,7 +114,9 @@ function encodeFixed(value, width, alphabet = standard) {
   checkWidth(width);
   const count = splitValue(value);
   const pairs = use(alphabet);
-  if (count > width) throw new Base62Error('the number needs more characters than the width', 'OUT_OF_RANGE');
+  if (count > width)
+    throw new Base62Error(
+      `the number needs ${quantity(count, 'character')}, and the width is ${width}`, 'OUT_OF_RANGE');
   const string = stringOfGroups(Math.min(width, MAX_DIGITS), pairs);
   return width > MAX_DIGITS ? string.padStart(width, alphabet.characters[0]) : string;
 }
@@ -125,22 +125,22 @@ function encodeFixed(value, width, alphabet = standard) {
 const encodeKey = (value) => encodeFixed(value, KEY_LENGTH);
 const digitCount = (number) => splitNumber(number);
 
-// The functions read.. write the words of the number of a text, and return its length, which is not 0.
+// The functions decode..Over write the words of the number of a text, and return its length, which is not 0.
 
-function read(text, alphabet) {
+function decodeOver(text, alphabet) {
   const length = lengthOfText(text);
   use(alphabet);
   decodeText(text, length);
   return length;
 }
 
-function readCanonical(text, alphabet) {
-  const length = read(text, alphabet);
+function decodeCanonicalOver(text, alphabet) {
+  const length = decodeOver(text, alphabet);
   checkCanonical(text, length);
   return length;
 }
 
-function readFixed(text, width, alphabet) {
+function decodeFixedOver(text, width, alphabet) {
   checkWidth(width);
   const length = lengthOfText(text);
   use(alphabet);
@@ -154,19 +154,19 @@ function safeIntegerOfWords(instead) {
   return number;
 }
 
-const decode = (text, alphabet = standard) => read(text, alphabet) && bigIntOfWords();
-const decodeNumber = (text, alphabet = standard) => read(text, alphabet) && safeIntegerOfWords('decode');
-const decodeUuid = (text, alphabet = standard) => read(text, alphabet) && uuidOfWords();
+const decode = (text, alphabet = standard) => decodeOver(text, alphabet) && bigIntOfWords();
+const decodeNumber = (text, alphabet = standard) => decodeOver(text, alphabet) && safeIntegerOfWords('decode');
+const decodeUuid = (text, alphabet = standard) => decodeOver(text, alphabet) && uuidOfWords();
 
-const decodeCanonical = (text, alphabet = standard) => readCanonical(text, alphabet) && bigIntOfWords();
+const decodeCanonical = (text, alphabet = standard) => decodeCanonicalOver(text, alphabet) && bigIntOfWords();
 const decodeNumberCanonical = (text, alphabet = standard) =>
-  readCanonical(text, alphabet) && safeIntegerOfWords('decodeCanonical');
-const decodeUuidCanonical = (text, alphabet = standard) => readCanonical(text, alphabet) && uuidOfWords();
+  decodeCanonicalOver(text, alphabet) && safeIntegerOfWords('decodeCanonical');
+const decodeUuidCanonical = (text, alphabet = standard) => decodeCanonicalOver(text, alphabet) && uuidOfWords();
 
-const decodeFixed = (text, width, alphabet = standard) => readFixed(text, width, alphabet) && bigIntOfWords();
+const decodeFixed = (text, width, alphabet = standard) => decodeFixedOver(text, width, alphabet) && bigIntOfWords();
 const decodeNumberFixed = (text, width, alphabet = standard) =>
-  readFixed(text, width, alphabet) && safeIntegerOfWords('decodeFixed');
-const decodeUuidFixed = (text, width, alphabet = standard) => readFixed(text, width, alphabet) && uuidOfWords();
+  decodeFixedOver(text, width, alphabet) && safeIntegerOfWords('decodeFixed');
+const decodeUuidFixed = (text, width, alphabet = standard) => decodeFixedOver(text, width, alphabet) && uuidOfWords();
 
 const decodeKey = (text) => decodeFixed(text, KEY_LENGTH);
 const decodeUuidKey = (text) => decodeUuidFixed(text, KEY_LENGTH);

@@ -10,31 +10,52 @@ export const MAX_DIGITS = 22;
 export const POWERS_OF_62 = [1n];
 for (let i = 0; i < MAX_DIGITS; i++) POWERS_OF_62.push(POWERS_OF_62[i] * 62n);
 
-// Descriptors inherit nothing, since a program may give Object.prototype a property such as `get`.
-const define = (object, name, value, others) =>
-  Object.defineProperty(object, name, { __proto__: null, value, ...others });
+// Descriptors inherit nothing, since a program may give Object.prototype a property such as `get`. An assignment would
+// fail if it had a read-only `code`.
+const define = (object, name, value, others = {
+  configurable: true,
+  enumerable: true,
+  writable: true
+}) => Object.defineProperty(object, name, { __proto__: null, value, ...others });
 export function defineReadOnly(object, name, value) { define(object, name, value, { enumerable: true }); }
 
 export class Base62Error extends RangeError {
   constructor(message, code, byte, index) {
     super(message);
-    this.code = code;
-    if (byte !== undefined) Object.assign(this, { byte, index });
+    define(this, 'code', code);
+    if (byte === undefined) return;
+    define(this, 'byte', byte);
+    define(this, 'index', index);
   }
 }
 
-define(Base62Error.prototype, 'name', 'Base62Error', { writable: true, configurable: true });
+define(Base62Error.prototype, 'name', 'Base62Error', { configurable: true, writable: true });
 
-const overflow = () => new Base62Error('Decoded number is 2^128 or more', 'OVERFLOW');
+export const quantity = (count, unit) => `${count} ${unit}${count === 1 ? '' : 's'}`;
 
 const ESCAPES = new Map([[9, 't'], [10, 'n'], [13, 'r'], [34, '"'], [39, "'"], [92, '\\']]);
 
-// An error whose message shows a byte as C does.
-export function errorAt(message, code, byte, index) {
+// Shows a byte as C does.
+export function showByte(byte, index) {
   let shown = `\\${ESCAPES.get(byte) ?? `x${byte.toString(16).padStart(2, '0')}`}`;
   if (byte >= 32 && byte < 127 && !ESCAPES.has(byte)) shown = String.fromCharCode(byte);
-  return new Base62Error(`${message} byte b'${shown}' at index ${index}`, code, byte, index);
+  return `byte b'${shown}' at index ${index}`;
 }
+
+// What an error names for a string that is a UUID or, in the place of a number, has only digits. In a bundle of `encode`
+// alone this regular expression takes less than readUuid.
+const UUID = /^[\da-f]{8}(-?)([\da-f]{4}\1){3}[\da-f]{12}$/i;
+export function hintFor(given, isForNumber) {
+  if (typeof given !== 'string') return '';
+  const hints = [];
+  if (isForNumber && /^\d+$/.test(given)) hints.push('convert decimal digits with BigInt');
+  if (UUID.test(given.replace(/^{(.*)}$|^urn:uuid:/i, '$1'))) hints.push('encode UUIDs with encodeKey or encodeUuid');
+  return hints.length > 0 ? `: ${hints.join(', or ')}` : '';
+}
+
+const inputError = (text, message, code, byte, index) =>
+  new Base62Error(`Encoded input ${message}${hintFor(text)}`, code, byte, index);
+const overflow = (text) => inputError(text, 'represents 2**128 or more, or has more than 22 characters', 'OVERFLOW');
 
 // A subclass can override `length` and the like, so the getters of %TypedArray% read them.
 const typedArray = Object.getPrototypeOf(Uint8Array.prototype);
@@ -133,25 +154,21 @@ export function invalidByte(text, index) {
   const unit = typeof text === 'string' ? codePointAt(text, index) : text[index];
   const others = typeof text === 'string' ? sizeOfPoint(unit) - 1 : 0;
   const byte = others === 0 ? unit : ((-128 >> others) & 255) | (unit >> (6 * others));
-  return errorAt('Encoded input contains the invalid', 'INVALID_BYTE', byte, index);
+  return inputError(text, `contains the invalid ${showByte(byte, index)}`, 'INVALID_BYTE', byte, index);
 }
 
 export function decodeText(text, length) {
   if (!readShort(text, length)) decodeByRules(text, length);
 }
 
-const showBytes = (count) => `${count} byte${count === 1 ? '' : 's'}`;
-
 export function decodeFixedText(text, length, width) {
   if (length !== width || !readShort(text, length)) decodeFixedByRules(text, length, width);
 }
 
 function decodeFixedByRules(text, length, width) {
-  // If there are more units than the width, no bytes are counted.
-  const size = length > width ? Infinity : countBytes(text, 0, length);
+  const size = countBytes(text, 0, length);
   if (size === width) return decodeByRules(text, length);
-  const found = size > width ? `more than ${showBytes(width)}` : `${showBytes(size)}, not ${width}`;
-  throw new Base62Error(`Encoded input has ${found}`, 'WRONG_LENGTH');
+  throw inputError(text, `has ${quantity(size, 'byte')}, not ${width}`, 'WRONG_LENGTH');
 }
 
 // Most texts are valid, and have at most 22 characters.
@@ -159,18 +176,18 @@ const readShort = (text, length) => length > 0 && length <= MAX_DIGITS && readDi
 
 // The rules of docs/DECODING.md of the repository, in their order.
 function decodeByRules(text, length) {
-  if (length === 0) throw new Base62Error('Encoded input is an empty string', 'EMPTY_INPUT');
+  if (length === 0) throw inputError(text, 'is an empty string', 'EMPTY_INPUT');
   const start = countZeros(text, length);
   const remaining = length - start > MAX_DIGITS ? Infinity : countBytes(text, start, length);
-  if (remaining > MAX_DIGITS) throw overflow();
+  if (remaining > MAX_DIGITS) throw overflow(text);
   const invalid = indexOfInvalid(text, start, length);
   if (invalid < Math.min(start + 10, length)) throw invalidByte(text, invalid);
   const isFull = remaining === MAX_DIGITS && readDigits(text, start, start + 10);
-  if (isFull && bigIntOfWords() * POWERS_OF_62[12] >= TWO_TO_128) throw overflow();
+  if (isFull && bigIntOfWords() * POWERS_OF_62[12] >= TWO_TO_128) throw overflow(text);
   if (invalid < length) throw invalidByte(text, invalid);
-  if (!readDigits(text, start, length)) throw overflow();
+  if (!readDigits(text, start, length)) throw overflow(text);
 }
 
 export function checkCanonical(text, length) {
-  if (digitAt(text, 0) === 0 && length > 1) throw new Base62Error('Encoded input has a leading zero', 'NOT_CANONICAL');
+  if (digitAt(text, 0) === 0 && length > 1) throw inputError(text, 'has a leading zero', 'NOT_CANONICAL');
 }

@@ -18,7 +18,7 @@ const fields = {
 function numberOf(typed) {
   if (!/^[0-9]+$/.test(typed)) throw new Error('A number consists of digits');
   const number = BigInt(typed);
-  if (number >> 128n) throw new Error('The number is 2^128 or more');
+  if (number >> 128n) throw new Error('The number is 2**128 or more');
   return number;
 }
 

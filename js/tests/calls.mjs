@@ -18,6 +18,14 @@ const CODES = {
   zero: 'NOT_CANONICAL'
 };
 
+// The ends of messages by the hints of the rows.
+const HINTS = {
+  none: '',
+  uuid: ': encode UUIDs with encodeKey or encodeUuid',
+  decimal: ': convert decimal digits with BigInt',
+  both: ': convert decimal digits with BigInt, or encode UUIDs with encodeKey or encodeUuid'
+};
+
 const errorOf = (kind, byte, index) =>
   byte === undefined ? { code: CODES[kind] } : { code: CODES[kind], byte: Number(byte), index: Number(index) };
 
@@ -101,7 +109,13 @@ const ROWS = {
     return [call, ['keyRange', expected, prefixes], ['keyBounds', keys, prefixes]];
   },
   uuid: (number, uuid, text) => [['encodeUuid', text, [uuid]], ['decodeUuid', uuid, [text]]],
-  hint: () => [],
+  // The end of each error. Rows of uuid_string have the same UUIDs for the functions that it names.
+  hint(call, field, hint) {
+    const encoders = ['encode', 'digitCount', ...(/uuid|both/.test(hint) ? [] : ['encodeFixed', 'encodeKey'])];
+    const names = call === 'encode' ? encoders : Object.values(DECODERS).flat();
+    const widthOf = (name) => (name.endsWith('Fixed') ? [22] : []);
+    return names.map((name) => [name, HINTS[hint], [decodeURIComponent(field)], 'none', ...widthOf(name)]);
+  },
   uuid_string(field, uuid) {
     const string = decodeURIComponent(field);
     const text = uuid === 'none' ? undefined : encodingOf(BigInt(`0x${uuid.replaceAll('-', '')}`));
@@ -118,14 +132,14 @@ export class Checks {
   calls = 0;
   called = new Set();
   #base62;
-  #messages = {};
+  #messages = { 'OVERFLOW,': 'Encoded input represents 2**128 or more, or has more than 22 characters' };
   // The ways to give a function an alphabet as the last argument. One that is not of ASCII has none.
   #alphabets = { none: [[]] };
 
   constructor(base62, file) {
     this.#base62 = base62;
-    // The message of another length is not that of C.
-    for (const [, text, kind, byte] of file.matchAll(/^message\t(\S+)\t(?!length)(\w+)\t?(\d*)/gm))
+    // The messages for another length and for overflow are not those of C.
+    for (const [, text, kind, byte] of file.matchAll(/^message\t(\S+)\t(?!length|overflow)(\w+)\t?(\d*)/gm))
       this.#messages[[CODES[kind], byte]] = textOf(text).replace(/\d+$/, '');
     for (const row of file.match(/^(?!message)\w.*/gm)) this.check(row);
   }
@@ -137,7 +151,7 @@ export class Checks {
     for (const [name, expected, values, alphabet = 'none', ...others] of ROWS[kind](...fields)) {
       for (const value of values) {
         for (const last of this.#alphabets[alphabet]) {
-          const result = this.#resultOf(name, [value, ...others, ...last]);
+          const result = this.#resultOf(kind, name, [value, ...others, ...last]);
           if (Object.is(result, expected) || show(result) === show(expected)) continue;
           throw new Error(`${row.slice(0, 200)}: ${name} of ${typeof value}: ${show(result)} is not ${show(expected)}`);
         }
@@ -151,17 +165,18 @@ export class Checks {
     if (name === 'standard') this.#alphabets[name].push([]);
   }
 
-  // What a function returns, or the properties of its error, if this has the message that a row has for it.
-  #resultOf(name, given) {
+  // What a function returns, or the properties of its error, if this has the message that a row has for it, or of a hint.
+  #resultOf(kind, name, given) {
     const { [name]: call, Base62Error } = this.#base62;
     this.calls++;
     this.called.add(name);
     try {
       return name === 'Alphabet' ? new call(...given) : call(...given);
     } catch (error) {
+      if (kind === 'hint') return /(: (convert|encode) .*)?$/.exec(error.message)[0];
       const { code, byte = '', index = '' } = error;
       const message = this.#messages[[code, byte]];
-      const isExpected = message === undefined || error.message === message + index;
+      const isExpected = message === undefined || error.message.replace(HINTS.uuid, '') === message + index;
       return error instanceof Base62Error && isExpected ? {...error } : `${error}`;
     }
   }

@@ -47,9 +47,14 @@ const validOf = (types) => types.map((type) => (`${types}` === 'EncodedString' ?
 // By the type of a parameter in index.d.cts, the functions that have one. All arguments that they check later are wrong.
 const callsOf = Object.fromEntries(ORDER.map((type) => [type, []]));
 const declarations = readFileSync(new URL('../index.d.cts', import.meta.url), 'utf8');
-const functions = [...declarations.matchAll(/^export function (\w+)\(([^)]*)\):\s+([^;]+);/gm)];
+const functions = [...declarations.matchAll(/\/\*\*\n((?: \*.*\n)+)export function (\w+)\(([^)]*)\):\s+([^;]+);/g)];
+// The codes of errors in the comment of a function.
+function codesOf(name) {
+  const [, thrown] = /\{Base62Error\}([^]+)@example /.exec(functions.find(([, , other]) => other === name)[1]);
+  return [...thrown.match(/[A-Z_]{5,}/g) ?? [], ...(thrown.match(/(?<=@link )\w+/g) ?? []).flatMap(codesOf)];
+}
 const typesOf = (parameters) => Array.from(parameters.matchAll(/: (\w[\w |]*)/g), ([, type]) => type);
-for (const [, name, parameters] of functions) {
+for (const [, , name, parameters] of functions) {
   const types = typesOf(parameters);
   for (const type of types) {
     const others = validOf(types).map((valid, i) => (ORDER.indexOf(types[i]) > ORDER.indexOf(type) ? trap : valid));
@@ -59,19 +64,27 @@ for (const [, name, parameters] of functions) {
 const ofNumber = [...callsOf.Integer, ...callsOf['Integer | Uuid']];
 const ofUuid = [...callsOf.Uuid, ...callsOf['Integer | Uuid']];
 
-test('functions have the types of index.d.cts, and those of one argument work with map', () => {
+test('functions have the types, parameters and errors of index.d.cts, and those of one argument work with map', () => {
   const typeOf = (result) => Array.isArray(result) ? `[${result.map(typeOf).join(', ')}]` :
     result === null ? 'null' :
                       typeof result;
-  const found = Object.fromEntries(functions.map(([, name]) => [name, new Set()]));
+  const found = Object.fromEntries(functions.map(([, , name]) => [name, new Set()]));
   assert.deepEqual(['Alphabet', 'Base62Error', ...Object.keys(found)].sort(), NAMES);
   const recording = (name) => (...given) => {
-    const result = base62[name](...given);
-    found[name].add(typeOf(result));
-    return result;
+    try {
+      const result = base62[name](...given);
+      found[name].add(typeOf(result));
+      return result;
+    } catch (error) {
+      if (error.code && !codesOf(name).includes(error.code)) error.message = 'its code is not in index.d.cts';
+      throw error;
+    }
   };
   new Checks({...base62, ...Object.fromEntries(Object.keys(found).map((name) => [name, recording(name)])) }, file);
-  for (const [, name, parameters, type] of functions) {
+  for (const [, comment, name, parameters, type] of functions) {
+    const tags = comment.match(/(?<=^ \* )@(param \w+|throws \{\w+\}|\w+)(?= \S)/gm);
+    const names = parameters.match(/\w+(?=\??:)/g).map((parameter) => `@param ${parameter}`);
+    assert.deepEqual(tags, [...names, '@returns', '@throws {TypeError}', '@throws {Base62Error}', '@example'], name);
     assert.deepEqual([...found[name]].sort(), type.replace(/\w+: /g, '').split(' | ').sort(), name);
     const valid = validOf(typesOf(parameters));
     const result = base62[name](...valid);
@@ -100,7 +113,6 @@ test('values of wrong types are rejected, and none of their code runs', () => {
     reject('Integer', 'a number is a Number or a BigInt');
     reject('Integer | Uuid', 'a value is a Number, a BigInt, or a UUID as a string or a Uint8Array');
   }
-  rejects(callsOf.Integer, ['5'], 'TypeError', "a number is a Number or a BigInt, not string: give BigInt('1337')");
   rejects(
     [(characters) => new Alphabet(characters)], [5, trap], 'TypeError', 'the characters of an alphabet are a string');
 });
@@ -110,8 +122,13 @@ test('other alphabets are rejected', () => {
   const expected = 'an alphabet is an Alphabet';
   const reject = (values, message) => rejects(callsOf.Alphabet, values, 'TypeError', `${expected}${message}`);
   reject([null, {}, ...likenesses], ' of this copy of base62-proved');
-  reject(['0'], ', not a string: create one with new Alphabet(..)');
+  reject(['0', 'Standard', 'name'], ', not a string: create one with new Alphabet(..)');
+  for (const [name, encoded] of [['standard', 'LZ'], ['alternative', 'lz']]) {
+    reject([name], `: use Alphabet.${name}`);
+    assert.equal(encode(1337, Alphabet[name]), encoded);
+  }
   reject([5], ', not 5: give map a function such as (n) => encode(n)');
+  assert.deepEqual([0, 1337].map((n) => encode(n)), ['0', 'LZ']);
   // Before what is wrong in this alphabet.
   const ofWidth = [encodeFixed, decodeFixed, base62.prefixRange].map((call) => (width) => call(bytes, width, null));
   rejects([...ofWidth, () => decode('', null)], [0], 'TypeError', `${expected} of this copy of base62-proved`);
@@ -125,19 +142,25 @@ test('numbers and widths out of range are rejected', () => {
   rejects(ofNumber, numbers, 'OUT_OF_RANGE', outOfRange);
   rejects(
     callsOf.number, [-1, 1.5, NaN, Infinity, 2 ** 53], 'OUT_OF_RANGE', 'a width is an integer from 0 to 2**53 - 1');
-  rejects([(width) => encodeFixed(62, width)], [1], 'OUT_OF_RANGE', 'the number needs more characters than the width');
+  rejects([(width) => encodeFixed(5, width)], [0], 'OUT_OF_RANGE', 'the number needs 1 character, and the width is 0');
+  rejects(
+    [(width) => encodeFixed(62, width)], [1], 'OUT_OF_RANGE', 'the number needs 2 characters, and the width is 1');
   // No string has this width.
   assert.throws(() => encodeFixed(5, 2 ** 40), (error) => error instanceof RangeError && !('code' in error));
   for (const end of ['', 'Canonical', 'Fixed']) {
     const decodeNumber = (text) => base62[`decodeNumber${end}`](text, ...(end === 'Fixed' ? [9] : []));
     rejects([decodeNumber], ['fFgnDxSe8'], 'UNSAFE_INTEGER', `the number is above 2**53 - 1: use decode${end}`);
+    assert.equal(base62[`decode${end}`]('fFgnDxSe8', ...(end === 'Fixed' ? [9] : [])), 2n ** 53n);
   }
 });
 
+const OVERFLOW = 'Encoded input represents 2**128 or more, or has more than 22 characters';
+
 test('invalid UUIDs, characters and lengths are rejected', () => {
-  const uuids = ['5', new Uint8Array(0), new Uint8Array(15), new Uint8Array(17)];
+  const uuids = ['-', new Uint8Array(0), new Uint8Array(15), new Uint8Array(17)];
   const forms = 'with hyphens or without, in braces or after urn:uuid:, or 16 bytes';
   rejects(ofUuid, uuids, 'INVALID_UUID', `a UUID is 32 hexadecimal digits, ${forms}`);
+  rejects(callsOf.Uuid, ['5'], 'INVALID_UUID', `a UUID is 32 hexadecimal digits, ${forms}`);
   const create = (characters) => new Alphabet(characters);
   for (const [characters, found] of [['', '0 characters'], ['0', '1 character'], ['00', '2 characters']])
     rejects([create], [characters], 'INVALID_ALPHABET', `the alphabet has ${found}, not 62`);
@@ -147,13 +170,14 @@ test('invalid UUIDs, characters and lengths are rejected', () => {
   const found = {
     '1 byte, not 22': ['0'],
     '3 bytes, not 22': ['\ud800'],
-    'more than 22 bytes': ['\u00e9'.repeat(12), new Uint8Array(23)]
+    '23 bytes, not 22': [`${'\u00e9'.repeat(10)}\uffff`, 'z'.repeat(23), new Uint8Array(23)]
   };
   for (const length in found) rejects([decodeKey], found[length], 'WRONG_LENGTH', `Encoded input has ${length}`);
-  rejects([(text) => decodeFixed(text, 1)], ['00'], 'WRONG_LENGTH', 'Encoded input has more than 1 byte');
+  rejects([(text) => decodeFixed(text, 1)], [''], 'WRONG_LENGTH', 'Encoded input has 0 bytes, not 1');
   const invalid = "Encoded input contains the invalid byte b'\\xed' at index 1";
   rejects([decode, (text) => decodeFixed(text, 4)], ['0\ud800', '0\udfff'], 'INVALID_BYTE', invalid);
-  rejects([decode], ['\ud800'.repeat(8)], 'OVERFLOW', 'Decoded number is 2^128 or more');
+  rejects([decode], ['\ud800'.repeat(8)], 'OVERFLOW', OVERFLOW);
+  rejects([base62.decodeCanonical], ['1'.padStart(32, '0')], 'NOT_CANONICAL', /zero: encode UUIDs with encodeKey or/);
   // After other calls too.
   encodeUuid('550e8400-e29b-41d4-a716-446655440000');
   rejects([decode], ['LZ-', 'LZ-'], 'INVALID_BYTE', "Encoded input contains the invalid byte b'-' at index 2");
@@ -171,7 +195,7 @@ test('100 MB are decoded and encoded without a copy, and strings of 10 MB are re
     assert.equal(decodeFixed(form(`${zeros}LZ`), 10_000_002), 1337n);
     assert.deepEqual(base62.prefixRange(form(zeros), 10_000_001), [0n, 61n]);
     assert.throws(() => decode(form(`${zeros}-`)), { byte: 45, index: 1e7 });
-    rejects([decode], [form('\u00e9'.repeat(5e6))], 'OVERFLOW', 'Decoded number is 2^128 or more');
+    rejects([decode], [form('\u00e9'.repeat(5e6))], 'OVERFLOW', OVERFLOW);
     assert.throws(() => decodeFixed(form('\u00e9'.repeat(5e6)), 5e6), { code: 'WRONG_LENGTH' });
   }
 });

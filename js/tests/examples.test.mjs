@@ -7,17 +7,26 @@ import {test} from 'node:test';
 
 const noExpress = !existsSync(new URL('../node_modules/express', import.meta.url)) && 'install node-express';
 
-test('a short link leads to its URL', async () => {
+test('a short link leads to its URL, which is of http: or https: and has at most 8 kB', async () => {
   process.env.PORT = 0;
   const { server } = await import('../examples/short_links.mjs');
   await once(server, 'listening');
   const request = (path, options) =>
     fetch(`http://127.0.0.1:${server.address().port}/${path}`, { redirect: 'manual', ...options });
+  const post = async (body) => {
+    const response = await request('', { method: 'POST', body, duplex: 'half' });
+    return `${response.status} ${await response.text()}`;
+  };
+  const url = 'http://a/'.padEnd(8192, 'z');
+  const other = '400 Not a URL of http: or https:';
   try {
-    for (const [i, path] of ['/0', '/1', 'Invalid URL', '/2'].entries())
-      assert.equal(await (await request('', { method: 'POST', body: i === 2 ? '' : `http://a/${i}` })).text(), path);
-    assert.equal((await request('2')).headers.get('location'), 'http://a/3');
-    for (const [path, status] of [['0', 302], ['3', 404], ['00', 400]])
+    for (const [body, result] of [['HTTP://a/0', '201 /0'], ['https://a/1', '201 /1'], ['', '400 Invalid URL'],
+           ['javascript:alert(1)', other], ['data:,a', other], ['httpx://a', other], ['ftp://a/https:', other],
+           [url, '201 /2'], [`${url}z`, '413 '], [new Blob([url]).stream(), '413 '], ['http://a/3', '201 /3']])
+      assert.equal(await post(body), result);
+    assert.equal((await request('3')).headers.get('location'), 'http://a/3');
+    assert.equal((await request('2')).headers.get('location'), url);
+    for (const [path, status] of [['0', 302], ['4', 404], ['00', 400]])
       assert.equal((await request(path)).status, status);
   } finally { server.close(); }
 });

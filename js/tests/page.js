@@ -28,11 +28,12 @@ for (const values of [['1337', 'LZ', 'lz', '00000000000000000000LZ', '00000000-0
     checks.push([id, shownAfter(id, values[i]), [values, '', []]]);
   });
 }
-for (const [id, text, message] of [['number', '340282366920938463463374607431768211456', 'The number is 2^128 or more'],
+const overflow = 'Encoded input represents 2**128 or more, or has more than 22 characters';
+for (const [id, text, message] of [
+       ['number', '340282366920938463463374607431768211456', 'The number is 2**128 or more'],
        ['number', '', 'A number consists of digits'], ['number', '0x5', 'A number consists of digits'],
        ['standard', '00LZ-x', "Encoded input contains the invalid byte b'-' at index 4"],
-       ['alternative', '7N42dgm5tFLK9N8MT7fHC8', 'Decoded number is 2^128 or more'],
-       ['key', '00LZ', 'Encoded input has 4 bytes, not 22']]) {
+       ['alternative', '7N42dgm5tFLK9N8MT7fHC8', overflow], ['key', '00LZ', 'Encoded input has 4 bytes, not 22']]) {
   checks.push([text, shownAfter(id, text), [ids.map((other) => (other === id ? text : '')), message, [id]]]);
 }
 const address = location.hash.slice(1);

@@ -74,21 +74,21 @@ static void raise_error(struct state *state, int error, PyObject *arguments) {
 #define FOR_DIGITS "; to convert decimal digits, call int()"
 #define FOR_UUIDS "; to encode the string of a UUID, call encode_uuid, encode_uuid_fixed or encode_uuid_key"
 
-/* What an error for a str names: the functions that take it. A str that has no UTF-8 is not ASCII, so none does. */
-static const char *hint_for(PyObject *argument, int is_for_number) {
+/* What an error for a str names: the functions that take it. */
+static const char *hint_for(struct text text, int is_for_number) {
     static const char *const hints[] = {"", FOR_DIGITS, FOR_UUIDS, FOR_DIGITS FOR_UUIDS};
-    struct text text = {NULL, 0, NULL};
     base62_number number;
-    if (PyUnicode_Check(argument)) text.bytes = PyUnicode_AsUTF8AndSize(argument, &text.length);
-    if (text.bytes == NULL) PyErr_Clear();
-    if (text.length == 0) return "";
-    int is_decimal = is_for_number && strspn(text.bytes, "0123456789") == (size_t)text.length;
-    return hints[is_decimal + 2 * (read_uuid(text, 1, &number) == 0)];
+    int has_digits = is_for_number && text.length > 0, is_uuid = read_uuid(text, 1, &number) == 0;
+    return hints[(has_digits && strspn(text.bytes, "0123456789") == (size_t)text.length) + 2 * is_uuid];
 }
 
 void raise_type_error(const char *expected, PyObject *argument) {
+    struct text text = {NULL, 0, NULL};
+    if (PyUnicode_Check(argument)) text.bytes = PyUnicode_AsUTF8AndSize(argument, &text.length);
+    if (text.bytes == NULL) PyErr_Clear(); /* A str without UTF-8 is not ASCII, so no function takes it. */
+    const char *hint = text.bytes == NULL ? "" : hint_for(text, 1);
     PyObject *name = PyType_GetName(Py_TYPE(argument));
-    if (name != NULL) PyErr_Format(PyExc_TypeError, "%s, not %U%s", expected, name, hint_for(argument, 1));
+    if (name != NULL) PyErr_Format(PyExc_TypeError, "%s, not %U%s", expected, name, hint);
     Py_DecRef(name);
 }
 
@@ -227,10 +227,14 @@ PyObject *raise_status(struct state *state, base62_status status, base62_bad_byt
     return NULL;
 }
 
-static PyObject *raise_wrong_length(struct state *state, size_t length, size_t width, const char *hint) {
-    const char *plural = length == 1 ? "" : "s";
-    PyObject *text = PyUnicode_FromFormat("Encoded input has %zu byte%s, not %zu%s", length, plural, width, hint);
-    PyObject *arguments = text == NULL ? NULL : Py_BuildValue("(Nnn)", text, (Py_ssize_t)length, (Py_ssize_t)width);
+/* The text of a str has no owner. */
+static PyObject *raise_for_text(struct state *state, base62_status status, base62_bad_byte bad, struct text text,
+                                size_t width) {
+    const char *hint = text.owner == NULL ? hint_for(text, 0) : "", *plural = text.length == 1 ? "" : "s";
+    if (status != BASE62_WRONG_LENGTH) return raise_status(state, status, bad, hint);
+    const char *format = "Encoded input has %zd byte%s, not %zu%s";
+    PyObject *message = PyUnicode_FromFormat(format, text.length, plural, width, hint);
+    PyObject *arguments = message == NULL ? NULL : Py_BuildValue("(Nnn)", message, text.length, (Py_ssize_t)width);
     raise_error(state, WRONG_LENGTH_ERROR, arguments);
     return NULL;
 }
@@ -334,10 +338,8 @@ static inline Py_ALWAYS_INLINE PyObject *decode_or_raise(decode_with *decode, si
     }
     Py_DecRef(text.owner);
     if (alphabet == NULL) return NULL;
-    if (status == BASE62_OK) return new (state, number);
-    const char *hint = hint_for(argument, 0);
-    if (status == BASE62_WRONG_LENGTH) return raise_wrong_length(state, (size_t)text.length, width, hint);
-    return raise_status(state, status, bad, hint);
+    if (status != BASE62_OK) return raise_for_text(state, status, bad, text, width);
+    return new (state, number);
 }
 
 static inline Py_ALWAYS_INLINE PyObject *decode_fixed_or_raise(new_result *new, struct state *state,

@@ -26,13 +26,18 @@ static int number_of_text_or_raise(struct state *state, PyObject *argument, base
     return failed;
 }
 
-/* The int of what isinstance takes for a uuid.UUID. It is an int, but a program can store any object there. */
-PyObject *uuid_int_or_raise(struct state *state, PyObject *argument, const char *expected) {
-    PyObject *uuid = borrow(state, UUID), *name = borrow(state, INT);
-    if (uuid == NULL || name == NULL) return NULL;
-    int is_uuid = (PyObject *)Py_TYPE(argument) == uuid ? 1 : PyObject_IsInstance(argument, uuid);
+static int is_uuid_or_raise(struct state *state, PyObject *argument, const char *expected) {
+    PyObject *uuid = borrow(state, UUID);
+    int is_uuid = uuid == NULL ? -1 : PyObject_IsInstance(argument, uuid);
     if (is_uuid == 0) raise_type_error(expected, argument);
-    PyObject *attribute = is_uuid > 0 ? PyObject_GetAttr(argument, name) : NULL;
+    return is_uuid > 0;
+}
+
+/* UUID.int is an int, but a program can store any object there. */
+PyObject *uuid_int_or_raise(struct state *state, PyObject *argument, const char *expected) {
+    int is_uuid = (PyObject *)Py_TYPE(argument) == state->objects[UUID] || is_uuid_or_raise(state, argument, expected);
+    PyObject *name = is_uuid ? borrow(state, INT) : NULL;
+    PyObject *attribute = name == NULL ? NULL : PyObject_GetAttr(argument, name);
     PyObject *integer = attribute == NULL ? NULL : PyNumber_Index(attribute);
     Py_DecRef(attribute);
     return integer;

@@ -48,7 +48,7 @@ class Package(unittest.TestCase):
         """The functions and types, in the order of README, say where users find them. What modules import is none."""
         names = {name for name in dir(base62) if name[0] != "_"}
         self.assertEqual(sorted(base62.__all__), sorted(names - {"columns"}))
-        self.assertEqual(base62.__all__, sorted(base62.__all__, key=lambda name: re.search(f"`{name}[`(]", README).start()))
+        self.assertEqual(base62.__all__, sorted(base62.__all__, key=re.findall(r"`(\w+)[`(]", README).index))
         for name in names - {"AnyAlphabet", "AnyUUID", "EncodedString", "Number", "columns"}:
             self.assertTrue(inspect.getdoc(getattr(base62, name)), name)
             self.assertEqual(getattr(base62, name).__module__, "base62", name)

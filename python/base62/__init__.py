@@ -37,13 +37,11 @@ from base62._types import AlphabetError, AnyUUID, DecodeError, EmptyInputError, 
 from base62._types import NotCanonicalError, Number, OutOfRangeError, TooLargeError, WrongLengthError
 
 # In the order of the README.
-__all__ = ["encode", "encode_fixed", "encode_key", "encode_uuid", "encode_uuid_fixed", "encode_uuid_key"]
-__all__ += ["decode", "decode_canonical", "decode_fixed", "decode_key"]
-__all__ += ["decode_uuid", "decode_uuid_canonical", "decode_uuid_fixed", "decode_uuid_key"]
-__all__ += ["digit_count", "prefix_range", "key_range", "key_bounds", "Alphabet"]
-__all__ += ["Number", "AnyUUID", "EncodedString", "AnyAlphabet"]
-__all__ += ["EmptyInputError", "InvalidByteError", "TooLargeError", "NotCanonicalError", "WrongLengthError"]
-__all__ += ["AlphabetError", "OutOfRangeError", "DecodeError"]
+__all__ = ["encode", "encode_fixed", "encode_key", "encode_uuid", "encode_uuid_fixed", "encode_uuid_key", "decode"]
+__all__ += ["decode_canonical", "decode_fixed", "decode_key", "decode_uuid", "decode_uuid_canonical", "decode_uuid_fixed"]
+__all__ += ["decode_uuid_key", "digit_count", "prefix_range", "key_range", "key_bounds", "Alphabet", "Number", "AnyUUID"]
+__all__ += ["EncodedString", "AnyAlphabet", "EmptyInputError", "InvalidByteError", "TooLargeError", "NotCanonicalError"]
+__all__ += ["WrongLengthError", "AlphabetError", "OutOfRangeError", "DecodeError"]
 
 AnyAlphabet = Alphabet | str | bytes
 

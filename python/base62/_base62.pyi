@@ -59,8 +59,7 @@ def encode_fixed(number: Number, width: SupportsIndex, alphabet: AnyAlphabet = A
     """Return the encoded string of a number, padded with leading zeros to exactly width characters.
 
     Strings of the same width sort in numeric order if the alphabet's characters are in ascending byte order, as in
-    Alphabet.STANDARD. decode_fixed decodes them. Only memory limits the width: above 64, a buffer of width bytes is
-    allocated besides the result.
+    Alphabet.STANDARD. Above a width of 64, a buffer of width bytes is allocated besides the result.
 
     Raises OutOfRangeError if the number needs more characters, ValueError if the width is negative, MemoryError if an
     allocation fails, and what encode raises.
@@ -70,7 +69,7 @@ def encode_fixed(number: Number, width: SupportsIndex, alphabet: AnyAlphabet = A
     """
 
 def encode_uuid_fixed(value: AnyUUID, width: SupportsIndex, alphabet: AnyAlphabet = Alphabet.STANDARD) -> str:
-    """Like encode_fixed, but encode a UUID in any form that encode_uuid accepts. decode_uuid_fixed decodes the strings.
+    """Like encode_fixed, but encode a UUID in any form that encode_uuid accepts.
 
     >>> base62.encode_uuid_fixed("12345678-1234-5678-1234-567812345678", 24)
     '000YLmNWW2NwaipfRR50HIPA'
@@ -79,16 +78,14 @@ def encode_uuid_fixed(value: AnyUUID, width: SupportsIndex, alphabet: AnyAlphabe
 def encode_key(number: Number) -> str:
     """Return the key of a number: its standard string, padded with leading zeros to 22 characters.
 
-    number may be a uuid.UUID. Keys sort in numeric order. decode_key decodes them, and decode_uuid_key those of UUIDs.
-    Raises OutOfRangeError as encode does.
+    Keys sort in numeric order. number may be a uuid.UUID. Raises OutOfRangeError as encode does.
 
-    >>> import uuid
-    >>> base62.encode_key(1337), base62.encode_key(uuid.UUID("12345678-1234-5678-1234-567812345678"))
-    ('00000000000000000000LZ', '0YLmNWW2NwaipfRR50HIPA')
+    >>> base62.encode_key(1337)
+    '00000000000000000000LZ'
     """
 
 def encode_uuid_key(value: AnyUUID) -> str:
-    """Like encode_key, but encode a UUID in any form that encode_uuid accepts. decode_uuid_key decodes the keys.
+    """Like encode_key, but encode a UUID in any form that encode_uuid accepts.
 
     >>> base62.encode_uuid_key("12345678-1234-5678-1234-567812345678")
     '0YLmNWW2NwaipfRR50HIPA'
@@ -106,8 +103,7 @@ def digit_count(number: Number) -> int:
 def decode(text: EncodedString, alphabet: AnyAlphabet = Alphabet.STANDARD) -> int:
     """Return the number that a string represents, from 0 to 2**128 - 1. Leading zeros are ignored.
 
-    To accept only what an encoder returns, call decode_canonical for encode, decode_fixed for encode_fixed, or decode_key
-    for encode_key. A str is encoded as UTF-8 first. A bytearray and a memoryview are copied.
+    A str is encoded as UTF-8 first. A bytearray and a memoryview are copied.
 
     Raises EmptyInputError, InvalidByteError or TooLargeError, and what Alphabet raises.
 
@@ -153,9 +149,8 @@ def decode_key(text: EncodedString) -> int:
 def decode_uuid(text: EncodedString, alphabet: AnyAlphabet = Alphabet.STANDARD) -> UUID:
     """Return the UUID whose 128-bit integer a string represents.
 
-    Every integer below 2**128 is the int of exactly one UUID: the bits of its version and variant are not checked. To
-    accept only what an encoder returns, call decode_uuid_key for encode_uuid_key, decode_uuid_canonical for encode_uuid,
-    or decode_uuid_fixed for encode_uuid_fixed. Raises what decode raises.
+    Every integer below 2**128 is the int of exactly one UUID: the bits of its version and variant are not checked.
+    Raises what decode raises.
 
     >>> base62.decode_uuid("YLmNWW2NwaipfRR50HIPA")
     UUID('12345678-1234-5678-1234-567812345678')

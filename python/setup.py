@@ -2,6 +2,7 @@
 
 import ast
 import json
+import tempfile
 from pathlib import Path
 
 from setuptools import Extension, setup
@@ -50,10 +51,12 @@ extension = Extension(
     "base62._base62",
     [f"base62/{name}.c" for name in ("_base62", "_alphabet", "_uuid", "_columns", "_library")],
     include_dirs=[str(top / "c")],
-    depends=[str(top / "c/base62.c"), str(top / "c/base62.h"), "base62/_base62.h", str(STUB)],
     py_limited_api=True,
 )
+# What an earlier build left would be installed too, so that each has a folder of its own.
+folder = tempfile.TemporaryDirectory()
 setup(
+    options={"build": {"build_base": folder.name}},
     version=(top / "VERSION").read_text().strip(),
     # As a field of pyproject.toml it has a form until setuptools 77, and another since.
     license="MIT",

@@ -53,7 +53,7 @@ def exported() -> dict[str, set[str]]:
     return {
         "Rust": {ALPHABETS.sub("", name) for name in rust},
         "C": {ALPHABETS.sub("", name) for name in c},
-        "Python": {*python, *all_of("_types"), *(f"columns.{name}" for name in all_of("columns"))},
+        "Python": {*python, *all_of("__init__"), *(f"columns.{name}" for name in all_of("columns"))},
         "JavaScript": set(re.findall(r"\w+", javascript)),
         "SQLite": set(re.findall(r'\{"(\w+)",', text("sql/sqlite/functions.c"))),
         "DuckDB": set(re.findall(r'\{"(base62_\w+)",', text("sql/duckdb/functions.c"))),

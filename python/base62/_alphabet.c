@@ -7,13 +7,15 @@
 
 static int init_alphabet_or_raise(struct state *state, struct text characters, struct alphabet *alphabet) {
     if (characters.length != BASE62_ALPHABET_LENGTH) {
-        const char *plural = characters.length == 1 ? "" : "s";
-        PyErr_Format(PyExc_ValueError, "the alphabet has %zd character%s, not 62", characters.length, plural);
+        const char *plural = characters.length == 1 ? "" : "s", *hint = "";
+        if (strcmp(characters.bytes, "standard") == 0) hint = "; pass Alphabet.STANDARD";
+        if (strcmp(characters.bytes, "alternative") == 0) hint = "; pass Alphabet.ALTERNATIVE";
+        PyErr_Format(PyExc_ValueError, "the alphabet has %zd character%s, not 62%s", characters.length, plural, hint);
         return -1;
     }
     base62_bad_byte bad = {0, 0};
     base62_status status = base62_alphabet_init(&alphabet->tables, characters.bytes, &bad);
-    if (status != BASE62_OK) raise_status(state, status, bad);
+    if (status != BASE62_OK) raise_status(state, status, bad, "");
     alphabet->is_ascii = 1;
     for (int i = 0; i < BASE62_ALPHABET_LENGTH; i++)
         if ((unsigned char)characters.bytes[i] > 127) alphabet->is_ascii = 0;

@@ -71,9 +71,25 @@ static void raise_error(struct state *state, int error, PyObject *arguments) {
     Py_DecRef(arguments);
 }
 
-static int raise_out_of_range(struct state *state, const char *message) {
-    raise_error(state, OUT_OF_RANGE_ERROR, PyUnicode_FromString(message));
-    return -1;
+#define FOR_DIGITS "; to convert decimal digits, call int()"
+#define FOR_UUIDS "; to encode the string of a UUID, call encode_uuid, encode_uuid_fixed or encode_uuid_key"
+
+/* What an error for a str names: the functions that take it. */
+static const char *hint_for(struct text text, int is_for_number) {
+    static const char *const hints[] = {"", FOR_DIGITS, FOR_UUIDS, FOR_DIGITS FOR_UUIDS};
+    base62_number number;
+    int has_digits = is_for_number && text.length > 0, is_uuid = read_uuid(text, 1, &number) == 0;
+    return hints[(has_digits && strspn(text.bytes, "0123456789") == (size_t)text.length) + 2 * is_uuid];
+}
+
+void raise_type_error(const char *expected, PyObject *argument) {
+    struct text text = {NULL, 0, NULL};
+    if (PyUnicode_Check(argument)) text.bytes = PyUnicode_AsUTF8AndSize(argument, &text.length);
+    if (text.bytes == NULL) PyErr_Clear(); /* A str without UTF-8 is not ASCII, so no function takes it. */
+    const char *hint = text.bytes == NULL ? "" : hint_for(text, 1);
+    PyObject *name = PyType_GetName(Py_TYPE(argument));
+    if (name != NULL) PyErr_Format(PyExc_TypeError, "%s, not %U%s", expected, name, hint);
+    Py_DecRef(name);
 }
 
 /* Splits an int of 2^63 or more. Returns 1 if it is 2^128 or more, and -1 with an exception. */
@@ -98,15 +114,16 @@ static int number_of_int_or_raise(struct state *state, PyObject *integer, base62
     long long narrow = PyLong_AsLongLongAndOverflow(integer, &overflow);
     *number = base62_from_u64((uint64_t)narrow);
     int failed = overflow > 0 ? split_int(integer, number) : narrow < 0;
-    return failed > 0 ? raise_out_of_range(state, "the number is not from 0 to 2**128 - 1") : failed;
+    if (failed <= 0) return failed;
+    raise_error(state, OUT_OF_RANGE_ERROR, PyUnicode_FromString("the number is not from 0 to 2**128 - 1"));
+    return -1;
 }
 
 static PyObject *int_or_raise(struct state *state, PyObject *argument) {
     PyTypeObject *type = Py_TYPE(argument), *uuid = (PyTypeObject *)borrow(state, UUID);
     if (uuid == NULL) return NULL;
-    if (type == uuid) return int_of_uuid(state, argument);
-    if (PyIndex_Check(argument) && !PyType_IsSubtype(type, uuid)) return PyNumber_Index(argument);
-    return convert(state, TO_INT, argument);
+    if (type != uuid && PyIndex_Check(argument) && !PyType_IsSubtype(type, uuid)) return PyNumber_Index(argument);
+    return uuid_int_or_raise(state, argument, "a number is an int, has __index__, or is a uuid.UUID");
 }
 
 int number_or_raise(struct state *state, PyObject *argument, base62_number *number) {
@@ -117,6 +134,14 @@ int number_or_raise(struct state *state, PyObject *argument, base62_number *numb
     return failed;
 }
 
+static int raise_for_width(PyObject *argument) {
+    if (!PyIndex_Check(argument))
+        raise_type_error("the width is an int, or has __index__", argument);
+    else if (PyErr_Occurred() == NULL)
+        PyErr_SetString(PyExc_ValueError, "the width is negative");
+    return -1;
+}
+
 /* A width above PY_SSIZE_T_MAX becomes PY_SSIZE_T_MAX: no string is so long, so no call has another result. */
 static inline Py_ALWAYS_INLINE int width_or_raise(PyObject *argument, size_t *width) {
     int overflow = 0;
@@ -124,8 +149,7 @@ static inline Py_ALWAYS_INLINE int width_or_raise(PyObject *argument, size_t *wi
                                                    : PyNumber_AsSsize_t(argument, NULL);
     if (overflow > 0 || number > PY_SSIZE_T_MAX) number = PY_SSIZE_T_MAX;
     *width = (size_t)number;
-    if (number < 0 && PyErr_Occurred() == NULL) PyErr_SetString(PyExc_ValueError, "the width is negative");
-    return number < 0 ? -1 : 0;
+    return number < 0 ? raise_for_width(argument) : 0;
 }
 
 /* Steals the reference to a bytes object. It may be NULL. */
@@ -186,25 +210,31 @@ PyObject *new_int(struct state *state, base62_number number) {
     return integer;
 }
 
-PyObject *raise_status(struct state *state, base62_status status, base62_bad_byte bad) {
+PyObject *raise_status(struct state *state, base62_status status, base62_bad_byte bad, const char *hint) {
     static const int errors[] = {
         [BASE62_EMPTY_INPUT] = EMPTY_INPUT_ERROR,     [BASE62_INVALID_BYTE] = INVALID_BYTE_ERROR,
         [BASE62_OVERFLOW] = TOO_LARGE_ERROR,          [BASE62_REPEATED_CHARACTER] = ALPHABET_ERROR,
         [BASE62_NOT_CANONICAL] = NOT_CANONICAL_ERROR,
     };
-    char message[BASE62_MAX_ERROR_MESSAGE];
-    size_t length = base62_error_message(status, bad, message, sizeof message);
+    char message[BASE62_MAX_ERROR_MESSAGE + 1];
+    message[base62_error_message(status, bad, message, BASE62_MAX_ERROR_MESSAGE)] = '\0';
     int error = errors[status], has_byte = error == INVALID_BYTE_ERROR || error == ALPHABET_ERROR;
-    PyObject *text = PyUnicode_DecodeASCII(message, (Py_ssize_t)length, NULL);
+    const char *said = message;
+    if (error == TOO_LARGE_ERROR) said = "Encoded input represents 2**128 or more, or has more than 22 characters";
+    PyObject *text = PyUnicode_FromFormat("%s%s", said, hint);
     const char *format = has_byte ? "(NBn)" : "(N)";
     raise_error(state, error, text == NULL ? NULL : Py_BuildValue(format, text, bad.byte, (Py_ssize_t)bad.index));
     return NULL;
 }
 
-static PyObject *raise_wrong_length(struct state *state, size_t length, size_t width) {
-    const char *plural = length == 1 ? "" : "s";
-    PyObject *text = PyUnicode_FromFormat("Encoded input has %zu byte%s, not %zu", length, plural, width);
-    PyObject *arguments = text == NULL ? NULL : Py_BuildValue("(Nnn)", text, (Py_ssize_t)length, (Py_ssize_t)width);
+/* The text of a str has no owner. */
+static PyObject *raise_for_text(struct state *state, base62_status status, base62_bad_byte bad, struct text text,
+                                size_t width) {
+    const char *hint = text.owner == NULL ? hint_for(text, 0) : "", *plural = text.length == 1 ? "" : "s";
+    if (status != BASE62_WRONG_LENGTH) return raise_status(state, status, bad, hint);
+    const char *format = "Encoded input has %zd byte%s, not %zu%s";
+    PyObject *message = PyUnicode_FromFormat(format, text.length, plural, width, hint);
+    PyObject *arguments = message == NULL ? NULL : Py_BuildValue("(Nnn)", message, text.length, (Py_ssize_t)width);
     raise_error(state, WRONG_LENGTH_ERROR, arguments);
     return NULL;
 }
@@ -234,6 +264,12 @@ static inline PyObject *encode_or_raise(read_number *read, struct state *state, 
 DEFINE_CALL(encode, "O|O", 1, 2, encode_or_raise(number_or_raise, state, arguments), "number", "alphabet")
 DEFINE_CALL(encode_uuid, "O|O", 1, 2, encode_or_raise(uuid_or_raise, state, arguments), "value", "alphabet")
 
+static void raise_too_narrow(struct state *state, base62_number number, size_t width) {
+    size_t count = base62_digit_count(number);
+    const char *format = "the number needs %zu character%s, and the width is %zu", *plural = count == 1 ? "" : "s";
+    raise_error(state, OUT_OF_RANGE_ERROR, PyUnicode_FromFormat(format, count, plural, width));
+}
+
 static PyObject *new_fixed_or_raise(struct state *state, const base62_alphabet *tables, base62_number number,
                                     size_t width) {
     char small[64], *buffer = width <= sizeof small ? small : PyMem_Malloc(width);
@@ -242,7 +278,7 @@ static PyObject *new_fixed_or_raise(struct state *state, const base62_alphabet *
     size_t length = base62_encode_fixed_with(tables, number, buffer, width);
     restore_gil(saved);
     PyObject *result = length == 0 ? NULL : PyUnicode_DecodeASCII(buffer, (Py_ssize_t)length, NULL);
-    if (length == 0) raise_out_of_range(state, "the number needs more characters than the width");
+    if (length == 0) raise_too_narrow(state, number, width);
     if (buffer != small) PyMem_Free(buffer);
     return result;
 }
@@ -302,8 +338,8 @@ static inline Py_ALWAYS_INLINE PyObject *decode_or_raise(decode_with *decode, si
     }
     Py_DecRef(text.owner);
     if (alphabet == NULL) return NULL;
-    if (status == BASE62_WRONG_LENGTH) return raise_wrong_length(state, (size_t)text.length, width);
-    return status == BASE62_OK ? new (state, number) : raise_status(state, status, bad);
+    if (status != BASE62_OK) return raise_for_text(state, status, bad, text, width);
+    return new (state, number);
 }
 
 static inline Py_ALWAYS_INLINE PyObject *decode_fixed_or_raise(new_result *new, struct state *state,
@@ -346,7 +382,7 @@ static PyObject *range_or_raise(struct state *state, PyObject *argument, size_t 
     Py_DecRef(prefix.owner);
     if (alphabet == NULL) return NULL;
     if (status == BASE62_NO_MATCH) return new_ref(Py_None);
-    if (status != BASE62_OK) return raise_status(state, status, bad);
+    if (status != BASE62_OK) return raise_status(state, status, bad, "");
     return Py_BuildValue("NN", new_int(state, range.least), new_int(state, range.greatest));
 }
 

@@ -17,10 +17,8 @@
 
 /* The objects of base62._types that the module owns, by their names there. */
 #define FOR_EACH_TYPE(DO)                                                                                              \
-    DO(TO_INT, "to_int")                                                                                               \
     DO(TO_BYTES, "to_bytes")                                                                                           \
     DO(TO_CHARACTERS, "to_characters")                                                                                 \
-    DO(UUID_TO_INT, "uuid_to_int")                                                                                     \
     DO(INT_TO_UUID, "int_to_uuid")                                                                                     \
     DO(UUID, "UUID")                                                                                                   \
     DO(UNKNOWN, "UNKNOWN")                                                                                             \
@@ -89,7 +87,8 @@ int steal_bytes_or_raise(PyObject *bytes, struct text *text);
 int text_or_raise(struct state *state, PyObject *argument, struct text *text);
 const struct alphabet *alphabet_or_raise(struct state *state, PyObject *argument, struct alphabet *storage);
 PyObject *new_int(struct state *state, base62_number number);
-PyObject *raise_status(struct state *state, base62_status status, base62_bad_byte bad);
+PyObject *raise_status(struct state *state, base62_status status, base62_bad_byte bad, const char *hint);
+void raise_type_error(const char *expected, PyObject *argument);
 
 /* In _alphabet.c. */
 PyObject *characters_or_raise(struct state *state, PyObject *argument, struct alphabet *alphabet);
@@ -102,7 +101,7 @@ PyObject *pack_rows(PyObject *module, PyObject *args);
 
 /* In _uuid.c. */
 int read_uuid(struct text text, int is_string, base62_number *number);
-PyObject *int_of_uuid(struct state *state, PyObject *uuid);
+PyObject *uuid_int_or_raise(struct state *state, PyObject *argument, const char *expected);
 int uuid_or_raise(struct state *state, PyObject *argument, base62_number *number);
 PyObject *new_uuid(struct state *state, base62_number number);
 int add_uuid_names(struct state *state);

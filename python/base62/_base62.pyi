@@ -20,7 +20,6 @@ class Alphabet(bytes):
     Raises AlphabetError if a byte is repeated, ValueError if there are not 62, and UnicodeEncodeError if a str is not
     ASCII.
 
-    >>> import base62
     >>> custom = base62.Alphabet("23456789ABCDEFGHJKLMNPQRSTUVWXYZabcdefghijkmnpqrstuvwxyz-_.~!*")
     >>> base62.encode(62, custom), base62.decode("32", custom)
     ('32', 62)
@@ -37,7 +36,6 @@ def encode(number: Number, alphabet: AnyAlphabet = Alphabet.STANDARD) -> str:
 
     Raises OutOfRangeError for any other number, ValueError if the alphabet is not ASCII, and what Alphabet raises.
 
-    >>> import base62
     >>> import uuid
     >>> base62.encode(1337), base62.encode(1337, base62.Alphabet.ALTERNATIVE), base62.encode(0)
     ('LZ', 'lz', '0')
@@ -53,7 +51,6 @@ def encode_uuid(value: AnyUUID, alphabet: AnyAlphabet = Alphabet.STANDARD) -> st
 
     Raises ValueError for any other str or bytes, and what encode raises for the alphabet.
 
-    >>> import base62
     >>> base62.encode_uuid("{12345678-1234-5678-1234-567812345678}")
     'YLmNWW2NwaipfRR50HIPA'
     """
@@ -62,36 +59,34 @@ def encode_fixed(number: Number, width: SupportsIndex, alphabet: AnyAlphabet = A
     """Return the encoded string of a number, padded with leading zeros to exactly width characters.
 
     Strings of the same width sort in numeric order if the alphabet's characters are in ascending byte order, as in
-    Alphabet.STANDARD. decode_fixed decodes them. Only memory limits the width: above 64, a buffer of width bytes is
-    allocated besides the result.
+    Alphabet.STANDARD. Above a width of 64, a buffer of width bytes is allocated besides the result.
 
-    Raises OutOfRangeError if the number has more characters, ValueError if the width is negative, MemoryError if an
+    Raises OutOfRangeError if the number needs more characters, ValueError if the width is negative, MemoryError if an
     allocation fails, and what encode raises.
 
-    >>> import base62
     >>> base62.encode_fixed(1337, 4)
     '00LZ'
     """
 
 def encode_uuid_fixed(value: AnyUUID, width: SupportsIndex, alphabet: AnyAlphabet = Alphabet.STANDARD) -> str:
-    """Like encode_fixed, but encode a UUID in any form that encode_uuid accepts. decode_uuid_fixed decodes the strings."""
+    """Like encode_fixed, but encode a UUID in any form that encode_uuid accepts.
+
+    >>> base62.encode_uuid_fixed("12345678-1234-5678-1234-567812345678", 24)
+    '000YLmNWW2NwaipfRR50HIPA'
+    """
 
 def encode_key(number: Number) -> str:
     """Return the key of a number: its standard string, padded with leading zeros to 22 characters.
 
-    number may be a uuid.UUID. Keys sort in numeric order. decode_key decodes them, and decode_uuid_key those of UUIDs.
-    Raises OutOfRangeError as encode does.
+    Keys sort in numeric order. number may be a uuid.UUID. Raises OutOfRangeError as encode does.
 
-    >>> import base62
-    >>> import uuid
-    >>> base62.encode_key(1337), base62.encode_key(uuid.UUID("12345678-1234-5678-1234-567812345678"))
-    ('00000000000000000000LZ', '0YLmNWW2NwaipfRR50HIPA')
+    >>> base62.encode_key(1337)
+    '00000000000000000000LZ'
     """
 
 def encode_uuid_key(value: AnyUUID) -> str:
-    """Like encode_key, but encode a UUID in any form that encode_uuid accepts. decode_uuid_key decodes the keys.
+    """Like encode_key, but encode a UUID in any form that encode_uuid accepts.
 
-    >>> import base62
     >>> base62.encode_uuid_key("12345678-1234-5678-1234-567812345678")
     '0YLmNWW2NwaipfRR50HIPA'
     """
@@ -100,22 +95,23 @@ def digit_count(number: Number) -> int:
     """Return the length of the encoded string of a number, from 1 to 22.
 
     Raises OutOfRangeError as encode does.
+
+    >>> base62.digit_count(1337)
+    2
     """
 
 def decode(text: EncodedString, alphabet: AnyAlphabet = Alphabet.STANDARD) -> int:
     """Return the number that a string represents, from 0 to 2**128 - 1. Leading zeros are ignored.
 
-    To accept only what an encoder returns, call decode_canonical for encode, decode_fixed for encode_fixed, or decode_key
-    for encode_key. A str is encoded as UTF-8 first. A bytearray and a memoryview are copied.
+    A str is encoded as UTF-8 first. A bytearray and a memoryview are copied.
 
     Raises EmptyInputError, InvalidByteError or TooLargeError, and what Alphabet raises.
 
-    >>> import base62
     >>> base62.decode("00LZ"), base62.decode(b"lz", base62.Alphabet.ALTERNATIVE)
     (1337, 1337)
     >>> base62.decode("7n42DGM5Tflk9n8mt7Fhc8")
     Traceback (most recent call last):
-    base62.TooLargeError: Decoded number is 2^128 or more
+    base62.TooLargeError: Encoded input represents 2**128 or more, or has more than 22 characters
     """
 
 def decode_canonical(text: EncodedString, alphabet: AnyAlphabet = Alphabet.STANDARD) -> int:
@@ -124,7 +120,6 @@ def decode_canonical(text: EncodedString, alphabet: AnyAlphabet = Alphabet.STAND
     Each number has exactly one. Raises NotCanonicalError if decode accepts the string, but it has a leading zero, and
     otherwise what decode raises.
 
-    >>> import base62
     >>> base62.decode_canonical("LZ"), base62.decode_canonical("0")
     (1337, 0)
     >>> base62.decode_canonical("00LZ")
@@ -138,7 +133,6 @@ def decode_fixed(text: EncodedString, width: SupportsIndex, alphabet: AnyAlphabe
     Each number has at most one. Raises WrongLengthError if the string has another length, ValueError if the width is
     negative, and otherwise what decode raises.
 
-    >>> import base62
     >>> base62.decode_fixed("00LZ", 4)
     1337
     """
@@ -147,16 +141,17 @@ def decode_key(text: EncodedString) -> int:
     """Like decode, but accept only keys: those that encode_key returns, of which each number has one.
 
     Raises WrongLengthError if the string does not have 22 bytes, and otherwise what decode raises.
+
+    >>> base62.decode_key("00000000000000000000LZ")
+    1337
     """
 
 def decode_uuid(text: EncodedString, alphabet: AnyAlphabet = Alphabet.STANDARD) -> UUID:
     """Return the UUID whose 128-bit integer a string represents.
 
-    Every integer below 2**128 is the int of exactly one UUID: the bits of its version and variant are not checked. To
-    accept only what an encoder returns, call decode_uuid_key for encode_uuid_key, decode_uuid_canonical for encode_uuid,
-    or decode_uuid_fixed for encode_uuid_fixed. Raises what decode raises.
+    Every integer below 2**128 is the int of exactly one UUID: the bits of its version and variant are not checked.
+    Raises what decode raises.
 
-    >>> import base62
     >>> base62.decode_uuid("YLmNWW2NwaipfRR50HIPA")
     UUID('12345678-1234-5678-1234-567812345678')
     """
@@ -165,24 +160,36 @@ def decode_uuid_canonical(text: EncodedString, alphabet: AnyAlphabet = Alphabet.
     """Like decode_uuid, but accept only canonical strings: those that encode_uuid returns.
 
     Raises what decode_canonical raises.
+
+    >>> base62.decode_uuid_canonical("YLmNWW2NwaipfRR50HIPA")
+    UUID('12345678-1234-5678-1234-567812345678')
     """
 
 def decode_uuid_fixed(text: EncodedString, width: SupportsIndex, alphabet: AnyAlphabet = Alphabet.STANDARD) -> UUID:
     """Like decode_uuid, but accept only strings of exactly width bytes: those that encode_uuid_fixed returns.
 
     Raises what decode_fixed raises.
+
+    >>> base62.decode_uuid_fixed("000YLmNWW2NwaipfRR50HIPA", 24)
+    UUID('12345678-1234-5678-1234-567812345678')
     """
 
 def decode_uuid_key(text: EncodedString) -> UUID:
     """Like decode_uuid, but accept only keys: those that encode_uuid_key returns, of which each UUID has one.
 
     Raises what decode_key raises.
+
+    >>> base62.decode_uuid_key("0YLmNWW2NwaipfRR50HIPA")
+    UUID('12345678-1234-5678-1234-567812345678')
     """
 
 def key_range(prefix: EncodedString) -> tuple[int, int] | None:
     """Return the least and the greatest number whose key begins with prefix, or None if no key does.
 
     Raises InvalidByteError.
+
+    >>> base62.key_range("00000000000000000000L")
+    (1302, 1363)
     """
 
 def prefix_range(
@@ -194,7 +201,6 @@ def prefix_range(
 
     Raises InvalidByteError, ValueError if the width is negative, and what Alphabet raises.
 
-    >>> import base62
     >>> base62.prefix_range("00L", 4)
     (1302, 1363)
     """

@@ -2,12 +2,8 @@
 # Copyright (c) 2026 the maintainers of base62 for Rattle
 """What the extension has in Python: its exceptions, the types of arguments, and the conversions of the rarer ones."""
 
-import operator
 from typing import SupportsIndex
 from uuid import UUID, SafeUUID
-
-__all__ = ["AlphabetError", "AnyUUID", "DecodeError", "EmptyInputError", "EncodedString", "InvalidByteError"]
-__all__ += ["NotCanonicalError", "Number", "OutOfRangeError", "TooLargeError", "WrongLengthError"]
 
 Number = SupportsIndex | UUID
 EncodedString = str | bytes | bytearray | memoryview
@@ -28,13 +24,10 @@ class _BadByteError(ValueError):
 
 
 class AlphabetError(_BadByteError):
-    """An alphabet repeats a character."""
+    """An alphabet repeats a character.
 
-    byte: int
-    """The first byte that equals an earlier one."""
-
-    index: int
-    """Its index, counted from 0."""
+    byte is the first byte that equals an earlier one, and index is its index, counted from 0.
+    """
 
 
 class DecodeError(ValueError):
@@ -46,7 +39,7 @@ class EmptyInputError(DecodeError):
 
 
 class TooLargeError(DecodeError):
-    """A string represents 2**128 or more.
+    """A string represents 2**128 or more, or has more than 22 bytes after its leading zeros.
 
     If a string has several errors, docs/DECODING.md of the project says which one is raised.
     """
@@ -57,13 +50,10 @@ class NotCanonicalError(DecodeError):
 
 
 class WrongLengthError(DecodeError):
-    """A string does not have the given width."""
+    """A string does not have the given width.
 
-    length: int
-    """The length of the string in bytes. Those of a str are of its UTF-8."""
-
-    width: int
-    """The length that it has to have, or sys.maxsize for a greater one."""
+    length is its length in bytes, for a str in those of its UTF-8. width is the given width, or sys.maxsize if less.
+    """
 
     def __init__(self, message: str = "", length: int = 0, width: int = 0) -> None:
         super().__init__(message)
@@ -72,38 +62,20 @@ class WrongLengthError(DecodeError):
 
 
 class InvalidByteError(_BadByteError, DecodeError):
-    """A byte of a string is not a character of the alphabet."""
+    """A byte of a string is not a character of the alphabet.
 
-    byte: int
-    """The first invalid byte. The bytes of a str are those of its UTF-8."""
-
-    index: int
-    """Its index among the bytes, counted from 0. It is also the index in a str, if the alphabet is ASCII."""
+    byte is the first such byte, and index is its index, counted from 0. A str has the bytes of its UTF-8; if the alphabet
+    is ASCII, the index is also that in the str.
+    """
 
 
 class OutOfRangeError(OverflowError, ValueError):
-    """A number is negative, or 2**128 or more, or has more characters than the width."""
+    """A number is negative, or 2**128 or more, or needs more characters than the width."""
 
 
 # Where users find them.
 for _error in (*DecodeError.__subclasses__(), DecodeError, AlphabetError, OutOfRangeError):
     _error.__module__ = "base62"
-
-
-def to_int(number: Number) -> int:
-    """Return the int of a number that is not exactly an int."""
-    if isinstance(number, UUID):
-        return operator.index(number.int)
-    if not hasattr(type(number), "__index__"):
-        raise TypeError(f"a number is an int, has __index__, or is a uuid.UUID, not {type(number).__name__}")
-    return operator.index(number)
-
-
-def uuid_to_int(value: AnyUUID) -> int:
-    """Return the int of a UUID that is neither exactly a uuid.UUID, nor a str nor bytes."""
-    if not isinstance(value, UUID):
-        raise TypeError(f"a UUID is a uuid.UUID, a str or 16 bytes, not {type(value).__name__}")
-    return operator.index(value.int)
 
 
 def int_to_uuid(number: int) -> UUID:

@@ -26,9 +26,18 @@ static int number_of_text_or_raise(struct state *state, PyObject *argument, base
     return failed;
 }
 
+static int is_uuid_or_raise(struct state *state, PyObject *argument, const char *expected) {
+    PyObject *uuid = borrow(state, UUID);
+    int is_uuid = uuid == NULL ? -1 : PyObject_IsInstance(argument, uuid);
+    if (is_uuid == 0) raise_type_error(expected, argument);
+    return is_uuid > 0;
+}
+
 /* UUID.int is an int, but a program can store any object there. */
-PyObject *int_of_uuid(struct state *state, PyObject *uuid) {
-    PyObject *name = borrow(state, INT), *attribute = name == NULL ? NULL : PyObject_GetAttr(uuid, name);
+PyObject *uuid_int_or_raise(struct state *state, PyObject *argument, const char *expected) {
+    int is_uuid = (PyObject *)Py_TYPE(argument) == state->objects[UUID] || is_uuid_or_raise(state, argument, expected);
+    PyObject *name = is_uuid ? borrow(state, INT) : NULL;
+    PyObject *attribute = name == NULL ? NULL : PyObject_GetAttr(argument, name);
     PyObject *integer = attribute == NULL ? NULL : PyNumber_Index(attribute);
     Py_DecRef(attribute);
     return integer;
@@ -36,8 +45,7 @@ PyObject *int_of_uuid(struct state *state, PyObject *uuid) {
 
 int uuid_or_raise(struct state *state, PyObject *argument, base62_number *number) {
     if (PyUnicode_Check(argument) || PyBytes_Check(argument)) return number_of_text_or_raise(state, argument, number);
-    int is_uuid = (PyObject *)Py_TYPE(argument) == state->objects[UUID];
-    PyObject *integer = is_uuid ? int_of_uuid(state, argument) : convert(state, UUID_TO_INT, argument);
+    PyObject *integer = uuid_int_or_raise(state, argument, "a UUID is a uuid.UUID, a str or 16 bytes");
     int failed = integer == NULL ? -1 : number_or_raise(state, integer, number);
     Py_DecRef(integer);
     return failed;

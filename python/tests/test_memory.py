@@ -104,10 +104,10 @@ class Allocations(unittest.TestCase):
 
     def test_loading(self) -> None:
         """A module that fails to load releases what it has imported."""
-        before = sys.getrefcount(_types.to_int)
+        before = sys.getrefcount(_types.to_bytes)
         self.sweep(lambda: load_extension("base62._base62").encode(WIDE))
         gc.collect()
-        self.assertEqual(sys.getrefcount(_types.to_int), before)
+        self.assertEqual(sys.getrefcount(_types.to_bytes), before)
         self.assertGreater(self.failures, 50)
 
     def test_alphabet(self) -> None:

@@ -10,8 +10,13 @@ import importlib.metadata
 import importlib.util
 import inspect
 import pathlib
+import pydoc
+import re
+import shlex
 import sqlite3
+import subprocess
 import sys
+import tomllib
 import types
 import unittest
 import unittest.mock
@@ -21,9 +26,8 @@ from typing import Any
 
 import base62
 from base62 import _base62, _types
-from calls import CALLS, CUSTOM, OWNED, PACKAGE, TOP, each_call, page, valid_arguments
+from calls import CALLS, CUSTOM, OWNED, PACKAGE, README, TOP, each_call, page, valid_arguments
 from test_memory import load_extension
-from test_values import rows
 
 # The module by which a Python makes others.
 INTERPRETERS = "_interpreters" if sys.version_info >= (3, 13) else "_xxsubinterpreters"
@@ -41,11 +45,23 @@ def type_of(result: object) -> str:
 
 class Package(unittest.TestCase):
     def test_exports(self) -> None:
-        """What modules import is none: the functions and types of the package say where users find them."""
+        """The functions and types, in the order of README, say where users find them. What modules import is none."""
         names = {name for name in dir(base62) if name[0] != "_"}
+        self.assertEqual(sorted(base62.__all__), sorted(names - {"columns"}))
+        self.assertEqual(base62.__all__, sorted(base62.__all__, key=re.findall(r"`(\w+)[`(]", README).index))
         for name in names - {"AnyAlphabet", "AnyUUID", "EncodedString", "Number", "columns"}:
             self.assertTrue(inspect.getdoc(getattr(base62, name)), name)
             self.assertEqual(getattr(base62, name).__module__, "base62", name)
+
+    def test_help(self) -> None:
+        """The first 60 lines have the usual calls with their results, and a line for each other function."""
+        shown = "\n".join(pydoc.plain(pydoc.render_doc(base62)).splitlines()[:60])
+        usual = "".join(example.source for example in doctest.DocTestParser().get_examples(shown) if example.want)
+        self.assertEqual({*re.findall(r"base62\.(\w+)\(", usual)}, {"encode", "decode", "encode_uuid_key", "decode_uuid_key"})
+        others = re.findall(r"(?m)^ +(\w+)\([a-z, ]+\)  +\w", shown)
+        self.assertEqual(sorted(others + re.findall(r"base62\.(\w+)\(", usual)), sorted(call.__name__ for call in CALLS))
+        for call in CALLS:
+            self.assertIn("\n>>> ", inspect.getdoc(call) or "", call.__name__)
 
     def test_columns_without_pyarrow(self) -> None:
         """What is missing is named, and how it is installed. The package does not need it."""
@@ -69,10 +85,20 @@ class Package(unittest.TestCase):
         self.assertEqual(files["LICENSE"].read_text(), (TOP / "LICENSE").read_text())
         self.assertEqual(files["CHANGELOG.md"].read_text(), (TOP / "CHANGELOG.md").read_text())
         self.assertEqual(package.metadata["Description"].strip(), (PACKAGE / "README.md").read_text().strip())
-        self.assertEqual(package.metadata["License"], "MIT")
+        licences = [value for value in package.metadata.get_all("Classifier") if value.startswith("License")]
+        self.assertEqual([package.metadata["License"], *licences], ["MIT", "License :: OSI Approved :: MIT License"])
         self.assertEqual(package.metadata["Requires-Python"], ">=3.11")
         self.assertRegex(package.metadata["Requires-Dist"], r"^pyarrow\W*>=18\W*extra == .columns.$")
         self.assertRegex(package.read_text("WHEEL") or "", "(?m)^Tag: cp311-abi3-")
+
+    def test_wheel_commands(self) -> None:
+        """cibuildwheel's commands run tests, of which one is enough here."""
+        wheels = tomllib.loads((PACKAGE / "pyproject.toml").read_text())["tool"]["cibuildwheel"]
+        for command in (wheels["test-command"], wheels["windows"]["test-command"]):
+            python, *arguments = shlex.split(command.format(package=PACKAGE))
+            self.assertEqual(python, "python")
+            run = subprocess.run([sys.executable, *arguments, "-k", "test_zeros"], capture_output=True, text=True)
+            self.assertRegex(run.stderr, r"(?s)\nRan [1-9].*\n\nOK")
 
     def test_signatures(self) -> None:
         """Calls take their parameters by name, in any order."""
@@ -182,35 +208,13 @@ class Modules(unittest.TestCase):
 
 
 class Queries(unittest.TestCase):
-    def test_readme(self) -> None:
-        """README's queries find the ids of a string, or of the strings with a prefix, and scan no table."""
-        example = page("README.md")
-        doctest.DocTestRunner().run(example, clear_globs=False)
-        find, find_prefix = example.globs["find"], example.globs["find_prefix"]
-        db = example.globs["db"] = sqlite3.connect(":memory:")
-        self.addCleanup(db.close)
-        texts = {int(number): text for name, number, text in rows("encode") if name == "standard"}
-        ids = [number for number in sorted(texts) if number < 2**63]
-        db.execute("CREATE TABLE item (id INTEGER PRIMARY KEY)")
-        db.executemany("INSERT INTO item VALUES (?)", [(value,) for value in ids])
-        for number, text in texts.items():
-            self.assertEqual(find(text), (number,) if number < 2**63 else None)
-            self.assertRaises(ValueError, find, "0" + text)
-        for prefix in {text[:length] + more for text in texts.values() for length in range(14) for more in ("", "0")}:
-            expected = [(number,) for number in ids if texts[number].startswith(prefix)]
-            self.assertEqual([*find_prefix(prefix)], expected, prefix)
-            self.assertEqual([*find_prefix(prefix.encode())], expected, prefix)
-        self.assertRaises(OverflowError, db.execute, "SELECT ?", (2**63,))
-        statements: list[str] = []
-        db.set_trace_callback(statements.append)
-        find("LZ"), [*find_prefix("L")]
-        db.set_trace_callback(None)
-        plans = [db.execute("EXPLAIN QUERY PLAN " + value).fetchone()[3] for value in statements]
-        self.assertEqual([plan.split("(")[0] for plan in plans], ["SEARCH item USING INTEGER PRIMARY KEY "] * 11)
+    def test_great_number(self) -> None:
+        with contextlib.closing(sqlite3.connect(":memory:")) as db:
+            self.assertRaises(OverflowError, db.execute, "SELECT ?", (base62.decode("AzL8n0Y58m8"),))
 
 
 def load_tests(loader: unittest.TestLoader, tests: unittest.TestSuite, pattern: object) -> unittest.TestSuite:
-    # Those of _types are found where callers find them. An example can be pasted alone: it has its imports.
-    tests.addTests(doctest.DocTestSuite(base62, globs={}))
+    # Those of _types are found where callers find them.
+    tests.addTests(doctest.DocTestSuite(base62, globs={"base62": base62}))
     tests.addTest(doctest.DocTestCase(page("README.md")))
     return tests

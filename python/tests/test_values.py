@@ -3,12 +3,14 @@
 import itertools
 import sys
 import uuid
+from decimal import Decimal
+from functools import partial
 from typing import Any
 from urllib.parse import unquote_to_bytes
 
 import base62
 from base62 import Alphabet
-from calls import OF_ALPHABETS, VALUES, Call, RaisesTestCase
+from calls import OF_ALPHABETS, OF_NUMBERS, VALUES, Call, RaisesTestCase
 
 
 def rows(kind: str) -> list[list[str]]:
@@ -23,6 +25,11 @@ LETTERS = {name: unquote_to_bytes(letters) for name, letters, *_ in rows("alphab
 OF_ASCII = {name for name, _, is_ascii, _ in rows("alphabet") if is_ascii == "1"}
 ALPHABETS = {name: Alphabet(letters) for name, letters in LETTERS.items()}
 MESSAGES = {tuple(expected): unquote_to_bytes(text).decode() for text, *expected in rows("message")}
+MESSAGES["overflow",] = "Encoded input represents 2**128 or more, or has more than 22 characters"
+# What a message ends with, by the hint of a row.
+DIGITS = "; to convert decimal digits, call int()"
+UUIDS = "; to encode the string of a UUID, call encode_uuid, encode_uuid_fixed or encode_uuid_key"
+HINTS = {"none": "", "decimal": DIGITS, "uuid": UUIDS, "both": DIGITS + UUIDS}
 KINDS: dict[str, type[ValueError]] = {
     "empty": base62.EmptyInputError,
     "byte": base62.InvalidByteError,
@@ -32,6 +39,8 @@ KINDS: dict[str, type[ValueError]] = {
     "repeated": base62.AlphabetError,
 }
 DECODINGS: list[Call] = [base62.decode, base62.decode_canonical, base62.decode_uuid, base62.decode_uuid_canonical]
+OF_KEYS: list[Call] = [base62.decode_key, base62.decode_uuid_key]
+OF_KEYS += [partial(call, width=22) for call in (base62.decode_fixed, base62.decode_uuid_fixed)]
 
 
 def forms_of_text(escaped: str) -> list[str | bytes]:
@@ -56,11 +65,11 @@ def numbers_of_bounds(prefix: str | bytes) -> tuple[int, int] | None:
 
 class Values(RaisesTestCase):
     def raises(self, expected: list[str], call: Call, *given: object) -> None:
-        """A call raises exactly this error, with the message of its row if there is one."""
+        """A call raises exactly this error, with the message of its row if there is one, and perhaps a hint."""
         self.assertIn(expected[0], KINDS, "no exception is known for this word of a row")
         error = self.raised(KINDS[expected[0]], call, *given)
         self.assertEqual(vars(error), dict(zip(("byte", "index"), map(int, expected[1:]))))
-        self.assertEqual(str(error), MESSAGES.get(tuple(expected), str(error)))
+        self.assertEqual(str(error).removesuffix(UUIDS), MESSAGES.get(tuple(expected), str(error)))
 
     def test_canonical_texts(self) -> None:
         for name, digits, escaped in rows("encode"):
@@ -124,8 +133,9 @@ class Values(RaisesTestCase):
     def test_too_narrow(self) -> None:
         for name, number, width in rows("too_narrow"):
             if name in OF_ASCII:
-                given = int(width), ALPHABETS[name]
-                message, named = "the number needs more characters than the width", uuid.UUID(int=int(number))
+                given, named = (int(width), ALPHABETS[name]), uuid.UUID(int=int(number))
+                count = next(count for count in range(1, 23) if int(number) < 62**count)
+                message = f"the number needs {count} character{'s' * (count > 1)}, and the width is {width}"
                 self.says(message, base62.OutOfRangeError, base62.encode_fixed, int(number), *given)
                 self.says(message, base62.OutOfRangeError, base62.encode_uuid_fixed, str(named), *given)
 
@@ -150,6 +160,24 @@ class Values(RaisesTestCase):
                     self.assertRaises(ValueError, call, string)
                 else:
                     self.assertEqual(call(string), call(uuid.UUID(name)))
+
+    def test_hints(self) -> None:
+        """A message names the functions that take the string. Bytes of a UUID's digits are a string for none of them."""
+        names = dict(rows("uuid_string"))
+        for kind, escaped, hint in rows("hint"):
+            given, string = unquote_to_bytes(escaped), unquote_to_bytes(escaped).decode()
+            for call in OF_NUMBERS if kind == "encode" else DECODINGS + OF_KEYS:
+                for argument, ending in ((string, HINTS[hint]), (given, "")):
+                    with self.assertRaises((TypeError, ValueError)) as caught:
+                        call(argument)
+                    message = str(caught.exception)
+                    self.assertEqual(message[len(message.partition(";")[0]) :], ending)
+            if hint in ("uuid", "both"):
+                encoded = base62.encode_uuid(string), base62.encode_uuid_fixed(string, 22), base62.encode_uuid_key(string)
+                number = uuid.UUID(names[escaped]).int
+                self.assertEqual(encoded, (base62.encode(number), *[base62.encode_key(number)] * 2))
+            if hint in ("decimal", "both"):
+                self.assertEqual(int(string), Decimal(string))
 
     def test_repeated(self) -> None:
         for escaped, *expected in rows("repeated"):

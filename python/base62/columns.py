@@ -223,7 +223,7 @@ def _to_arrow(column: Any, kind: _Kind) -> _Array | None:
         return None
     try:
         array = pa.array(column, from_pandas=True)
-    except (pa.ArrowException, OverflowError, UnicodeError):
+    except (pa.ArrowException, OverflowError, TypeError, UnicodeError):
         return None
     return None if types and pa.types.is_floating(array.type) else array
 

@@ -12,6 +12,7 @@ import unittest
 import uuid
 from collections import Counter
 from collections.abc import Iterator
+from contextlib import closing
 from decimal import Decimal
 from itertools import product, zip_longest
 from typing import Any
@@ -47,12 +48,10 @@ def saved(write: Call, read: Call, *given: Any, **named: Any) -> Any:
     return read(io.BytesIO(file.getvalue()))
 
 
-def stored(frame: Any) -> list[Any]:
-    with sqlite3.connect(":memory:") as db:
+def stored(frame: Any) -> Any:
+    with closing(sqlite3.connect(":memory:")) as db:
         frame.to_sql("item", db)
-        rows = db.execute("SELECT id FROM item ORDER BY row").fetchall()
-    db.close()
-    return [code for code, in rows]
+        return pd.read_sql("SELECT id FROM item ORDER BY row", db).id
 
 
 def with_missing(rows: list[Any], least: int = 0) -> Iterator[list[Any]]:
@@ -65,62 +64,50 @@ LISTS = [(of_type, ids) for of_type in IDS for ids in with_missing(IDS[of_type])
 known: Call = lambda ids: [number for number in ids if number is not None]
 either: Call = lambda ids, others: [number or other for number, other in zip_longest(ids, others)]
 joined: Call = lambda ids, others: Counter({id: max(1, ids.count(id)) * max(1, others.count(id)) for id in ids + others})
-# Operations on two frames f and g of codes and their rows, and their results on lists a and b of ids. What has no order in
-# pandas is a Counter.
-OPERATIONS = dict.fromkeys(
-    [
-        *("f.set_index('id').reset_index().id", "f.set_index(['row', 'id']).reset_index('id').id"),
+# By their result on lists a and b of ids, operations on frames f and g of codes and their rows. What has no order in pandas is
+# a Counter.
+OPERATIONS = {
+    "a": [
+        *("f.set_index('id').reset_index().id", "f.set_index(['row', 'id']).reset_index('id').id", "f.melt('id').id"),
         *("f.set_index(['id', 'row']).index.get_level_values('id')", "f.sample(frac=1, random_state=62).sort_index().id"),
-        *("f.melt('id').id", "f.melt('row').value", "f[['id']].stack(future_stack=True)", "f.T.loc['id']"),
-        *("f.assign(to=0).pivot(index='row', columns='to', values='id')[0]", "pd.Series([f.id.tolist()]).explode()"),
+        *("f.assign(to=0).pivot(index='row', columns='to', values='id')[0]", "f.melt('row').value", "f.T.loc['id']"),
+        *("f[['id']].stack(future_stack=True)", "pd.Series([f.id.tolist()]).explode()", "pd.concat([f[:2], f[2:]]).id"),
         *("f.id.map(lambda code: code)", "f.apply(lambda row: row.id, axis=1)", "f.id.astype('category')", "f.id.astype(object)"),
         *("f.convert_dtypes().id", "f.to_dict('list')['id']", "[row['id'] for row in f.to_dict('records')]", "f.id.to_numpy()"),
-        *("[row.id for row in f.itertuples()]", "[row.id for _, row in f.iterrows()]", "pd.concat([f[:2], f[2:]]).id"),
-        *("stored(f)", "saved(f.to_pickle, pd.read_pickle).id", "saved(f.to_parquet, pd.read_parquet).id"),
-        *("saved(f.to_parquet, parquet.read_table)['id']", "saved(f.to_csv, codes_by_csv)"),
-        *("saved(f[['id']].to_csv, codes_by_csv, index=False)", "saved(f.to_json, codes_by_json, orient='records', lines=True)"),
+        *("[row.id for row in f.itertuples()]", "[row.id for _, row in f.iterrows()]", "stored(f)"),
+        *("saved(f.to_pickle, pd.read_pickle).id", "saved(f.to_parquet, pd.read_parquet).id", "saved(f.to_csv, codes_by_csv)"),
+        *("saved(f.to_parquet, parquet.read_table)['id']", "saved(f[['id']].to_csv, codes_by_csv, index=False)"),
+        "saved(f.to_json, codes_by_json, orient='records', lines=True)",
     ],
-    "a",
-) | {
-    "f.merge(g, on='id').id": "Counter(id for id in a for other in b if id == other)",
-    "f.merge(g, 'left', 'id').id": "[id for id in a for _ in range(max(1, b.count(id)))]",
-    "f.merge(g, 'right', 'id').id": "[id for id in b for _ in range(max(1, a.count(id)))]",
-    "f.merge(g, 'outer', 'id').id": "joined(a, b)",
-    "f.astype({'id': 'category'}).merge(g.astype({'id': 'category'}), 'outer', 'id').id": "joined(a, b)",
-    "f.set_index('id').join(g.set_index('id'), how='outer', rsuffix='2').index": "joined(a, b)",
-    "f.merge(g, 'cross').id_y": "b * len(a)",
-    "pd.concat([f, g]).id": "a + b",
-    "pd.concat([f.id.astype('category'), g.id.astype('category')])": "a + b",
-    "pd.concat([f, g.add_suffix('2')], axis=1).id2": "(b + [None] * len(a))[: max(len(a), len(b))]",
-    "f.id.fillna(g.id)": "either(a, b)[: len(a)]",
-    "f.fillna(g).id": "either(a, b)[: len(a)]",
-    "f.id.combine_first(g.id)": "either(a, b)",
-    "f.combine_first(g).id": "either(a, b)",
-    "f.id.ffill()": "either(a, [None, *a])[: len(a)]",
-    "f.id.bfill()": "either(a, a[1:])",
-    "f.id.shift()": "[None, *a[:-1]]",
-    "f.id.reindex(range(99))": "(a + [None] * 99)[:99]",
-    "f.id.where(f.row > 1)": "[None, None, *a[2:]]",
-    "f[['id']].where(f[['id']].notna(), f[['id']].shift()).id": "either(a, [None, *a])[: len(a)]",
-    "f.id.mask(f.row > 1)": "a[:2] + [None] * (len(a) - 2)",
-    "f[['id']].mask(f[['id']].isna(), f[['id']].shift()).id": "either(a, [None, *a])[: len(a)]",
-    "f.dropna().id": "known(a)",
-    "f[f.id.isin(g.id.dropna())].id": "[id for id in known(a) if id in b]",
-    "f[f.id == f.id.iloc[-2]].id": "[id for id in known(a) if id == a[-2]]",
-    "f.groupby('id').row.sum().index": "Counter({*known(a)})",
-    "f.groupby('id', dropna=False).size().index": "Counter({*a})",
-    "f.groupby(f.row // 3).id.first()": "[(known(a[row : row + 3]) + [None])[0] for row in range(0, len(a), 3)]",
-    "f.drop_duplicates('id').pivot(index='row', columns='id', values='row').columns": "Counter({*a})",
-    "f.pivot_table(index='id', values='row').index": "Counter({*known(a)})",
-    "pd.crosstab(f.id, f.row).index": "Counter({*known(a)})",
-    "f.id.drop_duplicates()": "[*dict.fromkeys(a)]",
-    "f[f.duplicated('id')].id": "[id for row, id in enumerate(a) if id in a[:row]]",
-    "f.id.value_counts(dropna=False).index": "Counter({*a})",
-    "f.id.factorize()[1]": "[*dict.fromkeys(known(a))]",
-    "f.sort_values('id').id": "sorted(known(a), key=encode) + [None] * a.count(None)",
-    "pd.Index(f.id).intersection(pd.Index(g.id))": "Counter({*a} & {*b})",
-    "pd.Index(f.id).union(pd.Index(g.id))": "Counter(a) | Counter(b)",
-    "f.row.map(dict(zip(g.row, g.id)))": "(b + [None] * len(a))[: len(a)]",
+    "a + b": ["pd.concat([f, g]).id", "pd.concat([f.id.astype('category'), g.id.astype('category')])"],
+    "Counter(id for id in a for other in b if id == other)": ["f.merge(g, on='id').id"],
+    "[id for id in a for _ in range(max(1, b.count(id)))]": ["f.merge(g, 'left', 'id').id"],
+    "joined(a, b)": [
+        *("f.merge(g, 'outer', 'id').id", "f.set_index('id').join(g.set_index('id'), how='outer', rsuffix='2').index"),
+        "f.astype({'id': 'category'}).merge(g.astype({'id': 'category'}), 'outer', 'id').id",
+    ],
+    "either(a, b)": ["f.id.combine_first(g.id)", "f.combine_first(g).id"],
+    "either(a, b)[: len(a)]": ["f.id.fillna(g.id)", "f.fillna(g).id"],
+    "either(a, [None, *a])[: len(a)]": [
+        *("f.id.ffill()", "f[['id']].where(f[['id']].notna(), f[['id']].shift()).id"),
+        "f[['id']].mask(f[['id']].isna(), f[['id']].shift()).id",
+    ],
+    "[None, *a[:-1]]": ["f.id.shift()"],
+    "[None, None, *a[2:]]": ["f.id.where(f.row > 1)", "f.id.mask(f.row < 2)"],
+    "(a + [None] * 99)[:99]": ["f.id.reindex(range(99))"],
+    "known(a)": ["f.dropna().id"],
+    "[id for id in known(a) if id in b]": ["f[f.id.isin(g.id.dropna())].id"],
+    "[id for id in a if id == 2**60 + 1]": ["f[f.id == encode(2**60 + 1)].id"],
+    "Counter({*known(a)})": ["f.groupby('id').row.sum().index", "f.pivot_table(index='id', values='row').index"],
+    "Counter({*a})": [
+        *("f.groupby('id', dropna=False).size().index", "f.id.value_counts(dropna=False).index"),
+        "f.drop_duplicates('id').pivot(index='row', columns='id', values='row').columns",
+    ],
+    "[*dict.fromkeys(a)]": ["f.id.drop_duplicates()", "pd.Index(f.id).unique()"],
+    "[id for row, id in enumerate(a) if id in a[:row]]": ["f[f.duplicated('id')].id"],
+    "[*dict.fromkeys(known(a))]": ["f.id.factorize()[1]"],
+    "sorted(known(a), key=encode) + [None] * a.count(None)": ["f.sort_values('id').id"],
+    "Counter(a) | Counter(b)": ["pd.Index(f.id).union(pd.Index(g.id))"],
 }
 
 
@@ -157,12 +144,14 @@ class Readers(ColumnsTestCase):
         forms = (base62.encode, lambda codes: codes), (name_of, columns.encode_uuid)
         for (encode, to_codes), (a, b) in product(forms, zip(with_missing(wide), reversed([*with_missing(others)]))):
             tables = [pa.table({"id": each(encode, ids), "row": range(len(ids))}) for ids in (a, b)]
-            for mapper, (operation, rest) in product((None, pd.ArrowDtype), OPERATIONS.items()):
+            for mapper, rest in product((None, pd.ArrowDtype), OPERATIONS):
                 f, g = (table.to_pandas(types_mapper=mapper) for table in tables)
                 names = globals() | {"f": f, "g": g, "a": a, "b": b, "encode": encode}
-                expected, codes = eval(rest, names), columns.decode_uuid(to_codes(eval(operation, names)))
-                ids = [name and name.int for name in codes.to_pylist()]
-                self.assertEqual(ids if isinstance(expected, list) else Counter(ids), expected, operation)
+                expected = eval(rest, names)
+                for operation in OPERATIONS[rest]:
+                    codes = columns.decode_uuid(to_codes(eval(operation, names)))
+                    ids = [name and name.int for name in codes.to_pylist()]
+                    self.assertEqual(ids if isinstance(expected, list) else Counter(ids), expected, operation)
 
     def test_lists(self) -> None:
         """Ids that no type of pyarrow has are an error, or floats without a type. As integers they are exact."""

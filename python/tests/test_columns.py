@@ -483,7 +483,7 @@ class Arguments(ColumnsTestCase):
     def test_types(self) -> None:
         """A column of another type is named, with what it has to have. Hints have tests of their own."""
         numbers, uuids = "not integers, decimal128 of scale 0, uuid or fixed_size_binary[16]", "not uuid, binary or strings: "
-        own = OWN.wrap_array(pa.array([bytes(16)], pa.binary(16)))
+        own, runs = OWN.wrap_array(pa.array([bytes(16)], pa.binary(16))), pc.run_end_encode(pa.array([5]))
         for call, column, message in (
             *((columns.encode, column, f"double, {numbers}: ids") for column in ([1.0], pd.Series([1.5]).astype("category"))),
             *((columns.encode, np.array([b""], dtype), f"binary, {numbers}: ") for dtype in ("V8", "V17")),
@@ -493,9 +493,14 @@ class Arguments(ColumnsTestCase):
             (columns.encode, own, f"extension<own<Own>>, {numbers}: cast it to uint64"),
             (columns.encode_uuid, own, f"extension<own<Own>>, {uuids}cast it to uint64"),
             (columns.decode, own, "extension<own<Own>>, not strings or binary"),
+            (columns.encode, runs, f"{runs.type}, {numbers}: call pyarrow.compute.run_end_decode"),
+            (columns.encode_uuid, runs, f"{runs.type}, {uuids}call pyarrow.compute.run_end_decode"),
+            (columns.decode, runs, f"{runs.type}, not strings or binary: call pyarrow.compute.run_end_decode"),
         ):
             for errors in ("raise", "coerce"):
                 self.assertRaisesRegex(TypeError, f"^the column has the type {re.escape(message)}", call, column, errors=errors)
+        for column in ([Decimal(5), NAME], [Decimal("Infinity")]):
+            self.assertRaisesRegex(TypeError, "not Decimal$", columns.encode_uuid, column)
 
     def test_malformed(self) -> None:
         """pyarrow finds what is wrong if it is asked to, and so do the functions in what pyarrow does not convert first."""

@@ -469,7 +469,7 @@ def encode_uuid_key(column: object, *, errors: _Errors = "raise", type: _Type = 
 def decode(column: object, alphabet: AnyAlphabet = _STANDARD, *, errors: _Errors = "raise", type: _Type = pa.int64()) -> _Array:
     """Decode a column of strings or bytes to int64, uint64 or decimal128(38). Leading zeros are ignored.
 
-    pandas rounds integers above 2**53 in many operations, without an error. So it is to have the strings: decode them last.
+    pandas rounds integers above 2**53 in many operations, without an error: work with the strings there, and decode last.
 
     >>> from base62 import columns
     >>> columns.decode(["LZ", b"00LZ"]).to_pylist()

@@ -234,14 +234,18 @@ class Readers(ColumnsTestCase):
 
     @unittest.skipUnless(shutil.which("duckdb"), "DuckDB is not installed")
     def test_duckdb(self) -> None:
-        """UUIDs and decimals in Parquet are such there, and come back. A HUGEINT is written as a float."""
+        """UUIDs and decimals in Parquet are such there, and come back. A HUGEINT is written as a float, a null as an empty line."""
         names, numbers = columns.encode_uuid([NAME, None]), columns.encode([2**64, None])
         table = pa.table({"name": columns.decode_uuid(names), "number": columns.decode(numbers, type=DECIMAL)})
         with tempfile.TemporaryDirectory() as folder:
             parquet.write_table(table, f"{folder}/in.parquet")
             rows = f"SELECT *, typeof(name) || typeof(number) AS types, sum(1) OVER () AS sum FROM '{folder}/in.parquet'"
-            subprocess.run(["duckdb", "-c", f"COPY ({rows}) TO '{folder}/out.parquet'"], check=True)
-            table = parquet.read_table(f"{folder}/out.parquet")
+            copies = (
+                f"COPY ({rows}) TO '{folder}/out.parquet'; COPY (SELECT number FROM '{folder}/in.parquet') TO '{folder}/out.csv'"
+            )
+            subprocess.run(["duckdb", "-c", copies], check=True)
+            table, alone = parquet.read_table(f"{folder}/out.parquet"), by_csv(f"{folder}/out.csv", {"number": DECIMAL})
+        self.assertEqual(alone["number"].to_pylist(), [2**64, None])
         self.assertEqual({*table["types"].to_pylist()}, {"UUIDDECIMAL(38,0)"})
         self.assertEqual([table[name].type for name in ("name", "number", "sum")], [pa.uuid(), DECIMAL, pa.float64()])
         self.assertEqual(columns.encode_uuid(table["name"]).combine_chunks(), names)

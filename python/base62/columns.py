@@ -93,17 +93,19 @@ def _is_own(of_type: _Type) -> bool:
 
 
 _OWN_HINT = (_is_own, "cast it to uint64, decimal128(38, 0) or uuid where it comes from")
+_RUNS_HINT = (pa.types.is_run_end_encoded, "call pyarrow.compute.run_end_decode")
 _STRINGS = _Kind(
     "strings or binary",
     {
         **{same: same for same in (pa.string(), pa.binary(), pa.large_string(), pa.large_binary())},
         **{pa.null(): pa.string(), pa.string_view(): pa.large_string(), pa.binary_view(): pa.large_binary()},
     },
-    [],
+    [(pa.types.is_fixed_size_binary, "cast strings to binary"), _RUNS_HINT],
 )
 _SIXTEEN_BYTES = dict.fromkeys((pa.uuid(), pa.binary(16)), pa.binary(16))
 _UUID_TYPES = _STRINGS.types | _SIXTEEN_BYTES
-_UUIDS = _Kind("uuid, binary or strings", _UUID_TYPES, [(pa.types.is_integer, "call {counterpart}"), _OWN_HINT])
+_is_number = lambda given: pa.types.is_integer(given) or pa.types.is_decimal(given)
+_UUIDS = _Kind("uuid, binary or strings", _UUID_TYPES, [(_is_number, "call {counterpart}"), _OWN_HINT, _RUNS_HINT])
 _NUMBERS = _Kind(
     "integers, decimal128 of scale 0, uuid or fixed_size_binary[16]",
     {
@@ -115,7 +117,7 @@ _NUMBERS = _Kind(
     [
         (pa.types.is_floating, "ids that are floats have been rounded, and no cast restores them"),
         (pa.types.is_decimal, "cast it to decimal128(38, 0), or pass the decimals as a list"),
-        _OWN_HINT,
+        *(_OWN_HINT, _RUNS_HINT),
         (lambda given: given in _UUID_TYPES, "cast digits to uint64 with pyarrow; only for UUIDs, call {counterpart}"),
     ],
 )
@@ -216,33 +218,53 @@ def _to_arrow(column: Any, kind: _Kind) -> _Array | None:
     types = _types_of_objects(column)
     are_integers = all(hasattr(each, "__index__") and each is not bool for each in types)
     bases = ((str, bytes), pa.Scalar) if kind is _STRINGS else (str, bytes, pa.Scalar)
+    bases += (Decimal,) if kind is _UUIDS else ()  # The exception names their type.
     if not are_integers and not any(all(issubclass(each, base) for each in types) for base in bases):
         return None
     try:
         array = pa.array(column, from_pandas=True)
-    except (pa.ArrowException, OverflowError, UnicodeError):
+    except (pa.ArrowException, OverflowError, TypeError, UnicodeError):
         return None
     return None if types and pa.types.is_floating(array.type) else array
 
 
-def _is_whole(value: Any) -> bool:
-    # The int of a decimal with a great exponent could fill the memory.
-    return isinstance(value, Decimal) and value.adjusted() < 99 and value == value.to_integral_value()
+def _number_of(value: Any) -> Any:
+    """Return a decimal that is an integer, or out of range, as an integer. Other values are left unchanged."""
+    if not isinstance(value, Decimal) or value.is_nan():
+        return value
+    if value.is_infinite() or value and value.adjusted() > 38:
+        return 2**128  # An int of its digits could fill the memory.
+    return int(value or 0) if value == value.to_integral_value() else value
 
 
 def _is_missing(value: Any) -> bool:
+    if isinstance(value, Decimal):
+        return value.is_nan()  # A signaling one cannot be compared.
     names = {base.__name__ for base in type(value).__mro__}
-    is_float = not names.isdisjoint(("float", "floating", "Decimal"))
+    is_float = not names.isdisjoint(("float", "floating"))
     return is_float and value != value or not names.isdisjoint(("NoneType", "NAType", "MaskedConstant"))
 
 
-def _value_of(scalar: pa.Scalar, kind: _Kind) -> Any:
+def _value_of(row: Any, kind: _Kind) -> Any:
     """Return a row as the functions for one value take it."""
+    if not isinstance(row, pa.Scalar):
+        return row
     try:
-        value = scalar.as_py()
+        value = row.as_py()
     except UnicodeDecodeError:
-        return scalar.as_buffer().to_pybytes()
-    return int.from_bytes(value) if kind is _NUMBERS and scalar.type == pa.binary(16) else value
+        return row.as_buffer().to_pybytes()
+    return int.from_bytes(value) if kind is _NUMBERS and row.type == pa.binary(16) else value
+
+
+def _shown(value: object) -> str:
+    """Return the beginning of what repr shows, which fails for some integers and objects."""
+    if isinstance(value, (str, bytes, bytearray)) and len(value) > 80:
+        value = value[:80]
+    try:
+        shown = repr(value)
+    except Exception:
+        shown = object.__repr__(value)
+    return shown if len(shown) < 80 else f"{shown[:75]}..."
 
 
 @dataclass
@@ -275,6 +297,9 @@ class _Conversion:
         source_type = self._source_type(given)
         chunks = given.chunks if isinstance(given, pa.ChunkedArray) else [given]
         width = self.width if self.width >= 0 else 11 if _LETTERS[source_type] in "Ll" else 22
+        if len(given) * self.width > 2**32:
+            # Arrow's pool reserves any size. The system's allocator fails if there is not so much memory.
+            pa.allocate_buffer(min((len(given) - given.null_count) * self.width, sys.maxsize), pa.system_memory_pool())
         is_large = self.type == pa.string() and max(map(len, chunks), default=0) * width >= 2**31
         sized = replace(self, type=pa.large_string() if is_large else self.type, width=width, rows=rows)
         convert = sized._convert_dictionary if pa.types.is_dictionary(given.type) else sized._convert_array
@@ -308,7 +333,7 @@ class _Conversion:
         if self.errors == "raise" and results.null_count > values.null_count:
             is_invalid = pc.and_(results.is_null(), values.is_valid())
             if (row := is_invalid.take(indices).index(True).as_py()) >= 0:
-                self._raise_for(_value_of(values[indices[row].as_py()], self.kind), first + row)
+                self._raise_for(values[indices[row].as_py()], first + row)
         return results.take(indices)
 
     def _convert_array(self, chunk: pa.Array, source_type: _Type, first: int) -> pa.Array:
@@ -324,8 +349,7 @@ class _Conversion:
         result = letter, validity, offsets, values
         row, used, nulls = self.convert_rows(source, result, self.errors == "coerce")
         if row < count:
-            value = _value_of(chunk[row], self.kind) if self.rows is None else self.rows[first + row]
-            self._raise_for(value, first + row)
+            self._raise_for(chunk[row] if self.rows is None else self.rows[first + row], first + row)
         buffers = [validity if nulls else None, values]
         if letter in "uU":
             values.resize(used, shrink_to_fit=True)
@@ -333,7 +357,7 @@ class _Conversion:
         return pa.Array.from_buffers(self.type, count, buffers, nulls)
 
     def _raise_for(self, value: object, row: int) -> None:
-        self._convert_values([value], row)
+        self._convert_values([_value_of(value, self.kind)], row)
         raise ValueError("the array is malformed")
 
     def _convert_values(self, column: Any, first: int = 0) -> list[object]:
@@ -346,8 +370,7 @@ class _Conversion:
                 is_coerced = self.errors == "coerce" and isinstance(error, ValueError)
                 if not is_coerced and not _is_missing(value):
                     error.row = row  # type: ignore[attr-defined]
-                    shown = repr(value)
-                    error.add_note(f"Row {row} of the column is {shown if len(shown) < 80 else shown[:75] + '...'}")
+                    error.add_note(f"Row {row} of the column is {_shown(value)}")
                     raise
                 results.append(None)
         return results
@@ -374,7 +397,7 @@ def _encode(column: object, call: Callable[..., str], options: _Options, kind: _
     base62.encode(0, characters)  # Raises an exception for an alphabet that is not ASCII.
     _check_type(of_result, pa.string(), pa.large_string())
     convert_rows, one = partial(_base62._encode_rows, characters, width), _one(call, characters, width)
-    convert_one = lambda value: one(int(value) if _is_whole(value) else value)
+    convert_one = one if kind is _UUIDS else lambda value: one(_number_of(value))
     return _Conversion(kind, of_result, errors, width, convert_one, convert_rows, _counterpart(call.__name__))(column)
 
 
@@ -446,8 +469,7 @@ def encode_uuid_key(column: object, *, errors: _Errors = "raise", type: _Type = 
 def decode(column: object, alphabet: AnyAlphabet = _STANDARD, *, errors: _Errors = "raise", type: _Type = pa.int64()) -> _Array:
     """Decode a column of strings or bytes to int64, uint64 or decimal128(38). Leading zeros are ignored.
 
-    pandas makes floats of uint64 in a merge with int64, and of any integers beside missing rows. So it rounds them above
-    2**53, without an error. A column of pandas.array(columns.decode(codes), "int64[pyarrow]") keeps them as they are.
+    pandas rounds integers above 2**53 in many operations, without an error: work with the strings there, and decode last.
 
     >>> from base62 import columns
     >>> columns.decode(["LZ", b"00LZ"]).to_pylist()

@@ -1,7 +1,7 @@
 """A column in partitions, on the processes of a dask cluster.
 
 Each process reads and writes its own partitions: to move the strings between processes would take longer than to
-encode them. pyarrow reads the ids, so that none is rounded.
+encode them. Dask has the keys only: it rounds ids, and counts these eight as one.
 
 >>> cluster = LocalCluster(n_workers=2, threads_per_worker=1, dashboard_address=None)
 >>> client = Client(cluster)
@@ -10,10 +10,12 @@ encode them. pyarrow reads the ids, so that none is rounded.
 >>> for part, file in enumerate(files):
 ...     parquet.write_table(pyarrow.table({"id": [2**60 + part, None, 2**60 + part + 4]}), file)
 
->>> ids = dask.dataframe.from_map(read, files)
->>> ids.map_partitions(add_key).to_parquet(f"{folder.name}/keys")
->>> frame = parquet.read_table(f"{folder.name}/keys").to_pandas(types_mapper=pandas.ArrowDtype)
->>> [number and number - 2**60 for number in columns.decode_key(frame["key"]).to_pylist()]
+>>> keys = dask.dataframe.from_map(read_keys, files)
+>>> int(keys["key"].nunique().compute()), int(dask.dataframe.read_parquet(files)["id"].nunique().compute())
+(8, 1)
+>>> keys.to_parquet(f"{folder.name}/keys")
+>>> numbers = columns.decode_key(parquet.read_table(f"{folder.name}/keys")["key"])
+>>> [number and number - 2**60 for number in numbers.to_pylist()]
 [0, None, 4, 1, None, 5, 2, None, 6, 3, None, 7]
 >>> client.close()
 >>> cluster.close()
@@ -31,11 +33,6 @@ from pyarrow import parquet
 from base62 import columns
 
 
-def read(file: str) -> pandas.DataFrame:
-    """The ids of a file."""
-    return parquet.read_table(file).to_pandas(types_mapper=pandas.ArrowDtype)
-
-
-def add_key(part: pandas.DataFrame) -> pandas.DataFrame:
-    """A partition of ids, with their keys."""
-    return part.assign(key=pandas.array(columns.encode_key(part["id"]), "string[pyarrow]"))
+def read_keys(file: str) -> pandas.DataFrame:
+    """The keys of the ids in a file."""
+    return pyarrow.table({"key": columns.encode_key(parquet.read_table(file)["id"])}).to_pandas()

@@ -18,12 +18,15 @@ base62.WrongLengthError: Encoded input has 2 bytes, not 22
 >>> databases = postgresql.dialect(), mysql.dialect(), mariadb.MariaDBDialect()
 >>> [str(Key().compile(dialect=database)) for database in databases]
 ['VARCHAR(22) COLLATE "C"', 'VARCHAR(22) COLLATE utf8mb4_bin', 'VARCHAR(22) COLLATE utf8mb4_bin']
+>>> Key().compile(dialect=mssql.dialect())
+Traceback (most recent call last):
+sqlalchemy.exc.CompileError: Key knows no binary collation of mssql
 """
 
 from typing import Any
 
 import sqlalchemy
-from sqlalchemy.dialects import mysql, postgresql
+from sqlalchemy.dialects import mssql, mysql, postgresql
 from sqlalchemy.dialects.mysql import mariadb
 
 import base62
@@ -40,6 +43,8 @@ class Key(sqlalchemy.types.TypeDecorator):
     cache_ok = True
 
     def load_dialect_impl(self, dialect: Any) -> Any:
+        if dialect.name not in COLLATIONS:
+            raise sqlalchemy.exc.CompileError(f"Key knows no binary collation of {dialect.name}")
         return dialect.type_descriptor(sqlalchemy.String(22, collation=COLLATIONS[dialect.name]))
 
     def process_bind_param(self, value: Any, dialect: Any) -> str | None:

@@ -32,6 +32,7 @@ try:
 except ImportError as error:
     raise unittest.SkipTest(f"{error.name} is not installed") from None
 np: Any = importlib.import_module("numpy")
+pc: Any = importlib.import_module("pyarrow.compute")
 parquet: Any = importlib.import_module("pyarrow.parquet")
 columns: Any = importlib.import_module("base62.columns")
 
@@ -251,12 +252,13 @@ class Objects(ColumnsTestCase):
                 self.check(columns.encode, column, texts, pa.string())
         call = partial(columns.encode, alphabet=CUSTOM, errors="coerce", type=pa.large_string())
         self.check(call, [2**128, -1, 5, -(2**200)], [None, None, CUSTOM[5], None], pa.large_string())
-        for value in each(Decimal, [-1, "1E+50", 2**128]):
+        for value in each(Decimal, [-1, "1E+50", 2**128, "Infinity", "-Infinity", "1E+999999999"]):
             error = self.raised(base62.OutOfRangeError, columns.encode, [Decimal(5), value])
             self.assertEqual((error.row, error.__notes__), (1, [f"Row 1 of the column is {value!r}"]))
             self.check(call, [value, Decimal(5)], [None, CUSTOM[5]])
-        for value in each(Decimal, ["1.5", "1E+999999999", "1E-999999999"]):
+        for value in each(Decimal, ["1.5", "1E-999999999"]):
             self.assertEqual(self.raised(TypeError, columns.encode, [Decimal(5), value]).row, 1)
+        self.check(columns.encode, each(Decimal, ["sNaN", "0E+999999999"]), [None, "0"])
 
     def test_uuids(self) -> None:
         for column in (
@@ -407,9 +409,21 @@ class Arguments(ColumnsTestCase):
                 error = self.raised(base62.OutOfRangeError, columns.decode, column, type=of_type)
                 self.assertIn(f"the number is not from 0 to {shown} - 1: ", str(error))
                 self.assertEqual(error.row, 1)
-        for length, shown in ((77, f"'{77 * '-'}'"), (78, f"'{74 * '-'}...")):
-            error = self.raised(base62.TooLargeError, columns.decode, ["LZ", "-" * length])
-            self.assertEqual(error.__notes__, [f"Row 1 of the column is {shown}"])
+
+    def test_notes(self) -> None:
+        """A note shows the beginning of a value, and an object whose repr fails as object does."""
+        nameless, text = type("Nameless", (), {"__repr__": None})(), type("Text", (str,), {"__repr__": None})
+        for kind, call, value, shown in (
+            (base62.TooLargeError, columns.decode, "-" * 77, f"'{'-' * 77}'"),
+            *((base62.TooLargeError, columns.decode, make("-" * 78), f"'{'-' * 74}...") for make in (str, pa.scalar)),
+            (base62.TooLargeError, columns.decode, text("-" * 99), f"'{'-' * 74}..."),
+            (base62.TooLargeError, columns.decode, b"-" * 99, f"b'{'-' * 73}..."),
+            (base62.OutOfRangeError, columns.encode, int.from_bytes(b"\xff" * 2000), "<int object at 0x[^ ]*>"),
+            (TypeError, columns.encode, nameless, "<test_columns.Nameless object at 0x[^ ]*>"),
+        ):
+            error = self.raised(kind, call, [None, value])
+            self.assertRegex("".join(error.__notes__), f"^Row 1 of the column is {shown}$")
+            self.assertEqual(error.row, 1)
 
     def test_mixed(self) -> None:
         """Lists of two objects, of which pyarrow converts some otherwise, and ends the process for some."""
@@ -457,15 +471,19 @@ class Arguments(ColumnsTestCase):
                 self.raised(kind, call, [], width)
         self.raised(base62.OutOfRangeError, columns.encode_fixed, [1], 0)
         self.raised(base62.WrongLengthError, columns.decode_fixed, ["1"], 2**70)
-        for width in (2**62, 2**70):
-            self.assertRaises(MemoryError, columns.encode_fixed, [1, 2], width)
+        # Arrow's pool would reserve the first two.
+        with unittest.mock.patch.object(base62._base62, "_encode_rows", side_effect=AssertionError):
+            for width, numbers in product((10**12, 2**44, 2**62, 2**70), ([1, 2], pa.chunked_array([[1], [2]]))):
+                self.assertRaises(MemoryError, columns.encode_fixed, numbers, width)
+            ones = pa.DictionaryArray.from_arrays(pa.array([0] * 2**20, pa.int32()), [1])
+            self.assertRaises(MemoryError, columns.encode_fixed, ones, 2**24)
         index = Indexed(1337)
         self.check(lambda array: columns.encode_fixed(array, index, errors="coerce"), [None, 5], [None, "0" * 1336 + "5"])
 
     def test_types(self) -> None:
         """A column of another type is named, with what it has to have. Hints have tests of their own."""
         numbers, uuids = "not integers, decimal128 of scale 0, uuid or fixed_size_binary[16]", "not uuid, binary or strings: "
-        own = OWN.wrap_array(pa.array([bytes(16)], pa.binary(16)))
+        own, runs = OWN.wrap_array(pa.array([bytes(16)], pa.binary(16))), pc.run_end_encode(pa.array([5]))
         for call, column, message in (
             *((columns.encode, column, f"double, {numbers}: ids") for column in ([1.0], pd.Series([1.5]).astype("category"))),
             *((columns.encode, np.array([b""], dtype), f"binary, {numbers}: ") for dtype in ("V8", "V17")),
@@ -475,9 +493,14 @@ class Arguments(ColumnsTestCase):
             (columns.encode, own, f"extension<own<Own>>, {numbers}: cast it to uint64"),
             (columns.encode_uuid, own, f"extension<own<Own>>, {uuids}cast it to uint64"),
             (columns.decode, own, "extension<own<Own>>, not strings or binary"),
+            (columns.encode, runs, f"{runs.type}, {numbers}: call pyarrow.compute.run_end_decode"),
+            (columns.encode_uuid, runs, f"{runs.type}, {uuids}call pyarrow.compute.run_end_decode"),
+            (columns.decode, runs, f"{runs.type}, not strings or binary: call pyarrow.compute.run_end_decode"),
         ):
             for errors in ("raise", "coerce"):
                 self.assertRaisesRegex(TypeError, f"^the column has the type {re.escape(message)}", call, column, errors=errors)
+        for column in ([Decimal(5), NAME], [Decimal("Infinity")]):
+            self.assertRaisesRegex(TypeError, "not Decimal$", columns.encode_uuid, column)
 
     def test_malformed(self) -> None:
         """pyarrow finds what is wrong if it is asked to, and so do the functions in what pyarrow does not convert first."""
@@ -525,6 +548,8 @@ def attempt(call: Call, *given: Any) -> list[Any]:
 TO_DIGITS: list[Call] = [str, lambda number: str(number).encode()]
 to_bytes: Call = lambda number: number.to_bytes(16)
 to_name: Call = lambda number: str(uuid.UUID(int=number))
+keys_of: Call = lambda ids: pa.array(each(base62.encode_key, ids))
+numbers_of: Call = lambda ids: attempt(pa.array, ids, pa.uint64()) + attempt(pa.array, each(Decimal, ids), pa.decimal128(38))
 has_digits: Call = lambda column: all(value.isdigit() for value in column.drop_null().to_pylist())
 ROUNDED = "ids that are floats have been rounded, and no cast restores them"  # It leads nowhere.
 # By hint: columns of ids of which the exception has it, and the columns to which it leads.
@@ -542,7 +567,12 @@ FOLLOWED: dict[str, tuple[Call, Call]] = {
         lambda ids: [pa.array(each(call, ids)) for call in (*TO_DIGITS, to_name, to_bytes)],
         lambda column, *_: attempt(column.cast, pa.uint64()) if has_digits(column) else [column],
     ),
-    "call {counterpart}": (lambda ids: [pa.array(ids, pa.uint64())], lambda column, *_: [column]),
+    "cast strings to binary": (lambda ids: [keys_of(ids).cast(pa.binary(22))], lambda column, *_: [column.cast(pa.binary())]),
+    "call pyarrow.compute.run_end_decode": (
+        lambda ids: each(pc.run_end_encode, [*numbers_of(ids), keys_of(ids), pa.array(each(to_name, ids))]),
+        lambda column, *_: [pc.run_end_decode(column)],
+    ),
+    "call {counterpart}": (lambda ids: [*numbers_of(ids), each(Decimal, ids)], lambda column, *_: [column]),
 }
 # Those of decoded numbers, with the type to pass.
 PASSED = {"pass type=pyarrow.uint64()": pa.uint64(), "pass type=pyarrow.decimal128(38)": pa.decimal128(38)}

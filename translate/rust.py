@@ -102,7 +102,7 @@ ASSERTED = {"IsAscii alphabet . now ": ("crate :: support :: contract :: assert_
                                         "Panics if the alphabet contains a non-ASCII character."),
             "IsTrue ( is_alphabet characters ) ":
                 ("", "Panics if a byte is repeated. In a constant, this is a compile error.")}
-BEGINS = {"append_over": "in_place ! ( tables , num , buf ) ; "}  # What a body begins with besides.
+BEGINS = {"append_over": "return_if_written_in_place ! ( tables , num , buf ) ; "}  # What a body begins with besides.
 # A clause that compares numbers and lengths, in Rust. {} is the type of the number.
 SIDE = r"(?:\d+ \^ \d+|length \w+ \. (?:now|old)|\w+)"
 CLAUSE = [(r"length (\w+) \. (now|old)", r"\1 . len ( )"), (r"(\d+) \^ (\d+)", r"\1_{} . pow ( \2 )"),
@@ -149,7 +149,7 @@ MACROS = set("assert assert_eq assert_ne concat debug_assert env eprint eprintln
 # and what contract.rs alone has: all `unsafe`, and the macros of the generated files.
 UNSAFE = ("core :: hint :: assert_unchecked ( $ clause )", "$ kind :: from_utf8_unchecked ( $ bytes )",
           "$ buf . as_mut_vec ( )", "$ bytes . set_len ( $ bytes . len ( ) + $ len )")
-OWN_MACROS = "requires|proved|in_place|append_zeros"
+OWN_MACROS = "requires|proved|return_if_written_in_place|append_zeros"
 
 # Of rust/Cargo.toml: where the code is, what its features mean, and the keys of its package. Other files for Cargo.
 MANIFEST = {"lib": {"name": "base62"}, "features": {"default": ["alloc"], "alloc": [], "std": ["alloc"], "checked": []}}

@@ -7,7 +7,7 @@ use base62::{
     ParseAlphabetError, UuidError,
 };
 use base62::{encode_fixed_str, encode_fixed_str_with, encode_key, encode_key_str};
-use base62::{prefix_range, prefix_range_with, uuid_from_string, uuid_to_string};
+use base62::{prefix_range, prefix_range_with, uuid_from_string, uuid_to_str, uuid_to_string};
 use std::fmt::Display;
 use std::hash::{BuildHasher, RandomState};
 use std::str;
@@ -257,8 +257,10 @@ fn strings_of_uuids() {
         } else {
             let digits = row[1].replace('-', "");
             let number = u128::from_str_radix(&digits, 16).unwrap();
-            assert_eq!(uuid, Ok(number.to_be_bytes()), "{}", row[0]);
-            assert_eq!(&uuid_to_string(uuid.unwrap())[..], row[1].as_bytes());
+            let uuid = uuid.unwrap();
+            assert_eq!(uuid, number.to_be_bytes(), "{}", row[0]);
+            assert_eq!(&uuid_to_string(uuid)[..], row[1].as_bytes());
+            assert_eq!(uuid_to_str(uuid, &mut [0; 36]), row[1]);
         }
     }
 }
@@ -302,9 +304,11 @@ fn letters() {
         assert_eq!(alphabet.characters(), &letters);
         assert_eq!(alphabet.as_ref(), &letters);
         assert_eq!(Alphabet::try_from(letters), Ok(alphabet));
+        assert_eq!(Alphabet::try_from(&letters), Ok(alphabet));
         assert_eq!(hasher.hash_one(alphabet), hasher.hash_one(letters));
         if let Ok(letters) = str::from_utf8(&letters) {
             assert_eq!(letters.parse(), Ok(alphabet));
+            assert_eq!(Alphabet::try_from(letters), Ok(alphabet));
         }
         assert_eq!(alphabet.is_ascii(), row[2] == "1");
         assert_eq!(alphabet.is_ascending(), row[3] == "1");
@@ -328,7 +332,9 @@ fn repeated_letters() {
         let fault_of_slice = ParseAlphabetError::Repeated(byte, index);
         assert_eq!(Alphabet::try_from(&letters[..]), Err(fault_of_slice));
         assert_eq!(fault_of_slice.to_string(), fault.to_string());
-        assert_eq!(Alphabet::new(letters.try_into().unwrap()), Err(fault));
+        let letters: [u8; 62] = letters.try_into().unwrap();
+        assert_eq!(Alphabet::new(letters), Err(fault));
+        assert_eq!(Alphabet::try_from(&letters), Err(fault));
     }
 }
 
@@ -338,6 +344,7 @@ fn wrong_number_of_letters() {
         let fault = ParseAlphabetError::InvalidLength(length);
         assert_eq!(Alphabet::try_from(&vec![b'a'; length][..]), Err(fault));
         assert_eq!("a".repeat(length).parse::<Alphabet>(), Err(fault));
+        assert_eq!(Alphabet::try_from(&*"a".repeat(length)), Err(fault));
         let fault_of_bytes = ParseAlphabetError::InvalidLength(2 * length);
         assert_eq!("é".repeat(length).parse::<Alphabet>(), Err(fault_of_bytes));
         let text = format!("Alphabet has {length} bytes instead of 62");

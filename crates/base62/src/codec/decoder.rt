@@ -26,12 +26,12 @@ pub(crate) fn decode_over(
         return Err(DecodeError::EmptyInput);
     }
     let zeros = count_zeros(tables, input);
-    decode_after(tables, input, zeros, work)
+    decode_after_zeros(tables, input, zeros, work)
 }
 
 // Decodes a text, whose count of leading zeros is given.
 #[inline(always)]
-pub(crate) fn decode_after(
+pub(crate) fn decode_after_zeros(
     tables: &Tables,
     input: &[u8],
     zeros: usize,
@@ -39,6 +39,7 @@ pub(crate) fn decode_after(
 ) -> Result<u128, DecodeError>
     requires tables { AreTables tables.now }
     requires some { 0 < length input.now }
+    requires within { zeros ≤ length input.now }
     requires zeros { zeros ≡ leading_zeros tables.now.letters input.now }
     ensures { DecodesCounted tables.now.letters input.now work.old work.new result }
 {
@@ -72,8 +73,8 @@ pub(crate) fn count_zeros(tables: &Tables, input: &[u8]) -> usize
 }
 
 // Decodes the 11 to 22 bytes after the leading zeros. If the first ten show an overflow, it is
-// reported before a later byte is read.
-#[inline(always)]
+// reported before a later byte is read. It is the larger part of the decoder, so there is one copy.
+#[inline(never)]
 fn read_long(
     tables: &Tables,
     after_zeros: &[u8],

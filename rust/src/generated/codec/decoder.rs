@@ -18,17 +18,18 @@ pub(crate) fn decode_over(tables: &Tables, input: &[u8]) -> Result<u128, DecodeE
         return Err(DecodeError::EmptyInput);
     }
     let zeros = count_zeros(tables, input);
-    decode_after(tables, input, zeros)
+    decode_after_zeros(tables, input, zeros)
 }
 
 // Decodes a text, whose count of leading zeros is given.
 #[inline(always)]
-pub(crate) fn decode_after(
+pub(crate) fn decode_after_zeros(
     tables: &Tables,
     input: &[u8],
     zeros: usize,
 ) -> Result<u128, DecodeError> {
     requires!(!input.is_empty());
+    requires!(zeros <= input.len());
     let (_, after_zeros) = input.split_at(zeros);
     if after_zeros.len() > MAX_DIGITS {
         return Err(DecodeError::ArithmeticOverflow);
@@ -56,8 +57,8 @@ pub(crate) fn count_zeros(tables: &Tables, input: &[u8]) -> usize {
 }
 
 // Decodes the 11 to 22 bytes after the leading zeros. If the first ten show an overflow, it is
-// reported before a later byte is read.
-#[inline(always)]
+// reported before a later byte is read. It is the larger part of the decoder, so there is one copy.
+#[inline(never)]
 fn read_long(tables: &Tables, after_zeros: &[u8], zeros: usize) -> Result<u128, DecodeError> {
     requires!(10 < after_zeros.len());
     requires!(after_zeros.len() <= crate::MAX_DIGITS);

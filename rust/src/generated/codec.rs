@@ -11,7 +11,7 @@ pub(crate) mod encoder;
 
 use crate::alphabet::{Alphabet, alternative_tables, standard_tables};
 use crate::fault::{DecodeError, EncodeError};
-use decoder::decode_over;
+use decoder::{decode_inlined_over, decode_over};
 use encoder::encode_over;
 
 /// Writes the encoded string of `num` to the start of `buf`, and returns its length, 1 to 22.
@@ -115,7 +115,7 @@ pub fn encode_bytes_with<T: Into<u128>>(
 /// leading zeros included.
 #[inline(always)]
 pub fn decode<T: AsRef<[u8]>>(input: T) -> Result<u128, DecodeError> {
-    decode_over(standard_tables(), input.as_ref())
+    decode_inlined_over(standard_tables(), input.as_ref())
 }
 
 /// Like [`decode`], but uses the alternative alphabet.
@@ -130,7 +130,7 @@ pub fn decode<T: AsRef<[u8]>>(input: T) -> Result<u128, DecodeError> {
 /// Returns the errors of [`decode`].
 #[inline(always)]
 pub fn decode_alternative<T: AsRef<[u8]>>(input: T) -> Result<u128, DecodeError> {
-    decode_over(alternative_tables(), input.as_ref())
+    decode_inlined_over(alternative_tables(), input.as_ref())
 }
 
 /// Like [`decode`], but uses a custom alphabet.

@@ -108,7 +108,7 @@ pub fn encode_uuid_with(alphabet: &Alphabet, uuid: [u8; 16]) -> String {
 ///
 /// Allocates at most once, before it appends, if the spare capacity of `buf` is less than the
 /// length of the string. 22 spare bytes are always enough. The capacity never shrinks.
-/// If the allocation fails, the program aborts.
+/// If the allocation fails, the program aborts. Panics if `buf` would exceed `isize::MAX` bytes.
 ///
 /// ```rust
 /// let mut link = String::from("https://example.org/");

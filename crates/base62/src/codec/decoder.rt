@@ -29,6 +29,32 @@ pub(crate) fn decode_over(
     decode_after_zeros(tables, input, zeros, work)
 }
 
+// Like `decode_over`, for calls that are inlined at each of their places. Only the code for texts of
+// at most ten bytes is.
+#[inline(always)]
+pub(crate) fn decode_inlined_over(
+    tables: &Tables,
+    input: &[u8],
+    work: &mut Work,
+) -> Result<u128, DecodeError>
+    requires { AreTables tables.now }
+    ensures { DecodesCounted tables.now.letters input.now work.old work.new result }
+{
+    if input.len() > 10 {
+        return decode_outlined_over(tables, input, work);
+    }
+    decode_over(tables, input, work)
+}
+
+// Like `decode_over`, but never inlined.
+#[inline(never)]
+fn decode_outlined_over(tables: &Tables, input: &[u8], work: &mut Work) -> Result<u128, DecodeError>
+    requires { AreTables tables.now }
+    ensures { DecodesCounted tables.now.letters input.now work.old work.new result }
+{
+    decode_over(tables, input, work)
+}
+
 // Decodes a text, whose count of leading zeros is given.
 #[inline(always)]
 pub(crate) fn decode_after_zeros(
@@ -73,8 +99,8 @@ pub(crate) fn count_zeros(tables: &Tables, input: &[u8]) -> usize
 }
 
 // Decodes the 11 to 22 bytes after the leading zeros. If the first ten show an overflow, it is
-// reported before a later byte is read. It is the larger part of the decoder, so there is one copy.
-#[inline(never)]
+// reported before a later byte is read.
+#[inline(always)]
 fn read_long(
     tables: &Tables,
     after_zeros: &[u8],

@@ -21,6 +21,22 @@ pub(crate) fn decode_over(tables: &Tables, input: &[u8]) -> Result<u128, DecodeE
     decode_after_zeros(tables, input, zeros)
 }
 
+// Like `decode_over`, for calls that are inlined at each of their places. Only the code for texts of
+// at most ten bytes is.
+#[inline(always)]
+pub(crate) fn decode_inlined_over(tables: &Tables, input: &[u8]) -> Result<u128, DecodeError> {
+    if input.len() > 10 {
+        return decode_outlined_over(tables, input);
+    }
+    decode_over(tables, input)
+}
+
+// Like `decode_over`, but never inlined.
+#[inline(never)]
+fn decode_outlined_over(tables: &Tables, input: &[u8]) -> Result<u128, DecodeError> {
+    decode_over(tables, input)
+}
+
 // Decodes a text, whose count of leading zeros is given.
 #[inline(always)]
 pub(crate) fn decode_after_zeros(
@@ -57,8 +73,8 @@ pub(crate) fn count_zeros(tables: &Tables, input: &[u8]) -> usize {
 }
 
 // Decodes the 11 to 22 bytes after the leading zeros. If the first ten show an overflow, it is
-// reported before a later byte is read. It is the larger part of the decoder, so there is one copy.
-#[inline(never)]
+// reported before a later byte is read.
+#[inline(always)]
 fn read_long(tables: &Tables, after_zeros: &[u8], zeros: usize) -> Result<u128, DecodeError> {
     requires!(10 < after_zeros.len());
     requires!(after_zeros.len() <= crate::MAX_DIGITS);

@@ -147,7 +147,7 @@ ATTRIBUTE = re.compile(rf"# \[ (?:inline(?: \( always \))?|must_use|track_caller
 # the macros, and the words before a ! that is no macro's;
 MACROS = set("assert assert_eq assert_ne concat debug_assert env eprint eprintln format format_args matches panic "
              "print println unreachable vec write writeln if in match return while".split())
-# what they name of the crate;
+# what they name of the crate, since a function with `requires!` is safe to call, and not to misuse;
 OF_CRATE = r"pub \( crate \) |crate :: (?:text :: Text|Alphabet|\{ Alphabet , AlphabetError \}) "
 # and what contract.rs alone has: all `unsafe`, the functions that this calls, and the macros of the generated files.
 UNSAFE = ("core :: hint :: assert_unchecked ( $ clause )", "$ kind :: from_utf8_unchecked ( $ bytes )",
@@ -230,10 +230,9 @@ class Source:
         parts.begin, types = "", dict(re.findall(r"(\w+) : (u\w+)", parts.parameters))
         for clause in re.findall(rf"requires (?:\w+ )?\{{ ({SIDE} [<≤≡] {SIDE}) \}}", parts.clauses):
             kind = next((types[word] for word in clause.split() if word in types), "usize")
-            # A power that wraps would be a false clause, so undefined behaviour.
             for base, power in re.findall(r"\b(\d+)(?: \^ (\d+))?", clause):
                 if int(base) ** int(power or 1) >> int(kind[1:].replace("size", "32")):
-                    self.reject(parts.name, f"a {kind} of some target has no number {base} ^ {power or 1}")
+                    self.reject(parts.name, f"{base} ^ {power or 1} wraps in a {kind} of some target")
             parts.begin += f"requires ! ( {edit(clause, CLAUSE).format(kind)} ) ; "
         parts.begin += BEGINS.get(parts.name, "")
         if self.is_library:
@@ -315,8 +314,7 @@ def difference(tokens, expected):
 
 
 def fault_of_hand_written(file):
-    """What is amiss in a hand-written file: it has its own code alone, and no more of it public than lib.rs names. A function
-    with `requires!` is safe to call, and undefined if its clauses are false."""
+    """What is amiss in a hand-written file: it has its own code alone, and no more of it public than lib.rs names."""
     code = bare(code_of(file))
     code = re.sub(HIDDEN, lambda literal: name if NAME.fullmatch(name := literal[0].translate(SHOW)) else literal[0], code)
     if file.name == "contract.rs":

@@ -9,7 +9,7 @@ help: ## print this list
 check: ## test all packages without the kit, in parallel
 	@rm -rf out/check
 	@$(MAKE) --jobs=$$(nproc) --keep-going --output-sync=target --no-print-directory $(parts:%=check-%) || :
-	@scripts/count sum $(parts:%=out/check/%.log)
+	@scripts/tally sum $(parts:%=out/check/%.log)
 
 $(parts:%=check-%): check-%:
 	@scripts/check $*

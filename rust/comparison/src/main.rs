@@ -192,7 +192,7 @@ mod library {
     #[repr(C)]
     pub struct Alphabet([u8; 318]);
 
-    // scripts/check-compare tells the linker where it is.
+    // scripts/check-random-calls tells the linker where it is.
     #[link(name = "base62")]
     // SAFETY: the safe ones take references to all that they access.
     unsafe extern "C" {

@@ -267,13 +267,13 @@ fn strings_of_uuids() {
 
 #[test]
 fn messages() {
-    let text_of = |error: DecodeError| {
+    let message_of = |error: DecodeError| {
         let text = error.to_string();
         assert_eq!(CanonicalError::Decode(error).to_string(), text);
         assert_eq!(FixedError::Decode(error).to_string(), text);
         text
     };
-    let overflow = text_of(DecodeError::ArithmeticOverflow);
+    let overflow = message_of(DecodeError::ArithmeticOverflow);
     assert_eq!(overflow, "Decoded number cannot fit into a `u128`");
     for row in rows("message") {
         let text = match row[1..] {
@@ -287,7 +287,7 @@ fn messages() {
                 AlphabetError::Repeated(byte.parse().unwrap(), index.parse().unwrap()).to_string()
             }
             _ => match decode_error(&row[1..]) {
-                Some(error) => text_of(error),
+                Some(error) => message_of(error),
                 None => continue,
             },
         };

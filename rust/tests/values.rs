@@ -251,14 +251,13 @@ fn ranges() {
 #[test]
 fn strings_of_uuids() {
     for row in rows("uuid_string") {
-        let uuid = uuid_from_string(bytes(row[0]));
+        let found = uuid_from_string(bytes(row[0]));
         if row[1] == "none" {
-            assert_eq!(uuid, Err(UuidError::InvalidUuid), "{}", row[0]);
+            assert_eq!(found, Err(UuidError::InvalidUuid), "{}", row[0]);
         } else {
-            let digits = row[1].replace('-', "");
-            let number = u128::from_str_radix(&digits, 16).unwrap();
-            let uuid = uuid.unwrap();
-            assert_eq!(uuid, number.to_be_bytes(), "{}", row[0]);
+            let number = u128::from_str_radix(&row[1].replace('-', ""), 16).unwrap();
+            let uuid = number.to_be_bytes();
+            assert_eq!(found, Ok(uuid), "{}", row[0]);
             assert_eq!(&uuid_to_string(uuid)[..], row[1].as_bytes());
             assert_eq!(uuid_to_str(uuid, &mut [0; 36]), row[1]);
         }

@@ -93,8 +93,7 @@ UNKNOWN = [
     ("what a public function requires", CODEC_SOURCE, "ensures { EncodesInto", "requires { 5 ≤ num } ensures { EncodesInto"),
 ]
 
-# Lines that generated files have.
-LINES = [
+LINES = [  # Of generated files.
     ("key.rs", "#[must_use]\npub fn encode_key<"),
     ("target.rs", '#[must_use = "this allocates a new `String`"]\npub fn encode<'),
     ("target.rs", "/// # Panics\n///\n/// Panics if the alphabet contains a non-ASCII character.\n#[track_caller]\n"),

@@ -102,7 +102,7 @@ ASSERTED = {"IsAscii alphabet . now ": ("crate :: support :: contract :: assert_
                                         "Panics if the alphabet contains a non-ASCII character."),
             "IsTrue ( is_alphabet characters ) ":
                 ("", "Panics if a byte is repeated. In a constant, this is a compile error.")}
-BEGINS = {"append_over": "in_place ! ( tables , num , buf ) ; "}  # What a body begins with besides.
+BEGINS = {"append_over": "return_if_written_in_place ! ( tables , num , buf ) ; "}  # What a body begins with besides.
 # A clause that compares numbers and lengths, in Rust. {} is the type of the number.
 SIDE = r"(?:\d+ \^ \d+|length \w+ \. (?:now|old)|\w+)"
 CLAUSE = [(r"length (\w+) \. (now|old)", r"\1 . len ( )"), (r"(\d+) \^ (\d+)", r"\1_{} . pow ( \2 )"),
@@ -114,7 +114,8 @@ COMMENTS = [(r"(base62::encode(?!\w*_io)\w*\(.*\))\?;", r"\1;"), (r"println!\(rt
             (r"Some\(\((\d+), (\d+)\)\)", r"Some(\1..=\2)"), (r"\?;", ".unwrap();"),
             (r"(?s)let characters = ([^;]*;)(.*)let alphabet = (\w+::Alphabet)(::from_static)\(characters\);(.*)&alphabet\b",
              r"const CHARACTERS: [u8; 62] = \1\2const OWN: \3 = \3\4(CHARACTERS);\5&OWN"),
-            (r"(If the allocation fails, )`buf` is left unchanged\.", r"\1the program aborts.")]
+            (r"(If the allocation fails, )`buf` is left unchanged\.",
+             r"\1the program aborts. Panics if `buf` would exceed `isize::MAX` bytes.")]
 EXAMPLE = [(r"(?s)///\n/// ```.*?/// ```\n", "")]  # None of a function that is not public in Rust.
 # Empty lines, as rustfmt leaves them.
 LAYOUT = [(rf"(?:{EMPTY} )+", f"{EMPTY} "), (rf"\{{ {EMPTY} ", "{ "), (rf"{EMPTY} (?=\}}|$)", "")]
@@ -146,10 +147,14 @@ ATTRIBUTE = re.compile(rf"# \[ (?:inline(?: \( always \))?|must_use|track_caller
 # the macros, and the words before a ! that is no macro's;
 MACROS = set("assert assert_eq assert_ne concat debug_assert env eprint eprintln format format_args matches panic "
              "print println unreachable vec write writeln if in match return while".split())
-# and what contract.rs alone has: all `unsafe`, and the macros of the generated files.
+# what they name of the crate, since a function with `requires!` is safe to call, and not to misuse;
+OF_CRATE = r"pub \( crate \) |crate :: (?:text :: Text|Alphabet|\{ Alphabet , AlphabetError \}) "
+# and what contract.rs alone has: all `unsafe`, the functions that this calls, and the macros of the generated files.
 UNSAFE = ("core :: hint :: assert_unchecked ( $ clause )", "$ kind :: from_utf8_unchecked ( $ bytes )",
           "$ buf . as_mut_vec ( )", "$ bytes . set_len ( $ bytes . len ( ) + $ len )")
-OWN_MACROS = "requires|proved|in_place|append_zeros"
+OF_CONTRACT = ("crate :: MAX_DIGITS", "crate :: digit_count ( n )", "crate :: support :: contract :: fill ( places", "super :: fill ;",
+               "crate :: codec :: encoder :: write_number ( $ tables , n , len , & mut bytes", "crate :: powers :: power ( 11 )")
+OWN_MACROS = "requires|proved|return_if_written_in_place|append_zeros"
 
 # Of rust/Cargo.toml: where the code is, what its features mean, and the keys of its package. Other files for Cargo.
 MANIFEST = {"lib": {"name": "base62"}, "features": {"default": ["alloc"], "alloc": [], "std": ["alloc"], "checked": []}}
@@ -224,8 +229,11 @@ class Source:
         parts.body = edit(parts.body, CALLS + RANGE * ("( u128 , u128 )" in parts.result))
         parts.begin, types = "", dict(re.findall(r"(\w+) : (u\w+)", parts.parameters))
         for clause in re.findall(rf"requires (?:\w+ )?\{{ ({SIDE} [<≤≡] {SIDE}) \}}", parts.clauses):
-            kinds = [types[word] for word in clause.split() if word in types]
-            parts.begin += f"requires ! ( {edit(clause, CLAUSE).format(*kinds, 'usize')} ) ; "
+            kind = next((types[word] for word in clause.split() if word in types), "usize")
+            for base, power in re.findall(r"\b(\d+)(?: \^ (\d+))?", clause):
+                if int(base) ** int(power or 1) >> int(kind[1:].replace("size", "32")):
+                    self.reject(parts.name, f"{base} ^ {power or 1} wraps in a {kind} of some target")
+            parts.begin += f"requires ! ( {edit(clause, CLAUSE).format(kind)} ) ; "
         parts.begin += BEGINS.get(parts.name, "")
         if self.is_library:
             self.edit_library(parts)
@@ -312,10 +320,12 @@ def fault_of_hand_written(file):
     if file.name == "contract.rs":
         for call in UNSAFE:
             code = code.replace(f"unsafe {{ {call} }}", "", 1)
+        for name in OF_CONTRACT:
+            code = code.replace(name, "")
         code = re.sub(rf"\bmacro_rules ! (?:{OWN_MACROS}) \{{|\b(?:{OWN_MACROS}) ! \(", "", code)
     code = ATTRIBUTE.sub("", code)
     unknown = {*re.findall(r"(\w+) ! [({[]", code)} - MACROS
-    unknown |= {*re.findall(r"\b(?:unsafe|extern|macro_rules)\b|#.*?\]", code)}
+    unknown |= {*re.findall(r"\b(?:unsafe|extern|macro_rules|crate|super|as_tables)\b|#.*?\]", re.sub(OF_CRATE, "", code))}
     unknown |= {*re.findall(r"\bpub (?!\()(?:\w+ )*(\w+) [^\w ]", code)} - {"ParseAlphabetError"}
     return f"a hand-written file may not have this: {min(unknown).translate(SHOW)}" if unknown else ""
 

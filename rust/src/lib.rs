@@ -66,4 +66,4 @@ pub use target::{
 #[cfg(feature = "std")]
 pub use target::{encode_alternative_io, encode_io, encode_io_with};
 pub use uuid::{decode_uuid, decode_uuid_canonical, decode_uuid_canonical_with, decode_uuid_with};
-pub use uuid_string::{uuid_from_string, uuid_to_string};
+pub use uuid_string::{uuid_from_string, uuid_to_str, uuid_to_string};

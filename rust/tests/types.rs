@@ -39,7 +39,6 @@ fn writers_of_the_crate<T: Into<u128>, W: std::io::Write + ?Sized>() {
 fn types() {
     fn alphabet<T: Copy + Debug + Default + Eq + Hash + Send + Sync + Unpin>() {}
     alphabet::<Alphabet>();
-    let _: fn([u8; 62]) -> Result<Alphabet, AlphabetError> = Alphabet::try_from;
     fn shown(value: impl Copy + Debug + Display + Send + Sync + 'static) -> String {
         format!("{value:?}")
     }

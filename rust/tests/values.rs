@@ -7,7 +7,7 @@ use base62::{
     ParseAlphabetError, UuidError,
 };
 use base62::{encode_fixed_str, encode_fixed_str_with, encode_key, encode_key_str};
-use base62::{prefix_range, prefix_range_with, uuid_from_string, uuid_to_string};
+use base62::{prefix_range, prefix_range_with, uuid_from_string, uuid_to_str, uuid_to_string};
 use std::fmt::Display;
 use std::hash::{BuildHasher, RandomState};
 use std::str;
@@ -251,27 +251,28 @@ fn ranges() {
 #[test]
 fn strings_of_uuids() {
     for row in rows("uuid_string") {
-        let uuid = uuid_from_string(bytes(row[0]));
+        let found = uuid_from_string(bytes(row[0]));
         if row[1] == "none" {
-            assert_eq!(uuid, Err(UuidError::InvalidUuid), "{}", row[0]);
+            assert_eq!(found, Err(UuidError::InvalidUuid), "{}", row[0]);
         } else {
-            let digits = row[1].replace('-', "");
-            let number = u128::from_str_radix(&digits, 16).unwrap();
-            assert_eq!(uuid, Ok(number.to_be_bytes()), "{}", row[0]);
-            assert_eq!(&uuid_to_string(uuid.unwrap())[..], row[1].as_bytes());
+            let number = u128::from_str_radix(&row[1].replace('-', ""), 16).unwrap();
+            let uuid = number.to_be_bytes();
+            assert_eq!(found, Ok(uuid), "{}", row[0]);
+            assert_eq!(&uuid_to_string(uuid)[..], row[1].as_bytes());
+            assert_eq!(uuid_to_str(uuid, &mut [0; 36]), row[1]);
         }
     }
 }
 
 #[test]
 fn messages() {
-    let text_of = |error: DecodeError| {
+    let message_of = |error: DecodeError| {
         let text = error.to_string();
         assert_eq!(CanonicalError::Decode(error).to_string(), text);
         assert_eq!(FixedError::Decode(error).to_string(), text);
         text
     };
-    let overflow = text_of(DecodeError::ArithmeticOverflow);
+    let overflow = message_of(DecodeError::ArithmeticOverflow);
     assert_eq!(overflow, "Decoded number cannot fit into a `u128`");
     for row in rows("message") {
         let text = match row[1..] {
@@ -285,7 +286,7 @@ fn messages() {
                 AlphabetError::Repeated(byte.parse().unwrap(), index.parse().unwrap()).to_string()
             }
             _ => match decode_error(&row[1..]) {
-                Some(error) => text_of(error),
+                Some(error) => message_of(error),
                 None => continue,
             },
         };
@@ -302,9 +303,11 @@ fn letters() {
         assert_eq!(alphabet.characters(), &letters);
         assert_eq!(alphabet.as_ref(), &letters);
         assert_eq!(Alphabet::try_from(letters), Ok(alphabet));
+        assert_eq!(Alphabet::try_from(&letters), Ok(alphabet));
         assert_eq!(hasher.hash_one(alphabet), hasher.hash_one(letters));
         if let Ok(letters) = str::from_utf8(&letters) {
             assert_eq!(letters.parse(), Ok(alphabet));
+            assert_eq!(Alphabet::try_from(letters), Ok(alphabet));
         }
         assert_eq!(alphabet.is_ascii(), row[2] == "1");
         assert_eq!(alphabet.is_ascending(), row[3] == "1");
@@ -328,7 +331,9 @@ fn repeated_letters() {
         let fault_of_slice = ParseAlphabetError::Repeated(byte, index);
         assert_eq!(Alphabet::try_from(&letters[..]), Err(fault_of_slice));
         assert_eq!(fault_of_slice.to_string(), fault.to_string());
-        assert_eq!(Alphabet::new(letters.try_into().unwrap()), Err(fault));
+        let letters: [u8; 62] = letters.try_into().unwrap();
+        assert_eq!(Alphabet::new(letters), Err(fault));
+        assert_eq!(Alphabet::try_from(&letters), Err(fault));
     }
 }
 
@@ -338,6 +343,7 @@ fn wrong_number_of_letters() {
         let fault = ParseAlphabetError::InvalidLength(length);
         assert_eq!(Alphabet::try_from(&vec![b'a'; length][..]), Err(fault));
         assert_eq!("a".repeat(length).parse::<Alphabet>(), Err(fault));
+        assert_eq!(Alphabet::try_from(&*"a".repeat(length)), Err(fault));
         let fault_of_bytes = ParseAlphabetError::InvalidLength(2 * length);
         assert_eq!("é".repeat(length).parse::<Alphabet>(), Err(fault_of_bytes));
         let text = format!("Alphabet has {length} bytes instead of 62");

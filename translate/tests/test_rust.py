@@ -1,4 +1,4 @@
-"""Tests translate/rust.py: it finds each change of rust/src, and rejects what it does not know in a source."""
+"""Tests translate/rust.py: it finds each mutant of rust/src, and rejects what it does not know in a source."""
 import contextlib
 import os
 import shutil
@@ -16,7 +16,7 @@ DECODER_SOURCE, ENCODER_SOURCE, CODEC_SOURCE = (f"base62/src/{name}.rt" for name
 DECODER, TABLES = "generated/codec/decoder.rs", "generated/alphabet/tables.rs"
 
 # A file of rust/src, what stands there, and what takes its place. None: the file goes. A file that is not there comes.
-CHANGES = [
+MUTANTS = [
     # Bytes, and comments that hide code.
     ("generated/powers.rs", "    ", "\t"),
     ("generated/powers.rs", "// ", "// \N{RIGHT-TO-LEFT OVERRIDE}"),
@@ -43,6 +43,10 @@ CHANGES = [
     ("support/traits.rs", "impl Hash", "pub fn encode_key_of() {}\nimpl Hash"),
     ("support/traits.rs", "impl Hash", "impl Alphabet {\n    pub const fn first(&self) -> u8 { 0 }\n}\nimpl Hash"),
     ("support/traits.rs", "impl Hash", 'const _: &str = include_str!("mod.rs");\nimpl Hash'),
+    ("support/traits.rs", "use core::fmt;", "use core::fmt;\nuse crate::powers::power;"),
+    ("support/traits.rs", "use core::fmt;", "use core::fmt;\nuse super::super::powers::power;"),
+    ("support/traits.rs", "        self.characters()", "        let _ = self.as_tables().letter(62);\n        self.characters()"),
+    ("support/contract.rs", "crate::powers::power(11)", "crate::powers::power(12)"),
     ("support/traits.rs", "self.characters()", "{ macro_rules! vec { () => {} } self.characters() }"),
     # lib.rs has what the source has.
     ("lib.rs", ", warn(missing_docs)", ""),
@@ -84,7 +88,17 @@ UNKNOWN = [
     ("`unsafe`", ENCODER_SOURCE, "    let quotient = x / POWER_2;", "    let quotient = unsafe { x };"),
     ("a clause of another kind", ENCODER_SOURCE, "    requires fits { x < 62 ^ 2 }", "    decreases { x }"),
     ("parameters in another order", CODEC_SOURCE, "counted(num, buf, &mut Work", "counted(buf, num, &mut Work"),
+    ("a power beyond a `usize` of 32 bits", DECODER_SOURCE, "zeros ≤ length input.now }", "zeros < 2 ^ 32 }"),
+    ("a number beyond a `usize` of 32 bits", DECODER_SOURCE, "zeros ≤ length input.now }", "zeros < 4294967296 }"),
     ("what a public function requires", CODEC_SOURCE, "ensures { EncodesInto", "requires { 5 ≤ num } ensures { EncodesInto"),
+]
+
+LINES = [  # Of generated files.
+    ("key.rs", "#[must_use]\npub fn encode_key<"),
+    ("target.rs", '#[must_use = "this allocates a new `String`"]\npub fn encode<'),
+    ("target.rs", "/// # Panics\n///\n/// Panics if the alphabet contains a non-ASCII character.\n#[track_caller]\n"),
+    ("alphabet.rs", "    /// Panics if a byte is repeated. In a constant, this is a compile error.\n    #[track_caller]\n"),
+    ("target.rs", "/// If the allocation fails, the program aborts. Panics if `buf` would exceed `isize::MAX` bytes.\n"),
 ]
 
 
@@ -135,8 +149,8 @@ class Rust(unittest.TestCase):
         self.assertEqual(self.files(), written)
         self.assertEqual(self.run_program("--nope")[0], 1)
 
-    def test_changes(self):
-        for name, old, new in CHANGES:
+    def test_mutants(self):
+        for name, old, new in MUTANTS:
             with self.subTest(file=name, new=new):
                 name = os.path.normpath(f"rust/src/{name}")
                 with self.edited(name, old, new):
@@ -162,6 +176,11 @@ class Rust(unittest.TestCase):
                     self.assertEqual(self.files(), before)
                     self.assertEqual(status, 1)
                     self.assertRegex(said, rf"crates/{name}:\d+: [^\n]*\n$")
+
+    def test_lines(self):
+        for name, lines in LINES:
+            with self.subTest(file=name, lines=lines):
+                self.assertIn(lines, (self.folder / "rust/src/generated" / name).read_text())
 
     def test_links(self):
         folder = self.folder / "rust/src"

@@ -3,11 +3,13 @@ use Rattle.std.proofs.Common.{◌≡◌, ◌<◌, ◌+◌, ◌-◌, ◌*◌, ◌
 use Rattle.std.proofs.Common.{refl, ap, sym, ◌∙◌, subst, inl, inr, append_assoc, length-set, length-drop, arith}
 use Rattle.std.specs.Char.{digit_char, digit_value, to_ascii_lowercase}
 use Rattle.std.specs.List.{list_all}
+use Rattle.std.specs.Str.{IsAscii}
 use Rattle.std.proofs.Math.ListN.{get_or-map}
 use Rattle.std.proofs.lemmas.Bool.{false≢true}
 use Rattle.std.proofs.lemmas.Bool.Decides.{nat_tests}
 use Rattle.std.proofs.lemmas.Grind.{flat_map-append}
 use Rattle.std.proofs.lemmas.List.{length-map, take_all, take_more, take_more_set}
+use Rattle.std.proofs.lemmas.Str.{IsAscii-append, IsAscii-drop, IsAscii-take}
 use Rattle.base62.specs.Uuid.{IsUuid}
 use Rattle.base62.specs.UuidString.{AreDigitsOf, HasUrn, IsInBraces, IsUuidString, digits, hyphenated, inner}
 
@@ -225,6 +227,28 @@ written_back uuid is =
       bytes = is;
       digits = inr (rw (lowercase_hyphenated (digits uuid) count, lowercase_digits uuid is.bytes) refl);
     })
+
+-- what is written is ASCII
+digits_ascii : (uuid : List ℕ) → ((i : ℕ) → get_or uuid i 0 < 256) → (i : ℕ) → get_or (digits uuid) i 0 < 128
+digits_ascii [] fits i = omega arith
+digits_ascii (byte ∷ uuid) fits zero =
+    let small = fits 0 in
+    let digit = digit_char-lt (byte / 16) (omega arith) in omega arith
+digits_ascii (byte ∷ uuid) fits (suc zero) =
+    let digit = digit_char-lt (byte % 16) (omega arith) in omega arith
+digits_ascii (byte ∷ uuid) fits (suc (suc i)) = digits_ascii uuid (λ i. fits (suc i)) i
+
+hyphen_ascii : (i : ℕ) → get_or (45 ∷ []) i 0 < 128
+hyphen_ascii zero = omega arith
+hyphen_ascii (suc i) = omega arith
+
+pub hyphenated_ascii : (uuid : List ℕ) → IsUuid uuid → IsAscii (hyphenated (digits uuid))
+hyphenated_ascii uuid is =
+    let d = digits uuid in
+    let part = λ (k n : ℕ). IsAscii-take (drop k d) n (IsAscii-drop d k (digits_ascii uuid is.bytes)) in
+    let more = λ (front : List ℕ) (ascii : IsAscii front) (k n : ℕ).
+    IsAscii-append (front ++ 45 ∷ []) (take n (drop k d)) (IsAscii-append front (45 ∷ []) ascii hyphen_ascii) (part k n) in
+    more _ (more _ (more _ (more _ (part 0 8) 8 4) 12 4) 16 4) 20 12
 
 -- no string is for two UUIDs
 one_of_digits : (text a b : List ℕ) → AreDigitsOf a text → AreDigitsOf b text → a ≡ b

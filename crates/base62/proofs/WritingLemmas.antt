@@ -100,13 +100,13 @@ pair_written B (_ ∷ []) x first second room small one two = absurd (omega arit
 pair_written B (_ ∷ _ ∷ old) x first second room small one two = let same : x / 62 % 62 ≡ x / 62 = omega arith in rw (one, two, same) refl
 
 -- two letters, of which the second overwrites the first if there is only one place
-pub ends_written : (B old : List ℕ) (places x first second : ℕ) → 1 ≤ places → places ≤ 2
-    → places ≤ length old → x < 62 ^ places
+pub ends_written : (B old : List ℕ) (count x first second : ℕ) → 1 ≤ count → count ≤ 2
+    → count ≤ length old → x < 62 ^ count
     → first ≡ get_or B (x / 62) 0 → second ≡ get_or B (x % 62) 0
-    → WritesFixed B places x old (set (set old 0 first) (places - 1) second)
+    → WritesFixed B count x old (set (set old 0 first) (count - 1) second)
 unfolding fixed
 ends_written B old zero x first second some few room small one two = absurd (omega arith)
 ends_written B [] (suc zero) x first second some few room small one two = absurd (omega arith)
 ends_written B (_ ∷ old) (suc zero) x first second some few room small one two = rw two refl
 ends_written B old (suc (suc zero)) x first second some few room small one two = pair_written B old x first second room small one two
-ends_written B old (suc (suc (suc places))) x first second some few room small one two = absurd (omega arith)
+ends_written B old (suc (suc (suc count))) x first second some few room small one two = absurd (omega arith)

@@ -14,7 +14,7 @@ pub use errors::{
     clones_of_errors, order_of_alphabet_errors, order_of_canonical_errors, order_of_decode_errors,
     order_of_encode_errors, order_of_fixed_errors, order_of_uuid_errors,
 };
-pub use order::{fronts, order_of_parts, order_of_texts, order_of_two, scan_of_front};
+pub use order::{order_of_parts, order_of_texts, order_of_two, prefixes_of_texts, scan_of_prefix};
 pub use texts::{
     accepted_and_refused, answer_for, canonical_round_trip, concatenation, concatenation_of_two,
     decoded_numbers, exchange_of_case, exchange_of_text, numbers_of_uuids, one_text, round_trip,
@@ -22,5 +22,6 @@ pub use texts::{
     zero_in_front,
 };
 pub use widths::{
-    fixed_round_trip, fixed_texts_of_two, fixed_widths, of_number, of_text, texts_of_ascii,
+    fixed_round_trip, fixed_texts_of_two, fixed_widths, texts_of_ascii, width_of_number,
+    width_of_text,
 };

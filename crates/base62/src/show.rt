@@ -144,10 +144,9 @@ pub fn encode_fmt_alt<T: Number>(num: T) -> FmtAlternative
 /// [`Alphabet::is_ascii`] checks this.
 ///
 /// ```rust
-/// let alphabet = base62::Alphabet::alternative();
-/// if alphabet.is_ascii() {
-///     println!(rt; "{:0>5}", base62::encode_fmt_with(&alphabet, 1337_u64))?; // 000lz
-/// }
+/// let characters = *b"23456789ABCDEFGHJKLMNPQRSTUVWXYZabcdefghijkmnpqrstuvwxyz-_.~!*";
+/// let own = base62::Alphabet::from_static(characters);
+/// println!(rt; "{:2>5}", base62::encode_fmt_with(&own, 1337_u64))?; // 222Pd
 /// ```
 #[tactic(auto, using(crate::proofs::CanonicalLemmas::ascii_texts))]
 pub fn encode_fmt_with<T: Number>(alphabet: &Alphabet, num: T) -> FmtWith

@@ -8,7 +8,7 @@ ghost use Rattle.base62.specs.Tables.{AreTables};
 ghost use Rattle.base62.specs.Uuid.{uuid_number};
 
 use crate::alphabet::{Alphabet, Tables, Work, alternative_tables, standard_tables};
-use crate::codec::encoder::write_text;
+use crate::codec::encoder::write_number;
 use crate::count::digit_count;
 use crate::number::Number;
 use crate::text::Text;
@@ -50,11 +50,10 @@ pub fn encode_alternative<T: Number>(alloc: Global, num: T) -> Result<String, Al
 /// [`Alphabet::is_ascii`] checks this.
 ///
 /// ```rust
-/// let alphabet = base62::Alphabet::alternative();
-/// if alphabet.is_ascii() {
-///     let text = base62::encode_with(rt.alloc(), &alphabet, 1234567890_u64)?;
-///     assert_eq!(rt; text.as_str(), "1ly7vk");
-/// }
+/// let characters = *b"23456789ABCDEFGHJKLMNPQRSTUVWXYZabcdefghijkmnpqrstuvwxyz-_.~!*";
+/// let own = base62::Alphabet::from_static(characters);
+/// let text = base62::encode_with(rt.alloc(), &own, 1234567890_u64)?;
+/// assert_eq!(rt; text.as_str(), "3Pc9ZN");
 /// ```
 #[tactic(auto, using(crate::proofs::CanonicalLemmas::ascii_texts))]
 pub fn encode_with<T: Number>(
@@ -95,12 +94,11 @@ pub fn encode_uuid(alloc: Global, uuid: [u8; 16]) -> Result<String, AllocError>
 /// [`Alphabet::is_ascii`] checks this.
 ///
 /// ```rust
-/// let alphabet = base62::Alphabet::alternative();
-/// if alphabet.is_ascii() {
-///     let uuid = [0, 0, 0, 0, 0, 0, 0, 0, 0, 0, 0, 0, 0, 0, 5, 57];
-///     let text = base62::encode_uuid_with(rt.alloc(), &alphabet, uuid)?;
-///     assert_eq!(rt; text.as_str(), "lz");
-/// }
+/// let characters = *b"23456789ABCDEFGHJKLMNPQRSTUVWXYZabcdefghijkmnpqrstuvwxyz-_.~!*";
+/// let own = base62::Alphabet::from_static(characters);
+/// let uuid = [0, 0, 0, 0, 0, 0, 0, 0, 0, 0, 0, 0, 0, 0, 5, 57];
+/// let text = base62::encode_uuid_with(rt.alloc(), &own, uuid)?;
+/// assert_eq!(rt; text.as_str(), "Pd");
 /// ```
 #[inline]
 #[tactic(auto, using(crate::proofs::CanonicalLemmas::ascii_texts))]
@@ -152,12 +150,11 @@ pub fn encode_alternative_buf<T: Number>(num: T, buf: &mut String) -> Result<(),
 /// [`Alphabet::is_ascii`] checks this.
 ///
 /// ```rust
-/// let alphabet = base62::Alphabet::alternative();
+/// let characters = *b"23456789ABCDEFGHJKLMNPQRSTUVWXYZabcdefghijkmnpqrstuvwxyz-_.~!*";
+/// let own = base62::Alphabet::from_static(characters);
 /// let mut link = String::from_str(rt.alloc(), "https://example.org/")?;
-/// if alphabet.is_ascii() {
-///     base62::encode_buf_with(&alphabet, 1337_u64, &mut link)?;
-///     assert_eq!(rt; link.as_str(), "https://example.org/lz");
-/// }
+/// base62::encode_buf_with(&own, 1337_u64, &mut link)?;
+/// assert_eq!(rt; link.as_str(), "https://example.org/Pd");
 /// ```
 #[tactic(auto, using(crate::proofs::CanonicalLemmas::ascii_texts))]
 pub fn encode_buf_with<T: Number>(
@@ -192,14 +189,14 @@ fn string_over<T: Number>(alloc: Global, tables: &Tables, num: T) -> Result<Stri
     let mut bytes = Vec::with_capacity(alloc, len)?;
     // The capacity is enough now.
     bytes.resize_with(len, || 0).unwrap();
-    write_text(tables, n, len, bytes.as_mut_slice(), &mut Work::new());
+    write_number(tables, n, len, bytes.as_mut_slice(), &mut Work::new());
     // SAFETY: the letters are ASCII.
     Ok(unsafe { String::from_utf8_unchecked(bytes) })
 }
 
 // Appends the text over the alphabet of the tables. In Rattle the bytes of a `String` cannot be
-// borrowed mutably, so the text is copied. In Rust the hand-written macro `in_place!` writes it in
-// place and returns, if the spare capacity is enough for any text.
+// borrowed mutably, so the text is copied. In Rust the hand-written `return_if_written_in_place!`
+// writes it in place if the spare capacity is enough for any text.
 #[inline]
 fn append_over<T: Number>(tables: &Tables, num: T, buf: &mut String) -> Result<(), AllocError>
     requires tables { AreTables tables.now }
@@ -267,10 +264,11 @@ pub fn encode_alternative_io<T: Number, W: Write>(num: T, w: &mut W) -> io::Resu
 /// Like [`encode_io`], but uses a custom alphabet, which may be non-ASCII.
 ///
 /// ```rust
-/// let alphabet = base62::Alphabet::alternative();
+/// let characters = *b"23456789ABCDEFGHJKLMNPQRSTUVWXYZabcdefghijkmnpqrstuvwxyz-_.~!*";
+/// let own = base62::Alphabet::from_static(characters);
 /// let mut out = Vec::new(rt.alloc());
-/// base62::encode_io_with(&alphabet, 1337_u64, &mut out)?;
-/// assert_eq!(rt; out.as_slice(), b"lz".as_slice());
+/// base62::encode_io_with(&own, 1337_u64, &mut out)?;
+/// assert_eq!(rt; out.as_slice(), b"Pd".as_slice());
 /// ```
 ///
 /// # Errors

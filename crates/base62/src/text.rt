@@ -8,7 +8,7 @@ ghost use Rattle.base62.specs.Decoding.{decoding};
 ghost use Rattle.base62.specs.Tables.{AreTables};
 
 use crate::alphabet::{Tables, Work};
-use crate::codec::encoder::write_text;
+use crate::codec::encoder::write_number;
 use crate::count::{MAX_DIGITS, digit_count};
 use crate::number::Number;
 use std::marker::Model;
@@ -49,7 +49,7 @@ impl Text {
     {
         let n = num.number();
         let len = digit_count(n);
-        write_text(tables, n, len, &mut self.bytes, &mut Work::new());
+        write_number(tables, n, len, &mut self.bytes, &mut Work::new());
         self.len = len;
     }
 

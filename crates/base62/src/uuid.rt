@@ -36,8 +36,9 @@ pub fn decode_uuid(input: &[u8]) -> Result<[u8; 16], DecodeError>
 /// Like [`decode_uuid`], but uses a custom alphabet.
 ///
 /// ```rust
-/// let alphabet = base62::Alphabet::alternative();
-/// let uuid = base62::decode_uuid_with(&alphabet, b"lz").unwrap();
+/// let characters = *b"23456789ABCDEFGHJKLMNPQRSTUVWXYZabcdefghijkmnpqrstuvwxyz-_.~!*";
+/// let own = base62::Alphabet::from_static(characters);
+/// let uuid = base62::decode_uuid_with(&own, b"Pd").unwrap();
 /// assert_eq!(rt; uuid, [0, 0, 0, 0, 0, 0, 0, 0, 0, 0, 0, 0, 0, 0, 5, 57]);
 /// ```
 ///
@@ -80,8 +81,9 @@ pub fn decode_uuid_canonical(input: &[u8]) -> Result<[u8; 16], CanonicalError>
 /// Like [`decode_uuid_canonical`], but uses a custom alphabet.
 ///
 /// ```rust
-/// let alphabet = base62::Alphabet::alternative();
-/// let uuid = base62::decode_uuid_canonical_with(&alphabet, b"lz").unwrap();
+/// let characters = *b"23456789ABCDEFGHJKLMNPQRSTUVWXYZabcdefghijkmnpqrstuvwxyz-_.~!*";
+/// let own = base62::Alphabet::from_static(characters);
+/// let uuid = base62::decode_uuid_canonical_with(&own, b"Pd").unwrap();
 /// assert_eq!(rt; uuid, [0, 0, 0, 0, 0, 0, 0, 0, 0, 0, 0, 0, 0, 0, 5, 57]);
 /// ```
 ///

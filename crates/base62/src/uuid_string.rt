@@ -7,6 +7,7 @@ ghost use Rattle.base62.specs.UuidString.{AreDigitsOf, HasUrn, IsInBraces, IsUui
 ghost use Rattle.base62.specs.declared.fault.UuidError.TheVariants.{InvalidUuid};
 
 use crate::fault::{UuidError, hex_digit};
+use std::str;
 
 /// Decodes the hexadecimal string of a UUID, and returns its sixteen bytes.
 ///
@@ -24,13 +25,13 @@ use crate::fault::{UuidError, hex_digit};
 ///
 /// # Errors
 ///
-/// Returns `InvalidUuid` for every other string.
+/// Returns [`InvalidUuid`](UuidError::InvalidUuid) for every other string.
 pub fn uuid_from_string(input: &[u8]) -> Result<[u8; 16], UuidError>
     ensures accepted { (uuid : List ℕ) → IsUuidString input.now uuid → result ≡ Ok uuid }
     ensures stored { (uuid : List ℕ) → result ≡ Ok uuid → IsUuidString input.now uuid }
     ensures refused { (uuid : List ℕ) → result ≡ Err InvalidUuid → IsUuidString input.now uuid → ⊥ }
 {
-    parse_uuid(input).ok_or(UuidError::InvalidUuid)
+    read_uuid_string(input).ok_or(UuidError::InvalidUuid)
 }
 
 /// Encodes a UUID as 36 characters: 32 lowercase hexadecimal digits, with hyphens after the digits
@@ -49,17 +50,34 @@ pub fn uuid_to_string(uuid: [u8; 16]) -> [u8; 36]
     with_hyphens(digits_of(uuid))
 }
 
+/// Like [`uuid_to_string`], but writes the string to `string`, and returns it as a `str`.
+///
+/// ```rust
+/// let uuid = [0, 0, 0, 0, 0, 0, 0, 0, 0, 0, 0, 0, 0, 0, 5, 57];
+/// let mut string = [0u8; 36];
+/// let text = base62::uuid_to_str(uuid, &mut string);
+/// assert_eq!(rt; text, "00000000-0000-0000-0000-000000000539");
+/// ```
+pub fn uuid_to_str(uuid: [u8; 16], string: &mut [u8; 36]) -> &str
+    ensures written { result.now ≡ hyphenated (digits uuid) }
+    ensures back { IsUuidString result.now uuid }
+{
+    *string = uuid_to_string(uuid);
+    // SAFETY: the digits and the hyphens are ASCII.
+    unsafe { str::from_utf8_unchecked(string) }
+}
+
 // Returns the UUID that a string stands for.
-fn parse_uuid(string: &[u8]) -> Option<[u8; 16]>
+fn read_uuid_string(string: &[u8]) -> Option<[u8; 16]>
     ensures stored { (uuid : List ℕ) → result ≡ Some uuid → IsUuidString string.now uuid }
     ensures accepted { (uuid : List ℕ) → IsUuidString string.now uuid → result ≡ Some uuid }
 {
     if is_in_braces(string) {
-        parse_digits(&string[1..string.len() - 1])
+        read_uuid(&string[1..string.len() - 1])
     } else if has_urn(string) {
-        parse_digits(&string[9..])
+        read_uuid(&string[9..])
     } else {
-        parse_digits(string)
+        read_uuid(string)
     }
 }
 
@@ -76,13 +94,13 @@ fn has_urn(string: &[u8]) -> bool
 }
 
 // Returns the UUID of 32 digits in either case, with hyphens or without.
-fn parse_digits(text: &[u8]) -> Option<[u8; 16]>
+fn read_uuid(text: &[u8]) -> Option<[u8; 16]>
     ensures stored { (uuid : List ℕ) → result ≡ Some uuid → AreDigitsOf uuid text.now }
     ensures accepted { (uuid : List ℕ) → AreDigitsOf uuid text.now → result ≡ Some uuid }
 {
     match without_hyphens(text) {
-        Some(digits) => parse_pairs(&digits),
-        None => parse_pairs(text),
+        Some(digits) => read_pairs(&digits),
+        None => read_pairs(text),
     }
 }
 
@@ -108,7 +126,7 @@ fn without_hyphens(text: &[u8]) -> Option<[u8; 32]>
 }
 
 // Returns the bytes of 32 digits in either case.
-fn parse_pairs(text: &[u8]) -> Option<[u8; 16]>
+fn read_pairs(text: &[u8]) -> Option<[u8; 16]>
     ensures stored { (uuid : List ℕ) → result ≡ Some uuid → IsUuid uuid }
     ensures digits { (uuid : List ℕ) → result ≡ Some uuid
         → map to_ascii_lowercase text.now ≡ digits uuid }
@@ -120,15 +138,15 @@ fn parse_pairs(text: &[u8]) -> Option<[u8; 16]>
     }
     let mut uuid = [0u8; 16];
     for index in 0..16 {
-        let high = digit_value(text[2 * index])?;
-        let low = digit_value(text[2 * index + 1])?;
+        let high = hex_value(text[2 * index])?;
+        let low = hex_value(text[2 * index + 1])?;
         uuid[index] = high * 16 + low;
     }
     Some(uuid)
 }
 
 // Returns the value of a hexadecimal digit in either case.
-fn digit_value(digit: u8) -> Option<u8>
+fn hex_value(digit: u8) -> Option<u8>
     ensures stored { (value : ℕ) → result ≡ Some value
         → (value < 16) × (to_ascii_lowercase digit ≡ digit_char value) }
     ensures other { (value : ℕ) → result ≡ None → value < 16

@@ -63,11 +63,11 @@ cut_at_end bytes end within at before = (
 )
 
 -- one reply more
-pub leaves_more : (all replies line bytes reply rest : List ℕ)
+pub leaves_after_line : (all replies line bytes reply rest : List ℕ)
     → All (λ b. b ≢ 10) line → IsReply line reply → bytes ≡ line ++ 10 ∷ rest
     → Leaves all replies bytes → Leaves all (replies ++ (reply ++ 10 ∷ [])) rest
 unfolding AreReplies
-leaves_more all replies line bytes reply rest unended is split leaves later h =
+leaves_after_line all replies line bytes reply rest unended is split leaves later h =
     let lines : lines_of bytes ≡ line ∷ lines_of rest = ap lines_of split ∙ lines-ended line rest unended in
     let one : IsOutput bytes (reply ++ 10 ∷ later) = rw lines (reply, later, is, h, refl) in
     let group : replies ++ (reply ++ 10 ∷ []) ++ later ≡ replies ++ (reply ++ 10 ∷ later) =

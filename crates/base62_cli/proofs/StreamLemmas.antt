@@ -26,30 +26,30 @@ Progress input reader before after line =
     IfSome input (λ bytes. (left : List ℕ) × (reader ≡ Some left) × (written : List ℕ) × Appends before after written × Leaves bytes written (line ++ left))
 
 -- one read answered
-pub progress_more : (input reader next before middle after : Option (List ℕ))
+pub progress_after_read : (input reader next before middle after : Option (List ℕ))
     (line rest chunk replies : List ℕ)
     → Progress input reader before middle line → Consumes reader next chunk
     → ((more : List ℕ) → Leaves (line ++ (chunk ++ more)) replies (rest ++ more))
     → Appends middle after replies → Progress input next before after rest
-progress_more None reader next before middle after line rest chunk replies p read answered wrote = tt
-progress_more (Some bytes) reader next before middle after line rest chunk replies p read answered wrote =
+progress_after_read None reader next before middle after line rest chunk replies p read leaves wrote = tt
+progress_after_read (Some bytes) reader next before middle after line rest chunk replies p read leaves wrote =
     let more = read_more reader next p.0 chunk p.1 read in
     let left : Leaves bytes p.2 (line ++ (chunk ++ more.0)) = subst (λ xs. Leaves bytes p.2 (line ++ xs)) more.2 p.4 in (
       more.0,
       more.1,
       p.2 ++ replies,
       appends_both before middle after p.2 replies p.3 wrote,
-      leaves_then bytes p.2 (line ++ (chunk ++ more.0)) replies (rest ++ more.0) left (answered more.0),
+      leaves_then bytes p.2 (line ++ (chunk ++ more.0)) replies (rest ++ more.0) left (leaves more.0),
     )
 
 -- a read that gave nothing, and the last line answered
-pub progress_end : (input reader next before middle after : Option (List ℕ)) (line output : List ℕ)
+pub output_at_end_of_input : (input reader next before middle after : Option (List ℕ)) (line output : List ℕ)
     → Progress input reader before middle line → Consumes reader next [] → IsAtEnd next
     → IsOutput line output → Appends middle after output
     → IfSome input
     (λ bytes. (next ≡ Some []) × (all : List ℕ) × IsOutput bytes all × Appends before after all)
-progress_end None reader next before middle after line output p read end last wrote = tt
-progress_end (Some bytes) reader next before middle after line output p read end last wrote =
+output_at_end_of_input None reader next before middle after line output p read end last wrote = tt
+output_at_end_of_input (Some bytes) reader next before middle after line output p read end last wrote =
     let more = read_more reader next p.0 [] p.1 read in
     let nothing : more.0 ≡ [] = rw more.1 at end in
     let whole : line ≡ line ++ p.0 = sym (append-nil line) ∙ ap (λ xs. line ++ xs) (sym (more.2 ∙ nothing)) in (

@@ -28,7 +28,7 @@ pub fn scan_ends(prefix: &[u8]) -> Option<([u8; 22], [u8; 22])>
     };
     let low = base62::encode_key(ends.0);
     let high = base62::encode_key(ends.1);
-    base62::laws::scan_of_front(&Alphabet::standard(), 22, prefix, ends, &low, &high);
+    base62::laws::scan_of_prefix(&Alphabet::standard(), 22, prefix, ends, &low, &high);
     Some((low, high))
 }
 

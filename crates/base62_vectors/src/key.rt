@@ -6,7 +6,7 @@ use base62::FixedError::{Decode, WrongLength};
 use base62::UuidError::InvalidUuid;
 use base62::{
     decode_fixed, decode_fixed_with, decode_key, encode_key, key_range, uuid_from_string,
-    uuid_to_string,
+    uuid_to_str, uuid_to_string,
 };
 use std::process::Abort;
 
@@ -57,6 +57,9 @@ fn strings_of_uuids(rt: HostRuntime) {
     let uuid = *b"\xf8\x1d\x4f\xae\x7d\xec\x11\xd0\xa7\x65\x00\xa0\xc9\x1e\x6b\xf6";
     let is_written = uuid_to_string(uuid) == *b"f81d4fae-7dec-11d0-a765-00a0c91e6bf6";
     assert!(rt; is_written, "the string of a UUID");
+    let mut string = [0u8; 36];
+    let is_returned = uuid_to_str(uuid, &mut string) == "f81d4fae-7dec-11d0-a765-00a0c91e6bf6";
+    assert!(rt; is_returned, "the string of a UUID as a `str`");
     let strings = [
         ("f81d4fae-7dec-11d0-a765-00a0c91e6bf6", Ok(uuid)),
         ("F81D4FAE7DEC11D0A76500A0C91E6BF6", Ok(uuid)),

@@ -87,6 +87,7 @@ fn strings(input: &Input, ours: &Alphabet, theirs: &library::Alphabet, custom: &
         encode_fmt(number).to_string().as_bytes() => standard,
         encode_fmt_alt(number).to_string().as_bytes() => alternative,
         encode_key_str(number, &mut [0; 22]).as_bytes() => library::encode_key(number),
+        uuid_to_str(uuid, &mut [0; 36]).as_bytes() => library::uuid_to_string(uuid),
         input.buffer(|places| encode_fixed_str(number, places).map(str::len)) => fixed,
         input.buffer(|places| encode_fixed(number, places).map(|()| places.len())) => fixed,
         input.buffer(|places| encode_fixed_with(ours, number, places).map(|()| places.len())) => custom_fixed,

@@ -7,7 +7,7 @@
 //! Canonical decoding.
 
 use crate::alphabet::{Alphabet, Tables, standard_tables};
-use crate::codec::decoder::{count_zeros, decode_after};
+use crate::codec::decoder::{count_zeros, decode_after_zeros};
 use crate::fault::{CanonicalError, DecodeError};
 
 /// Decodes `input` in the standard alphabet if it is canonical, and returns the number.
@@ -32,17 +32,18 @@ use crate::fault::{CanonicalError, DecodeError};
 ///
 /// # Errors
 ///
-/// Returns `LeadingZero` if [`decode`] returns a number, but `input` begins with a zero that other
-/// characters follow, and `Decode` with the error of [`decode`] if that returns one.
+/// Returns [`LeadingZero`](CanonicalError::LeadingZero) if [`decode`] returns a number, but `input`
+/// begins with a zero that other characters follow, and [`Decode`](CanonicalError::Decode) with the error of [`decode`] if that returns one.
 pub fn decode_canonical<T: AsRef<[u8]>>(input: T) -> Result<u128, CanonicalError> {
-    read_canonical(standard_tables(), input.as_ref())
+    decode_canonical_over(standard_tables(), input.as_ref())
 }
 
 /// Like [`decode_canonical`], but uses a custom alphabet.
 ///
 /// ```rust
-/// let alphabet = base62::Alphabet::alternative();
-/// assert_eq!(base62::decode_canonical_with(&alphabet, b"lz"), Ok(1337));
+/// let characters = *b"23456789ABCDEFGHJKLMNPQRSTUVWXYZabcdefghijkmnpqrstuvwxyz-_.~!*";
+/// let own = base62::Alphabet::from_static(characters);
+/// assert_eq!(base62::decode_canonical_with(&own, b"Pd"), Ok(1337));
 /// ```
 ///
 /// # Errors
@@ -52,17 +53,17 @@ pub fn decode_canonical_with<T: AsRef<[u8]>>(
     alphabet: &Alphabet,
     input: T,
 ) -> Result<u128, CanonicalError> {
-    read_canonical(alphabet.as_tables(), input.as_ref())
+    decode_canonical_over(alphabet.as_tables(), input.as_ref())
 }
 
 // Decodes a text over the alphabet of the tables if it is canonical.
 #[inline(always)]
-fn read_canonical(tables: &Tables, input: &[u8]) -> Result<u128, CanonicalError> {
+fn decode_canonical_over(tables: &Tables, input: &[u8]) -> Result<u128, CanonicalError> {
     if input.is_empty() {
         return Err(CanonicalError::Decode(DecodeError::EmptyInput));
     }
     let zeros = count_zeros(tables, input);
-    let number = decode_after(tables, input, zeros)?;
+    let number = decode_after_zeros(tables, input, zeros)?;
     if zeros > 0 && input.len() > 1 {
         return Err(CanonicalError::LeadingZero);
     }

@@ -11,7 +11,7 @@ pub(crate) mod encoder;
 
 use crate::alphabet::{Alphabet, alternative_tables, standard_tables};
 use crate::fault::{DecodeError, EncodeError};
-use decoder::decode_over;
+use decoder::{decode_inlined_over, decode_over};
 use encoder::encode_over;
 
 /// Writes the encoded string of `num` to the start of `buf`, and returns its length, 1 to 22.
@@ -28,7 +28,7 @@ use encoder::encode_over;
 ///
 /// # Errors
 ///
-/// Returns `BufferTooSmall` if `buf` is shorter than the encoded string, so never for 22 bytes or
+/// Returns [`BufferTooSmall`](EncodeError::BufferTooSmall) if `buf` is shorter than the encoded string, so never for 22 bytes or
 /// more. `buf` is then left unchanged.
 pub fn encode_bytes<T: Into<u128>>(num: T, buf: &mut [u8]) -> Result<usize, EncodeError> {
     encode_over(standard_tables(), num.into(), buf)
@@ -57,10 +57,11 @@ pub fn encode_alternative_bytes<T: Into<u128>>(
 /// The first character of the alphabet represents zero, as `0` does in the standard one.
 ///
 /// ```rust
-/// let alphabet = base62::Alphabet::alternative();
+/// let characters = *b"23456789ABCDEFGHJKLMNPQRSTUVWXYZabcdefghijkmnpqrstuvwxyz-_.~!*";
+/// let own = base62::Alphabet::from_static(characters);
 /// let mut buf = [0u8; 22];
-/// assert_eq!(base62::encode_bytes_with(&alphabet, 1337_u64, &mut buf), Ok(2));
-/// assert_eq!(&buf[..2], b"lz".as_slice());
+/// assert_eq!(base62::encode_bytes_with(&own, 1337_u64, &mut buf), Ok(2));
+/// assert_eq!(&buf[..2], b"Pd".as_slice());
 /// ```
 ///
 /// # Errors
@@ -108,12 +109,13 @@ pub fn encode_bytes_with<T: Into<u128>>(
 ///
 /// # Errors
 ///
-/// Returns `EmptyInput`, `ArithmeticOverflow` or `InvalidBase62Byte` in the cases 1 to 6.
-/// `InvalidBase62Byte` has the first byte that is not in the alphabet, and its index in `input`,
+/// Returns [`EmptyInput`](DecodeError::EmptyInput),
+/// [`ArithmeticOverflow`](DecodeError::ArithmeticOverflow) or
+/// [`InvalidBase62Byte`](DecodeError::InvalidBase62Byte) in the cases 1 to 6. The last of them has the first byte that is not in the alphabet, and its index in `input`,
 /// leading zeros included.
 #[inline(always)]
 pub fn decode<T: AsRef<[u8]>>(input: T) -> Result<u128, DecodeError> {
-    decode_over(standard_tables(), input.as_ref())
+    decode_inlined_over(standard_tables(), input.as_ref())
 }
 
 /// Like [`decode`], but uses the alternative alphabet.
@@ -128,7 +130,7 @@ pub fn decode<T: AsRef<[u8]>>(input: T) -> Result<u128, DecodeError> {
 /// Returns the errors of [`decode`].
 #[inline(always)]
 pub fn decode_alternative<T: AsRef<[u8]>>(input: T) -> Result<u128, DecodeError> {
-    decode_over(alternative_tables(), input.as_ref())
+    decode_inlined_over(alternative_tables(), input.as_ref())
 }
 
 /// Like [`decode`], but uses a custom alphabet.
@@ -136,8 +138,9 @@ pub fn decode_alternative<T: AsRef<[u8]>>(input: T) -> Result<u128, DecodeError>
 /// The first character of the alphabet represents zero, as `0` does in the standard one.
 ///
 /// ```rust
-/// let alphabet = base62::Alphabet::alternative();
-/// assert_eq!(base62::decode_with(&alphabet, b"lz"), Ok(1337));
+/// let characters = *b"23456789ABCDEFGHJKLMNPQRSTUVWXYZabcdefghijkmnpqrstuvwxyz-_.~!*";
+/// let own = base62::Alphabet::from_static(characters);
+/// assert_eq!(base62::decode_with(&own, b"Pd"), Ok(1337));
 /// ```
 ///
 /// # Errors

@@ -8,7 +8,7 @@
 
 use crate::alphabet::{Alphabet, Tables, standard_tables};
 use crate::codec::decoder::decode_over;
-use crate::codec::encoder::write_text;
+use crate::codec::encoder::write_number;
 use crate::count::digit_count;
 use crate::fault::{DecodeError, EncodeError, FixedError};
 use crate::powers::greatest;
@@ -30,10 +30,10 @@ use core::str;
 ///
 /// # Errors
 ///
-/// Returns `BufferTooSmall` if `places` is shorter than the encoded string, so always if it is
+/// Returns [`BufferTooSmall`](EncodeError::BufferTooSmall) if `places` is shorter than the encoded string, so always if it is
 /// empty, and never for 22 bytes or more. `places` is then left unchanged.
 pub fn encode_fixed<T: Into<u128>>(num: T, places: &mut [u8]) -> Result<(), EncodeError> {
-    fill_places(standard_tables(), num.into(), places)
+    encode_fixed_over(standard_tables(), num.into(), places)
 }
 
 /// Like [`encode_fixed`], but uses a custom alphabet, and pads with its first character.
@@ -41,10 +41,11 @@ pub fn encode_fixed<T: Into<u128>>(num: T, places: &mut [u8]) -> Result<(), Enco
 /// The strings sort in the order of their numbers if [`Alphabet::is_ascending`] returns `true`.
 ///
 /// ```rust
-/// let alphabet = base62::Alphabet::alternative();
+/// let characters = *b"23456789ABCDEFGHJKLMNPQRSTUVWXYZabcdefghijkmnpqrstuvwxyz-_.~!*";
+/// let own = base62::Alphabet::from_static(characters);
 /// let mut places = [0u8; 5];
-/// assert_eq!(base62::encode_fixed_with(&alphabet, 1337_u64, &mut places), Ok(()));
-/// assert_eq!(&places, b"000lz");
+/// assert_eq!(base62::encode_fixed_with(&own, 1337_u64, &mut places), Ok(()));
+/// assert_eq!(&places, b"222Pd");
 /// ```
 ///
 /// # Errors
@@ -55,12 +56,12 @@ pub fn encode_fixed_with<T: Into<u128>>(
     num: T,
     places: &mut [u8],
 ) -> Result<(), EncodeError> {
-    fill_places(alphabet.as_tables(), num.into(), places)
+    encode_fixed_over(alphabet.as_tables(), num.into(), places)
 }
 
 // Writes the text of as many letters as there are places, over the alphabet of the tables.
 #[inline(always)]
-fn fill_places(tables: &Tables, n: u128, places: &mut [u8]) -> Result<(), EncodeError> {
+fn encode_fixed_over(tables: &Tables, n: u128, places: &mut [u8]) -> Result<(), EncodeError> {
     let count = digit_count(n);
     if places.len() < count {
         return Err(EncodeError::BufferTooSmall);
@@ -74,7 +75,7 @@ pub(crate) fn write_padded(tables: &Tables, n: u128, count: usize, places: &mut 
     requires!(count <= places.len());
     let (zeros, text) = places.split_at_mut(places.len() - count);
     zeros.fill(tables.letter(0));
-    write_text(tables, n, count, text);
+    write_number(tables, n, count, text);
 }
 
 /// Like [`encode_fixed`], but returns `places` as a string.
@@ -96,12 +97,11 @@ pub fn encode_fixed_str<T: Into<u128>>(num: T, places: &mut [u8]) -> Result<&str
 /// [`Alphabet::is_ascii`] checks this.
 ///
 /// ```rust
-/// let alphabet = base62::Alphabet::alternative();
-/// if alphabet.is_ascii() {
-///     let mut places = [0u8; 5];
-///     let text = base62::encode_fixed_str_with(&alphabet, 1337_u64, &mut places);
-///     assert_eq!(text, Ok("000lz"));
-/// }
+/// let characters = *b"23456789ABCDEFGHJKLMNPQRSTUVWXYZabcdefghijkmnpqrstuvwxyz-_.~!*";
+/// let own = base62::Alphabet::from_static(characters);
+/// let mut places = [0u8; 5];
+/// let text = base62::encode_fixed_str_with(&own, 1337_u64, &mut places);
+/// assert_eq!(text, Ok("222Pd"));
 /// ```
 ///
 /// # Errors
@@ -123,7 +123,7 @@ pub fn encode_fixed_str_with<'a, T: Into<u128>>(
 
 // Writes the same text, and returns it as a string.
 fn fill_string<'a>(tables: &Tables, n: u128, places: &'a mut [u8]) -> Result<&'a str, EncodeError> {
-    fill_places(tables, n, places)?;
+    encode_fixed_over(tables, n, places)?;
     // SAFETY: the letters are ASCII.
     Ok(proved!(str::from_utf8(places)))
 }
@@ -145,17 +145,18 @@ fn fill_string<'a>(tables: &Tables, n: u128, places: &'a mut [u8]) -> Result<&'a
 ///
 /// # Errors
 ///
-/// Returns `WrongLength` if the length of `input` in bytes is not `width`, and otherwise `Decode` with
-/// the error of [`decode`], if that returns one. So it always returns an error if `width` is 0.
+/// Returns [`WrongLength`](FixedError::WrongLength) if the length of `input` in bytes is not `width`,
+/// and otherwise [`Decode`](FixedError::Decode) with the error of [`decode`], if that returns one. So it always returns an error if `width` is 0.
 pub fn decode_fixed<T: AsRef<[u8]>>(input: T, width: usize) -> Result<u128, FixedError> {
-    read_fixed(standard_tables(), input.as_ref(), width)
+    decode_fixed_over(standard_tables(), input.as_ref(), width)
 }
 
 /// Like [`decode_fixed`], but uses a custom alphabet.
 ///
 /// ```rust
-/// let alphabet = base62::Alphabet::alternative();
-/// assert_eq!(base62::decode_fixed_with(&alphabet, b"000lz", 5), Ok(1337));
+/// let characters = *b"23456789ABCDEFGHJKLMNPQRSTUVWXYZabcdefghijkmnpqrstuvwxyz-_.~!*";
+/// let own = base62::Alphabet::from_static(characters);
+/// assert_eq!(base62::decode_fixed_with(&own, b"222Pd", 5), Ok(1337));
 /// ```
 ///
 /// # Errors
@@ -166,12 +167,12 @@ pub fn decode_fixed_with<T: AsRef<[u8]>>(
     input: T,
     width: usize,
 ) -> Result<u128, FixedError> {
-    read_fixed(alphabet.as_tables(), input.as_ref(), width)
+    decode_fixed_over(alphabet.as_tables(), input.as_ref(), width)
 }
 
 // Decodes a text of this many letters over the alphabet of the tables.
 #[inline(always)]
-fn read_fixed(tables: &Tables, input: &[u8], width: usize) -> Result<u128, FixedError> {
+fn decode_fixed_over(tables: &Tables, input: &[u8], width: usize) -> Result<u128, FixedError> {
     if input.len() != width {
         return Err(FixedError::WrongLength);
     }
@@ -195,7 +196,7 @@ fn read_fixed(tables: &Tables, input: &[u8], width: usize) -> Result<u128, Fixed
 ///
 /// # Errors
 ///
-/// Returns `InvalidBase62Byte`, with the first such byte and its index, if a byte of `prefix` is
+/// Returns [`InvalidBase62Byte`](DecodeError::InvalidBase62Byte), with the first such byte and its index, if a byte of `prefix` is
 /// not in the standard alphabet.
 pub fn prefix_range<T: AsRef<[u8]>>(
     prefix: T,
@@ -211,8 +212,9 @@ pub fn prefix_range<T: AsRef<[u8]>>(
 /// `Alphabet::is_ascending` returns `true`, which it does not for the alternative alphabet.
 ///
 /// ```rust
-/// let alphabet = base62::Alphabet::alternative();
-/// let range = base62::prefix_range_with(&alphabet, b"000l", 5);
+/// let characters = *b"23456789ABCDEFGHJKLMNPQRSTUVWXYZabcdefghijkmnpqrstuvwxyz-_.~!*";
+/// let own = base62::Alphabet::from_static(characters);
+/// let range = base62::prefix_range_with(&own, b"222P", 5);
 /// assert_eq!(range, Ok(Some(1302..=1363)));
 /// ```
 ///
@@ -234,9 +236,9 @@ fn range_over(
     width: usize,
 ) -> Result<Option<core::ops::RangeInclusive<u128>>, DecodeError> {
     match decode_over(tables, prefix) {
-        Ok(number) => Ok(ends_of(number, prefix.len(), width)),
+        Ok(number) => Ok(find_ends(number, prefix.len(), width)),
         // All texts begin with the empty prefix.
-        Err(DecodeError::EmptyInput) => Ok(ends_of(0, 0, width)),
+        Err(DecodeError::EmptyInput) => Ok(find_ends(0, 0, width)),
         Err(DecodeError::ArithmeticOverflow) => {
             // A bad byte is reported rather than an overflow.
             check_letters(tables, prefix)?;
@@ -248,7 +250,7 @@ fn range_over(
 
 // Returns the ends of the interval of a prefix of this value and length, if it is not empty.
 #[inline(always)]
-fn ends_of(number: u128, len: usize, width: usize) -> Option<core::ops::RangeInclusive<u128>> {
+fn find_ends(number: u128, len: usize, width: usize) -> Option<core::ops::RangeInclusive<u128>> {
     if width == 0 || len > width {
         return None;
     }

@@ -81,7 +81,7 @@ pub fn decode_key<T: AsRef<[u8]>>(input: T) -> Result<u128, FixedError> {
 ///
 /// # Errors
 ///
-/// Returns `InvalidBase62Byte`, with the first such byte and its index, if a byte of `prefix` is
+/// Returns [`InvalidBase62Byte`](DecodeError::InvalidBase62Byte), with the first such byte and its index, if a byte of `prefix` is
 /// not in the standard alphabet.
 pub fn key_range<T: AsRef<[u8]>>(
     prefix: T,

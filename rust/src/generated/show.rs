@@ -91,10 +91,9 @@ pub fn encode_fmt_alt<T: Into<u128>>(num: T) -> impl fmt::Display + fmt::Debug +
 /// [`Alphabet::is_ascii`] checks this.
 ///
 /// ```rust
-/// let alphabet = base62::Alphabet::alternative();
-/// if alphabet.is_ascii() {
-///     println!("{:0>5}", base62::encode_fmt_with(&alphabet, 1337_u64)); // 000lz
-/// }
+/// let characters = *b"23456789ABCDEFGHJKLMNPQRSTUVWXYZabcdefghijkmnpqrstuvwxyz-_.~!*";
+/// let own = base62::Alphabet::from_static(characters);
+/// println!("{:2>5}", base62::encode_fmt_with(&own, 1337_u64)); // 222Pd
 /// ```
 ///
 /// # Panics

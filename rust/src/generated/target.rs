@@ -7,7 +7,7 @@
 //! Encoding to strings and writers.
 
 use crate::alphabet::{Alphabet, Tables, alternative_tables, standard_tables};
-use crate::codec::encoder::write_text;
+use crate::codec::encoder::write_number;
 use crate::count::digit_count;
 use crate::text::Text;
 use alloc::{string::String, vec::Vec};
@@ -45,11 +45,10 @@ pub fn encode_alternative<T: Into<u128>>(num: T) -> String {
 /// [`Alphabet::is_ascii`] checks this.
 ///
 /// ```rust
-/// let alphabet = base62::Alphabet::alternative();
-/// if alphabet.is_ascii() {
-///     let text = base62::encode_with(&alphabet, 1234567890_u64);
-///     assert_eq!(text.as_str(), "1ly7vk");
-/// }
+/// let characters = *b"23456789ABCDEFGHJKLMNPQRSTUVWXYZabcdefghijkmnpqrstuvwxyz-_.~!*";
+/// let own = base62::Alphabet::from_static(characters);
+/// let text = base62::encode_with(&own, 1234567890_u64);
+/// assert_eq!(text.as_str(), "3Pc9ZN");
 /// ```
 ///
 /// # Panics
@@ -87,12 +86,11 @@ pub fn encode_uuid(uuid: [u8; 16]) -> String {
 /// [`Alphabet::is_ascii`] checks this.
 ///
 /// ```rust
-/// let alphabet = base62::Alphabet::alternative();
-/// if alphabet.is_ascii() {
-///     let uuid = [0, 0, 0, 0, 0, 0, 0, 0, 0, 0, 0, 0, 0, 0, 5, 57];
-///     let text = base62::encode_uuid_with(&alphabet, uuid);
-///     assert_eq!(text.as_str(), "lz");
-/// }
+/// let characters = *b"23456789ABCDEFGHJKLMNPQRSTUVWXYZabcdefghijkmnpqrstuvwxyz-_.~!*";
+/// let own = base62::Alphabet::from_static(characters);
+/// let uuid = [0, 0, 0, 0, 0, 0, 0, 0, 0, 0, 0, 0, 0, 0, 5, 57];
+/// let text = base62::encode_uuid_with(&own, uuid);
+/// assert_eq!(text.as_str(), "Pd");
 /// ```
 ///
 /// # Panics
@@ -110,7 +108,7 @@ pub fn encode_uuid_with(alphabet: &Alphabet, uuid: [u8; 16]) -> String {
 ///
 /// Allocates at most once, before it appends, if the spare capacity of `buf` is less than the
 /// length of the string. 22 spare bytes are always enough. The capacity never shrinks.
-/// If the allocation fails, the program aborts.
+/// If the allocation fails, the program aborts. Panics if `buf` would exceed `isize::MAX` bytes.
 ///
 /// ```rust
 /// let mut link = String::from("https://example.org/");
@@ -137,12 +135,11 @@ pub fn encode_alternative_buf<T: Into<u128>>(num: T, buf: &mut String) {
 /// [`Alphabet::is_ascii`] checks this.
 ///
 /// ```rust
-/// let alphabet = base62::Alphabet::alternative();
+/// let characters = *b"23456789ABCDEFGHJKLMNPQRSTUVWXYZabcdefghijkmnpqrstuvwxyz-_.~!*";
+/// let own = base62::Alphabet::from_static(characters);
 /// let mut link = String::from("https://example.org/");
-/// if alphabet.is_ascii() {
-///     base62::encode_buf_with(&alphabet, 1337_u64, &mut link);
-///     assert_eq!(link.as_str(), "https://example.org/lz");
-/// }
+/// base62::encode_buf_with(&own, 1337_u64, &mut link);
+/// assert_eq!(link.as_str(), "https://example.org/Pd");
 /// ```
 ///
 /// # Panics
@@ -167,17 +164,17 @@ fn string_over<T: Into<u128>>(tables: &Tables, num: T) -> String {
     let mut bytes = Vec::with_capacity(len);
     // The capacity is enough now.
     append_zeros!(bytes, len);
-    write_text(tables, n, len, bytes.as_mut_slice());
+    write_number(tables, n, len, bytes.as_mut_slice());
     // SAFETY: the letters are ASCII.
     proved!(String::from_utf8(bytes))
 }
 
 // Appends the text over the alphabet of the tables. In Rattle the bytes of a `String` cannot be
-// borrowed mutably, so the text is copied. In Rust the hand-written macro `in_place!` writes it in
-// place and returns, if the spare capacity is enough for any text.
+// borrowed mutably, so the text is copied. In Rust the hand-written `return_if_written_in_place!`
+// writes it in place if the spare capacity is enough for any text.
 #[inline]
 fn append_over<T: Into<u128>>(tables: &Tables, num: T, buf: &mut String) {
-    in_place!(tables, num, buf);
+    return_if_written_in_place!(tables, num, buf);
     append_copy(tables, num.into(), buf)
 }
 
@@ -232,10 +229,11 @@ pub fn encode_alternative_io<T: Into<u128>, W: Write + ?Sized>(
 /// Like [`encode_io`], but uses a custom alphabet, which may be non-ASCII.
 ///
 /// ```rust
-/// let alphabet = base62::Alphabet::alternative();
+/// let characters = *b"23456789ABCDEFGHJKLMNPQRSTUVWXYZabcdefghijkmnpqrstuvwxyz-_.~!*";
+/// let own = base62::Alphabet::from_static(characters);
 /// let mut out = Vec::new();
-/// base62::encode_io_with(&alphabet, 1337_u64, &mut out).unwrap();
-/// assert_eq!(out.as_slice(), b"lz".as_slice());
+/// base62::encode_io_with(&own, 1337_u64, &mut out).unwrap();
+/// assert_eq!(out.as_slice(), b"Pd".as_slice());
 /// ```
 ///
 /// # Errors

@@ -7,7 +7,7 @@
 //! A buffer that contains the text of a number.
 
 use crate::alphabet::Tables;
-use crate::codec::encoder::write_text;
+use crate::codec::encoder::write_number;
 use crate::count::{MAX_DIGITS, digit_count};
 use core::str;
 
@@ -34,7 +34,7 @@ impl Text {
     pub(crate) fn set<T: Into<u128>>(&mut self, tables: &Tables, num: T) {
         let n: u128 = num.into();
         let len = digit_count(n);
-        write_text(tables, n, len, &mut self.bytes);
+        write_number(tables, n, len, &mut self.bytes);
         self.len = len;
     }
 

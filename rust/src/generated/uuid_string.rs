@@ -7,6 +7,7 @@
 //! The strings of UUIDs: hexadecimal digits and hyphens.
 
 use crate::fault::{UuidError, hex_digit};
+use core::str;
 
 /// Decodes the hexadecimal string of a UUID, and returns its sixteen bytes.
 ///
@@ -24,9 +25,9 @@ use crate::fault::{UuidError, hex_digit};
 ///
 /// # Errors
 ///
-/// Returns `InvalidUuid` for every other string.
+/// Returns [`InvalidUuid`](UuidError::InvalidUuid) for every other string.
 pub fn uuid_from_string<T: AsRef<[u8]>>(input: T) -> Result<[u8; 16], UuidError> {
-    parse_uuid(input.as_ref()).ok_or(UuidError::InvalidUuid)
+    read_uuid_string(input.as_ref()).ok_or(UuidError::InvalidUuid)
 }
 
 /// Encodes a UUID as 36 characters: 32 lowercase hexadecimal digits, with hyphens after the digits
@@ -43,14 +44,28 @@ pub fn uuid_to_string(uuid: [u8; 16]) -> [u8; 36] {
     with_hyphens(digits_of(uuid))
 }
 
+/// Like [`uuid_to_string`], but writes the string to `string`, and returns it as a `str`.
+///
+/// ```rust
+/// let uuid = [0, 0, 0, 0, 0, 0, 0, 0, 0, 0, 0, 0, 0, 0, 5, 57];
+/// let mut string = [0u8; 36];
+/// let text = base62::uuid_to_str(uuid, &mut string);
+/// assert_eq!(text, "00000000-0000-0000-0000-000000000539");
+/// ```
+pub fn uuid_to_str(uuid: [u8; 16], string: &mut [u8; 36]) -> &str {
+    *string = uuid_to_string(uuid);
+    // SAFETY: the digits and the hyphens are ASCII.
+    proved!(str::from_utf8(string))
+}
+
 // Returns the UUID that a string stands for.
-fn parse_uuid(string: &[u8]) -> Option<[u8; 16]> {
+fn read_uuid_string(string: &[u8]) -> Option<[u8; 16]> {
     if is_in_braces(string) {
-        parse_digits(&string[1..string.len() - 1])
+        read_uuid(&string[1..string.len() - 1])
     } else if has_urn(string) {
-        parse_digits(&string[9..])
+        read_uuid(&string[9..])
     } else {
-        parse_digits(string)
+        read_uuid(string)
     }
 }
 
@@ -63,10 +78,10 @@ fn has_urn(string: &[u8]) -> bool {
 }
 
 // Returns the UUID of 32 digits in either case, with hyphens or without.
-fn parse_digits(text: &[u8]) -> Option<[u8; 16]> {
+fn read_uuid(text: &[u8]) -> Option<[u8; 16]> {
     match without_hyphens(text) {
-        Some(digits) => parse_pairs(&digits),
-        None => parse_pairs(text),
+        Some(digits) => read_pairs(&digits),
+        None => read_pairs(text),
     }
 }
 
@@ -88,21 +103,21 @@ fn without_hyphens(text: &[u8]) -> Option<[u8; 32]> {
 }
 
 // Returns the bytes of 32 digits in either case.
-fn parse_pairs(text: &[u8]) -> Option<[u8; 16]> {
+fn read_pairs(text: &[u8]) -> Option<[u8; 16]> {
     if text.len() != 32 {
         return None;
     }
     let mut uuid = [0u8; 16];
     for index in 0..16 {
-        let high = digit_value(text[2 * index])?;
-        let low = digit_value(text[2 * index + 1])?;
+        let high = hex_value(text[2 * index])?;
+        let low = hex_value(text[2 * index + 1])?;
         uuid[index] = high * 16 + low;
     }
     Some(uuid)
 }
 
 // Returns the value of a hexadecimal digit in either case.
-fn digit_value(digit: u8) -> Option<u8> {
+fn hex_value(digit: u8) -> Option<u8> {
     match digit {
         b'0'..=b'9' => Some(digit - b'0'),
         b'a'..=b'f' => Some(digit - b'a' + 10),

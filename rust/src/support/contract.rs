@@ -34,7 +34,7 @@ macro_rules! proved {
 /// If the spare capacity is enough for the text of any number, writes the text in place, and returns. In Rattle the bytes
 /// of a `String` cannot be borrowed mutably, so the code after this copies the text.
 #[cfg(feature = "alloc")]
-macro_rules! in_place {
+macro_rules! return_if_written_in_place {
     ($tables:ident, $num:ident, $buf:ident) => {
         #[cfg(not(feature = "checked"))]
         if $buf.capacity() - $buf.len() >= crate::MAX_DIGITS {
@@ -44,7 +44,7 @@ macro_rules! in_place {
             // clause `ascii` in the source requires to be ASCII.
             let bytes = unsafe { $buf.as_mut_vec() };
             bytes.extend_from_slice(&[0; crate::MAX_DIGITS]);
-            crate::codec::encoder::write_text($tables, n, len, &mut bytes[at..]);
+            crate::codec::encoder::write_number($tables, n, len, &mut bytes[at..]);
             bytes.truncate(at + len);
             return;
         }

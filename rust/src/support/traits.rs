@@ -66,6 +66,15 @@ impl TryFrom<[u8; 62]> for Alphabet {
     }
 }
 
+/// Like [`Alphabet::new`].
+impl TryFrom<&[u8; 62]> for Alphabet {
+    type Error = AlphabetError;
+
+    fn try_from(characters: &[u8; 62]) -> Result<Self, AlphabetError> {
+        Alphabet::new(*characters)
+    }
+}
+
 /// Like [`Alphabet::new`], but for a slice, such as characters from a configuration.
 impl TryFrom<&[u8]> for Alphabet {
     type Error = ParseAlphabetError;
@@ -84,6 +93,15 @@ impl FromStr for Alphabet {
 
     fn from_str(characters: &str) -> Result<Self, ParseAlphabetError> {
         characters.as_bytes().try_into()
+    }
+}
+
+/// Like [`Alphabet::new`], but for the bytes of a string.
+impl TryFrom<&str> for Alphabet {
+    type Error = ParseAlphabetError;
+
+    fn try_from(characters: &str) -> Result<Self, ParseAlphabetError> {
+        characters.parse()
     }
 }
 

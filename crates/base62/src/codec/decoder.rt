@@ -26,12 +26,38 @@ pub(crate) fn decode_over(
         return Err(DecodeError::EmptyInput);
     }
     let zeros = count_zeros(tables, input);
-    decode_after(tables, input, zeros, work)
+    decode_after_zeros(tables, input, zeros, work)
+}
+
+// Like `decode_over`, for calls that are inlined at each of their places. Only the code for texts of
+// at most ten bytes is.
+#[inline(always)]
+pub(crate) fn decode_inlined_over(
+    tables: &Tables,
+    input: &[u8],
+    work: &mut Work,
+) -> Result<u128, DecodeError>
+    requires { AreTables tables.now }
+    ensures { DecodesCounted tables.now.letters input.now work.old work.new result }
+{
+    if input.len() > 10 {
+        return decode_outlined_over(tables, input, work);
+    }
+    decode_over(tables, input, work)
+}
+
+// Like `decode_over`, but never inlined.
+#[inline(never)]
+fn decode_outlined_over(tables: &Tables, input: &[u8], work: &mut Work) -> Result<u128, DecodeError>
+    requires { AreTables tables.now }
+    ensures { DecodesCounted tables.now.letters input.now work.old work.new result }
+{
+    decode_over(tables, input, work)
 }
 
 // Decodes a text, whose count of leading zeros is given.
 #[inline(always)]
-pub(crate) fn decode_after(
+pub(crate) fn decode_after_zeros(
     tables: &Tables,
     input: &[u8],
     zeros: usize,
@@ -39,6 +65,7 @@ pub(crate) fn decode_after(
 ) -> Result<u128, DecodeError>
     requires tables { AreTables tables.now }
     requires some { 0 < length input.now }
+    requires within { zeros ≤ length input.now }
     requires zeros { zeros ≡ leading_zeros tables.now.letters input.now }
     ensures { DecodesCounted tables.now.letters input.now work.old work.new result }
 {

@@ -34,13 +34,13 @@ pub(crate) fn encode_over(
     if buf.len() < count {
         return Err(EncodeError::BufferTooSmall);
     }
-    write_text(tables, n, count, buf, work);
+    write_number(tables, n, count, buf, work);
     Ok(count)
 }
 
 // Writes the text of a number, whose count of letters is given.
 #[inline(always)]
-pub(crate) fn write_text(tables: &Tables, n: u128, count: usize, buf: &mut [u8], work: &mut Work)
+pub(crate) fn write_number(tables: &Tables, n: u128, count: usize, buf: &mut [u8], work: &mut Work)
     requires tables { AreTables tables.now }
     requires count { DigitCount n count }
     requires room { count ≤ length buf.old }
@@ -100,15 +100,15 @@ fn write_wide(tables: &Tables, n: u128, count: usize, buf: &mut [u8], work: &mut
 // last ten letters. A fraction is in fixed point with 64 fraction bits. Let g be the fraction of the
 // last ten letters. The fraction of all twenty exceeds that of the first ten by at most 22 * g
 // units. Subtracting `low >> 60`, which is 16 * g rounded down, leaves at most seven of these. With
-// the five of `scaled_by_20` that is twelve, fewer than the 21 that `fraction_of` allows.
+// the five of `scaled_by_62_20` that is twelve, fewer than the 21 that `fraction_of` allows.
 #[inline(always)]
 fn divide_by_62_20(n: u128) -> (u32, u64, u64)
     ensures quotient { result.0 ≡ n / 62 ^ 20 }
     ensures remainder { result.1 * 62 ^ 10 / 2 ^ 64 * 62 ^ 10 + result.2 * 62 ^ 10 / 2 ^ 64
         ≡ n % 62 ^ 20 }
 {
-    let low = last_10(n);
-    let (top, high) = whole_and_fraction(scaled_by_20(n) - (low >> 60) as u128);
+    let low = last_10_as_fraction(n);
+    let (top, high) = whole_and_fraction(scaled_by_62_20(n) - (low >> 60) as u128);
     (top as u32, high, low)
 }
 
@@ -117,7 +117,7 @@ fn divide_by_62_20(n: u128) -> (u32, u64, u64)
 // result is 2^128 / 62^10 units: 21 * 2^64, plus the first factor, plus the second factor / 2^64,
 // rounded up. The 21 * 2^64 drop out, as an integer. The third factor is 2^123 / 62^10, rounded up.
 #[inline(always)]
-fn last_10(n: u128) -> u64
+fn last_10_as_fraction(n: u128) -> u64
     ensures { result * 62 ^ 10 / 2 ^ 64 ≡ n % 62 ^ 10 }
 {
     let upper = (n >> 64) as u64;
@@ -136,7 +136,7 @@ fn last_10(n: u128) -> u64
 // Returns n / 62^20 in fixed point with 64 fraction bits, at most five units too large. For
 // n = 2^64 the result is 2^128 / 62^20 units: the second factor, plus the first / 2^64, rounded up.
 #[inline(always)]
-fn scaled_by_20(n: u128) -> u128
+fn scaled_by_62_20(n: u128) -> u128
     ensures least { n * 2 ^ 64 ≤ result * 62 ^ 20 }
     ensures most { result * 62 ^ 20 ≤ n * 2 ^ 64 + 5 * 62 ^ 20 }
 {
@@ -189,61 +189,61 @@ fn divide_narrow_by_62_10(n: u64) -> (u64, u64)
 
 // Writes one to nine letters. If there are more than four, it writes the last four first.
 #[inline(always)]
-fn write_up_to_9(tables: &Tables, n: u64, places: usize, buf: &mut [u8], work: &mut Work)
-    requires fits { n < 62 ^ places }
-    requires least { 1 ≤ places }
-    requires most { places ≤ 9 }
-    requires room { places ≤ length buf.old }
-    ensures written { WritesFixed tables.now.letters places n buf.old buf.new }
-    ensures steps { work.new ≡ work.old + (places + 1) / 2 }
+fn write_up_to_9(tables: &Tables, n: u64, count: usize, buf: &mut [u8], work: &mut Work)
+    requires fits { n < 62 ^ count }
+    requires least { 1 ≤ count }
+    requires most { count ≤ 9 }
+    requires room { count ≤ length buf.old }
+    ensures written { WritesFixed tables.now.letters count n buf.old buf.new }
+    ensures steps { work.new ≡ work.old + (count + 1) / 2 }
 {
-    if places > 4 {
+    if count > 4 {
         let quotient = n / POWER_4 as u64;
         let last = (n - quotient * POWER_4 as u64) as u32;
-        write_4(tables, last, &mut buf[places - 4..], work);
-        write_up_to_5(tables, quotient as u32, places - 4, buf, work);
+        write_4(tables, last, &mut buf[count - 4..], work);
+        write_up_to_5(tables, quotient as u32, count - 4, buf, work);
     } else {
-        write_up_to_5(tables, n as u32, places, buf, work);
+        write_up_to_5(tables, n as u32, count, buf, work);
     }
 }
 
 // Writes one to five letters, from the last to the first.
 #[inline(always)]
-fn write_up_to_5(tables: &Tables, n: u32, places: usize, buf: &mut [u8], work: &mut Work)
-    requires fits { n < 62 ^ places }
-    requires least { 1 ≤ places }
-    requires most { places ≤ 5 }
-    requires room { places ≤ length buf.old }
-    ensures written { WritesFixed tables.now.letters places n buf.old buf.new }
-    ensures steps { work.new ≡ work.old + (places + 1) / 2 }
+fn write_up_to_5(tables: &Tables, n: u32, count: usize, buf: &mut [u8], work: &mut Work)
+    requires fits { n < 62 ^ count }
+    requires least { 1 ≤ count }
+    requires most { count ≤ 5 }
+    requires room { count ≤ length buf.old }
+    ensures written { WritesFixed tables.now.letters count n buf.old buf.new }
+    ensures steps { work.new ≡ work.old + (count + 1) / 2 }
 {
-    if places > 4 {
+    if count > 4 {
         let quotient = n / POWER_4;
-        write_4(tables, n - quotient * POWER_4, &mut buf[places - 4..], work);
-        write_1_or_2(tables, quotient, places - 4, buf, work);
-    } else if places > 2 {
+        write_4(tables, n - quotient * POWER_4, &mut buf[count - 4..], work);
+        write_1_or_2(tables, quotient, count - 4, buf, work);
+    } else if count > 2 {
         let quotient = n / POWER_2;
-        write_2(tables, n - quotient * POWER_2, &mut buf[places - 2..], work);
-        write_1_or_2(tables, quotient, places - 2, buf, work);
+        write_2(tables, n - quotient * POWER_2, &mut buf[count - 2..], work);
+        write_1_or_2(tables, quotient, count - 2, buf, work);
     } else {
-        write_1_or_2(tables, n, places, buf, work);
+        write_1_or_2(tables, n, count, buf, work);
     }
 }
 
 // Writes one or two letters, as a pair. If there is one place, the second letter overwrites the
 // first, which is a zero.
 #[inline(always)]
-fn write_1_or_2(tables: &Tables, x: u32, places: usize, buf: &mut [u8], work: &mut Work)
-    requires fits { x < 62 ^ places }
-    requires least { 1 ≤ places }
-    requires most { places ≤ 2 }
-    requires room { places ≤ length buf.old }
-    ensures written { WritesFixed tables.now.letters places x buf.old buf.new }
+fn write_1_or_2(tables: &Tables, x: u32, count: usize, buf: &mut [u8], work: &mut Work)
+    requires fits { x < 62 ^ count }
+    requires least { 1 ≤ count }
+    requires most { count ≤ 2 }
+    requires room { count ≤ length buf.old }
+    ensures written { WritesFixed tables.now.letters count x buf.old buf.new }
     ensures steps { work.new ≡ work.old + 1 }
 {
     let (first, second) = tables.pair(x, work);
     buf[0] = first;
-    buf[places - 1] = second;
+    buf[count - 1] = second;
 }
 
 // Writes two letters.

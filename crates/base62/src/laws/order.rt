@@ -64,7 +64,7 @@ pub fn order_of_parts(high: u128, low: u128, other_high: u128, other_low: u128, 
 /// The interval has exactly the numbers from one of its ends to the other. It has no ends exactly
 /// if it is empty. If the letters ascend, the texts that begin with the prefix are those from the
 /// text of the one end to the text of the other.
-pub fn fronts()
+pub fn prefixes_of_texts()
     ensures letters { (B : List ℕ) (w : ℕ) (prefix text : List ℕ) (n : ℕ) → IsFixed B w text n
         → BeginsWith prefix text → AreLetters B prefix × (length prefix ≤ w) }
     ensures begins { (B : List ℕ) → IsAlphabet B → (w : ℕ) (prefix text : List ℕ) (n : ℕ)
@@ -84,7 +84,7 @@ pub fn fronts()
 /// Over an alphabet that ascends, let `low` and `high` be the texts of `width` letters of the ends
 /// of a prefix's range. A text of `width` letters whose value is below 2^128 begins with the prefix
 /// exactly if it is, in lexicographic order, from `low` to `high`.
-pub fn scan_of_front(
+pub fn scan_of_prefix(
     alphabet: &Alphabet,
     width: usize,
     prefix: &[u8],

@@ -18,7 +18,7 @@ use crate::laws::alphabets::letters_are_distinct;
 
 /// For k from 1 on, a number below 62^k has at most k letters: `digit_count` returns at most k, and
 /// the canonical text over any alphabet has at most that length.
-pub fn of_number(n: u128, k: usize)
+pub fn width_of_number(n: u128, k: usize)
     ensures count { 0 < k → n < 62 ^ k → (count : ℕ) → DigitCount n count → count ≤ k }
     ensures length { 0 < k → n < 62 ^ k → (B text : List ℕ) → IsAlphabet B → IsCanonical B text n
         → length text ≤ k }
@@ -45,7 +45,7 @@ pub fn fixed_widths()
 /// has exactly `width` letters, it is the number's text of this width. The text of this width of a
 /// number below 2^128 decodes to the number. A text that denotes a number, padded with leading zero
 /// letters to this width, is the number's text of this width.
-pub fn of_text(alphabet: &Alphabet, width: usize, text: &[u8])
+pub fn width_of_text(alphabet: &Alphabet, width: usize, text: &[u8])
     ensures small { (n : ℕ) → decoding alphabet.now text.now ≡ Ok n → length text.now ≤ width
         → n < 62 ^ width }
     ensures fixed { (n : ℕ) → decoding alphabet.now text.now ≡ Ok n → length text.now ≡ width

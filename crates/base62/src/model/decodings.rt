@@ -1,7 +1,7 @@
 //! The results and the steps of decoding.
 #![tactic(auto, unfolding(crate::proofs::OnLiterals::base62_on_literals))]
 
-ghost use Rattle.std.specs.Prelude.{◌≡◌, ◌^◌, ◌-◌, [], ◌∷◌, ℕ, List, replicate, codes, Ok, Err, IsOk};
+ghost use Rattle.std.specs.Prelude.{◌≡◌, ◌^◌, ◌-◌, [], ◌∷◌, replicate, codes, Ok, Err};
 ghost use Rattle.std.specs.List.{range_with_len};
 ghost use Rattle.base62.specs.Alphabet.{standard, alternative};
 ghost use Rattle.base62.specs.Decoding.{decoding, IsFirstInvalid, NamesFirst, RefusesLarge, Decodes, DecodesCanonical};
@@ -100,15 +100,6 @@ pub fn decodes_canonical_by_example()
     ensures other_alphabet { DecodesCanonical alternative (codes "LZ") (Ok 1337) → ⊥ }
     ensures zero_of_bad { DecodesCanonical standard (codes "0!") (Err LeadingZero) → ⊥ }
     ensures other_fault { DecodesCanonical standard [] (Err (Decode ArithmeticOverflow)) → ⊥ }
-{}
-
-/// What `DecodesCanonical` says of a result whose value is not known. It follows from the value,
-/// but a caller has only the fields of the record.
-pub fn decodes_canonical_of_any_result()
-    ensures back { (B text : List ℕ) (n : ℕ) → DecodesCanonical B text (Ok n)
-        → decoding B text ≡ Ok n }
-    ensures accepted { (B text : List ℕ) → DecodesCanonical B text (Err LeadingZero)
-        → IsOk (decoding B text) }
 {}
 
 /// Results of fixed decoding for some widths and texts, and others; 33 is `!`, not a letter.

@@ -18,17 +18,34 @@ pub(crate) fn decode_over(tables: &Tables, input: &[u8]) -> Result<u128, DecodeE
         return Err(DecodeError::EmptyInput);
     }
     let zeros = count_zeros(tables, input);
-    decode_after(tables, input, zeros)
+    decode_after_zeros(tables, input, zeros)
+}
+
+// Like `decode_over`, for calls that are inlined at each of their places. Only the code for texts of
+// at most ten bytes is.
+#[inline(always)]
+pub(crate) fn decode_inlined_over(tables: &Tables, input: &[u8]) -> Result<u128, DecodeError> {
+    if input.len() > 10 {
+        return decode_outlined_over(tables, input);
+    }
+    decode_over(tables, input)
+}
+
+// Like `decode_over`, but never inlined.
+#[inline(never)]
+fn decode_outlined_over(tables: &Tables, input: &[u8]) -> Result<u128, DecodeError> {
+    decode_over(tables, input)
 }
 
 // Decodes a text, whose count of leading zeros is given.
 #[inline(always)]
-pub(crate) fn decode_after(
+pub(crate) fn decode_after_zeros(
     tables: &Tables,
     input: &[u8],
     zeros: usize,
 ) -> Result<u128, DecodeError> {
     requires!(!input.is_empty());
+    requires!(zeros <= input.len());
     let (_, after_zeros) = input.split_at(zeros);
     if after_zeros.len() > MAX_DIGITS {
         return Err(DecodeError::ArithmeticOverflow);

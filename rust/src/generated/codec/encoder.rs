@@ -25,13 +25,13 @@ pub(crate) fn encode_over(tables: &Tables, n: u128, buf: &mut [u8]) -> Result<us
     if buf.len() < count {
         return Err(EncodeError::BufferTooSmall);
     }
-    write_text(tables, n, count, buf);
+    write_number(tables, n, count, buf);
     Ok(count)
 }
 
 // Writes the text of a number, whose count of letters is given.
 #[inline(always)]
-pub(crate) fn write_text(tables: &Tables, n: u128, count: usize, buf: &mut [u8]) {
+pub(crate) fn write_number(tables: &Tables, n: u128, count: usize, buf: &mut [u8]) {
     requires!(count <= buf.len());
     if n <= 0xffffffff_ffffffff {
         write_narrow(tables, n as u64, count, buf);
@@ -78,11 +78,11 @@ fn write_wide(tables: &Tables, n: u128, count: usize, buf: &mut [u8]) {
 // last ten letters. A fraction is in fixed point with 64 fraction bits. Let g be the fraction of the
 // last ten letters. The fraction of all twenty exceeds that of the first ten by at most 22 * g
 // units. Subtracting `low >> 60`, which is 16 * g rounded down, leaves at most seven of these. With
-// the five of `scaled_by_20` that is twelve, fewer than the 21 that `fraction_of` allows.
+// the five of `scaled_by_62_20` that is twelve, fewer than the 21 that `fraction_of` allows.
 #[inline(always)]
 fn divide_by_62_20(n: u128) -> (u32, u64, u64) {
-    let low = last_10(n);
-    let (top, high) = whole_and_fraction(scaled_by_20(n) - (low >> 60) as u128);
+    let low = last_10_as_fraction(n);
+    let (top, high) = whole_and_fraction(scaled_by_62_20(n) - (low >> 60) as u128);
     (top as u32, high, low)
 }
 
@@ -91,7 +91,7 @@ fn divide_by_62_20(n: u128) -> (u32, u64, u64) {
 // result is 2^128 / 62^10 units: 21 * 2^64, plus the first factor, plus the second factor / 2^64,
 // rounded up. The 21 * 2^64 drop out, as an integer. The third factor is 2^123 / 62^10, rounded up.
 #[inline(always)]
-fn last_10(n: u128) -> u64 {
+fn last_10_as_fraction(n: u128) -> u64 {
     let upper = (n >> 64) as u64;
     let lower = (n & 0xffffffff_ffffffff) as u64;
     let product = upper as u128 * 18054599902933494364;
@@ -108,7 +108,7 @@ fn last_10(n: u128) -> u64 {
 // Returns n / 62^20 in fixed point with 64 fraction bits, at most five units too large. For
 // n = 2^64 the result is 2^128 / 62^20 units: the second factor, plus the first / 2^64, rounded up.
 #[inline(always)]
-fn scaled_by_20(n: u128) -> u128 {
+fn scaled_by_62_20(n: u128) -> u128 {
     let upper = (n >> 64) as u64;
     let lower = (n & 0xffffffff_ffffffff) as u64;
     let rest = ((upper as u128 * 1200736830183971319) >> 64) as u64;
@@ -149,49 +149,49 @@ fn divide_narrow_by_62_10(n: u64) -> (u64, u64) {
 
 // Writes one to nine letters. If there are more than four, it writes the last four first.
 #[inline(always)]
-fn write_up_to_9(tables: &Tables, n: u64, places: usize, buf: &mut [u8]) {
-    requires!(1 <= places);
-    requires!(places <= 9);
-    requires!(places <= buf.len());
-    if places > 4 {
+fn write_up_to_9(tables: &Tables, n: u64, count: usize, buf: &mut [u8]) {
+    requires!(1 <= count);
+    requires!(count <= 9);
+    requires!(count <= buf.len());
+    if count > 4 {
         let quotient = n / POWER_4 as u64;
         let last = (n - quotient * POWER_4 as u64) as u32;
-        write_4(tables, last, &mut buf[places - 4..]);
-        write_up_to_5(tables, quotient as u32, places - 4, buf);
+        write_4(tables, last, &mut buf[count - 4..]);
+        write_up_to_5(tables, quotient as u32, count - 4, buf);
     } else {
-        write_up_to_5(tables, n as u32, places, buf);
+        write_up_to_5(tables, n as u32, count, buf);
     }
 }
 
 // Writes one to five letters, from the last to the first.
 #[inline(always)]
-fn write_up_to_5(tables: &Tables, n: u32, places: usize, buf: &mut [u8]) {
-    requires!(1 <= places);
-    requires!(places <= 5);
-    requires!(places <= buf.len());
-    if places > 4 {
+fn write_up_to_5(tables: &Tables, n: u32, count: usize, buf: &mut [u8]) {
+    requires!(1 <= count);
+    requires!(count <= 5);
+    requires!(count <= buf.len());
+    if count > 4 {
         let quotient = n / POWER_4;
-        write_4(tables, n - quotient * POWER_4, &mut buf[places - 4..]);
-        write_1_or_2(tables, quotient, places - 4, buf);
-    } else if places > 2 {
+        write_4(tables, n - quotient * POWER_4, &mut buf[count - 4..]);
+        write_1_or_2(tables, quotient, count - 4, buf);
+    } else if count > 2 {
         let quotient = n / POWER_2;
-        write_2(tables, n - quotient * POWER_2, &mut buf[places - 2..]);
-        write_1_or_2(tables, quotient, places - 2, buf);
+        write_2(tables, n - quotient * POWER_2, &mut buf[count - 2..]);
+        write_1_or_2(tables, quotient, count - 2, buf);
     } else {
-        write_1_or_2(tables, n, places, buf);
+        write_1_or_2(tables, n, count, buf);
     }
 }
 
 // Writes one or two letters, as a pair. If there is one place, the second letter overwrites the
 // first, which is a zero.
 #[inline(always)]
-fn write_1_or_2(tables: &Tables, x: u32, places: usize, buf: &mut [u8]) {
-    requires!(1 <= places);
-    requires!(places <= 2);
-    requires!(places <= buf.len());
+fn write_1_or_2(tables: &Tables, x: u32, count: usize, buf: &mut [u8]) {
+    requires!(1 <= count);
+    requires!(count <= 2);
+    requires!(count <= buf.len());
     let (first, second) = tables.pair(x);
     buf[0] = first;
-    buf[places - 1] = second;
+    buf[count - 1] = second;
 }
 
 // Writes two letters.

@@ -5,9 +5,9 @@ use Rattle.base62.proofs.ResultLemmas.{decodes}
 use Rattle.base62.proofs.codec.decode_counted.Goals as goal
 
 pub returns-clause-counted : goal.returns-clause-counted
-returns-clause-counted c = rw c.standard_tables.ensures.letters at c.decode_over.ensures
+returns-clause-counted c = rw c.standard_tables.ensures.letters at c.decode_inlined_over.ensures
 
 pub returns-clause-decodes : goal.returns-clause-decodes
 returns-clause-decodes c =
-    let counted : DecodesCounted standard c.args.input.now c.args.work.now c.decode_over.new.work c.decode_over.result = rw c.standard_tables.ensures.letters at c.decode_over.ensures in
-    decodes standard standard_is_alphabet c.args.input.now c.decode_over.result counted.answer
+    let counted : DecodesCounted standard c.args.input.now c.args.work.now c.decode_inlined_over.new.work c.decode_inlined_over.result = rw c.standard_tables.ensures.letters at c.decode_inlined_over.ensures in
+    decodes standard standard_is_alphabet c.args.input.now c.decode_inlined_over.result counted.answer

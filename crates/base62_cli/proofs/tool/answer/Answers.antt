@@ -1,6 +1,6 @@
 use Rattle.std.proofs.Common.{◌≡◌, ◌≢◌, ℕ, [], ◌∷◌, List, ◌++◌, ap, ◌∙◌, append_assoc}
 use Rattle.std.proofs.lemmas.List.Elements.{All-append}
-use Rattle.base62_cli.proofs.LineLemmas.{leaves_more}
+use Rattle.base62_cli.proofs.LineLemmas.{leaves_after_line}
 use Rattle.base62_cli.proofs.tool.answer.Goals as goal
 
 -- the line that ends in the rest, and what follows it
@@ -18,7 +18,7 @@ loop-whole-init c =
     let is = rw (c.as_slice.ensures.value ∙ c.in_ok-append.ensures) at reply.1 in (
       reply.0 ++ 10 ∷ [],
       reply.2,
-      λ more. leaves_more _ [] (line ++ end) _ reply.0 (after ++ more) unended is (line_cut line c.args.chunk.now end after more cut.1) (λ later h. h),
+      λ more. leaves_after_line _ [] (line ++ end) _ reply.0 (after ++ more) unended is (line_cut line c.args.chunk.now end after more cut.1) (λ later h. h),
     )
 
 pub loop-whole-preserved : goal.loop-whole-preserved
@@ -30,5 +30,5 @@ loop-whole-preserved c =
     let reply = c.in_ok-push_reply-2.ensures in (
       l.invariant.0 ++ (reply.0 ++ 10 ∷ []),
       reply.2 ∙ ap (λ out. out ++ (reply.0 ++ 10 ∷ [])) l.invariant.1 ∙ append_assoc _ l.invariant.0 _,
-      λ more. leaves_more _ l.invariant.0 whole _ reply.0 (after ++ more) cut.0 reply.1 (line_cut [] l.rest.now whole after more cut.1) (l.invariant.2 more),
+      λ more. leaves_after_line _ l.invariant.0 whole _ reply.0 (after ++ more) cut.0 reply.1 (line_cut [] l.rest.now whole after more cut.1) (l.invariant.2 more),
     )

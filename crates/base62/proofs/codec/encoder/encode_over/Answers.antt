@@ -10,6 +10,6 @@ returns-then-buf-count c =
 pub returns : goal.returns
 returns c =
     let count = c.digit_count-count.ensures in
-    let text = c.write_text in
+    let text = c.write_number in
     let answer = encodes c.args.tables.now.letters c.requires.alphabet c.args.n _ c.ranges.n.fits count.counted count.most in
     answer c.args.buf.now text.new.buf c.args.work.now text.new.work c.if-buf-count.false text.ensures.written text.ensures.steps

@@ -1,7 +1,7 @@
 use Rattle.base62.proofs.ResultLemmas.{decoding_accepts}
 use Rattle.base62.proofs.ValueLemmas.{value-lt_most}
 use Rattle.base62.proofs.WidthLemmas.{fixed_decodes, filled_up}
-use Rattle.base62.proofs.laws.widths.of_text.Goals as goal
+use Rattle.base62.proofs.laws.widths.width_of_text.Goals as goal
 
 pub returns-clause-small : goal.returns-clause-small
 returns-clause-small c = λ n is short.

@@ -1,11 +1,7 @@
 use Rattle.std.proofs.Common.{Ok, Err, arith}
 use Rattle.std.proofs.lemmas.Result.{err_from_is_err_and}
 use Rattle.base62.proofs.DecodingLemmas.{decodes_long, decodes_few}
-use Rattle.base62.proofs.ZeroLemmas.{zeros_within}
-use Rattle.base62.proofs.codec.decoder.decode_after.Goals as goal
-
-pub split_at-requires : goal.split_at-requires
-split_at-requires c = omega (arith, c.requires.zeros, zeros_within c.args.tables.now.letters c.args.input.now)
+use Rattle.base62.proofs.codec.decoder.decode_after_zeros.Goals as goal
 
 pub returns-then-after_zeros-gt-MAX_DIGITS : goal.returns-then-after_zeros-gt-MAX_DIGITS
 returns-then-after_zeros-gt-MAX_DIGITS c =

@@ -6,7 +6,7 @@ use Rattle.base62.specs.Range.{BeginsTextsOf, range_of}
 use Rattle.base62.proofs.PrefixLemmas.{begins_between}
 use Rattle.base62.proofs.OrderLemmas.{not_after_iff}
 use Rattle.base62.proofs.RangeLemmas.{range_ends}
-use Rattle.base62.proofs.laws.order.scan_of_front.Goals as goal
+use Rattle.base62.proofs.laws.order.scan_of_prefix.Goals as goal
 
 -- letters as long as a text of w letters are one for their value
 own : (B text : List ℕ) (w other : ℕ) (one : List ℕ) → IsFixed B w one other → length text ≡ w

@@ -2,7 +2,7 @@ use Rattle.std.proofs.Common.{◌^◌, ◌<◌, inl, inr, arith}
 use Rattle.std.proofs.lemmas.Bool.{cases_lt}
 use Rattle.base62.proofs.PowerLemmas.{fits_more}
 use Rattle.base62.proofs.FixedLemmas.{digit_count_fits, digit_count_some, digit_count_most}
-use Rattle.base62.proofs.codec.encoder.write_text.Goals as goal
+use Rattle.base62.proofs.codec.encoder.write_number.Goals as goal
 
 pub write_narrow-requires-clause-fits : goal.write_narrow-requires-clause-fits
 write_narrow-requires-clause-fits c = digit_count_fits _ c.requires.tables.alphabet c.args.n c.args.count c.requires.count

@@ -1,6 +1,6 @@
 use Rattle.std.proofs.lemmas.Result.{err_from_is_err_and}
 use Rattle.base62.proofs.FixedDecodingLemmas.{fixed_wrong, fixed_refused, fixed_number}
-use Rattle.base62.proofs.fixed.read_fixed.Goals as goal
+use Rattle.base62.proofs.fixed.decode_fixed_over.Goals as goal
 
 pub returns-then-input-width : goal.returns-then-input-width
 returns-then-input-width c = fixed_wrong c.args.tables.now.letters c.args.width c.args.input.now c.if-input-width.true

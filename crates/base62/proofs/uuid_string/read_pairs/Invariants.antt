@@ -1,7 +1,7 @@
 use Rattle.std.proofs.Common.{◌≡◌, ◌<◌, ◌*◌, ℕ, length, map, take, get_or}
 use Rattle.std.specs.Char.{to_ascii_lowercase}
 use Rattle.base62.specs.UuidString.{digits}
-use Rattle.base62.proofs.uuid_string.parse_pairs.Given as goal
+use Rattle.base62.proofs.uuid_string.read_pairs.Given as goal
 
 abbrev pub invariant-loop-index : goal.invariant-loop-index
 invariant-loop-index l = record {

@@ -1,5 +1,5 @@
 use Rattle.base62.proofs.PrefixLemmas.{prefix_letters, in_interval, begins_with, none_inside, no_ends, ends_are, begins_between}
-use Rattle.base62.proofs.laws.order.fronts.Goals as goal
+use Rattle.base62.proofs.laws.order.prefixes_of_texts.Goals as goal
 
 pub returns-clause-letters : goal.returns-clause-letters
 returns-clause-letters c = prefix_letters

@@ -3,7 +3,7 @@ use Rattle.std.specs.Char.{to_ascii_lowercase}
 use Rattle.std.proofs.lemmas.List.{length-map, map-append, take_all}
 use Rattle.base62.specs.UuidString.{digits}
 use Rattle.base62.proofs.UuidStringLemmas.{digits_set, digits_at, length-digits, bytes_set, bytes_replicate, digits_once, two_more}
-use Rattle.base62.proofs.uuid_string.parse_pairs.Goals as goal
+use Rattle.base62.proofs.uuid_string.read_pairs.Goals as goal
 
 pub returns-then-text-ne32-clause-accepted : goal.returns-then-text-ne32-clause-accepted
 returns-then-text-ne32-clause-accepted c = λ uuid is e.
@@ -18,24 +18,24 @@ returns-in_err-high-clause-accepted c = λ uuid is e.
     let size = is.size in
     let k = c.loop-index.index in
     let fits = is.bytes k in
-    absurd (c.digit_value.ensures.other (get_or uuid k 0 / 16) c.in_err-high.was (omega arith) (digits_at c.args.text.now uuid e k (omega arith)).0)
+    absurd (c.hex_value.ensures.other (get_or uuid k 0 / 16) c.in_err-high.was (omega arith) (digits_at c.args.text.now uuid e k (omega arith)).0)
 
 pub returns-in_err-low-clause-accepted : goal.returns-in_err-low-clause-accepted
 returns-in_err-low-clause-accepted c = λ uuid is e.
     let size = is.size in
     let k = c.loop-index.index in
     let fits = is.bytes k in
-    absurd (c.digit_value-in-loop-index.ensures.other (get_or uuid k 0 % 16) c.in_err-low.was (omega arith) (digits_at c.args.text.now uuid e k (omega arith)).1)
+    absurd (c.hex_value-in-loop-index.ensures.other (get_or uuid k 0 % 16) c.in_err-low.was (omega arith) (digits_at c.args.text.now uuid e k (omega arith)).1)
 
 pub overflow_mul-uuid : goal.overflow_mul-uuid
 overflow_mul-uuid c =
-    let high = (c.digit_value.ensures.stored c.in_ok-high.high c.in_ok-high.was).0 in
+    let high = (c.hex_value.ensures.stored c.in_ok-high.high c.in_ok-high.was).0 in
     omega arith
 
 pub overflow_add-uuid : goal.overflow_add-uuid
 overflow_add-uuid c =
-    let high = (c.digit_value.ensures.stored c.in_ok-high.high c.in_ok-high.was).0 in
-    let low = (c.digit_value-in-loop-index.ensures.stored c.in_ok-low.low c.in_ok-low.was).0 in
+    let high = (c.hex_value.ensures.stored c.in_ok-high.high c.in_ok-high.was).0 in
+    let low = (c.hex_value-in-loop-index.ensures.stored c.in_ok-low.low c.in_ok-low.was).0 in
     omega arith
 
 pub loop-index-preserved : goal.loop-index-preserved
@@ -43,8 +43,8 @@ loop-index-preserved c =
     let loop = c.loop-index in
     let before = loop.invariant.read in
     let size = loop.invariant.size in
-    let high = c.digit_value.ensures.stored c.in_ok-high.high c.in_ok-high.was in
-    let low = c.digit_value-in-loop-index.ensures.stored c.in_ok-low.low c.in_ok-low.was in
+    let high = c.hex_value.ensures.stored c.in_ok-high.high c.in_ok-high.was in
+    let low = c.hex_value-in-loop-index.ensures.stored c.in_ok-low.low c.in_ok-low.was in
     let byte = c.in_ok-high.high * 16 + c.in_ok-low.low in
     let upper : byte / 16 ≡ c.in_ok-high.high = omega (arith, high.0, low.0) in
     let lower : byte % 16 ≡ c.in_ok-low.low = omega (arith, high.0, low.0) in

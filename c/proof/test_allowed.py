@@ -154,8 +154,8 @@ STATEMENTS = [
     # The size and the sign of a field, an enum, a char or another type.
     ("const struct { uint8_t a : 6; } n = {1};", "an attribute"), ("i = sizeof(size_t);", EXPRESSION), ("i = sizeof 'a';", EXPRESSION),
     ("if (status < BASE62_OVERFLOW) i = 1;", EXPRESSION), ("i = (size_t)(status - 1);", EXPRESSION), ("i = status;", EXPRESSION),
-    ("i = length > 1 ? status : BASE62_OK;", EXPRESSION), ("status = (base62_status)length;", EXPRESSION),
-    ("status = length > 1 ? BASE62_OK : 300;", EXPRESSION), ("const enum Large { LARGE = 0x80000000 } large = LARGE;", "no int"),
+    ("i = (size_t)(length > 1 ? status : BASE62_OK);", EXPRESSION), ("status = (base62_status)length;", EXPRESSION),
+    ("status = (base62_status)(length > 1 ? BASE62_OK : 300);", EXPRESSION), ("const enum Large { LARGE = 0x80000000 } large = LARGE;", "no int"),
     ("if ((length > 1 ? status : 3) - 5 < 0) i = 1;", EXPRESSION), ("const char c = 'a'; if (c < 0) i = 1;", CHAR),
     ("i = (size_t)(5 % (1 - part[0]));", EXPRESSION),
     # What is read and may not be set.

@@ -98,10 +98,8 @@ module Listed = struct
     method! vdef d =
       here <- Cabshelper.get_definitionloc d;
       allow (definition d) here "a definition, or a variable that is not initialized";
-      (match d with
-        | DECDEF (_, (_, all), _) ->
-          List.iter (function _, SINGLE_INIT e -> effects <- alone e @ effects | _ -> ()) all
-        | _ -> ());
+      let add = function _, SINGLE_INIT e -> effects <- alone e @ effects | _ -> () in
+      (match d with DECDEF (_, (_, all), _) -> List.iter add all | _ -> ());
       Cil.DoChildren
   end
 end
@@ -378,7 +376,8 @@ let listed whole compared e = match e.enode with
     (match Cil.constFoldToInt b with Some n -> Integer.gt n Integer.zero | None -> false)
   | BinOp (_, a, b, _) -> not (is_enum a || is_enum b)
   | UnOp (Neg, a, _) -> not (is_enum a)
-  | CastE (to_, a) -> is_enum a && List.memq e compared || listed_cast to_ a
+  | CastE (to_, a) when is_of_kind IInt to_ || is_of_kind IUInt to_ -> is_enum a && List.memq e compared || listed_cast to_ a
+  | CastE (to_, a) -> listed_cast to_ a
   | AddrOf (_, offset) -> not (is_beside offset || is_scalar_field offset)
   | StartOf (_, offset) -> not (is_beside offset) || List.memq e whole
   | _ -> false

@@ -2,10 +2,9 @@
 """Proves base62.c and laws.c with Frama-C's WP: c/proof/prove.py [FUNCTIONS..]
 
 It prints the goals without a proof, the bits of a size_t, how many goals are proved and how many failed. It fails if a
-goal has no proof or rests on an axiom of WP that wp.py does not list, if Frama-C says anything else than listed there, if
-base62.c has a token that allowed_tokens.py does not list, if its tree has what allowed.ml does not, or if the code without
-annotations and ghosts is not that of base62.c. Without names it fails too if WP's smoke tests find a requirement that
-nothing meets. It names each goal that takes over a third of its limit.
+goal has no proof, if an axiom of WP or a message of Frama-C is not listed in wp.py, a token not in allowed_tokens.py or a
+node of its tree not in allowed.ml, or if the code without annotations and ghosts is not that of base62.c. Without names it
+fails too if WP's smoke tests find a requirement that nothing meets. It names each goal that takes over a third of its limit.
 
 Variables: BITS (32 for a machine of 32 bits), CORES (how many functions are proved at once), LIMIT (seconds for a
 goal), WORK (an empty folder for the annotated code and the logs), CACHE (a folder of results of provers, for a proof

@@ -153,7 +153,7 @@ STATEMENTS = [
         "memcpy(to, part, 5);", "switch (i) { case 1: i = 2; }", "asm(\"\");")),
     # The size and the sign of a field, an enum, a char or another type.
     ("const struct { uint8_t a : 6; } n = {1};", "an attribute"), ("i = sizeof(size_t);", EXPRESSION), ("i = sizeof 'a';", EXPRESSION),
-    ("if (status < BASE62_OVERFLOW) i = 1;", EXPRESSION), ("i = (size_t)(status - 1);", EXPRESSION), ("i = status;", EXPRESSION),
+    ("if (status < BASE62_OVERFLOW) i = 1;", EXPRESSION), ("i = (size_t)(status - 1);", EXPRESSION), ("if ((uint64_t)status == 9) i = 1;", EXPRESSION),
     ("i = (size_t)(length > 1 ? status : BASE62_OK);", EXPRESSION), ("status = (base62_status)length;", EXPRESSION),
     ("status = (base62_status)(length > 1 ? BASE62_OK : 300);", EXPRESSION), ("const enum Large { LARGE = 0x80000000 } large = LARGE;", "no int"),
     ("if ((length > 1 ? status : 3) - 5 < 0) i = 1;", EXPRESSION), ("const char c = 'a'; if (c < 0) i = 1;", CHAR),

@@ -26,6 +26,8 @@ BARE = "#include <stddef.h>\n#include <stdint.h>\n#undef __FRAMAC__\n"
 FLAGS = f"-D__FC_MACHDEP_X86_{BITS} -DBASE62_NO_INT128 -U__SIZEOF_INT128__ -U__GNUC__"
 LIMIT = int(os.environ.get("LIMIT", "20"))
 CORES = int(os.environ.get("CORES", os.cpu_count()))
+# The lemmas of a file, in the place of a function.
+LEMMAS = "@lemma"
 
 
 @functools.cache
@@ -104,10 +106,6 @@ def code(file):
 
     text = re.sub(r"\n *", " ", (file.parent / "tree.tsv.c").read_text().replace("__inline ", ""))
     return sorted(map(counted, text.split("\f")))
-
-
-# The lemmas of a file, in the place of a function.
-LEMMAS = "@lemma"
 
 
 # What is to be proved of a file, which calls of base62.h it defines or declares, which of its constants no pointer of a

@@ -18,7 +18,7 @@ prove: ## prove all crates, reject all mutants and run all tests, with the kit
 	rt ci
 
 prove-c: ## prove c/base62.c with Frama-C; BITS=32 for 32-bit targets, MUTANTS=1 for its mutation tests
-	@$(if $(MUTANTS),c/proof/rejections.py && c/proof/mutate_specification.py,LIMIT=$${LIMIT:-180} c/proof/prove.py)
+	@$(if $(MUTANTS),c/proof/test_allowed.py && c/proof/mutate_specification.py,LIMIT=$${LIMIT:-180} c/proof/prove.py)
 
 generate: ## write the generated files anew, after a change of their sources
 	tests/make_values.py

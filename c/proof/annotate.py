@@ -24,6 +24,9 @@ FOLDER = pathlib.Path(__file__).resolve().parent
 ANNOTATIONS = "numbers faults powers digits alphabets tables readers decoder texts ranges fractions".split()
 ANNOTATIONS += "parts writers counts encoders fixed uuids".split()
 
+# A line of a list that is neither a place nor a definition: it has nothing for the preprocessor.
+LINE = re.compile(r"(?:[\w (){}\[\]<>=!&|+*/^:;,.'\"`@~-]|%(?!:)|\?(?!\?)|\\(?=\w))*", re.A)
+
 
 def laws():
     """The text of all laws and examples."""
@@ -124,10 +127,9 @@ def annotated(source, *more):
     before = {}
     texts = [*lists(), *more]
     # Only a definition has several lines for the preprocessor.
-    others = re.sub(r"^(?:#define ACSL_\w+(?:.*\\\n)*|==).*", "", "\n".join(texts), flags=re.M)
-    wrong = re.findall(r"^.*(?:#|%:|\?\?|\\$).*", others, re.M)
-    if wrong:
-        raise SystemExit("a line for the preprocessor: " + wrong[0])
+    for line in re.sub(r"^(?:#define ACSL_\w+(?:.*\\\n)*|==).*", "", "\n".join(texts), flags=re.M).split("\n"):
+        if not LINE.fullmatch(line):
+            raise SystemExit("a line for the preprocessor: " + line)
     for head, body in (section for text in texts for section in sections(text)):
         at, commented = place(head, lines, functions)
         before.setdefault(at, []).extend(commented(body))

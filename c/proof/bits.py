@@ -1,4 +1,4 @@
-"""Proves axioms on bits by the bit vectors of z3 and cvc5. tree.ml writes a query for each axiom of Frama-C's AST,
+"""Proves axioms on bits by the bit vectors of z3 and cvc5. allowed.ml writes a query for each axiom of Frama-C's AST,
 in which macros are replaced. Its numbers are signed, of 192 bits: enough for each value within the axiom's bounds."""
 
 import functools

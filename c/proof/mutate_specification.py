@@ -204,7 +204,7 @@ def failing(file, names, limits):
             if FAILED in logs[-1]:
                 return name
         tree = wp.checked(file)
-        return "rejected" if tree.wrong or any([*wp.warnings(log, tree.constants)] for log in logs) else ""
+        return "rejected" if tree.wrong or any([*wp.warnings(log, tree)] for log in logs) else ""
     except SystemExit:
         return "not read"
 
@@ -231,7 +231,7 @@ def main(parts):
         in_order = sorted(laws, key=lambda law: (laws[law], times[law]))
         by = failing(wp.prepared(work / str(i), annotate.laws(), text), in_order, limits)
         if bool(by) == (line in SAME):
-            failures.append(f"{by or 'not'} seen: {line}")
+            failures.append(f"{by} seen, and in SAME: {line}" if by else f"not seen, and not in SAME of this program: {line}")
             print(failures[-1], flush=True)
         return by
 

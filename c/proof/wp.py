@@ -3,7 +3,6 @@
 import collections
 import concurrent.futures
 import functools
-import hashlib
 import os
 import re
 import shutil
@@ -11,6 +10,7 @@ import signal
 import subprocess
 import tempfile
 
+import allowed_tokens
 import annotate
 import bits
 from annotate import FOLDER, hints
@@ -26,6 +26,8 @@ BARE = "#include <stddef.h>\n#include <stdint.h>\n#undef __FRAMAC__\n"
 FLAGS = f"-D__FC_MACHDEP_X86_{BITS} -DBASE62_NO_INT128 -U__SIZEOF_INT128__ -U__GNUC__"
 LIMIT = int(os.environ.get("LIMIT", "20"))
 CORES = int(os.environ.get("CORES", os.cpu_count()))
+# The lemmas of a file, in the place of a function.
+LEMMAS = "@lemma"
 
 
 @functools.cache
@@ -36,9 +38,9 @@ def tools():
         raise SystemExit(f"missing in {PATH}, see c/proof/README.md: {' '.join(missing)}")
     folder = tempfile.TemporaryDirectory()
     check_path(folder.name)
-    shutil.copy(FOLDER / "tree.ml", folder.name)
+    shutil.copy(FOLDER / "allowed.ml", folder.name)
     library = subprocess.check_output(["frama-c", "-print-lib-path"], env={"PATH": PATH}, text=True).strip()
-    compiler = f"ocamlfind ocamlopt -shared -I {library} -package zarith,ocamlgraph -o tree.cmxs tree.ml"
+    compiler = f"ocamlfind ocamlopt -shared -I {library} -package zarith,ocamlgraph -o allowed.cmxs allowed.ml"
     subprocess.run(compiler.split(), cwd=folder.name, env=environment(folder.name), check=True)
     detect = ["why3", "config", "detect"]
     subprocess.run(detect, cwd=folder.name, env=environment(folder.name), check=True, capture_output=True)
@@ -66,40 +68,11 @@ def prepared(work, code, specification=None):
     return file
 
 
-# The SHA-256 of what of_preprocessor finds in base62.h and base62.c: to change it, read all of this again.
-REVIEWED = "01a32bcf2517201f856db4d2e797268c15753394a10e8b68c0267295e7de64bd"
-# The only lines of the preprocessor that it leaves out, if they are not between #if and #endif.
-CONSTANT = re.compile(r'#define B(?:ASE)?62_\w+ (?:(?!_)\w+|"[^"]*"|\w+\(\w+\)|\(\(\w+\)\w+\))')
-
-
-def of_preprocessor(name, text):
-    """What a file leaves to the preprocessor: each paragraph with a line for it, or with a name that begins with an
-    underscore, as macros of compilers do, and all between #if and #endif."""
-    comment = r"(?:/\*(?:(?!\*/).)*\*/|//(?!@)[^\n]*)"
-    text = re.sub(rf"^ *{comment}\n| *{comment}", "", text, flags=re.M | re.S)
-    reviewed, depth = [f"== {name}"], -(name == HEADER.name)  # All of it is between #ifndef and #endif.
-    for part in re.split("\n\n+", text.strip()):
-        opened, closed = (len(re.findall(f"^ *# *{word}", part, re.M)) for word in ("if", "endif"))
-        lines = [line for line in part.split("\n") if opened or depth > 0 or not CONSTANT.fullmatch(line)]
-        if depth > 0 or any(re.search(r"^ *#|\b_", line) for line in lines):
-            reviewed += lines
-        depth += opened - closed
-    return reviewed
-
-
-def check_reviewed(source):
-    """Ends the run if base62.h and base62.c have other lines for the preprocessor than those reviewed."""
-    lines = "\n".join(of_preprocessor(HEADER.name, HEADER.read_text()) + of_preprocessor(CODE.name, source))
-    digest = hashlib.sha256(lines.encode()).hexdigest()
-    if digest != REVIEWED:
-        raise SystemExit(f"lines for the preprocessor that are not reviewed: their SHA-256 is {digest}")
-
-
 def frama_c(file, name, options, last=None, **more):
     """What Frama-C says of a file, up to a line that has the last text. The folder of the file keeps it by the name."""
     folder = tools().name
     flags = f"-include {file.parent / SPECIFICATION.name} {FLAGS}"
-    command = f"frama-c -load-module {folder}/tree.cmxs -machdep base62_{BITS}".split()
+    command = f"frama-c -load-module {folder}/allowed.cmxs -machdep base62_{BITS}".split()
     command += [f"-cpp-extra-args={flags}", file, *options]
     output = {"text": True, "stdout": subprocess.PIPE, "stderr": subprocess.STDOUT, "start_new_session": True}
     log = []
@@ -116,7 +89,7 @@ def frama_c(file, name, options, last=None, **more):
 
 
 def tree(file):
-    """What tree.ml finds in a file: the kind, the name, and what. Warnings are rejected too."""
+    """What allowed.ml finds in a file: the kind, the name, and what. Warnings are rejected too."""
     table = file.parent / "tree.tsv"
     log = frama_c(file, "tree", [], TREE=str(table))
     rows = [tuple(line.split("\t")) for line in table.read_text().splitlines()]
@@ -135,20 +108,16 @@ def code(file):
     return sorted(map(counted, text.split("\f")))
 
 
-# The lemmas of a file, in the place of a function.
-LEMMAS = "@lemma"
-
-
 # What is to be proved of a file, which calls of base62.h it defines or declares, which of its constants no pointer of a
-# caller points to, and what it has that is rejected.
-Checked = collections.namedtuple("Checked", "to_prove calls constants wrong")
+# caller points to, its axioms and lemmas, the bits of a size_t, and what it has that is rejected.
+Checked = collections.namedtuple("Checked", "to_prove calls constants axioms bits wrong")
 
 
 def checked(file, bare=None, calls=None):
     """A file as its tree is. base62.c with annotations has the code of the bare one, as Frama-C prints it, and no plain
     char. The laws have no body for these calls, and one for all else."""
     rows = tree(file)
-    names = {kind: set() for kind in ("defined", "declared", "public", "lemma", "constant")}
+    names = {kind: set() for kind in ("defined", "declared", "public", "axiom", "lemma", "constant")}
     for kind, name, _ in rows:
         names.setdefault(kind, set()).add(name)
     kinds = {"rejected", "char"} if bare else {"rejected"}
@@ -159,15 +128,19 @@ def checked(file, bare=None, calls=None):
         annotated, plain = collections.Counter(code(file)), collections.Counter(bare)
         changed = sorted((annotated - plain + (plain - annotated)).elements())
         wrong += [f"the lists change the code: {definition.strip()[:120]}" for definition in changed]
-    lemmas = {LEMMAS} if names["lemma"] else set()
-    return Checked(names["defined"] | lemmas, names["public"], set() if calls else names["constant"], wrong)
+    to_prove = names["defined"] | ({LEMMAS} if names["lemma"] else set())
+    constants, axioms = set() if calls else names["constant"], names["axiom"] | names["lemma"]
+    return Checked(to_prove, names["public"], constants, axioms, *names["bits"], wrong)
 
 
 def checked_code(work, source, *more):
     """The file of base62.c with annotations; and what is said of it, and of what is not on the list of the C it may be."""
-    check_reviewed(source)
+    words = allowed_tokens.unlisted(HEADER.read_bytes().decode(), source)
     bare = prepared(work / "bare", source, BARE)
     rows = tree(bare)
+    words -= {name for kind, name, _ in rows if kind == "declares"}
+    if words:
+        raise SystemExit(f"not on the list of words: {' '.join(sorted(words))}")
     file = prepared(work, annotate.annotated(source, *more))
     result = checked(file, code(bare))
     result.wrong.extend(what for kind, _, what in rows if kind == "unlisted")
@@ -177,7 +150,8 @@ def checked_code(work, source, *more):
 def proved(file, function, last=None, limit=LIMIT):
     """What WP says of a function or of all lemmas, with a limit of seconds for each goal."""
     # Both provers try a goal at the same time, until one of them proves it.
-    options = "-wp -wp-rte -warn-invalid-pointer -wp-prover cvc4,z3 -wp-par 2 -wp-msg-key print-generated".split()
+    options = "-wp -wp-prover cvc4,z3 -wp-par 2 -wp-msg-key print-generated -wp-rte".split()
+    options += [f"-warn-{wrong}" for wrong in ("invalid-pointer", "signed-downcast", "right-shift-negative")]
     options += ["-wp-timeout", str(limit), "-wp-prop" if function == LEMMAS else "-wp-fct", function]
     options += [] if (function, "not split") in hints() else ["-wp-split"]
     # What stands in constant tables slows provers.
@@ -205,21 +179,43 @@ def at_once(task, names):
 
 
 def goals(log):
-    """Each goal: its name, the prover or Failed, and the time of the prover in milliseconds."""
+    """Each goal: its name, whether it is proved, and the time of the prover in milliseconds."""
     for prover, name, rest in re.findall(r"^\[wp\] \[([\w. ]+)\] Goal (\w+)(.*)", log, re.M):
         units = {"ms": 1, "s": 1000, "'": 60000}
         times = [int(float(n) * units[unit]) for n, unit in re.findall(r"\(([\d.]+)(ms|s|')\)", rest)]
-        yield name, prover.split()[0], max(times, default=0)
+        yield name, prover.split()[0] in {"Qed", "CVC4", "Z3"}, max(times, default=0)
 
 
-def warnings(log, constants=frozenset()):
-    """What Frama-C says besides the goals; and the false axioms on which goals rest. WP takes it that a pointer of a caller
-    points to none of these constants. None can: they are private, and no exported function returns a pointer to one."""
-    for block in re.split(r"\n(?=\[|---)", log):
-        names = "Memory model hypotheses" in block and re.findall(r"(?:&|\*\))(\w+)\b(?!->)", block)
-        hypotheses = names and constants.issuperset(names)
-        if re.search(r"[Ww]arning|User Error", block) and not hypotheses:
-            yield block.strip()
-    # Of an array that is read whole WP 25 says that nothing changes it but a change of its first element.
-    for axiom in sorted({*re.findall(r"^ *axiom (Q_Array_\w+_(?:update|eqmem|havoc)_\w+)", log, re.M)}):
-        yield f"a goal rests on an axiom of WP that is false, for an array that is read whole: {axiom}"
+# With what a message begins if nothing is wrong. Its other lines are empty or begin with a blank.
+MESSAGE = re.compile(
+    r"""\[kernel\][ ]Parsing[ ]\S+[ ]\(with[ ]preprocessing\) | \[rte:annot\][ ]annotating[ ]function[ ]\w+
+    | \[wp\][ ](?:Running[ ]WP[ ]plugin\.\.\.|\d+[ ]goals?[ ]scheduled|Computing[ ]\[\d+[ ]goals\.\.\.\]|Proved[ ]goals:.*)
+    | \[wp\][ ]\[(?:Qed|CVC4[ ][\d.]+|Z3[ ][\d.]+|Failed)\][ ]Goal[ ].* | \[wp\][ ]\[Cache\].*
+    | \[wp:print-generated\][ ] | -+ | ---[ ]Context[ ].* | theory[ ]\w+ | end""",
+    re.X,
+)
+# The axioms of WP on which a goal may rest: of definitions, of variables and constants, and of structs of numbers that are
+# read whole. That for an array that is read whole is false in WP 25.
+OF_STRUCT = r"Q_Load_(?:Init_)?S\d_base62_(?:bad_byte|number|range)_(?:eqmem|havoc|update)_\w+"
+AXIOM = re.compile(rf"L_\w+_def|Q_[KL]_\w+_\d+_(?:init|linked|region)|{OF_STRUCT}")
+
+
+def is_hypothesis(message, constants):
+    """Whether WP takes it that a pointer of a caller points to none of these constants. None can: they are private, and no
+    exported function returns a pointer to one."""
+    pattern = r"\[wp\] \S+: Warning: \n  Memory model hypotheses for function '\w+':\n  /\*@(.*)\*/(.*);\n*"
+    match = re.fullmatch(pattern, message, re.S)
+    clauses, head = ({*re.findall(r"[a-zA-Z_]\w*", part)} for part in match.groups()) if match else ({""}, set())
+    return clauses - head - {"behavior", "wp_typed", "requires", "separated", "uint8_t", "const"} <= constants and constants
+
+
+def warnings(log, checked=None):
+    """What Frama-C says besides what is listed, and other axioms on which goals rest than those listed or of the file."""
+    constants = checked.constants if checked else set()
+    for message in re.split(r"\n(?=[^ \n])", log.strip("\n")):
+        if not (MESSAGE.fullmatch(message.split("\n")[0]) or is_hypothesis(message, constants)):
+            yield message.strip()
+    listed = {f"Q_{name}" for name in checked.axioms} if checked else set()
+    for axiom in sorted({*re.findall(r"^ *axiom (\w+)", log, re.M)} - listed):
+        if not AXIOM.fullmatch(axiom):
+            yield f"a goal rests on an axiom of WP that is not on the list: {axiom}"

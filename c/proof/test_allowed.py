@@ -1,8 +1,8 @@
 #!/usr/bin/python3 -B
-"""Tries changes that would get a false statement accepted, one by one: c/proof/rejections.py [TEXTS..]
+"""Tries changes that would get a false statement accepted, one by one: c/proof/test_allowed.py [TEXTS..]
 
 prove.py has to reject each, with what stands beside it in its table. It prints those that are not rejected so, and how
-many are. It tries those that have one of the texts, if there are any.
+many are. It tries those that have one of the texts, if there are any. Each text has to be in a case.
 """
 
 import pathlib
@@ -12,21 +12,24 @@ import tempfile
 import annotate
 import wp
 
+FAILED = "[Failed] Goal"
+
 # Parts of what prove prints.
 ENDS, LOOP, ADMIT, READ = "nothing shows that it ends", "a loop without a variant", ": admit", "is read whole"
 KIND, CLAUSE = "annotation of another kind", "a clause of another kind"
 UNPROVED, FORM = "does not prove the axiom", "an axiom of another form"
 CODE, BODY, WARNING, NO_CONTRACT = "the lists change the code", "without a body", "arning", "no contract, or none"
-FALSE, NOT_TRIED = "an axiom of WP that is false", "WP tries no goal"
+FALSE, NOT_TRIED = "an axiom of WP that is not on the list", "WP tries no goal"
 NUMBER, CHAR, APART = "a pointer from a number", "a plain char", "Memory model hypotheses"
-LINE, TYPE, EXPRESSION, STATEMENT = "are not reviewed", "list: a type", "list: the expression", "list: a statement"
+CHARACTER, LINE, TOKEN, WORD = "list of characters", "are not reviewed", "list of tokens", "list of words"
+EXPRESSION, STATEMENT = "list: the expression", "list: a statement"
 VARIABLE, UNTYPED, CALL = "is not initialized", "list: an expression", "a call that may write"
 POINTER, ARRAY = "list: a pointer in a struct, or to a pointer", "more than numbers"
 
 # A function, which stands behind those of base62.c, and its contract.
 HERE = """
 
-// Planted.
+/* Planted. */
 
 static size_t here(uint8_t *to, const uint8_t *part, size_t length, base62_status status, const base62_alphabet *all) {
     size_t i = 0;
@@ -34,7 +37,7 @@ static size_t here(uint8_t *to, const uint8_t *part, size_t length, base62_statu
     return i;
 }"""
 CONTRACT = "== contract here\nassigns \\nothing;\n"
-TOP = "== after // Planted.\n"
+TOP = "== after /* Planted. */\n"
 STEP = "== in here before return i;\n"
 NEXT = STEP + "assert first:\n\\true; */ "
 
@@ -130,21 +133,34 @@ ACCEPTED = [
 STATEMENTS = [
     # What compilers read otherwise, and Frama-C alone.
     *((line, LINE) for line in (
-        "#ifndef BASE62_BUILD\n    i++;\n#endif", "#include \"min.inc\"", "/* */ #undef B62_MAY_ALIAS", "#define next(n) (n) + 1",
-        "if (__BYTE_ORDER__ == 4321) i = 1;", "#define B62_ORDER __BYTE_ORDER__", "_Pragma(\"GCC optimize (3)\")")),
-    # What depends on the machine: types, constants, the sign of a char or of an enum.
-    *((f"const {name} n = 1; i += n;", TYPE) for name in ("unsigned long", "uint_fast32_t", "short", "uintptr_t")),
-    ("i = (unsigned long)i;", TYPE), ("const union { uint8_t a; } n = {1};", TYPE),
-    ("const struct { uint8_t a : 6; } n = {1};", TYPE), ("volatile uint8_t n = 1;", TYPE),
-    *((f"i = {number};", UNTYPED) for number in (
-        "3000000000", "1ul", "UINT32_C(1)", "'\\xff'", "'ab'", "1.5")),
-    ("static const uint8_t bytes[2] = \"\\xe9\";", UNTYPED), ("i = sizeof(size_t);", EXPRESSION),
-    ("if (status < BASE62_OVERFLOW) i = 1;", EXPRESSION), ("i = (size_t)(status - 1);", EXPRESSION),
+        "#ifndef BASE62_BUILD\n    i++;\n#endif", "#include \"min.inc\"", "/* */ #undef B62_MAY_ALIAS /* */", "#define next(n) (n) + 1",
+        "const uint8_t own[] = \"/*\";\n#if SIZE_MAX > 0xffffffff\n    i = own[0];\n#endif\n    copy_bytes(to, \"*/\", 2);",
+        "/* \" */\n#if '0' == 48\n    i++;\n#endif /* \" */")),
+    *((line, CHARACTER) for line in (
+        "\t#undef B62_POWER_2", "\v#undef B62_POWER_2", "i = 1; //\ri = 2;", "le\\\nngth = 1;", "// \\ \n    i = 1;",
+        "?\x3f=undef B62_POWER_2", "i = '\xe9';")),
+    # What is another token with another compiler or language, or has another value or type.
+    *((text, TOKEN) for text in (
+        "%:undef B62_POWER_2", "to<:0:> = 1;", "<% i = 1; %>", "i = 8 //* */ 2\n        ;", "//@ ghost i = 1;", "/*@ assert \\true; */",
+        "if (__BYTE_ORDER__ == 4321) i = 1;", "#define B62_ORDER __BYTE_ORDER__", "_Pragma(\"GCC optimize (3)\")", "i = _Generic(i, size_t: 8);",
+        "i = 0LU - 1;", "i = 1l;", "i = 3000000000;", "i = 0b11;", "i = 1'000;", "i = (size_t)1.5;", "i = (size_t).5;", "i = (size_t)1e3;",
+        "i = L'a';", "i = '\\xff';", "i = 'ab';", "static const uint8_t bytes[2] = \"\\xe9\";", "i = sizeof(L\"a\");")),
+    # What a machine or a compiler defines. unsigned is no word without char.
+    *((text, WORD) for text in (
+        "i = length + (UINT_FAST32_MAX > 0xffffffff);", "if (CHAR_MIN < 0) i = 1;", "i = linux;", "#define B62_MOST INT_MAX\n    i = B62_MOST;",
+        "const unsigned long n = 1; i += n;", "const uint_fast32_t n = 1; i += n;", "int n = 0; i = (size_t)n;", "const unsigned n = 1; i += n;",
+        "const float n = 1; i = (size_t)n;", "const union { uint8_t a; } n = {1};", "volatile uint8_t n = 1;", "register size_t n = 1;",
+        "memcpy(to, part, 5);", "switch (i) { case 1: i = 2; }", "asm(\"\");")),
+    # The size and the sign of a field, an enum, a char or another type.
+    ("const struct { uint8_t a : 6; } n = {1};", "an attribute"), ("i = sizeof(size_t);", EXPRESSION), ("i = sizeof 'a';", EXPRESSION),
+    ("if (status < BASE62_OVERFLOW) i = 1;", EXPRESSION), ("i = (size_t)(status - 1);", EXPRESSION), ("if ((uint64_t)status == 9) i = 1;", EXPRESSION),
+    ("i = (size_t)(length > 1 ? status : BASE62_OK);", EXPRESSION), ("status = (base62_status)length;", EXPRESSION),
+    ("status = (base62_status)(length > 1 ? BASE62_OK : 300);", EXPRESSION), ("const enum Large { LARGE = 0x80000000 } large = LARGE;", "no int"),
     ("if ((length > 1 ? status : 3) - 5 < 0) i = 1;", EXPRESSION), ("const char c = 'a'; if (c < 0) i = 1;", CHAR),
     ("i = (size_t)(5 % (1 - part[0]));", EXPRESSION),
     # What is read and may not be set.
     ("uint32_t n;", VARIABLE), ("i = to[0];", EXPRESSION), ("copy_bytes(to, to + 5, 5);", EXPRESSION),
-    ("static uint8_t kept = 0; i = kept;", "a variable that is kept"),
+    ("static uint8_t kept = 0; i = kept;", "a static variable"),
     # Two effects, or an effect and a read.
     *((text, UNTYPED) for text in (
         "i = length++ + length;", "to[i++] = (uint8_t)i;", "i = (length = 1) + length;", "i = (i++, 1);", "if (to[i++] == 1) i = 2;")),
@@ -153,20 +169,18 @@ STATEMENTS = [
     ("to[i] = (uint8_t)base62_encode(base62_from_u64(1), (char *)to, i);", CALL),
     # What shares memory.
     ("((uint64_t *)to)[0] = 0;", EXPRESSION), ("((base62_bad_byte *)to)->byte = 0;", EXPRESSION), ("i = (size_t)to;", NUMBER),
-    ("uint8_t *restrict other = to; other[0] = 0;", "restrict"), ("if (to == part) i = 1;", EXPRESSION),
+    ("uint8_t *B62_RESTRICT other = to; other[0] = 0;", "restrict"), ("if (to == part) i = 1;", EXPRESSION),
     ("i = (size_t)(to - part);", EXPRESSION), ("to = 0;", EXPRESSION), ("const size_t *at = &((const base62_bad_byte *)0)->index;", EXPRESSION),
     ("const struct { size_t n; uint8_t a[2]; } both[2] = {{0, {0}}};", ARRAY),
     ("const struct { size_t n; uint8_t rest[]; } n = {1}; i = n.n;", "an array without a length"),
     ("base62_range n = {{0, 0}, {0, 0}}; uint64_t *at = &n.least.low; at[1] = 1;", EXPRESSION),
-    # Other statements.
-    *((text, STATEMENT) for text in (
-        "switch (i) { case 1: i = 2; }", "do i++; while (i < 3);", "goto end; end: i = 1;", "for (;;) break;", "asm(\"\");")),
+    ("for (i = 0; i < 3; i++) to[i] = 0;", STATEMENT),
 ]
 
 # Other changes of base62.c: what stands there, what takes its place, and what rejects it.
 SOURCES = [
     ("__builtin_clzll(n);", "__builtin_clzll(n | 1);", LINE), ("    //@ assert requires: n != 0;\n", "", LINE),
-    (HERE, HERE.replace("uint8_t *to", "uint8_t *restrict to"), "restrict"), (HERE, HERE.replace("size_t length", "unsigned length"), TYPE),
+    (HERE, HERE.replace("uint8_t *to", "uint8_t *B62_RESTRICT to"), "restrict"),
 ]
 
 # Calls that write, although no parameter is a pointer to bytes that are not const: what stands before here, what in it
@@ -196,8 +210,10 @@ WRONG = [
     # A width, and strings for UUIDs: one byte is read behind the text, one of two digits is not compared.
     ("decode_fixed_over", "if (length != width)", "if (length < width)"), ("has_urn", "if (length < 9)", "if (length < 8)"),
     ("read_pairs", "all | high | low;", "all | high;"), ("has_hyphens", "text[start + 18] == '-' && ", ""),
-    # A pointer out of bounds that nothing reads: only the option -warn-invalid-pointer finds it.
+    # A pointer out of bounds that nothing reads, a shift of what may be below 0, a cast of what may be too large: each needs
+    # its option of Frama-C.
     ("here", "/**/", "const uint8_t *const past = part + 5;"),
+    ("here", "/**/", "i = (size_t)(5 - (length > 1 ? 6 : 1) >> 1);"), ("here", "/**/", "i = (size_t)(int)length;"),
 ]
 
 # fmt: on
@@ -238,7 +254,7 @@ def once(text, old, new):
 
 def cases(work):
     """Each planted text, what has to be printed, and what prints it in a folder."""
-    source, laws, specification = wp.CODE.read_text(), annotate.laws(), wp.SPECIFICATION.read_text()
+    source, laws, specification = wp.CODE.read_bytes().decode(), annotate.laws(), wp.SPECIFICATION.read_text()
     end = source.rindex("\n}\n") + 2
     source = source[:end] + HERE + source[end:]
     bare = wp.prepared(work / "bare", source, wp.BARE)
@@ -254,11 +270,12 @@ def cases(work):
         return wp.checked(wp.prepared(at, annotate.annotated(source, CONTRACT, text)), bare).wrong
 
     def of_goals(at, text, name):
-        return [wp.proved(wp.prepared(at, text), name, "[Failed] Goal", 5)]
+        log = wp.proved(wp.prepared(at, text), name, FAILED, 5)
+        return [FAILED] if FAILED in log else [*wp.warnings(log)]
 
     def of_program(at, text):
         file = wp.prepared(at, text)
-        return wp.warnings(wp.proved(file, "planted"), wp.checked(file).constants)
+        return wp.warnings(wp.proved(file, "planted"), wp.checked(file))
 
     yield "nothing", None, lambda at: of_code(at, source)
     for text in ACCEPTED:
@@ -280,7 +297,9 @@ def cases(work):
     more = laws + "/*@ assigns \\nothing; ensures \\false; */ size_t narrow_count(uint64_t n);"
     yield "no body", "no body: narrow_count", lambda at: wp.checked(wp.prepared(at, more), None, calls).wrong
     for name, old, new in WRONG:
-        yield name, "Failed", lambda at, name=name, text=once(whole, old, new): of_goals(at, text, name)
+        yield name, FAILED, lambda at, name=name, text=once(whole, old, new): of_goals(at, text, name)
+    too_large = once(whole, "/**/", "i = (size_t)(70000 * 70000);")
+    yield "70000", "guaranteed RTE", lambda at: of_goals(at, too_large, "here")
     yield PROGRAM, FALSE, lambda at: of_program(at, PROGRAM)
     yield OTHER, APART, lambda at: of_program(at, OTHER)
     yield NEVER, "planted_wp_smoke", lambda at: wp.contradictions(wp.prepared(at, NEVER))
@@ -297,7 +316,11 @@ def messages(check, folder):
 def main(texts):
     with tempfile.TemporaryDirectory() as folder:
         work = pathlib.Path(folder)
-        chosen = [case for case in cases(work) if not texts or any(text in case[0] for text in texts)]
+        all_cases = [*cases(work)]
+        unknown = [text for text in texts if not any(text in case[0] for case in all_cases)]
+        if unknown:
+            sys.exit(f"no case has the text: {unknown[0]}")
+        chosen = [case for case in all_cases if not texts or any(text in case[0] for text in texts)]
         results = wp.at_once(lambda i: messages(chosen[i][2], work / str(i)), range(len(chosen)))
     failed = 0
     for (text, by, _), lines in zip(chosen, results):

@@ -24,22 +24,6 @@ let allow is_listed place what = if not is_listed then report "unlisted" "" (at_
 module Listed = struct
   open Cabs
 
-  (* They have one size and one sign everywhere. The types that the files define are added. *)
-  let types = ref [ "uint8_t"; "uint32_t"; "uint64_t"; "size_t" ]
-  let specifier spec =
-    let is_plain = function SpecCV c -> c = CV_CONST | SpecStorage s -> s = STATIC | SpecPattern _ -> false | _ -> true in
-    List.for_all is_plain spec && match List.filter_map (function SpecType t -> Some t | _ -> None) spec with
-      | [ Tvoid | Tbool | Tint | Tchar | Tenum _ | Tstruct (_, None, _) ] | [ Tunsigned; Tchar ] -> true
-      | [ Tstruct (_, Some fields, _) ] ->
-        List.for_all (function FIELD (_, all) -> List.for_all (fun (_, bits) -> bits = None) all | _ -> false) fields
-      | [ Tnamed name ] -> List.mem name !types
-      | _ -> false
-
-  (* It has one type everywhere. *)
-  let number text =
-    let is_of suffix = String.ends_with ~suffix (String.lowercase_ascii text) in
-    is_of "ll" || not (is_of "l") && (is_of "u" || String.starts_with ~prefix:"0x" text || int_of_string text < 0x80000000)
-
   let enumerators = ref []
   let rec is_constant e = match e.expr_node with
     | CONSTANT _ -> true | VARIABLE name -> List.mem name !enumerators
@@ -56,9 +40,7 @@ module Listed = struct
     | NOTHING | VARIABLE _ | PAREN _ | QUESTION _ | INDEX _ | MEMBEROF _ | MEMBEROFPTR _ | CAST _ | EXPR_SIZEOF _ | TYPE_SIZEOF _
     | UNARY ((NOT | MINUS | MEMOF | ADDROF), _)
     | BINARY ((ADD | SUB | MUL | DIV | MOD | AND | OR | BAND | BOR | XOR | SHL | SHR | EQ | NE | LT | GT | LE | GE), _, _) -> true
-    | CONSTANT (CONST_INT n) -> number n
-    | CONSTANT (CONST_CHAR [ c ]) -> c < 128L
-    | CONSTANT (CONST_STRING s) -> String.for_all (fun c -> c < '\128') s
+    | CONSTANT (CONST_INT _ | CONST_CHAR _ | CONST_STRING _) -> true
     | BINARY ((ASSIGN | ADD_ASSIGN | SUB_ASSIGN | MUL_ASSIGN | DIV_ASSIGN | SHR_ASSIGN), _, _) | UNARY ((POSINCR | POSDECR), _) ->
       may_have_effect
     | CALL ({ expr_node = VARIABLE _; _ }, _, []) -> true (* Those that write are below. *)
@@ -92,10 +74,16 @@ module Listed = struct
 
     method! vattr _ = Cil.SkipChildren
 
-    method! vspec spec = allow (specifier spec) here "a type"; Cil.DoChildren
+    method! vname _ _ (name, _, _, _) = report "declares" name ""; Cil.DoChildren
 
     method! vtypespec t =
-      (match t with Tenum (_, Some all, _) -> enumerators := List.map (fun (name, _, _) -> name) all @ !enumerators | _ -> ());
+      (match t with
+        | Tenum (tag, Some all, _) ->
+          let names = List.map (fun (name, _, _) -> name) all in
+          enumerators := names @ !enumerators;
+          List.iter (fun name -> report "declares" name "") (tag :: names)
+        | Tstruct (tag, Some _, _) -> report "declares" tag ""
+        | _ -> ());
       Cil.DoChildren
 
     method! vstmt s =
@@ -110,11 +98,8 @@ module Listed = struct
     method! vdef d =
       here <- Cabshelper.get_definitionloc d;
       allow (definition d) here "a definition, or a variable that is not initialized";
-      (match d with
-        | TYPEDEF ((_, names), _) -> types := List.map (fun (name, _, _, _) -> name) names @ !types
-        | DECDEF (_, (_, all), _) ->
-          List.iter (function _, SINGLE_INIT e -> effects <- alone e @ effects | _ -> ()) all
-        | _ -> ());
+      let add = function _, SINGLE_INIT e -> effects <- alone e @ effects | _ -> () in
+      (match d with DECDEF (_, (_, all), _) -> List.iter add all | _ -> ());
       Cil.DoChildren
   end
 end
@@ -327,12 +312,17 @@ let is_pointer e = Cil.isPointerType (Cil.typeOf e)
 let pointed typ = Cil.typeOf_pointed (Cil.unrollType typ)
 let is_same a b = Cil_datatype.Typ.equal (Cil.typeDeepDropAllAttributes a) (Cil.typeDeepDropAllAttributes b)
 
-(* The size and the sign of an enum are up to the compiler, and so is what an operator makes of it. *)
-let enum_variables = Hashtbl.create 10
+(* The size and the sign of an enum are up to the compiler, and so is what an operator or a cast makes of it. Of each variable
+   that Frama-C adds: whether what is assigned to it is one. *)
+let is_assigned_enum = Hashtbl.create 10
+let is_enum_type typ = match Cil.unrollType typ with TEnum _ -> true | _ -> false
 let rec is_enum e = match e.enode with
   | CastE (TInt _, a) -> is_enum a
-  | Lval (Var v, NoOffset) when Hashtbl.mem enum_variables v.vid -> true
-  | _ -> (match Cil.unrollType (Cil.typeOf e) with TEnum _ -> true | _ -> false)
+  | Const (CEnum _) -> true
+  | Lval (Var v, NoOffset) when List.mem true (Hashtbl.find_all is_assigned_enum v.vid) -> true
+  | _ -> is_enum_type (Cil.typeOf e)
+let is_mixed e = match e.enode with
+  | Lval (Var v, NoOffset) -> List.mem false (Hashtbl.find_all is_assigned_enum v.vid) | _ -> false
 
 (* What a pointer that is not const points to may be a caller's memory, which is not set: reading it is undefined. A struct
    that is none of base62.h, and to which no pointer is cast, is a local of base62.c, and set. *)
@@ -360,7 +350,8 @@ let whole_array f arguments = match f.vname, arguments with
       | TArray (_, Some size, _), Some n when Cil.constFoldToInt size = Some n -> [ a ] | _ -> [])
   | _ -> []
 
-(* The list goes on, for the tree with types. Whole are the arrays that copy_bytes copies whole. *)
+(* The list goes on, for the tree with types. Whole are the arrays that copy_bytes copies whole, and compared the operands of
+   == and != and what is assigned to a variable that Frama-C adds. *)
 let listed_cast to_ a =
   let from = Cil.typeOf a in
   match Cil.unrollType to_, Cil.unrollType from with
@@ -369,9 +360,10 @@ let listed_cast to_ a =
     && (if is_constant_type f then is_constant_type t  (* It stays read only. *)
         else not (is_constant_type t) || is_of_local a)  (* Reading starts here. *)
   | TVoid _, _ -> true
-  | (TInt _ | TEnum _), (TInt _ | TEnum _) -> true
+  | TEnum _, _ -> is_enum a && not (is_mixed a)
+  | TInt _, TInt _ -> (match a.enode with Const (CEnum _) -> true | _ -> not (is_enum a))
   | _ -> false
-let listed whole e = match e.enode with
+let listed whole compared e = match e.enode with
   | Const (CInt64 _ | CChr _ | CEnum _) -> true
   | Lval (Var _, _) -> true
   | Lval (Mem p, _) -> is_set p
@@ -384,6 +376,7 @@ let listed whole e = match e.enode with
     (match Cil.constFoldToInt b with Some n -> Integer.gt n Integer.zero | None -> false)
   | BinOp (_, a, b, _) -> not (is_enum a || is_enum b)
   | UnOp (Neg, a, _) -> not (is_enum a)
+  | CastE (to_, a) when is_of_kind IInt to_ || is_of_kind IUInt to_ -> is_enum a && List.memq e compared || listed_cast to_ a
   | CastE (to_, a) -> listed_cast to_ a
   | AddrOf (_, offset) -> not (is_beside offset || is_scalar_field offset)
   | StartOf (_, offset) -> not (is_beside offset) || List.memq e whole
@@ -399,6 +392,7 @@ let calls = Hashtbl.create 1000
 class walk = object (self)
   inherit Visitor.frama_c_inplace
   val mutable whole = []
+  val mutable compared = []
   method private name = match self#current_kf with Some kf -> Kernel_function.get_name kf | None -> ""
   method private reject place what = report "rejected" self#name (at_place place what)
   method private reject_if wrong place what = if wrong then self#reject place what
@@ -411,8 +405,11 @@ class walk = object (self)
         report (if Kernel_function.is_definition kf then "defined" else "declared") f.vname "";
         if Hashtbl.mem in_header f.vorig_name && f.vstorage <> Static then report "public" f.vname "";
         List.iter (fun what -> report "rejected" f.vname (at_place place what)) (contract kf)
+      | GEnumTag (e, _) ->
+        let is_int item = match Cil.constFoldToInt item.eival with Some n -> Cil.fitsInInt IInt n | None -> false in
+        allow (List.for_all is_int e.eitems) place "an enumerator that is no int"
       | GVar (v, _, _) ->
-        allow (v.vghost || is_constant_type v.vtype) place "a variable that is kept";
+        allow (v.vghost || is_constant_type v.vtype) place "a static variable that is not const";
         if v.vstorage = Static && is_constant_type v.vtype && file_of place = "base62.c" then report "constant" v.vname ""
       | _ -> ());
     Cil.DoChildren
@@ -464,7 +461,9 @@ class walk = object (self)
     let is_variant a = match a.annot_content with AVariant _ -> true | _ -> false in
     (match s.skind with
       | Loop _ -> self#reject_if (Annotations.code_annot ~filter:is_variant s = []) place "a loop without a variant"
-      | Instr (Set ((Var v, NoOffset), e, _)) -> if v.vtemp && is_enum e then Hashtbl.replace enum_variables v.vid ()
+      | Instr (Set ((Var v, NoOffset), e, _)) when v.vtemp ->
+        compared <- e :: compared;
+        Hashtbl.add is_assigned_enum v.vid (is_enum e)
       | Instr (Local_init (_, ConsInit (f, _, _), _)) -> Hashtbl.add calls self#name f.vname
       | Instr (Call (_, { enode = Lval (Var f, NoOffset); _ }, arguments, _)) ->
         whole <- whole_array f arguments @ whole;
@@ -473,7 +472,8 @@ class walk = object (self)
     Cil.DoChildren
 
   method! vexpr e =
-    allow (listed whole e) e.eloc (Format.asprintf "the expression %a" Printer.pp_exp e);
+    (match e.enode with BinOp ((Eq | Ne), a, b, _) -> compared <- a :: b :: compared | _ -> ());
+    allow (listed whole compared e) e.eloc (Format.asprintf "the expression %a" Printer.pp_exp e);
     match e.enode with
     | SizeOf _ | SizeOfE _ -> Cil.SkipChildren
     | Lval _ | CastE _ when is_of_kind IChar (Cil.typeOf e) -> report "char" self#name (at_place e.eloc plain_char); Cil.DoChildren
@@ -542,6 +542,7 @@ let write file lines =
   close_out out
 
 let main file =
+  report "bits" (string_of_int (Cil.bitsSizeOf Cil.theMachine.Cil.typeOfSizeOf)) "";
   read_files ();
   Visitor.visitFramacFileSameGlobals (new walk) (Ast.get ());
   List.iter (fun (name, place) -> allow (not (writes name)) place "a call that may write, within an expression") !Listed.nested_calls;

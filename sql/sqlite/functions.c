@@ -53,28 +53,36 @@ static int any_null(int argc, sqlite3_value **argv) {
     return 0;
 }
 
-/* A UUID is a blob of 16 bytes, or a string. */
-static int read_uuid(sqlite3_context *context, sqlite3_value *value, base62_number *number) {
-    int type = sqlite3_value_type(value);
-    unsigned char uuid[BASE62_UUID_LENGTH];
-    const char *bytes;
-    size_t length;
-    if ((type == SQLITE_TEXT || type == SQLITE_BLOB) && !read_bytes(context, value, type, &bytes, &length)) return 0;
-    if (type == SQLITE_BLOB && length == sizeof uuid)
-        memcpy(uuid, bytes, sizeof uuid);
-    else if (type != SQLITE_TEXT || base62_uuid_from_string(bytes, length, uuid) != BASE62_OK)
-        return set_wrong_value(context, "the UUID is not 32 hexadecimal digits or 16 bytes", value);
-    *number = base62_from_uuid(uuid);
+/* Reads a UUID: a blob of 16 bytes, or a string. Returns 0 if it is none. */
+static int read_uuid(int type, const char *bytes, size_t length, unsigned char uuid[BASE62_UUID_LENGTH]) {
+    if (type == SQLITE_TEXT) return base62_uuid_from_string(bytes, length, uuid) == BASE62_OK;
+    if (type != SQLITE_BLOB || length != BASE62_UUID_LENGTH) return 0;
+    memcpy(uuid, bytes, length);
     return 1;
 }
 
 /* The number or the UUID that a function encodes. */
 static int read_number(sqlite3_context *context, sqlite3_value *value, base62_number *number) {
+    int type = sqlite3_value_type(value), flags = flags_of(context), is_uuid;
+    unsigned char uuid[BASE62_UUID_LENGTH];
+    const char *bytes = NULL;
+    size_t length = 0;
     call_error error;
-    if (flags_of(context) & OF_UUID) return read_uuid(context, value, number);
-    if (sqlite3_value_type(value) != SQLITE_INTEGER)
-        return set_wrong_value(context, "the number is not an integer", value);
-    return number_of_bigint(sqlite3_value_int64(value), number, &error) || set_error(context, &error);
+    if (type == SQLITE_INTEGER && !(flags & OF_UUID))
+        return number_of_bigint(sqlite3_value_int64(value), number, &error) || set_error(context, &error);
+    if ((type == SQLITE_TEXT || type == SQLITE_BLOB) && !read_bytes(context, value, type, &bytes, &length)) return 0;
+    is_uuid = read_uuid(type, bytes, length, uuid);
+    if (flags & OF_UUID) {
+        if (!is_uuid) return set_wrong_value(context, "the UUID is not 32 hexadecimal digits or 16 bytes", value);
+        *number = base62_from_uuid(uuid);
+        return 1;
+    }
+    fail_with(&error, INVALID_PARAMETER, "the number is not an integer");
+    if (is_uuid) name_uuid_encoder(&error, flags);
+    /* This cast is exact. From 2^63 it makes no integer, unlike a cast to INTEGER, which makes 2^63 - 1. */
+    if (type == SQLITE_TEXT && length > 0 && strspn(bytes, "0123456789") == length)
+        strcat(error.message, "; to convert digits use CAST(.. AS NUMERIC)");
+    return set_wrong_value(context, error.message, value);
 }
 
 /* Converts no other type. This catches columns declared STRING, which have NUMERIC affinity: they store the text 1E5 as

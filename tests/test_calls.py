@@ -59,21 +59,46 @@ def exported() -> dict[str, set[str]]:
     }
 
 
+def rows_of(path: str, head: str) -> list[list[str]]:
+    """The cells of each row, and of the titles, of the table that begins with this field."""
+    rows = re.findall(rf"(?m)^\| {head} \|.*\n(?:\|.*\n)+", text(path))[0].splitlines()
+    return [[cell.strip() for cell in row.split("|")[1:-1]] for row in rows if row[:2] != "|-"]
+
+
+def names_in(*cells: str) -> set[str]:
+    return set(re.findall(r"`([\w.]+)[`(]", " ".join(cells)))
+
+
 def columns_of(path: str, head: str) -> dict[str, set[str]]:
     """The names in each column, but the first, of the table that begins with this field."""
-    rows = re.findall(rf"(?m)^\| {head} \|.*\n(?:\|.*\n)+", text(path))[0].splitlines()
-    titles, _, *others = [row.split("|")[2:-1] for row in rows]
-    cells = {title.strip(): "".join(row[i] for row in others) for i, title in enumerate(titles)}
-    return {title: set(re.findall(r"`([\w.]+)[`(]", cell)) for title, cell in cells.items()}
+    _, *columns = zip(*rows_of(path, head))
+    return {title: names_in(*cells) for title, *cells in columns}
+
+
+def listed_sql() -> dict[str, set[str]]:
+    """The names of sql/README by database: of its encoders and decoders with each part that the database has in place of
+    _uuid, of the variants of decoders, and of the other functions, which are in all unless one is named."""
+    kinds, (titles, *parts) = columns_of("sql/README.md", "strings"), rows_of("sql/README.md", "part")
+    lists: dict[str, set[str]] = {database: set() for database in titles[1:]}
+    (variant,) = re.findall(r"Each decoder has a variant with `(\w+)`", text("sql/README.md"))
+    for part, *cells in parts:
+        ending = "".join(re.findall(r"^`(_\w+)`$", part))
+        for database, cell in zip(lists, cells):
+            names = kinds["decoder"] | (set() if cell.startswith("decoders: ") else kinds["encoder"]) if cell else set()
+            names = {name.replace("_uuid", ending) for name in names}
+            lists[database] |= names | {name.replace("decode", f"{variant}decode") for name in names if "decode" in name}
+    for functions, returned in rows_of("sql/README.md", "other functions")[1:]:
+        for database in [database for database in lists if returned.startswith(f"{database}: ")] or lists:
+            lists[database] |= names_in(functions)
+    return lists
 
 
 def listed() -> dict[str, set[str]]:
     """The names of the page, and of SQL those of its README, which has more."""
-    columns, sql = columns_of("docs/CALLS.md", "function"), columns_of("sql/README.md", "returns")
-    in_all = sql.pop("in all three")
-    if differing := columns.pop("SQL") ^ in_all:
+    columns, sql = columns_of("docs/CALLS.md", "function"), listed_sql()
+    if differing := columns.pop("SQL") ^ set.intersection(*sql.values()):
         raise SystemExit(f"only one of docs/CALLS.md and sql/README.md has in all three databases: {' '.join(sorted(differing))}")
-    return columns | {title.removeprefix("only "): names | in_all for title, names in sql.items()}
+    return columns | sql
 
 
 def used(path: str, comments: str, before: str) -> set[str]:

@@ -216,6 +216,11 @@ class Tables(Case):
         self.db.execute("INSERT INTO guarded VALUES (NULL)")
         self.assertEqual(self.db.execute("SELECT slug FROM guarded").fetchall(), [("1",)])
 
+    def test_stored(self) -> None:
+        """A table that exists gets no such column."""
+        with self.assertRaisesRegex(sqlite3.OperationalError, "^cannot add a STORED column$"):
+            self.db.execute("ALTER TABLE link ADD COLUMN other TEXT AS (base62_encode(id)) STORED")
+
     def test_affinity(self) -> None:
         """What SQLite makes of texts: a column of integers converts those that are integers, as one of STRING does."""
         texts = [(text,) for text in ("1337", "1e3", "5.0", "1E5", "1337x", "7.5")]

@@ -40,6 +40,13 @@ def all_of(module: str) -> list[str]:
     return [name for names in lists for name in ast.literal_eval(names)]
 
 
+def functions_of(path: str) -> set[str]:
+    """Those of a table in C, whose macro DECODERS names two for each form."""
+    names = re.findall(r'\{"(base62_\w+)",', text(path))
+    forms = re.findall(r'DECODERS\("(\w*)"', text(path))
+    return {*names, *(f"base62_{verb}{form}" for form in forms for verb in ("decode", "try_decode"))}
+
+
 def exported() -> dict[str, set[str]]:
     """The names by the languages of the page."""
     rust = re.findall(r"\w+", "".join(re.findall(r"\npub (?:use (?:\w+::)+)?([^;]*;)", text("rust/src/lib.rs"))))
@@ -53,8 +60,8 @@ def exported() -> dict[str, set[str]]:
         "C": {ALPHABETS.sub("", name) for name in c},
         "Python": {*python, *all_of("_types"), *(f"columns.{name}" for name in all_of("columns"))},
         "JavaScript": set(re.findall(r"\w+", javascript)),
-        "SQLite": set(re.findall(r'\{"(\w+)",', text("sql/sqlite/functions.c"))),
-        "DuckDB": set(re.findall(r'\{"(base62_\w+)",', text("sql/duckdb/functions.c"))),
+        "SQLite": functions_of("sql/sqlite/functions.c"),
+        "DuckDB": functions_of("sql/duckdb/functions.c"),
         "PostgreSQL": set(re.findall(r"CREATE FUNCTION (\w+)", text("sql/postgresql/*.sql"))),
     }
 

@@ -254,6 +254,10 @@ static void version(sqlite3_context *context, int argc, sqlite3_value **argv) {
 
 /* The extension */
 
+/* The decoder of a form, and the one that tries. */
+#define DECODERS(form, min, max, flags, call)                                                                          \
+    {"base62_decode" form, min, max, flags, call}, { "base62_try_decode" form, min, max, (flags) | TRY, call }
+
 static int create_functions(sqlite3 *db) {
     static const struct {
         const char *name;
@@ -266,30 +270,18 @@ static int create_functions(sqlite3 *db) {
         {"base62_encode_uuid_key", 1, 1, OF_UUID | KEY, encode},
         {"base62_encode_fixed", 2, 3, FIXED, encode},
         {"base62_encode_uuid_fixed", 2, 3, OF_UUID | FIXED, encode},
-        {"base62_decode", 1, 2, 0, decode},
-        {"base62_decode_uuid", 1, 2, OF_UUID, decode_bytes},
-        {"base62_decode_blob", 1, 2, 0, decode_bytes},
-        {"base62_decode_canonical", 1, 2, CANONICAL, decode},
-        {"base62_decode_uuid_canonical", 1, 2, OF_UUID | CANONICAL, decode_bytes},
-        {"base62_decode_blob_canonical", 1, 2, CANONICAL, decode_bytes},
-        {"base62_decode_fixed", 2, 3, FIXED, decode},
-        {"base62_decode_uuid_fixed", 2, 3, OF_UUID | FIXED, decode_bytes},
-        {"base62_decode_blob_fixed", 2, 3, FIXED, decode_bytes},
-        {"base62_decode_key", 1, 1, KEY, decode},
-        {"base62_decode_uuid_key", 1, 1, OF_UUID | KEY, decode_bytes},
-        {"base62_decode_blob_key", 1, 1, KEY, decode_bytes},
-        {"base62_try_decode", 1, 2, TRY, decode},
-        {"base62_try_decode_uuid", 1, 2, OF_UUID | TRY, decode_bytes},
-        {"base62_try_decode_blob", 1, 2, TRY, decode_bytes},
-        {"base62_try_decode_canonical", 1, 2, CANONICAL | TRY, decode},
-        {"base62_try_decode_uuid_canonical", 1, 2, OF_UUID | CANONICAL | TRY, decode_bytes},
-        {"base62_try_decode_blob_canonical", 1, 2, CANONICAL | TRY, decode_bytes},
-        {"base62_try_decode_fixed", 2, 3, FIXED | TRY, decode},
-        {"base62_try_decode_uuid_fixed", 2, 3, OF_UUID | FIXED | TRY, decode_bytes},
-        {"base62_try_decode_blob_fixed", 2, 3, FIXED | TRY, decode_bytes},
-        {"base62_try_decode_key", 1, 1, KEY | TRY, decode},
-        {"base62_try_decode_uuid_key", 1, 1, OF_UUID | KEY | TRY, decode_bytes},
-        {"base62_try_decode_blob_key", 1, 1, KEY | TRY, decode_bytes},
+        DECODERS("", 1, 2, 0, decode),
+        DECODERS("_uuid", 1, 2, OF_UUID, decode_bytes),
+        DECODERS("_blob", 1, 2, 0, decode_bytes),
+        DECODERS("_canonical", 1, 2, CANONICAL, decode),
+        DECODERS("_uuid_canonical", 1, 2, OF_UUID | CANONICAL, decode_bytes),
+        DECODERS("_blob_canonical", 1, 2, CANONICAL, decode_bytes),
+        DECODERS("_fixed", 2, 3, FIXED, decode),
+        DECODERS("_uuid_fixed", 2, 3, OF_UUID | FIXED, decode_bytes),
+        DECODERS("_blob_fixed", 2, 3, FIXED, decode_bytes),
+        DECODERS("_key", 1, 1, KEY, decode),
+        DECODERS("_uuid_key", 1, 1, OF_UUID | KEY, decode_bytes),
+        DECODERS("_blob_key", 1, 1, KEY, decode_bytes),
         {"base62_is_valid", 1, 2, TRY, is_valid},
         {"base62_is_canonical", 1, 2, CANONICAL | TRY, is_valid},
         {"base62_first_string", 1, 2, 0, string_bound},

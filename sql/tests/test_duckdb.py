@@ -13,7 +13,20 @@ from typing import Any
 from uuid import UUID
 
 from values import BIGINT, BIGINTS, HEADER, OWN, README, SEARCHES, TEXTS, WIDEST
-from values import Database, Error, Width, arguments_by_result, bigint, calls_of, hint_calls, negative, string_of, text_of, uuid
+from values import (
+    Database,
+    Error,
+    Width,
+    arguments_by_result,
+    bigint,
+    calls_of,
+    hint_calls,
+    negative,
+    string_of,
+    text_of,
+    uuid,
+    uuid_hint,
+)
 
 SHELL = [os.environ.get("DUCKDB", "duckdb"), "-init", os.devnull, "-unsigned", "-json"]
 LOAD = f"LOAD '{os.environ['BASE62_DUCKDB']}';\n"
@@ -28,9 +41,10 @@ CALLS = calls_of(DUCKDB)
 FUNCTIONS = arguments_by_result(CALLS)
 # The types of numbers, to which DuckDB converts smaller integers.
 INTEGERS = {"BIGINT": 2**63, "UBIGINT": 2**64, "HUGEINT": 2**127, "UHUGEINT": 2**128}
-# An error takes DuckDB a millisecond, so of each function one in five is computed.
+# An error takes DuckDB a millisecond, so of each function one in five is computed, and those of hints.
 FAILING = sorted((call for call in CALLS if isinstance(call.result, Error)), key=lambda call: call.name)
-SAMPLE = [*(call for call in CALLS if not isinstance(call.result, Error)), *FAILING[::5]]
+HINTED = [call for call in hint_calls(DUCKDB) if isinstance(call.result, Error)]
+SAMPLE = [*(call for call in CALLS if not isinstance(call.result, Error)), *FAILING[::5], *HINTED]
 
 
 def quoted(value: Any) -> str:
@@ -125,13 +139,11 @@ class Functions(Case):
             self.assertIn(expected, subprocess.run(SHELL[:3], input=script, capture_output=True, text=True).stderr)
 
     def test_hints(self) -> None:
-        """Each string of the file, and what the function that its error names returns: DuckDB casts all to UUIDs but URNs."""
-        calls = [(call.arguments[0], call.result.message) for call in hint_calls(DUCKDB) if call.name == "decode"]
-        self.check_errors([(f"decode({quoted(text)})", message) for text, message in calls])
-        named = [text for text, message in calls if "; to encode a UUID use base62_encode_uuid: " in message]
-        strings = results("".join(f"SELECT base62_encode_uuid(TRY_CAST({quoted(text)} AS UUID));" for text in named))
-        numbers = [None if text[:1] in b"uU" else int(re.sub(b"[{}-]", b"", text), 16) for text in named]
-        self.assertEqual(strings, [number if number is None else string_of(number, 1) for number in numbers])
+        """What the function returns that an error names for the string of a UUID: DuckDB casts it, unless it is a URN."""
+        texts = [text for name, (text, *_), _ in HINTED if name == "decode" and uuid_hint("", text)]
+        strings = results("".join(f"SELECT base62_encode_uuid(TRY_CAST({quoted(text)} AS UUID));" for text in texts))
+        digits = [re.sub(b"[{}-]", b"", text) for text in texts]
+        self.assertEqual(strings, [None if text[0] in b"uU" else string_of(int(text, 16), 1) for text in digits])
 
     def test_calls(self) -> None:
         """Those that return are the rows of tables, one for each function and types of its arguments."""

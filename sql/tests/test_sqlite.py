@@ -37,8 +37,6 @@ SQLITE = Database(
 )
 CALLS = calls_of(SQLITE)
 FUNCTIONS = arguments_by_result(CALLS)
-# The greatest number of digits that SQLite casts to an integer, and the next.
-BORDERS = [[str(number), "decimal"] for number in (BIGINT, BIGINT + 1)]
 # Arguments that each function accepts.
 ACCEPTED = [(name, next(iter(results.values()))) for (name, _), results in FUNCTIONS.items()]
 
@@ -104,8 +102,10 @@ class Functions(Case):
     def test_hints(self) -> None:
         """Strings for an encoder of numbers, and what the functions and the cast return that its error names for them."""
         uuids = dict(rows("uuid_string"))
-        for field, hint in [row[1:] for row in rows("hint") if row[0] == "encode"] + BORDERS:
+        borders = [["encode", str(number), "decimal"] for number in (BIGINT, BIGINT + 1)]
+        for field, hint in [row[1:] for row in rows("hint") + borders if row[0] == "encode"]:
             text = Text(unquote_to_bytes(field))
+            self.assertEqual(bool(uuid_hint("", text)), hint in ("uuid", "both"), text)
             digits = "; to convert digits use CAST(.. AS NUMERIC)" * (hint in ("decimal", "both"))
             for form, width, others in (("", 1, ()), ("_key", KEY, ()), ("_fixed", 30, (Width(30),))):
                 expected = f"base62: the number is not an integer{uuid_hint(form, text)}{digits}{shown(text)}"
@@ -192,6 +192,8 @@ class Tables(Case):
         for condition, expected, *given in PLANS:
             plan = self.db.execute("EXPLAIN QUERY PLAN SELECT * FROM " + condition, given).fetchall()
             self.assertEqual([step[3] for step in plan], [expected], condition)
+        with self.assertRaisesRegex(sqlite3.OperationalError, "^cannot add a STORED column$"):
+            self.db.execute("ALTER TABLE link ADD COLUMN other TEXT AS (base62_encode(id)) STORED")
 
     def test_prefixes(self) -> None:
         """The queries of KEYS find the ids of the strings with a prefix, each once, with an index."""
@@ -215,11 +217,6 @@ class Tables(Case):
             self.db.execute("INSERT INTO bare VALUES (NULL)")
         self.db.execute("INSERT INTO guarded VALUES (NULL)")
         self.assertEqual(self.db.execute("SELECT slug FROM guarded").fetchall(), [("1",)])
-
-    def test_stored(self) -> None:
-        """A table that exists gets no such column."""
-        with self.assertRaisesRegex(sqlite3.OperationalError, "^cannot add a STORED column$"):
-            self.db.execute("ALTER TABLE link ADD COLUMN other TEXT AS (base62_encode(id)) STORED")
 
     def test_affinity(self) -> None:
         """What SQLite makes of texts: a column of integers converts those that are integers, as one of STRING does."""

@@ -135,20 +135,16 @@ def no_width(width: int) -> Error:
     return Error("22023", f"the width is not from 1 to 1000: {width}")
 
 
-# Names for which the error has the characters.
-NAMES = b"standard", b"alternative"
-
-
 def no_alphabet(letters: bytes) -> Error:
-    length = f"{len(letters)} character{'s' * (len(letters) != 1)}, not 62"
-    mistake = length + (f"; write '{ALPHABETS[letters.decode()]}'" if letters in NAMES else "")
-    mistake = mistake if b"\0" not in letters else "a null character"
+    mistake = f"{len(letters)} character{'s' * (len(letters) != 1)}, not 62" if b"\0" not in letters else "a null character"
+    if letters in (b"standard", b"alternative"):
+        mistake += f"; write '{ALPHABETS[letters.decode()]}'"
     return Error("22023", f"the alphabet has {mistake if letters.isascii() else 'a non-ASCII character'}").of(letters)
 
 
 # The alphabets of the least and of the greatest characters.
 EDGES = [bytes(range(last - 61, last + 1)) for last in (62, 127)]
-INVALID = [b"", *NAMES, b"Standard", b"\\" * 61, *(f"{OWN}-"[:length].encode() for length in (1, 2, 61, 63))]
+INVALID = [b"", b"standard", b"alternative", b"Standard", b"\\" * 61, *(f"{OWN}-"[:length].encode() for length in (1, 2, 61, 63))]
 INVALID += [letters.encode() for letters in ("é" + OWN[2:], OWN[2:] + "é", "é" * 31)]
 INVALID += [letters for edge in EDGES for byte in (b"\0", b"\x80", b"\xff") for letters in (byte + edge[1:], edge[:61] + byte)]
 NO_ALPHABETS = {Text(letters): no_alphabet(letters) for letters in INVALID}
@@ -209,17 +205,13 @@ def invalid_calls(database: Database) -> Iterator[Call]:
 
 
 def hint_calls(database: Database) -> Iterator[Call]:
-    """Of the strings whose errors name functions for UUIDs or do not."""
-    for call, field, hint in rows("hint"):
-        text = Text(unquote_to_bytes(field))
-        assert bool(uuid_hint("", text)) == (hint in ("uuid", "both")), text
-        if call == "decode":
-            invalid = [["byte", str(byte), str(i)] for i, byte in enumerate(text) if chr(byte) not in STANDARD]
-            fields = ["overflow"] if len(text.lstrip(b"0")) > KEY else (invalid or [["empty"]])[0]
-            for form in ("", "_canonical"):
-                yield from decoding(database, form, error_of(fields, text), text)
-            if len(text) != KEY:
-                yield from decoding(database, "_key", error_of(["length"], text, KEY), text)
+    """Of the strings whose errors name a function for UUIDs or do not."""
+    for text, hint in ((Text(unquote_to_bytes(field)), hint) for call, field, hint in rows("hint") if call == "decode"):
+        assert bool(uuid_hint("", text)) == (hint == "uuid"), text
+        invalid = [["byte", str(byte), str(i)] for i, byte in enumerate(text) if chr(byte) not in STANDARD]
+        fields = ["overflow"] if len(text.lstrip(b"0")) > KEY else (invalid or [["empty"]])[0]
+        for form, fault in (("", fields), ("_canonical", fields), ("_key", ["length"] if len(text) != KEY else fields)):
+            yield from decoding(database, form, error_of(fault, text, KEY), text)
 
 
 def width_calls(database: Database) -> Iterator[Call]:

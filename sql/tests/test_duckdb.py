@@ -13,20 +13,8 @@ from typing import Any
 from uuid import UUID
 
 from values import BIGINT, BIGINTS, HEADER, OWN, README, SEARCHES, TEXTS, WIDEST
-from values import (
-    Database,
-    Error,
-    Width,
-    arguments_by_result,
-    bigint,
-    calls_of,
-    hint_calls,
-    negative,
-    string_of,
-    text_of,
-    uuid,
-    uuid_hint,
-)
+from values import Database, Error, Width, arguments_by_result, bigint, calls_of, hint_calls, negative
+from values import string_of, text_of, uuid, uuid_hint
 
 SHELL = [os.environ.get("DUCKDB", "duckdb"), "-init", os.devnull, "-unsigned", "-json"]
 LOAD = f"LOAD '{os.environ['BASE62_DUCKDB']}';\n"
@@ -120,8 +108,7 @@ class Functions(Case):
         self.assertEqual(counted, {*FUNCTIONS, ("version", 0)}, "the second have calls in values.py")
 
     def test_version(self) -> None:
-        """The one that the header has. The module asks DuckDB for the interface of the oldest version that README names, as
-        the fields at its end say."""
+        """The one that the header has. The module and the fields at its end name the oldest version that README does."""
         loaded = "SELECT extension_version FROM duckdb_extensions() WHERE extension_name = 'base62';"
         version, loaded_version = results("SELECT base62_version();" + loaded)
         self.assertIn(f'#define BASE62_VERSION "{version}"\n', HEADER)
@@ -269,15 +256,13 @@ class Queries(Case):
             self.check_counts(dict(zip(conditions, expected)), "keys", setup + default)
 
     def test_casts(self) -> None:
-        """DuckDB rounds a number to the type that is named, or that an argument has instead of a VARIANT. Without a type a
-        code becomes a number."""
+        """DuckDB rounds a number to the type that is named, or that an argument has instead of a VARIANT. A code that looks
+        like a number becomes one if no type is named."""
         with tempfile.NamedTemporaryFile("w", suffix=".csv") as file:
-            print("id,code\n7.5,1E5", file=file, flush=True)
-            query = (
-                f"SELECT [base62_encode(id), code] FROM read_csv('{file.name}', types = {{'id': 'UBIGINT', 'code': 'VARCHAR'}});"
-            )
-            self.assertEqual(results(query + f"SELECT code FROM '{file.name}';"), [["8", "1E5"], 100000.0])
-            self.assertEqual(results("SELECT base62_encode(7.5::VARIANT);"), ["8"])
+            print("id,s\n7.5,1E5", file=file, flush=True)
+            query = f"SELECT base62_encode(id) || s FROM read_csv('{file.name}', types = {{'id': 'UBIGINT', 's': 'VARCHAR'}});"
+            self.assertEqual(results(f"{query} SELECT s FROM '{file.name}';"), ["81E5", 100000.0])
+        self.assertEqual(results("SELECT base62_encode(7.5::VARIANT);"), ["8"])
         bounds = "BETWEEN base62_first_number('AzL8n0Y58m', 11) AND base62_last_uhugeint('AzL8n0Y58m', 11)"
         table = "(SELECT (9223372036854775807::UBIGINT + i::UBIGINT) AS id FROM range(3000) r(i))"
         (count,) = results(f"SELECT count(*) FROM {table} WHERE id {bounds};")

@@ -14,10 +14,10 @@ SELECT id FROM link WHERE slug = base62_encode(461168601842738);
 
 \echo Leaving as KEYS says: the column that is changed stays, with its index as it is on disk; others, and a table, go
 DROP VIEW shown;
-\set VERBOSITY terse
 SELECT pg_relation_filenode('item_key_key') node \gset
 ALTER TABLE item ALTER COLUMN key DROP EXPRESSION, ALTER COLUMN key TYPE text COLLATE "C";
 DROP EXTENSION base62;
+\set VERBOSITY terse
 DROP EXTENSION base62 CASCADE;
 SELECT pg_relation_filenode('item_key_key') = :node same, to_regclass('part'), count(*), max(key) FROM item;
 SELECT attrelid::regclass, string_agg(attname, ' ') FROM pg_attribute

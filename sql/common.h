@@ -21,7 +21,7 @@
 /* A message shows at most so many bytes of a rejected value. Each number below 2^128 and each UUID fits. */
 #define MAX_SHOWN 40
 
-/* What a message says of the error, and what to use instead, has at most so many bytes. */
+/* What a message says before the value has at most so many bytes. */
 #define MAX_SENTENCE 160
 
 /* PostgreSQL has an error code for each kind. */
@@ -79,6 +79,7 @@ static inline bool show(call_error *error, const char *opening, const char *valu
 
 /* Arguments */
 
+/* Whether the characters of an alphabet are this name of one. */
 #define IS(name) (length == strlen(name) && memcmp(characters, name, length) == 0)
 
 /* Other characters than ASCII would make invalid strings in a database, and a null byte would end them. */
@@ -87,9 +88,6 @@ static inline bool create_alphabet(const char *characters, size_t length, base62
     base62_bad_byte bad = {0, 0};
     base62_status status = BASE62_OK;
     bool ascii = true;
-    const char *named = IS("standard")      ? "; write '" BASE62_STANDARD_ALPHABET "'"
-                        : IS("alternative") ? "; write '" BASE62_ALTERNATIVE_ALPHABET "'"
-                                            : "";
     for (size_t i = 0; i < length; i++) ascii = ascii && (unsigned char)characters[i] < 128;
     if (!ascii)
         fail_with(error, INVALID_PARAMETER, "the alphabet has a non-ASCII character");
@@ -97,7 +95,10 @@ static inline bool create_alphabet(const char *characters, size_t length, base62
         fail_with(error, INVALID_PARAMETER, "the alphabet has a null character");
     else if (length != BASE62_ALPHABET_LENGTH)
         fail_with(error, INVALID_PARAMETER, "the alphabet has %u character%s, not 62%s", (unsigned)length,
-                  length == 1 ? "" : "s", named);
+                  length == 1 ? "" : "s",
+                  IS("standard")      ? "; write '" BASE62_STANDARD_ALPHABET "'"
+                  : IS("alternative") ? "; write '" BASE62_ALTERNATIVE_ALPHABET "'"
+                                      : "");
     else if ((status = base62_alphabet_init(alphabet, characters, &bad)) == BASE62_OK)
         return true;
     else
@@ -159,7 +160,7 @@ static inline const char *form_of(int flags) {
     return (flags & KEY) == KEY ? "_key" : flags & FIXED ? "_fixed" : flags & CANONICAL ? "_canonical" : "";
 }
 
-/* Appends to the message which function takes what was given to one with these flags: a UUID. */
+/* Names the encoder that takes what was given to a function with these flags: a UUID. */
 COLD static void name_uuid_encoder(call_error *error, int flags) {
     sprintf(error->message + strlen(error->message), "; to encode a UUID use base62_encode_uuid%s",
             form_of(flags & ~CANONICAL));

@@ -21,13 +21,16 @@
 /* A message shows at most so many bytes of a rejected value. Each number below 2^128 and each UUID fits. */
 #define MAX_SHOWN 40
 
+/* What a message says before the value has at most so many bytes. */
+#define MAX_SENTENCE 160
+
 /* PostgreSQL has an error code for each kind. */
 typedef enum { INVALID_TEXT, OUT_OF_RANGE, INVALID_PARAMETER } error_kind;
 
-/* The message is a string in English, of printable ASCII. Of the bytes of a value each may take four characters. */
+/* The message is in English, of printable ASCII. Of the bytes of a value each may take four characters. */
 typedef struct {
     error_kind kind;
-    char message[BASE62_MAX_ERROR_MESSAGE + 4 * MAX_SHOWN + sizeof ": x'...'"];
+    char message[MAX_SENTENCE + 4 * MAX_SHOWN + sizeof ": x'...'"];
 } call_error;
 
 /* COLD keeps a function out of loops over rows. */
@@ -53,9 +56,9 @@ PRINTF static inline bool fail_with(call_error *error, error_kind kind, const ch
 static inline bool fail_with_status(call_error *error, base62_status status, base62_bad_byte bad) {
     char message[BASE62_MAX_ERROR_MESSAGE];
     size_t length = base62_error_message(status, bad, message, sizeof message);
-    error_kind kind = status == BASE62_OVERFLOW             ? OUT_OF_RANGE
-                      : status == BASE62_REPEATED_CHARACTER ? INVALID_PARAMETER
-                                                            : INVALID_TEXT;
+    error_kind kind = status == BASE62_REPEATED_CHARACTER ? INVALID_PARAMETER : INVALID_TEXT;
+    if (status == BASE62_OVERFLOW)
+        return fail_with(error, OUT_OF_RANGE, "Encoded input represents 2^128 or more, or has more than 22 characters");
     return fail_with(error, kind, "%.*s", (int)length, message);
 }
 
@@ -68,13 +71,16 @@ static inline bool show(call_error *error, const char *opening, const char *valu
         if (*opening == 'x')
             next += sprintf(next, "%02x", byte);
         else
-            next += sprintf(next, 32 <= byte && byte < 127 ? "%c" : "\\x%02x", byte);
+            next += sprintf(next, byte == '\\' ? "\\\\" : 32 <= byte && byte < 127 ? "%c" : "\\x%02x", byte);
     }
     sprintf(next, "%s%s", length > MAX_SHOWN ? "..." : "", *opening == '\0' ? "" : "'");
     return false;
 }
 
 /* Arguments */
+
+/* Whether the characters of an alphabet are this name of one. */
+#define IS(name) (length == strlen(name) && memcmp(characters, name, length) == 0)
 
 /* Other characters than ASCII would make invalid strings in a database, and a null byte would end them. */
 static inline bool create_alphabet(const char *characters, size_t length, base62_alphabet *alphabet,
@@ -88,7 +94,11 @@ static inline bool create_alphabet(const char *characters, size_t length, base62
     else if (memchr(characters, '\0', length) != NULL)
         fail_with(error, INVALID_PARAMETER, "the alphabet has a null character");
     else if (length != BASE62_ALPHABET_LENGTH)
-        fail_with(error, INVALID_PARAMETER, "the alphabet has %u characters, not 62", (unsigned)length);
+        fail_with(error, INVALID_PARAMETER, "the alphabet has %u character%s, not 62%s", (unsigned)length,
+                  length == 1 ? "" : "s",
+                  IS("standard")      ? "; write '" BASE62_STANDARD_ALPHABET "'"
+                  : IS("alternative") ? "; write '" BASE62_ALTERNATIVE_ALPHABET "'"
+                                      : "");
     else if ((status = base62_alphabet_init(alphabet, characters, &bad)) == BASE62_OK)
         return true;
     else
@@ -145,23 +155,31 @@ static inline bool encode_width(const base62_alphabet *alphabet, base62_number n
                                     (unsigned)base62_digit_count(number), (unsigned)width);
 }
 
+/* The end of the name of a function with these flags. */
+static inline const char *form_of(int flags) {
+    return (flags & KEY) == KEY ? "_key" : flags & FIXED ? "_fixed" : flags & CANONICAL ? "_canonical" : "";
+}
+
+/* Names the encoder that takes what was given to a function with these flags: a UUID. */
+COLD static void name_uuid_encoder(call_error *error, int flags) {
+    sprintf(error->message + strlen(error->message), "; to encode a UUID use base62_encode_uuid%s",
+            form_of(flags & ~CANONICAL));
+}
+
 /* Stores why a string is rejected, unless the function has TRY. A number of 2^63 or more has a function that takes it:
  * wider, with the form behind its name. Otherwise wider is null. */
 COLD static void reject(const encoded *given, base62_status status, base62_bad_byte bad, const char *wider,
                         call_error *error) {
-    int flags = given->flags;
-    if (flags & TRY) return;
+    unsigned char uuid[BASE62_UUID_LENGTH];
+    if (given->flags & TRY) return;
     if (wider != NULL)
-        fail_with(error, OUT_OF_RANGE, "the number is 2^63 or more; use %s%s", wider,
-                  (flags & KEY) == KEY ? "_key"
-                  : flags & FIXED      ? "_fixed"
-                  : flags & CANONICAL  ? "_canonical"
-                                       : "");
+        fail_with(error, OUT_OF_RANGE, "the number is 2^63 or more; use %s%s", wider, form_of(given->flags));
     else if (status == BASE62_WRONG_LENGTH)
         fail_with(error, INVALID_TEXT, "Encoded input has %lu byte%s, not %u", (unsigned long)given->length,
                   given->length == 1 ? "" : "s", (unsigned)given->width);
     else
         fail_with_status(error, status, bad);
+    if (base62_uuid_from_string(given->text, given->length, uuid) == BASE62_OK) name_uuid_encoder(error, given->flags);
     show(error, "'", given->text, given->length);
 }
 

@@ -20,6 +20,7 @@ install: $(MODULE)
 
 uninstall:
 	rm -f '$(folder)/$(MODULE)' '$(DESTDIR)$(docdir)/LICENSE'
+	rmdir '$(folder)' '$(DESTDIR)$(docdir)' '$(DESTDIR)$(prefix)/share/doc' 2>/dev/null || :
 
 check: tested = $(CURDIR)/$(MODULE)
 check: $(MODULE)

@@ -42,6 +42,13 @@ def all_of(module: str) -> list[str]:
     return [name for names in lists for name in ast.literal_eval(names)]
 
 
+def functions_of(path: str) -> set[str]:
+    """Those of a table in C, whose macro DECODERS names two for each form."""
+    names = re.findall(r'\{"(base62_\w+)",', text(path))
+    forms = re.findall(r'DECODERS\("(\w*)"', text(path))
+    return {*names, *(f"base62_{verb}{form}" for form in forms for verb in ("decode", "try_decode"))}
+
+
 def exported() -> dict[str, set[str]]:
     """The names by the languages of the page."""
     rust = re.findall(r"\w+", "".join(re.findall(r"\npub (?:use (?:\w+::)+)?([^;]*;)", text("rust/src/lib.rs"))))
@@ -55,18 +62,44 @@ def exported() -> dict[str, set[str]]:
         "C": {ALPHABETS.sub("", name) for name in c},
         "Python": {*python, *all_of("__init__"), *(f"columns.{name}" for name in all_of("columns"))},
         "JavaScript": set(re.findall(r"\w+", javascript)),
-        "SQLite": set(re.findall(r'\{"(\w+)",', text("sql/sqlite/functions.c"))),
-        "DuckDB": set(re.findall(r'\{"(base62_\w+)",', text("sql/duckdb/functions.c"))),
+        "SQLite": functions_of("sql/sqlite/functions.c"),
+        "DuckDB": functions_of("sql/duckdb/functions.c"),
         "PostgreSQL": set(re.findall(r"CREATE FUNCTION (\w+)", text("sql/postgresql/*.sql"))),
     }
 
 
+def rows_of(path: str, head: str) -> list[list[str]]:
+    """The cells of each row, and of the titles, of the table that begins with this field."""
+    rows = re.findall(rf"(?m)^\| {head} \|.*\n(?:\|.*\n)+", text(path))[0].splitlines()
+    return [[cell.strip() for cell in row.split("|")[1:-1]] for row in rows if row[:2] != "|-"]
+
+
+def names_in(*cells: str) -> set[str]:
+    return set(re.findall(r"`([\w.]+)[`(]", " ".join(cells)))
+
+
 def columns_of(path: str, head: str) -> dict[str, set[str]]:
     """The names in each column, but the first, of the table that begins with this field."""
-    rows = re.findall(rf"(?m)^\| {head} \|.*\n(?:\|.*\n)+", text(path))[0].splitlines()
-    titles, _, *others = [row.split("|")[2:-1] for row in rows]
-    cells = {title.strip(): "".join(row[i] for row in others) for i, title in enumerate(titles)}
-    return {title: set(re.findall(r"`([\w.]+)[`(]", cell)) for title, cell in cells.items()}
+    _, *columns = zip(*rows_of(path, head))
+    return {title: names_in(*cells) for title, *cells in columns}
+
+
+def listed_sql() -> dict[str, set[str]]:
+    """The names of sql/README by database: of its encoders and decoders with each part that the database has in place of
+    _uuid, of the variants of decoders, and of the other functions, which are in all unless one is named."""
+    kinds, (titles, *parts) = columns_of("sql/README.md", "strings"), rows_of("sql/README.md", "part")
+    lists: dict[str, set[str]] = {database: set() for database in titles[1:]}
+    (variant,) = re.findall(r"Each decoder has a variant with `(\w+)`", text("sql/README.md"))
+    for part, *cells in parts:
+        ending = "".join(re.findall(r"^`(_\w+)`$", part))
+        for database, cell in zip(lists, cells):
+            names = kinds["decoder"] | (set() if cell.startswith("decoders: ") else kinds["encoder"]) if cell else set()
+            names = {name.replace("_uuid", ending) for name in names}
+            lists[database] |= names | {name.replace("decode", f"{variant}decode") for name in names if "decode" in name}
+    for functions, returned in rows_of("sql/README.md", "other functions")[1:]:
+        for database in [database for database in lists if returned.startswith(f"{database}: ")] or lists:
+            lists[database] |= names_in(functions)
+    return lists
 
 
 def listed() -> dict[str, set[str]]:
@@ -74,11 +107,10 @@ def listed() -> dict[str, set[str]]:
     names = defaultdict[str, set[str]](set)
     for language, line in re.findall(r"(?m)^- \*\*(\w+)\*\*(.*)$", text("docs/CALLS.md")):
         names[language] |= set(re.findall("`(.*?)`", line))
-    sql = columns_of("sql/README.md", "returns")
-    in_all = sql.pop("in all three")
-    if differing := names.pop("SQL") ^ in_all:
+    sql = listed_sql()
+    if differing := names.pop("SQL") ^ set.intersection(*sql.values()):
         raise SystemExit(f"only one of docs/CALLS.md and sql/README.md has in all three databases: {' '.join(sorted(differing))}")
-    return names | {title.removeprefix("only "): others | in_all for title, others in sql.items()}
+    return names | sql
 
 
 def used(path: str, comments: str, before: str) -> set[str]:

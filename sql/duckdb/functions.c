@@ -311,6 +311,12 @@ static const duckdb_type uuids[] = {UUID, 0};
 static const duckdb_type texts[] = {TEXT, DUCKDB_TYPE_BLOB, 0};
 static const duckdb_type nothing[] = {TEXT, 0};
 
+/* The decoder of a form, and the one that tries. */
+#define DECODERS(form, min, max, result, flags, ...)                                                                   \
+    {"base62_decode" form, min, max, texts, {__VA_ARGS__}, result, flags, decode_rows}, {                              \
+        "base62_try_decode" form, min, max, texts, {__VA_ARGS__}, result, (flags) | TRY, decode_rows                   \
+    }
+
 static const struct function {
     const char *name;
     /* The parameters beyond min_arguments may be omitted. */
@@ -326,30 +332,18 @@ static const struct function {
     {"base62_encode_uuid_key", 1, 1, uuids, {0}, TEXT, 0, encode_key_rows},
     {"base62_encode_fixed", 2, 3, numbers, {BIGINT, TEXT}, TEXT, FIXED, encode_rows},
     {"base62_encode_uuid_fixed", 2, 3, uuids, {BIGINT, TEXT}, TEXT, FIXED, encode_rows},
-    {"base62_decode", 1, 2, texts, {TEXT}, BIGINT, 0, decode_rows},
-    {"base62_decode_uhugeint", 1, 2, texts, {TEXT}, UHUGEINT, 0, decode_rows},
-    {"base62_decode_uuid", 1, 2, texts, {TEXT}, UUID, 0, decode_rows},
-    {"base62_decode_canonical", 1, 2, texts, {TEXT}, BIGINT, CANONICAL, decode_rows},
-    {"base62_decode_uhugeint_canonical", 1, 2, texts, {TEXT}, UHUGEINT, CANONICAL, decode_rows},
-    {"base62_decode_uuid_canonical", 1, 2, texts, {TEXT}, UUID, CANONICAL, decode_rows},
-    {"base62_decode_fixed", 2, 3, texts, {BIGINT, TEXT}, BIGINT, FIXED, decode_rows},
-    {"base62_decode_uhugeint_fixed", 2, 3, texts, {BIGINT, TEXT}, UHUGEINT, FIXED, decode_rows},
-    {"base62_decode_uuid_fixed", 2, 3, texts, {BIGINT, TEXT}, UUID, FIXED, decode_rows},
-    {"base62_decode_key", 1, 1, texts, {0}, BIGINT, KEY, decode_rows},
-    {"base62_decode_uhugeint_key", 1, 1, texts, {0}, UHUGEINT, KEY, decode_rows},
-    {"base62_decode_uuid_key", 1, 1, texts, {0}, UUID, KEY, decode_rows},
-    {"base62_try_decode", 1, 2, texts, {TEXT}, BIGINT, TRY, decode_rows},
-    {"base62_try_decode_uhugeint", 1, 2, texts, {TEXT}, UHUGEINT, TRY, decode_rows},
-    {"base62_try_decode_uuid", 1, 2, texts, {TEXT}, UUID, TRY, decode_rows},
-    {"base62_try_decode_canonical", 1, 2, texts, {TEXT}, BIGINT, CANONICAL | TRY, decode_rows},
-    {"base62_try_decode_uhugeint_canonical", 1, 2, texts, {TEXT}, UHUGEINT, CANONICAL | TRY, decode_rows},
-    {"base62_try_decode_uuid_canonical", 1, 2, texts, {TEXT}, UUID, CANONICAL | TRY, decode_rows},
-    {"base62_try_decode_fixed", 2, 3, texts, {BIGINT, TEXT}, BIGINT, FIXED | TRY, decode_rows},
-    {"base62_try_decode_uhugeint_fixed", 2, 3, texts, {BIGINT, TEXT}, UHUGEINT, FIXED | TRY, decode_rows},
-    {"base62_try_decode_uuid_fixed", 2, 3, texts, {BIGINT, TEXT}, UUID, FIXED | TRY, decode_rows},
-    {"base62_try_decode_key", 1, 1, texts, {0}, BIGINT, KEY | TRY, decode_rows},
-    {"base62_try_decode_uhugeint_key", 1, 1, texts, {0}, UHUGEINT, KEY | TRY, decode_rows},
-    {"base62_try_decode_uuid_key", 1, 1, texts, {0}, UUID, KEY | TRY, decode_rows},
+    DECODERS("", 1, 2, BIGINT, 0, TEXT),
+    DECODERS("_uhugeint", 1, 2, UHUGEINT, 0, TEXT),
+    DECODERS("_uuid", 1, 2, UUID, 0, TEXT),
+    DECODERS("_canonical", 1, 2, BIGINT, CANONICAL, TEXT),
+    DECODERS("_uhugeint_canonical", 1, 2, UHUGEINT, CANONICAL, TEXT),
+    DECODERS("_uuid_canonical", 1, 2, UUID, CANONICAL, TEXT),
+    DECODERS("_fixed", 2, 3, BIGINT, FIXED, BIGINT, TEXT),
+    DECODERS("_uhugeint_fixed", 2, 3, UHUGEINT, FIXED, BIGINT, TEXT),
+    DECODERS("_uuid_fixed", 2, 3, UUID, FIXED, BIGINT, TEXT),
+    DECODERS("_key", 1, 1, BIGINT, KEY, 0),
+    DECODERS("_uhugeint_key", 1, 1, UHUGEINT, KEY, 0),
+    DECODERS("_uuid_key", 1, 1, UUID, KEY, 0),
     {"base62_is_valid", 1, 2, texts, {TEXT}, BOOLEAN, TRY, is_valid_rows},
     {"base62_is_canonical", 1, 2, texts, {TEXT}, BOOLEAN, CANONICAL | TRY, is_valid_rows},
     {"base62_first_string", 1, 2, texts, {BIGINT}, TEXT, 0, string_bound_rows},

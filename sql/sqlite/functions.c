@@ -53,28 +53,36 @@ static int any_null(int argc, sqlite3_value **argv) {
     return 0;
 }
 
-/* A UUID is a blob of 16 bytes, or a string. */
-static int read_uuid(sqlite3_context *context, sqlite3_value *value, base62_number *number) {
-    int type = sqlite3_value_type(value);
-    unsigned char uuid[BASE62_UUID_LENGTH];
-    const char *bytes;
-    size_t length;
-    if ((type == SQLITE_TEXT || type == SQLITE_BLOB) && !read_bytes(context, value, type, &bytes, &length)) return 0;
-    if (type == SQLITE_BLOB && length == sizeof uuid)
-        memcpy(uuid, bytes, sizeof uuid);
-    else if (type != SQLITE_TEXT || base62_uuid_from_string(bytes, length, uuid) != BASE62_OK)
-        return set_wrong_value(context, "the UUID is not 32 hexadecimal digits or 16 bytes", value);
-    *number = base62_from_uuid(uuid);
+/* Reads a UUID: a blob of 16 bytes, or a string. Returns 0 if it is none. */
+static int read_uuid(int type, const char *bytes, size_t length, unsigned char uuid[BASE62_UUID_LENGTH]) {
+    if (type == SQLITE_TEXT) return base62_uuid_from_string(bytes, length, uuid) == BASE62_OK;
+    if (type != SQLITE_BLOB || length != BASE62_UUID_LENGTH) return 0;
+    memcpy(uuid, bytes, length);
     return 1;
 }
 
 /* The number or the UUID that a function encodes. */
 static int read_number(sqlite3_context *context, sqlite3_value *value, base62_number *number) {
+    int type = sqlite3_value_type(value), flags = flags_of(context), is_uuid;
+    unsigned char uuid[BASE62_UUID_LENGTH];
+    const char *bytes = NULL;
+    size_t length = 0;
     call_error error;
-    if (flags_of(context) & OF_UUID) return read_uuid(context, value, number);
-    if (sqlite3_value_type(value) != SQLITE_INTEGER)
-        return set_wrong_value(context, "the number is not an integer", value);
-    return number_of_bigint(sqlite3_value_int64(value), number, &error) || set_error(context, &error);
+    if (type == SQLITE_INTEGER && !(flags & OF_UUID))
+        return number_of_bigint(sqlite3_value_int64(value), number, &error) || set_error(context, &error);
+    if ((type == SQLITE_TEXT || type == SQLITE_BLOB) && !read_bytes(context, value, type, &bytes, &length)) return 0;
+    is_uuid = read_uuid(type, bytes, length, uuid);
+    if (flags & OF_UUID) {
+        if (!is_uuid) return set_wrong_value(context, "the UUID is not 32 hexadecimal digits or 16 bytes", value);
+        *number = base62_from_uuid(uuid);
+        return 1;
+    }
+    fail_with(&error, INVALID_PARAMETER, "the number is not an integer");
+    if (is_uuid) name_uuid_encoder(&error, flags);
+    /* This cast is exact. From 2^63 it makes no integer, unlike a cast to INTEGER, which makes 2^63 - 1. */
+    if (type == SQLITE_TEXT && length > 0 && strspn(bytes, "0123456789") == length)
+        strcat(error.message, "; to convert digits use CAST(.. AS NUMERIC)");
+    return set_wrong_value(context, error.message, value);
 }
 
 /* Converts no other type. This catches columns declared STRING, which have NUMERIC affinity: they store the text 1E5 as
@@ -246,6 +254,10 @@ static void version(sqlite3_context *context, int argc, sqlite3_value **argv) {
 
 /* The extension */
 
+/* The decoder of a form, and the one that tries. */
+#define DECODERS(form, min, max, flags, call)                                                                          \
+    {"base62_decode" form, min, max, flags, call}, { "base62_try_decode" form, min, max, (flags) | TRY, call }
+
 static int create_functions(sqlite3 *db) {
     static const struct {
         const char *name;
@@ -258,30 +270,18 @@ static int create_functions(sqlite3 *db) {
         {"base62_encode_uuid_key", 1, 1, OF_UUID | KEY, encode},
         {"base62_encode_fixed", 2, 3, FIXED, encode},
         {"base62_encode_uuid_fixed", 2, 3, OF_UUID | FIXED, encode},
-        {"base62_decode", 1, 2, 0, decode},
-        {"base62_decode_uuid", 1, 2, OF_UUID, decode_bytes},
-        {"base62_decode_blob", 1, 2, 0, decode_bytes},
-        {"base62_decode_canonical", 1, 2, CANONICAL, decode},
-        {"base62_decode_uuid_canonical", 1, 2, OF_UUID | CANONICAL, decode_bytes},
-        {"base62_decode_blob_canonical", 1, 2, CANONICAL, decode_bytes},
-        {"base62_decode_fixed", 2, 3, FIXED, decode},
-        {"base62_decode_uuid_fixed", 2, 3, OF_UUID | FIXED, decode_bytes},
-        {"base62_decode_blob_fixed", 2, 3, FIXED, decode_bytes},
-        {"base62_decode_key", 1, 1, KEY, decode},
-        {"base62_decode_uuid_key", 1, 1, OF_UUID | KEY, decode_bytes},
-        {"base62_decode_blob_key", 1, 1, KEY, decode_bytes},
-        {"base62_try_decode", 1, 2, TRY, decode},
-        {"base62_try_decode_uuid", 1, 2, OF_UUID | TRY, decode_bytes},
-        {"base62_try_decode_blob", 1, 2, TRY, decode_bytes},
-        {"base62_try_decode_canonical", 1, 2, CANONICAL | TRY, decode},
-        {"base62_try_decode_uuid_canonical", 1, 2, OF_UUID | CANONICAL | TRY, decode_bytes},
-        {"base62_try_decode_blob_canonical", 1, 2, CANONICAL | TRY, decode_bytes},
-        {"base62_try_decode_fixed", 2, 3, FIXED | TRY, decode},
-        {"base62_try_decode_uuid_fixed", 2, 3, OF_UUID | FIXED | TRY, decode_bytes},
-        {"base62_try_decode_blob_fixed", 2, 3, FIXED | TRY, decode_bytes},
-        {"base62_try_decode_key", 1, 1, KEY | TRY, decode},
-        {"base62_try_decode_uuid_key", 1, 1, OF_UUID | KEY | TRY, decode_bytes},
-        {"base62_try_decode_blob_key", 1, 1, KEY | TRY, decode_bytes},
+        DECODERS("", 1, 2, 0, decode),
+        DECODERS("_uuid", 1, 2, OF_UUID, decode_bytes),
+        DECODERS("_blob", 1, 2, 0, decode_bytes),
+        DECODERS("_canonical", 1, 2, CANONICAL, decode),
+        DECODERS("_uuid_canonical", 1, 2, OF_UUID | CANONICAL, decode_bytes),
+        DECODERS("_blob_canonical", 1, 2, CANONICAL, decode_bytes),
+        DECODERS("_fixed", 2, 3, FIXED, decode),
+        DECODERS("_uuid_fixed", 2, 3, OF_UUID | FIXED, decode_bytes),
+        DECODERS("_blob_fixed", 2, 3, FIXED, decode_bytes),
+        DECODERS("_key", 1, 1, KEY, decode),
+        DECODERS("_uuid_key", 1, 1, OF_UUID | KEY, decode_bytes),
+        DECODERS("_blob_key", 1, 1, KEY, decode_bytes),
         {"base62_is_valid", 1, 2, TRY, is_valid},
         {"base62_is_canonical", 1, 2, CANONICAL | TRY, is_valid},
         {"base62_first_string", 1, 2, 0, string_bound},

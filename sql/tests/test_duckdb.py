@@ -13,7 +13,8 @@ from typing import Any
 from uuid import UUID
 
 from values import BIGINT, BIGINTS, HEADER, OWN, README, SEARCHES, TEXTS, WIDEST
-from values import Database, Error, arguments_by_result, bigint, calls_of, negative, text_of, uuid
+from values import Database, Error, Width, arguments_by_result, bigint, calls_of, hint_calls, negative
+from values import string_of, text_of, uuid, uuid_hint
 
 SHELL = [os.environ.get("DUCKDB", "duckdb"), "-init", os.devnull, "-unsigned", "-json"]
 LOAD = f"LOAD '{os.environ['BASE62_DUCKDB']}';\n"
@@ -28,9 +29,10 @@ CALLS = calls_of(DUCKDB)
 FUNCTIONS = arguments_by_result(CALLS)
 # The types of numbers, to which DuckDB converts smaller integers.
 INTEGERS = {"BIGINT": 2**63, "UBIGINT": 2**64, "HUGEINT": 2**127, "UHUGEINT": 2**128}
-# An error takes DuckDB a millisecond, so of each function one in five is computed.
+# An error takes DuckDB a millisecond, so of each function one in five is computed, and those of hints.
 FAILING = sorted((call for call in CALLS if isinstance(call.result, Error)), key=lambda call: call.name)
-SAMPLE = [*(call for call in CALLS if not isinstance(call.result, Error)), *FAILING[::5]]
+HINTED = [call for call in hint_calls(DUCKDB) if isinstance(call.result, Error)]
+SAMPLE = [*(call for call in CALLS if not isinstance(call.result, Error)), *FAILING[::5], *HINTED]
 
 
 def quoted(value: Any) -> str:
@@ -41,7 +43,7 @@ def typed(value: Any, is_first: bool) -> list[tuple[str, str]]:
     """The types that an argument can have, each with the argument in SQL."""
     if isinstance(value, int):
         kinds = [kind for kind, end in INTEGERS.items() if (0 if kind[0] == "U" else -end) <= value < end]
-        return [(kind, f"{quoted(value)}::{kind}") for kind in (kinds if is_first else ["BIGINT"])]
+        return [(kind, f"{quoted(value)}::{kind}") for kind in (["BIGINT"] if isinstance(value, Width) else kinds)]
     try:
         return [("UUID", f"{quoted(value)}::UUID") if isinstance(value, UUID) else ("VARCHAR", quoted(value))]
     except UnicodeDecodeError:
@@ -106,15 +108,29 @@ class Functions(Case):
         self.assertEqual(counted, {*FUNCTIONS, ("version", 0)}, "the second have calls in values.py")
 
     def test_version(self) -> None:
-        """The one that the header has, for a version of DuckDB no later than README says."""
+        """The one that the header has. The module and the fields at its end name the oldest version that README does."""
         loaded = "SELECT extension_version FROM duckdb_extensions() WHERE extension_name = 'base62';"
         version, loaded_version = results("SELECT base62_version();" + loaded)
         self.assertIn(f'#define BASE62_VERSION "{version}"\n', HEADER)
         self.assertEqual(loaded_version, "v" + version)
         (oldest,) = re.findall(r" DuckDB (\S+) and later", README)
-        self.assertIn(f"v{oldest}.0\0".encode(), Path(os.environ["BASE62_DUCKDB"]).read_bytes()[-512:])
-        signed = subprocess.run(SHELL[:3], input=LOAD, capture_output=True, text=True)
-        self.assertIn("signature is either missing or invalid", signed.stderr)
+        module = Path(os.environ["BASE62_DUCKDB"]).read_bytes()
+        fields = [module[place : place + 32].decode().rstrip("\0") for place in range(-416, -288, 32)]
+        self.assertEqual(fields[:3], ["C_STRUCT", f"v{version}", f"v{oldest}.0"])
+        self.assertEqual(re.findall(rb"\0(v\d+\.\d+\.\d+)\0", module[:-512]), [fields[2].encode()])
+
+    def test_signature(self) -> None:
+        """The extension has none, which no setting of an open database allows."""
+        errors = {LOAD: "signature is either missing or invalid", "SET allow_unsigned_extensions = true;": "Cannot change"}
+        for script, expected in errors.items():
+            self.assertIn(expected, subprocess.run(SHELL[:3], input=script, capture_output=True, text=True).stderr)
+
+    def test_hints(self) -> None:
+        """What the function returns that an error names for the string of a UUID: DuckDB casts it, unless it is a URN."""
+        texts = [text for name, (text, *_), _ in HINTED if name == "decode" and uuid_hint("", text)]
+        strings = results("".join(f"SELECT base62_encode_uuid(TRY_CAST({quoted(text)} AS UUID));" for text in texts))
+        digits = [re.sub(b"[{}-]", b"", text) for text in texts]
+        self.assertEqual(strings, [None if text[0] in b"uU" else string_of(int(text, 16), 1) for text in digits])
 
     def test_calls(self) -> None:
         """Those that return are the rows of tables, one for each function and types of its arguments."""
@@ -240,11 +256,13 @@ class Queries(Case):
             self.check_counts(dict(zip(conditions, expected)), "keys", setup + default)
 
     def test_casts(self) -> None:
-        """DuckDB rounds a number to the type that is named, or that an argument has instead of a VARIANT."""
+        """DuckDB rounds a number to the type that is named, or that an argument has instead of a VARIANT. A code that looks
+        like a number becomes one if no type is named."""
         with tempfile.NamedTemporaryFile("w", suffix=".csv") as file:
-            print("id\n7.5", file=file, flush=True)
-            query = f"SELECT base62_encode(id) FROM read_csv('{file.name}', types = {{'id': 'UBIGINT'}});"
-            self.assertEqual(results(query + "SELECT base62_encode(7.5::VARIANT);"), ["8", "8"])
+            print("id,s\n7.5,1E5", file=file, flush=True)
+            query = f"SELECT base62_encode(id) || s FROM read_csv('{file.name}', types = {{'id': 'UBIGINT', 's': 'VARCHAR'}});"
+            self.assertEqual(results(f"{query} SELECT s FROM '{file.name}';"), ["81E5", 100000.0])
+        self.assertEqual(results("SELECT base62_encode(7.5::VARIANT);"), ["8"])
         bounds = "BETWEEN base62_first_number('AzL8n0Y58m', 11) AND base62_last_uhugeint('AzL8n0Y58m', 11)"
         table = "(SELECT (9223372036854775807::UBIGINT + i::UBIGINT) AS id FROM range(3000) r(i))"
         (count,) = results(f"SELECT count(*) FROM {table} WHERE id {bounds};")

@@ -11,7 +11,8 @@ from urllib.parse import unquote_to_bytes
 from uuid import UUID
 
 from values import BIGINT, HEADER, KEY, OWN, SEARCHES, TEXTS
-from values import Database, Error, Text, arguments_by_result, bigint, calls_of, negative, rows, shown, string_of, uuid
+from values import Database, Error, Text, Width, arguments_by_result, bigint, calls_of, negative, rows, shown, string_of
+from values import uuid, uuid_hint
 
 if not hasattr(sqlite3.Connection, "enable_load_extension"):
     sys.exit(f"{sys.executable} can't load extensions of SQLite. Set PYTHON to one that can, such as Debian's.")
@@ -98,9 +99,28 @@ class Functions(Case):
             expected = mistake + shown(given) if form == "none" else string_of(UUID(form).int, 1)
             self.assertEqual(self.result("encode_uuid", given), expected)
 
+    def test_hints(self) -> None:
+        """Strings for an encoder of numbers, and what the functions and the cast return that its error names for them."""
+        uuids = dict(rows("uuid_string"))
+        borders = [["encode", str(number), "decimal"] for number in (BIGINT, BIGINT + 1)]
+        for field, hint in [row[1:] for row in rows("hint") + borders if row[0] == "encode"]:
+            text = Text(unquote_to_bytes(field))
+            self.assertEqual(bool(uuid_hint("", text)), hint in ("uuid", "both"), text)
+            digits = "; to convert digits use CAST(.. AS NUMERIC)" * (hint in ("decimal", "both"))
+            for form, width, others in (("", 1, ()), ("_key", KEY, ()), ("_fixed", 30, (Width(30),))):
+                expected = f"base62: the number is not an integer{uuid_hint(form, text)}{digits}{shown(text)}"
+                self.assertEqual(self.result(f"encode{form}", text, *others), expected)
+                for named in re.findall(r"use base62_(encode\w*)", expected):
+                    self.assertEqual(self.result(named, text, *others), string_of(UUID(uuids[field]).int, width))
+            if digits:
+                cast = self.db.execute("SELECT CAST(CAST(? AS TEXT) AS NUMERIC)", (text,)).fetchone()[0]
+                self.assertEqual(repr(cast), repr((int if int(text) <= BIGINT else float)(text)))
+        blob = f"the number is not an integer; to encode a UUID use base62_encode_uuid_key: x'{'07' * 16}'"
+        self.assertEqual(self.result("encode_key", b"\7" * 16), f"base62: {blob}")
+
     def test_types(self) -> None:
         """The errors of arguments of other types than a function accepts."""
-        number = ("the number is not an integer", (1337.0, "1337", "", b"", b"1" * 16, b"1" * 41))
+        number = ("the number is not an integer", (1337.0, "-5", "", b"", b"1" * 15, b"1" * 41))
         blob = ("the UUID is not 32 hexadecimal digits or 16 bytes", (1337, 1.5, "1" * 16, b"", b"1" * 15, b"1" * 17))
         for name, given in ACCEPTED:
             part = "prefix" if re.match("first|last", name) else "string"
@@ -111,7 +131,7 @@ class Functions(Case):
                 if re.match("is_|try_", name):
                     expected = 0 if name.startswith("is_") else None
                 self.assertEqual(self.result(name, value, *given[1:]), expected, (name, value))
-            if len(given) > 1 and isinstance(given[1], int):
+            if len(given) > 1 and isinstance(given[1], Width):
                 for value in (7.0, "7", b"7"):
                     expected = "base62: the width is not an integer" + literal(value)
                     self.assertEqual(self.result(name, given[0], value, *given[2:]), expected)
@@ -172,6 +192,8 @@ class Tables(Case):
         for condition, expected, *given in PLANS:
             plan = self.db.execute("EXPLAIN QUERY PLAN SELECT * FROM " + condition, given).fetchall()
             self.assertEqual([step[3] for step in plan], [expected], condition)
+        with self.assertRaisesRegex(sqlite3.OperationalError, "^cannot add a STORED column$"):
+            self.db.execute("ALTER TABLE link ADD COLUMN other TEXT AS (base62_encode(id)) STORED")
 
     def test_prefixes(self) -> None:
         """The queries of KEYS find the ids of the strings with a prefix, each once, with an index."""

@@ -20,9 +20,16 @@ class Text(bytes):
     """The bytes of an argument that is a text, which may contain a null byte and need not be UTF-8."""
 
 
+class Width(int):
+    """An argument that is a width."""
+
+
 class Error(NamedTuple):
     code: str
     message: str
+
+    def of(self, value: bytes, hint: str = "") -> "Error":
+        return Error(self.code, self.message + hint + shown(value))
 
 
 class Call(NamedTuple):
@@ -73,7 +80,7 @@ def of_ascii(kind: str) -> list[list[str]]:
 
 def of_widths(kind: str) -> list[tuple[Any, ...]]:
     """Such rows with a width that SQL has. Their string or prefix is a Text."""
-    given = ((row, int(row[1])) for row in of_ascii(kind))
+    given = ((row, Width(row[1])) for row in of_ascii(kind))
     return [(row[0], width, Text(unquote_to_bytes(row[2])), *row[3:]) for row, width in given if 0 < width <= WIDEST]
 
 
@@ -91,22 +98,33 @@ KEY = 22
 (MOST_SHOWN,) = map(int, re.findall(r"at most (\d+) bytes", README))
 # The message of each error and of each byte. The index follows.
 MESSAGES = {tuple(row[1:3]): re.sub(r"\d+$", "", unquote_to_bytes(row[0]).decode()) for row in rows("message")}
+MESSAGES["overflow",] = "Encoded input represents 2^128 or more, or has more than 22 characters"
 # Canonical standard texts by their numbers.
 TEXTS = {int(number): text for alphabet, number, text in rows("encode") if alphabet == "standard"}
 
 
+# The strings of UUIDs, among them those that the file has.
+HEX = rb"([0-9a-f]{32}|[0-9a-f]{8}(-[0-9a-f]{4}){3}-[0-9a-f]{12})"
+UUIDS = re.compile(rb"(?i)(urn:uuid:)?" + HEX + rb"|\{" + HEX + rb"\}")
+
+
+def uuid_hint(form: str, text: bytes) -> str:
+    """What the error of a function of this form names if a string is that of a UUID."""
+    return f"; to encode a UUID use base62_encode_uuid{form.replace('_canonical', '')}" if UUIDS.fullmatch(text) else ""
+
+
 def shown(value: bytes) -> str:
     """What a message shows of a string: MOST_SHOWN bytes, of which each that is not printable ASCII is \\xff."""
-    characters = "".join(chr(byte) if 32 <= byte < 127 else f"\\x{byte:02x}" for byte in value[:MOST_SHOWN])
-    return f": '{characters}{'...' * (len(value) > MOST_SHOWN)}'"
+    characters = [chr(b).replace("\\", 2 * "\\") if 32 <= b < 127 else f"\\x{b:02x}" for b in value[:MOST_SHOWN]]
+    return f": '{''.join(characters)}{'...' * (len(value) > MOST_SHOWN)}'"
 
 
 def error_of(fields: list[str], text: bytes, width: int | None = None) -> Error:
-    """An error of the file, for a string, a prefix or an alphabet."""
+    """An error of the file, for a string, a prefix or an alphabet, without what the message shows of it."""
     code = {"overflow": "22003", "repeated": "22023"}.get(fields[0], "22P02")
     if fields[0] == "length":
-        return Error(code, f"Encoded input has {len(text)} byte{'s' * (len(text) != 1)}, not {width}" + shown(text))
-    return Error(code, MESSAGES[tuple(fields[:2])] + "".join(fields[2:]) + shown(text))
+        return Error(code, f"Encoded input has {len(text)} byte{'s' * (len(text) != 1)}, not {width}")
+    return Error(code, MESSAGES[tuple(fields[:2])] + "".join(fields[2:]))
 
 
 def negative(*numbers: int) -> dict[Any, Error]:
@@ -118,20 +136,22 @@ def no_width(width: int) -> Error:
 
 
 def no_alphabet(letters: bytes) -> Error:
-    mistake = f"{len(letters)} characters, not 62" if b"\0" not in letters else "a null character"
-    return Error("22023", f"the alphabet has {mistake if letters.isascii() else 'a non-ASCII character'}" + shown(letters))
+    mistake = f"{len(letters)} character{'s' * (len(letters) != 1)}, not 62" if b"\0" not in letters else "a null character"
+    if letters in (b"standard", b"alternative"):
+        mistake += f"; write '{ALPHABETS[letters.decode()]}'"
+    return Error("22023", f"the alphabet has {mistake if letters.isascii() else 'a non-ASCII character'}").of(letters)
 
 
 # The alphabets of the least and of the greatest characters.
 EDGES = [bytes(range(last - 61, last + 1)) for last in (62, 127)]
-INVALID = [b"", *(f"{OWN}-"[:length].encode() for length in (2, 61, 63))]
+INVALID = [b"", b"standard", b"alternative", b"Standard", b"\\" * 61, *(f"{OWN}-"[:length].encode() for length in (1, 2, 61, 63))]
 INVALID += [letters.encode() for letters in ("é" + OWN[2:], OWN[2:] + "é", "é" * 31)]
 INVALID += [letters for edge in EDGES for byte in (b"\0", b"\x80", b"\xff") for letters in (byte + edge[1:], edge[:61] + byte)]
 NO_ALPHABETS = {Text(letters): no_alphabet(letters) for letters in INVALID}
 for field, *fields in rows("repeated"):
     letters = Text(unquote_to_bytes(field))
     if letters.isascii() and b"\0" not in letters:
-        NO_ALPHABETS[letters] = error_of(["repeated", *fields], letters)
+        NO_ALPHABETS[letters] = error_of(["repeated", *fields], letters).of(letters)
 
 
 def string_of(number: int, width: int) -> str:
@@ -151,11 +171,11 @@ def encoding(database: Database, form: str, number: int, result: Any, *others: A
 
 def decoding(database: Database, form: str, result: int | Error, text: Text, *others: Any) -> Iterator[Call]:
     """Calls of the functions of a form that decode a string, with a number or an error."""
+    wide = Error("22003", f"the number is 2^63 or more; use base62_decode_{database.wide}{form}")
     for kind, convert in database.decoded.items():
         expected = result if isinstance(result, Error) else convert(result)
-        if expected is None:
-            wider = f"the number is 2^63 or more; use base62_decode_{database.wide}{form}"
-            expected = Error("22003", wider + shown(text))
+        if expected is None or isinstance(expected, Error):
+            expected = (expected or wide).of(text, uuid_hint(form, text))
         yield Call(f"decode{kind}{form}", (text, *others), expected)
         yield Call(f"try_decode{kind}{form}", (text, *others), None if isinstance(expected, Error) else expected)
 
@@ -169,7 +189,7 @@ def encoded_calls(database: Database) -> Iterator[Call]:
         if not fields:
             yield from encoding(database, "", number, encoded, letters)
         yield from decoding(database, "", number, text, letters)
-        yield from decoding(database, "_fixed", number, text, len(text), letters)
+        yield from decoding(database, "_fixed", number, text, Width(len(text)), letters)
         yield from decoding(database, "_canonical", error_of(fields, text) if fields else number, text, letters)
         yield Call("is_valid", (text, letters), True)
         yield Call("is_canonical", (text, letters), not fields)
@@ -184,6 +204,16 @@ def invalid_calls(database: Database) -> Iterator[Call]:
             yield Call(name, (text, letters), False)
 
 
+def hint_calls(database: Database) -> Iterator[Call]:
+    """Of the strings whose errors name a function for UUIDs or do not."""
+    for text, hint in ((Text(unquote_to_bytes(field)), hint) for call, field, hint in rows("hint") if call == "decode"):
+        assert bool(uuid_hint("", text)) == (hint == "uuid"), text
+        invalid = [["byte", str(byte), str(i)] for i, byte in enumerate(text) if chr(byte) not in STANDARD]
+        fields = ["overflow"] if len(text.lstrip(b"0")) > KEY else (invalid or [["empty"]])[0]
+        for form, fault in (("", fields), ("_canonical", fields), ("_key", ["length"] if len(text) != KEY else fields)):
+            yield from decoding(database, form, error_of(fault, text, KEY), text)
+
+
 def width_calls(database: Database) -> Iterator[Call]:
     """Of strings of a width, and of keys."""
     for letters, width, text, *fields in of_widths("decode_fixed"):
@@ -192,20 +222,20 @@ def width_calls(database: Database) -> Iterator[Call]:
         if (letters, width) == (STANDARD, KEY):
             yield from decoding(database, "_key", result, text)
     for letters, digits, width, encoded in of_ascii("fixed"):
-        yield from encoding(database, "_fixed", int(digits), encoded, int(width), letters)
+        yield from encoding(database, "_fixed", int(digits), encoded, Width(width), letters)
         if (letters, int(width)) == (STANDARD, KEY):
             yield from encoding(database, "_key", int(digits), encoded)
     for letters, digits, width in of_ascii("too_narrow"):
         narrow = f"the number needs {len(TEXTS[int(digits)])} characters, and the width is {width}"
         error = Error("22003", narrow) if int(width) else no_width(0)
-        yield from encoding(database, "_fixed", int(digits), error, int(width), letters)
+        yield from encoding(database, "_fixed", int(digits), error, Width(width), letters)
 
 
 def range_calls(database: Database) -> Iterator[Call]:
     """Of the first and the last string and number of a prefix."""
     for letters, width, prefix, kind, *fields in of_widths("range"):
         numbers = [int(field) for field in fields] if kind == "numbers" else [None, None]
-        error = error_of([kind, *fields], prefix) if kind == "byte" else None
+        error = error_of([kind, *fields], prefix).of(prefix) if kind == "byte" else None
         for end, number in zip(("first", "last"), numbers):
             bigint = error if number is None else min(number, BIGINT) if numbers[0] <= BIGINT else None
             yield Call(f"{end}_number", (prefix, width, letters), bigint)
@@ -231,32 +261,28 @@ def argument_calls(database: Database, name: str, given: tuple[Any, ...]) -> Ite
     """With each argument null or invalid in turn, beside others that are invalid. The error is that of the number or UUID,
     or else that of the width, of the alphabet, or of the string."""
     kind = re.sub("^encode|_fixed$|_key$", "", name)
-    first = Text(b"-") if isinstance(given[0], Text) else dict(database.encoded)[kind](62)
-    with_width, with_alphabet = len(given) > 1 and isinstance(given[1], int), isinstance(given[-1], str)
-    width, alphabet = [1] * with_width, ["01"] * with_alphabet
-    for place in range(len(given)):
-        for others in (given, (first, *width, *alphabet)):
+    order = [{Width: 1, str: 2, Text: 3}.get(type(value), 0) for value in given]
+    number = dict(database.encoded)[kind](62) if 0 in order else None
+    valid, wrong = (number, Width(1)), (number, Width(0), "01", Text(b"-"))
+    widths = {Width(width): no_width(width) for width in (0, -1, WIDEST + 1, *database.invalid_widths)}
+    errors: list[dict[Any, Error]] = [database.invalid_numbers.get(kind, {}), widths, NO_ALPHABETS, {}]
+    for place, rank in enumerate(order):
+        for others in (given, [wrong[other] for other in order]):
             yield Call(name, (*others[:place], None, *others[place + 1 :]), None)
-    if with_alphabet:
-        for letters, error in NO_ALPHABETS.items():
-            yield Call(name, (first, *width, letters), error)
-    if with_width:
-        for value in (0, -1, WIDEST + 1, *database.invalid_widths):
-            yield Call(name, (first, value, *alphabet), no_width(value))
-    if not isinstance(first, Text):
-        for number, error in database.invalid_numbers.get(kind, {}).items():
-            yield Call(name, (number, *[0] * with_width, *alphabet), error)
+        for value, error in errors[rank].items():
+            others = [wrong[other] if other >= rank else valid[other] for other in order]
+            yield Call(name, (*others[:place], value, *others[place + 1 :]), error)
 
 
 def calls_of(database: Database) -> list[Call]:
     """The calls of all functions but base62_version. Over the standard alphabet they are also without it."""
     calls: list[Call] = []
-    for kind in (encoded_calls, invalid_calls, width_calls, range_calls):
+    for kind in (encoded_calls, invalid_calls, hint_calls, width_calls, range_calls):
         calls += kind(database)
     calls += [Call(name, given[:-1], result) for name, given, result in calls if given[-1] == STANDARD]
     calls += [Call("encode", (61, Text(edge)), chr(edge[-1])) for edge in EDGES]
-    calls.append(Call("encode_fixed", (1337, WIDEST), "LZ".rjust(WIDEST, "0")))
-    calls.append(Call("decode", (Text(b"0\xc3\xa9"),), error_of(["byte", "195", "1"], b"0\xc3\xa9")))
+    calls.append(Call("encode_fixed", (1337, Width(WIDEST)), "LZ".rjust(WIDEST, "0")))
+    calls.append(Call("decode", (Text(b"0\xc3\xa9"),), error_of(["byte", "195", "1"], b"").of(b"0\xc3\xa9")))
     for (name, _), results in arguments_by_result(calls).items():
         calls += argument_calls(database, name, next(iter(results.values())))
     return calls

@@ -26,7 +26,8 @@ SELECT oid::regprocedure FROM functions WHERE prorettype = 'base62_key'::regtype
 PREPARE untyped AS SELECT base62_encode_fixed('1337', $1), base62_encode(1337::smallint),
     base62_last_number(width => $1, alphabet => :own, prefix => $2);
 EXECUTE untyped (3, 'e');
-SELECT left(result_of(call), 5) FROM unnest(ARRAY['base62_encode(1.5)', $$base62_encode('LZ'::text)$$]) call;
+SELECT left(result_of(call), 5)
+    FROM unnest(ARRAY['base62_encode(1.5)', $$base62_encode('LZ'::text)$$, 'base62_encode(gen_random_uuid())']) call;
 -- Divided by 10^9 it is 2^64, of which 64 bits are zero.
 SELECT base62_decode_numeric(base62_encode_numeric(18446744073709551616000000000));
 SELECT base62_version() ~ '^[0-9]+\.[0-9]+\.[0-9]+$' version;

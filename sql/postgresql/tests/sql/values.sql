@@ -15,3 +15,9 @@ EXCEPTION WHEN OTHERS THEN
     RETURN sqlstate || ' ' || sqlerrm;
 END $$;
 SELECT call, result, expected FROM call, result_of(call) result WHERE result IS DISTINCT FROM expected LIMIT 20;
+
+-- What an error names for the string of a UUID encodes it, unless it is a URN, which is no UUID for PostgreSQL.
+SELECT count(DISTINCT string) > 30 enough, count(*) FILTER (WHERE result IS DISTINCT FROM 'true') wrong
+    FROM (SELECT substring(call, '''(.*?)''') string, substring(expected, '; to encode a UUID use (\w+)') named FROM call) hinted,
+        result_of(format('base62_decode_uuid(%s(%L%s)) = %2$L', named, string, CASE WHEN named ~ 'fixed' THEN ', 22' END)) result
+    WHERE named IS NOT NULL AND string !~* '^urn';

@@ -590,8 +590,8 @@ static base62_status store_bad_byte(const uint8_t *text, size_t index, base62_ba
     return BASE62_INVALID_BYTE;
 }
 
-/* Returns the error of a text that has an invalid byte among the at most 22 that follow its leading zeros. If a thread
-   has made all of them valid since, it takes the last one for invalid: no byte behind the text is read. */
+/* Returns the error of a text that has an invalid byte among the at most 22 that follow its leading zeros. If another
+   thread has made all of them valid since, it takes the last one for invalid: no byte behind the text is read. */
 static base62_status find_error(const Tables *tables, const uint8_t *text, size_t length, size_t zeros,
                                 base62_bad_byte *bad) {
     //@ assert requires: zeros < length && length - zeros <= 22;

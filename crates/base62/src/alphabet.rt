@@ -65,8 +65,8 @@ impl Alphabet {
     ///
     /// # Errors
     ///
-    /// Returns [`Repeated(byte, index)`](AlphabetError::Repeated) if a byte is repeated. The index is
-    /// the least one whose byte is also at an earlier index.
+    /// Returns [`Repeated(byte, index)`](AlphabetError::Repeated) if a byte is repeated. The index
+    /// is the least one whose byte is also at an earlier index.
     pub const fn new(characters: [u8; 62]) -> Result<Alphabet, AlphabetError>
         ensures ok { IfOk result (λ alphabet. alphabet ≡ characters) }
         ensures accepted { IsOk result ↔ IsAlphabet characters }

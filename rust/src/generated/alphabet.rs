@@ -44,8 +44,8 @@ impl Alphabet {
     ///
     /// # Errors
     ///
-    /// Returns [`Repeated(byte, index)`](AlphabetError::Repeated) if a byte is repeated. The index is
-    /// the least one whose byte is also at an earlier index.
+    /// Returns [`Repeated(byte, index)`](AlphabetError::Repeated) if a byte is repeated. The index
+    /// is the least one whose byte is also at an earlier index.
     pub const fn new(characters: [u8; 62]) -> Result<Alphabet, AlphabetError> {
         let mut digits = [255u8; 256];
         let mut index = 0;

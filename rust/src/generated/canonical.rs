@@ -13,8 +13,8 @@ use crate::fault::{CanonicalError, DecodeError};
 /// Decodes `input` in the standard alphabet if it is canonical, and returns the number.
 ///
 /// The result is a number, 0 to 2^128 - 1, exactly for the string that [`encode_bytes`] writes for
-/// it, so only one string decodes to it. For the strings of [`encode_fixed`] and [`encode_key`], call
-/// [`decode_fixed`] and [`decode_key`]. Does not allocate.
+/// it, so only one string decodes to it. For the strings of [`encode_fixed`] and [`encode_key`],
+/// call [`decode_fixed`] and [`decode_key`]. Does not allocate.
 ///
 /// ```rust
 /// use base62::CanonicalError;
@@ -33,7 +33,8 @@ use crate::fault::{CanonicalError, DecodeError};
 /// # Errors
 ///
 /// Returns [`LeadingZero`](CanonicalError::LeadingZero) if [`decode`] returns a number, but `input`
-/// begins with a zero that other characters follow, and [`Decode`](CanonicalError::Decode) with the error of [`decode`] if that returns one.
+/// begins with a zero that other characters follow, and [`Decode`](CanonicalError::Decode) with the
+/// error of [`decode`] if that returns one.
 pub fn decode_canonical<T: AsRef<[u8]>>(input: T) -> Result<u128, CanonicalError> {
     decode_canonical_over(standard_tables(), input.as_ref())
 }

@@ -28,8 +28,8 @@ use encoder::encode_over;
 ///
 /// # Errors
 ///
-/// Returns [`BufferTooSmall`](EncodeError::BufferTooSmall) if `buf` is shorter than the encoded string, so never for 22 bytes or
-/// more. `buf` is then left unchanged.
+/// Returns [`BufferTooSmall`](EncodeError::BufferTooSmall) if `buf` is shorter than the encoded
+/// string, so never for 22 bytes or more. `buf` is then left unchanged.
 pub fn encode_bytes<T: Into<u128>>(num: T, buf: &mut [u8]) -> Result<usize, EncodeError> {
     encode_over(standard_tables(), num.into(), buf)
 }
@@ -111,7 +111,8 @@ pub fn encode_bytes_with<T: Into<u128>>(
 ///
 /// Returns [`EmptyInput`](DecodeError::EmptyInput),
 /// [`ArithmeticOverflow`](DecodeError::ArithmeticOverflow) or
-/// [`InvalidBase62Byte`](DecodeError::InvalidBase62Byte) in the cases 1 to 6. The last of them has the first byte that is not in the alphabet, and its index in `input`,
+/// [`InvalidBase62Byte`](DecodeError::InvalidBase62Byte) in the cases 1 to 6.
+/// `InvalidBase62Byte` has the first byte that is not in the alphabet, and its index in `input`,
 /// leading zeros included.
 #[inline(always)]
 pub fn decode<T: AsRef<[u8]>>(input: T) -> Result<u128, DecodeError> {

@@ -30,8 +30,9 @@ use core::str;
 ///
 /// # Errors
 ///
-/// Returns [`BufferTooSmall`](EncodeError::BufferTooSmall) if `places` is shorter than the encoded string, so always if it is
-/// empty, and never for 22 bytes or more. `places` is then left unchanged.
+/// Returns [`BufferTooSmall`](EncodeError::BufferTooSmall) if `places` is shorter than the encoded
+/// string, so always if it is empty, and never for 22 bytes or more. `places` is then left
+/// unchanged.
 pub fn encode_fixed<T: Into<u128>>(num: T, places: &mut [u8]) -> Result<(), EncodeError> {
     encode_fixed_over(standard_tables(), num.into(), places)
 }
@@ -131,8 +132,9 @@ fn fill_string<'a>(tables: &Tables, n: u128, places: &'a mut [u8]) -> Result<&'a
 /// Decodes `input` in the standard alphabet if it has exactly `width` characters, and returns the
 /// number.
 ///
-/// The result is a number, 0 to 2^128 - 1, exactly for the string that [`encode_fixed`] writes for it
-/// to `width` bytes, so only one string decodes to it. The length is compared first. Does not allocate.
+/// The result is a number, 0 to 2^128 - 1, exactly for the string that [`encode_fixed`] writes for
+/// it to `width` bytes, so only one string decodes to it. The length is compared first. Does not
+/// allocate.
 ///
 /// ```rust
 /// use base62::FixedError;
@@ -145,8 +147,9 @@ fn fill_string<'a>(tables: &Tables, n: u128, places: &'a mut [u8]) -> Result<&'a
 ///
 /// # Errors
 ///
-/// Returns [`WrongLength`](FixedError::WrongLength) if the length of `input` in bytes is not `width`,
-/// and otherwise [`Decode`](FixedError::Decode) with the error of [`decode`], if that returns one. So it always returns an error if `width` is 0.
+/// Returns [`WrongLength`](FixedError::WrongLength) if the length of `input` in bytes is not
+/// `width`, and otherwise [`Decode`](FixedError::Decode) with the error of [`decode`], if that
+/// returns one. So it always returns an error if `width` is 0.
 pub fn decode_fixed<T: AsRef<[u8]>>(input: T, width: usize) -> Result<u128, FixedError> {
     decode_fixed_over(standard_tables(), input.as_ref(), width)
 }
@@ -196,8 +199,8 @@ fn decode_fixed_over(tables: &Tables, input: &[u8], width: usize) -> Result<u128
 ///
 /// # Errors
 ///
-/// Returns [`InvalidBase62Byte`](DecodeError::InvalidBase62Byte), with the first such byte and its index, if a byte of `prefix` is
-/// not in the standard alphabet.
+/// Returns [`InvalidBase62Byte`](DecodeError::InvalidBase62Byte), with the first such byte and its
+/// index, if a byte of `prefix` is not in the standard alphabet.
 pub fn prefix_range<T: AsRef<[u8]>>(
     prefix: T,
     width: usize,
@@ -207,8 +210,8 @@ pub fn prefix_range<T: AsRef<[u8]>>(
 
 /// Like [`prefix_range`], but uses a custom alphabet.
 ///
-/// The range is exact for every alphabet. But a scan of sorted strings, from that of the least number
-/// to that of the greatest, finds exactly those that begin with `prefix` only if
+/// The range is exact for every alphabet. But a scan of sorted strings, from that of the least
+/// number to that of the greatest, finds exactly those that begin with `prefix` only if
 /// `Alphabet::is_ascending` returns `true`, which it does not for the alternative alphabet.
 ///
 /// ```rust

@@ -68,10 +68,10 @@ pub fn decode_key<T: AsRef<[u8]>>(input: T) -> Result<u128, FixedError> {
 /// Returns the least and the greatest number below 2^128 whose key begins with `prefix`.
 ///
 /// The numbers from the least to the greatest are exactly those whose keys begin with `prefix`. If
-/// `prefix` has k characters and represents v, the least is `v * 62^(22-k)`, and the greatest is the
-/// lesser of `(v+1) * 62^(22-k) - 1` and 2^128 - 1. An empty prefix has v = 0. The result is
-/// `Ok(None)` if all bytes of `prefix` are in the alphabet, but no key of a number below 2^128 begins
-/// with it, for example if it has more than 22 characters. Does not allocate.
+/// `prefix` has k characters and represents v, the least is `v * 62^(22-k)`, and the greatest is
+/// the lesser of `(v+1) * 62^(22-k) - 1` and 2^128 - 1. An empty prefix has v = 0. The result is
+/// `Ok(None)` if all bytes of `prefix` are in the alphabet, but no key of a number below 2^128
+/// begins with it, for example if it has more than 22 characters. Does not allocate.
 ///
 /// ```rust
 /// let range = base62::key_range(b"00000000000000000000LZ");
@@ -81,8 +81,8 @@ pub fn decode_key<T: AsRef<[u8]>>(input: T) -> Result<u128, FixedError> {
 ///
 /// # Errors
 ///
-/// Returns [`InvalidBase62Byte`](DecodeError::InvalidBase62Byte), with the first such byte and its index, if a byte of `prefix` is
-/// not in the standard alphabet.
+/// Returns [`InvalidBase62Byte`](DecodeError::InvalidBase62Byte), with the first such byte and its
+/// index, if a byte of `prefix` is not in the standard alphabet.
 pub fn key_range<T: AsRef<[u8]>>(
     prefix: T,
 ) -> Result<Option<core::ops::RangeInclusive<u128>>, DecodeError> {

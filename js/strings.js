@@ -12,24 +12,21 @@ for (let i = 0; i < MAX_DIGITS; i++) POWERS_OF_62.push(POWERS_OF_62[i] * 62n);
 
 // Descriptors inherit nothing, since a program may give Object.prototype a property such as `get`. An assignment would
 // fail if it had a read-only `code`.
-const define = (object, name, value, others = {
-  configurable: true,
-  enumerable: true,
-  writable: true
-}) => Object.defineProperty(object, name, { __proto__: null, value, ...others });
-export function defineReadOnly(object, name, value) { define(object, name, value, { enumerable: true }); }
+const define = (object, name, value, isWritable, isEnumerable = true) => Object.defineProperty(
+  object, name, { __proto__: null, value, configurable: isWritable, enumerable: isEnumerable, writable: isWritable });
+export function defineReadOnly(object, name, value) { define(object, name, value, false); }
 
 export class Base62Error extends RangeError {
   constructor(message, code, byte, index) {
     super(message);
-    define(this, 'code', code);
+    define(this, 'code', code, true);
     if (byte === undefined) return;
-    define(this, 'byte', byte);
-    define(this, 'index', index);
+    define(this, 'byte', byte, true);
+    define(this, 'index', index, true);
   }
 }
 
-define(Base62Error.prototype, 'name', 'Base62Error', { configurable: true, writable: true });
+define(Base62Error.prototype, 'name', 'Base62Error', true, false);
 
 export const quantity = (count, unit) => `${count} ${unit}${count === 1 ? '' : 's'}`;
 
@@ -42,8 +39,8 @@ export function showByte(byte, index) {
   return `byte b'${shown}' at index ${index}`;
 }
 
-// What an error names for a string that is a UUID or, in the place of a number, has only digits. In a bundle of `encode`
-// alone this regular expression takes less than readUuid.
+// The end of an error for the string of a UUID or, in the place of a number, of decimal digits. In a bundle of `encode`
+// alone this regular expression is smaller than readUuid.
 const UUID = /^[\da-f]{8}(-?)([\da-f]{4}\1){3}[\da-f]{12}$/i;
 export function hintFor(given, isForNumber) {
   if (typeof given !== 'string') return '';

@@ -234,7 +234,7 @@ class Readers(ColumnsTestCase):
 
     @unittest.skipUnless(shutil.which("duckdb"), "DuckDB is not installed")
     def test_duckdb(self) -> None:
-        """UUIDs and decimals in Parquet are such there, and come back. A HUGEINT is written as a float, a null as an empty line."""
+        """UUIDs and decimals in Parquet are such there, and come back. A HUGEINT is a float there, and a null in CSV an empty line."""
         names, numbers = columns.encode_uuid([NAME, None]), columns.encode([2**64, None])
         table = pa.table({"name": columns.decode_uuid(names), "number": columns.decode(numbers, type=DECIMAL)})
         with tempfile.TemporaryDirectory() as folder:

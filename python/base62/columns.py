@@ -232,9 +232,9 @@ def _number_of(value: Any) -> Any:
     """Return a decimal that is an integer, or out of range, as an integer. Other values are left unchanged."""
     if not isinstance(value, Decimal) or value.is_nan():
         return value
-    if value.is_infinite() or value and value.adjusted() > 38:
-        return 2**128  # An int of its digits could fill the memory.
-    return int(value or 0) if value == value.to_integral_value() else value
+    if value.is_infinite() or value.adjusted() > 38:
+        return 2**128 if value else 0  # The int of a great exponent could fill the memory.
+    return int(value) if value == value.to_integral_value() else value
 
 
 def _is_missing(value: Any) -> bool:

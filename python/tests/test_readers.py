@@ -213,13 +213,15 @@ class Readers(ColumnsTestCase):
         self.assertEqual(self.db.execute("SELECT typeof(?), typeof(?)", (code, code.as_py())).fetchone(), ("blob", "text"))
 
     def test_codes(self) -> None:
-        """With a type pyarrow reads codes as they are, also those of a file of one column. Names of folders need one too."""
+        """pandas writes codes as they are, and with a type pyarrow reads them so, also of one column, and names of folders."""
         self.assertEqual(str(pd.read_csv(fields("code", ["007", "NA"]))["code"].tolist()), "[7.0, nan]")
-        for codes in (rows for some in (CODES, *zip(CODES)) for rows in with_missing([*some])):
-            frame = pd.DataFrame({"id": codes, "row": 1})
-            files = [fields("id", codes), fields("id", codes, ""), io.BytesIO(frame.to_csv(index=False).encode())]
-            read = [codes_by_csv(file) for file in files] + [codes_by_json(lines("id", codes))]
-            self.assertEqual([column.to_pylist() for column in read], [codes] * 4)
+        lists = [rows for some in (CODES, *zip(CODES)) for rows in with_missing([*some])]
+        for codes, dtype in product(lists, (object, pd.ArrowDtype(pa.string()))):
+            frame = pd.DataFrame({"id": pd.Series(codes, dtype=dtype), "row": range(len(codes))})
+            read = [*map(codes_by_csv, (fields("id", codes), fields("id", codes, ""))), codes_by_json(lines("id", codes))]
+            read += [saved(frame.to_csv, codes_by_csv), saved(frame.to_json, codes_by_json, orient="records", lines=True)]
+            read += [saved(frame.to_parquet, parquet.read_table)["id"], pa.array(stored(frame), from_pandas=True)]
+            self.assertEqual([column.to_pylist() for column in read], [codes] * 7)
         hive = dataset.partitioning(pa.schema({"code": pa.string()}), flavor="hive")
         with tempfile.TemporaryDirectory() as folder:
             parquet.write_to_dataset(pa.table({"code": ["007", None], "row": [1, 2]}), folder, partition_cols=["code"])
@@ -234,16 +236,14 @@ class Readers(ColumnsTestCase):
 
     @unittest.skipUnless(shutil.which("duckdb"), "DuckDB is not installed")
     def test_duckdb(self) -> None:
-        """UUIDs and decimals in Parquet are such there, and come back. A HUGEINT is written as a float, a null as an empty line."""
+        """UUIDs and decimals in Parquet are such there, and come back. A HUGEINT becomes a float, and a null an empty line."""
         names, numbers = columns.encode_uuid([NAME, None]), columns.encode([2**64, None])
         table = pa.table({"name": columns.decode_uuid(names), "number": columns.decode(numbers, type=DECIMAL)})
         with tempfile.TemporaryDirectory() as folder:
             parquet.write_table(table, f"{folder}/in.parquet")
-            rows = f"SELECT *, typeof(name) || typeof(number) AS types, sum(1) OVER () AS sum FROM '{folder}/in.parquet'"
-            copies = (
-                f"COPY ({rows}) TO '{folder}/out.parquet'; COPY (SELECT number FROM '{folder}/in.parquet') TO '{folder}/out.csv'"
-            )
-            subprocess.run(["duckdb", "-c", copies], check=True)
+            rows = "SELECT *, typeof(name) || typeof(number) AS types, sum(1) OVER () AS sum FROM 'in.parquet'"
+            copies = f"COPY ({rows}) TO 'out.parquet'; COPY (SELECT number FROM 'in.parquet') TO 'out.csv'"
+            subprocess.run(["duckdb", "-c", copies], cwd=folder, check=True)
             table, alone = parquet.read_table(f"{folder}/out.parquet"), by_csv(f"{folder}/out.csv", {"number": DECIMAL})
         self.assertEqual(alone["number"].to_pylist(), [2**64, None])
         self.assertEqual({*table["types"].to_pylist()}, {"UUIDDECIMAL(38,0)"})

@@ -53,7 +53,7 @@ extension = Extension(
     include_dirs=[str(top / "c")],
     py_limited_api=True,
 )
-# What an earlier build left would be installed too, so that each has a folder of its own.
+# A wheel has all that its build's folder has, so that each build has a new one.
 folder = tempfile.TemporaryDirectory()
 setup(
     options={"build": {"build_base": folder.name}},

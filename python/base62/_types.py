@@ -52,7 +52,7 @@ class NotCanonicalError(DecodeError):
 class WrongLengthError(DecodeError):
     """A string does not have the given width.
 
-    length is its length in bytes, for a str in those of its UTF-8. width is the given width, or sys.maxsize if less.
+    length is its length in bytes, for a str those of its UTF-8. width is the given one, or sys.maxsize for a greater one.
     """
 
     def __init__(self, message: str = "", length: int = 0, width: int = 0) -> None:

@@ -120,25 +120,19 @@ class Functions(Case):
 
     def test_types(self) -> None:
         """The errors of arguments of other types than a function accepts."""
-        number = ("the number is not an integer", (1337.0, "-5", "", b"", b"1" * 15, b"1" * 41))
-        blob = ("the UUID is not 32 hexadecimal digits or 16 bytes", (1337, 1.5, "1" * 16, b"", b"1" * 15, b"1" * 17))
+        number = ("number is not an integer", (1337.0, "-5", "", b"", b"1" * 15, b"1" * 41))
+        no_uuid = ("UUID is not 32 hexadecimal digits or 16 bytes", (1337, 1.5, "1" * 16, b"", b"1" * 15, b"1" * 17))
         for name, given in ACCEPTED:
-            part = "prefix" if re.match("first|last", name) else "string"
-            text = (f"the {part} is not text", (1337, 13.5, b"LZ", b"1" * 62))
-            mistake, values = text if isinstance(given[0], Text) else blob if "uuid" in name else number
-            for value in values:
-                expected: Any = f"base62: {mistake}{literal(value)}"
-                if re.match("is_|try_", name):
-                    expected = 0 if name.startswith("is_") else None
-                self.assertEqual(self.result(name, value, *given[1:]), expected, (name, value))
-            if len(given) > 1 and isinstance(given[1], Width):
-                for value in (7.0, "7", b"7"):
-                    expected = "base62: the width is not an integer" + literal(value)
-                    self.assertEqual(self.result(name, given[0], value, *given[2:]), expected)
-            if len(given) > 1 and isinstance(given[-1], str):
-                for value in (1, 1.5, b"1" * 62):
-                    expected = "base62: the alphabet is not text" + literal(value)
-                    self.assertEqual(self.result(name, *given[:-1], value), expected)
+            text = f"{'prefix' if re.match('first|last', name) else 'string'} is not text", (1337, 13.5, b"LZ", b"1" * 62)
+            kinds: dict[type, Any] = {Width: ("width is not an integer", (7.0, "7", b"7")), Text: text}
+            kinds[str] = "alphabet is not text", (1, 1.5, b"1" * 62)
+            for place, argument in enumerate(given):
+                mistake, values = kinds.get(type(argument), no_uuid if "uuid" in name else number)
+                for value in values:
+                    expected: Any = f"base62: the {mistake}{literal(value)}"
+                    if place == 0 and re.match("is_|try_", name):
+                        expected = 0 if name.startswith("is_") else None
+                    self.assertEqual(self.result(name, *given[:place], value, *given[place + 1 :]), expected, (name, value))
 
     def test_order(self) -> None:
         """Of several errors, of which some are those of types."""

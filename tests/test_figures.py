@@ -62,7 +62,7 @@ def main() -> None:
     versions = table("Rust")
     least = {name: re.search(pattern, (TOP / path).read_text())[1] for name, (path, pattern) in SOURCES.items()}
     least["C, CMake"] = f"C99, {least['C, CMake']}"
-    assert dict(zip(versions[""], versions["least"])) == least, least
+    assert dict(zip(versions[""], versions["needs at least"])) == least, least
     # The upper 48 bits of such a UUID are milliseconds since 1970.
     years = [(datetime(1970, 1, 1) + timedelta(milliseconds=62**power >> 80)).year for power in (20, 21)]
     assert f"from {years[0]} to {years[1]}" in (TOP / "docs/CALLS.md").read_text(), years

@@ -354,49 +354,61 @@ for (const kind of ['string', 'bytes'])
     path.prove('at it is none', `(or (= ${index} ${length.term}) ${units[index]?.digit.infinite ?? 'false'})`);
   });
 
+// A prefix of 0 to 22 units, the number of its digits, and whether all are digits.
+function prefixOf(path) {
+  const [length, isAll, digits] = [path.input(0n, 22n), path.input(0n, 1n), path.input(0n, 62n ** 22n - 1n)];
+  const ofLength = list(23, (i) => all([equal(length.term, i), `(< ${digits.term} ${62n ** BigInt(i)})`]));
+  path.assume(`(or ${ofLength.join(' ')})`);
+  const show = (value) => {
+    const digitAt = (i) => DIGITS[value(digits) / 62n ** BigInt(i) % 62n];
+    const text = list(Number(value(length)), digitAt).reverse().join('');
+    return `'${value(isAll) ? text : text.replace(/.$/, '-')}'`;
+  };
+  return Object.assign(textOf([]), { length, digits, areDigits: equal(1, isAll.term), show });
+}
+
+// What is proved of the functions that read a prefix, over the standard alphabet.
+function stubPrefix(m, path, prefix) {
+  const { length, digits, areDigits } = prefix;
+  const isWhole = (text, start, end) => text === prefix && start === 0 && end === length;
+  let used;
+  m.stubs.use = (alphabet) => used = alphabet;
+  m.stubs.lengthOfText = (text) => text.length;
+  m.stubs.readDigits = (...given) => used === m.values.standard && isWhole(...given) ?
+    new Unknown({ type: 'boolean', term: all([areDigits, `(< ${digits.term} ${END})`]) }) :
+    m.fail();
+  m.stubs.indexOfInvalid = (...given) => {
+    const index = path.unknown(0n, 22n);
+    path.assume(all([`(<= ${index.term} ${length.term})`, equal(equal(index.term, length.term), areDigits)]));
+    return isWhole(...given) ? index : m.fail();
+  };
+  m.stubs.bigIntOfWords = () => integer(digits.term, 0n, 62n ** 22n - 1n, 'bigint');
+}
+
+// Whether the string of this width has the prefix: its number is the prefix, before `others` more digits.
+function hasPrefix({ term }, width, { length, digits }) {
+  const others = `(- ${width.term} ${length.term})`;
+  const forms = list(22, (i) => {
+    const [count, least] = [62n ** BigInt(i), `(* ${62n ** BigInt(i)} ${digits.term})`];
+    return all([equal(others, i), `(<= ${least} ${term})`, `(< ${term} (+ ${least} ${count}))`]);
+  });
+  return all([`(> ${width.term} 0)`, `(or (and (>= ${others} 22) (= 0 ${digits.term})) ${forms.join(' ')})`]);
+}
+
 for (const name of ['prefixRange', 'keyRange'])
   prove(name, (functions, m, path) => {
-    const [length, areDigits, digits] = [path.input(0n, 22n), path.input(0n, 1n), path.input(0n, 62n ** 22n - 1n)];
-    const width = name === 'keyRange' ? constant(22n) : path.input(0n, power(53) - 1n);
-    path.assume(
-      `(or ${list(23, (i) => all([equal(length.term, i), `(< ${digits.term} ${62n ** BigInt(i)})`])).join(' ')})`);
-    const prefix = Object.assign(textOf([]), { length });
-    const isAll = equal(1, areDigits.term);
-    path.show = (value) => {
-      const text =
-        list(Number(value(length)), (i) => DIGITS[value(digits) / 62n ** BigInt(i) % 62n]).reverse().join('');
-      return `${name}('${value(areDigits) ? text : text.replace(/.$/, '-')}'${
-        name === 'keyRange' ? '' : `, ${value(width)}`})`;
-    };
-    let used;
-    m.stubs.use = (alphabet) => used = alphabet;
-    m.stubs.lengthOfText = (text) => text.length;
-    m.stubs.readDigits = (text, start, end) =>
-      used !== m.values.standard || text !== prefix || start !== 0 || end !== length ?
-      m.fail() :
-      new Unknown({ type: 'boolean', term: all([isAll, `(< ${digits.term} ${END})`]) });
-    m.stubs.indexOfInvalid = (text, start, end) => {
-      const index = path.unknown(0n, 22n);
-      path.assume(all([`(<= ${index.term} ${length.term})`, equal(equal(index.term, length.term), isAll)]));
-      return text !== prefix || start !== 0 || end !== length ? m.fail() : index;
-    };
-    m.stubs.bigIntOfWords = () => integer(digits.term, 0n, 62n ** 22n - 1n, 'bigint');
-    const given = name === 'keyRange' ? [prefix] : [prefix, width];
-    const result = resultOf(() => functions[name](...given));
-    path.prove('it throws an error exactly if a character is invalid', equal(`${result !== THROWN}`, isAll));
+    const prefix = prefixOf(path);
+    const isKey = name === 'keyRange';
+    const width = isKey ? constant(22n) : path.input(0n, power(53) - 1n);
+    path.show = (value) => `${name}(${prefix.show(value)}${isKey ? '' : `, ${value(width)}`})`;
+    stubPrefix(m, path, prefix);
+    const result = resultOf(() => functions[name](prefix, ...isKey ? [] : [width]));
+    path.prove('it throws an error exactly if a character is invalid', equal(`${result !== THROWN}`, prefix.areDigits));
     if (result === THROWN) return;
-    // A number of this width has the prefix if these are its digits before `others` more.
     const number = path.input(0n, END - 1n);
-    const others = `(- ${width.term} ${length.term})`;
-    const hasPrefix = list(22, (i) => {
-      const [count, least] = [62n ** BigInt(i), `(* ${62n ** BigInt(i)} ${digits.term})`];
-      return all([equal(others, i), `(<= ${least} ${number.term})`, `(< ${number.term} (+ ${least} ${count}))`]);
-    });
     const [first, last] = (result ?? []).map((end) => termOf(m, end, 'bigint'));
     const isIn = result === null ? 'false' : `(<= ${first} ${number.term} ${last})`;
-    path.prove('the numbers of this width that have the prefix',
-      equal(isIn,
-        all([`(> ${width.term} 0)`, `(or (and (>= ${others} 22) (= 0 ${digits.term})) ${hasPrefix.join(' ')})`])));
+    path.prove('the numbers of this width that have the prefix', equal(isIn, hasPrefix(number, width, prefix)));
     if (result) path.prove('both ends are numbers', `(<= 0 ${first} ${last} ${END - 1n})`);
   });
 

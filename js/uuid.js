@@ -11,7 +11,7 @@ export const charCodeAt = ''.charCodeAt.call.bind(''.charCodeAt);
 // The value of each hexadecimal digit by its code, and -1 for any other code, as the last element.
 const HEX_VALUES = new Int8Array(129).fill(-1);
 for (let i = 0; i < 22; i++) HEX_VALUES['0123456789abcdefABCDEF'.charCodeAt(i)] = i < 16 ? i : i - 6;
-const HEX_CODES = Uint8Array.from('0123456789abcdef', (digit) => digit.charCodeAt(0));
+const HEX = Uint8Array.from('0123456789abcdef', (digit) => digit.charCodeAt(0));
 
 // Returns the value of four digits, or a negative number if one is invalid.
 function readHex(string, start) {
@@ -59,13 +59,12 @@ export function readUuidBytes(bytes) {
 }
 
 export function uuidOfWords() {
-  const hex = HEX_CODES;
   const [a, b, c, d] = [words[3], words[2], words[1], words[0]];
-  return String.fromCharCode(hex[a >>> 28], hex[(a >>> 24) & 15], hex[(a >>> 20) & 15], hex[(a >>> 16) & 15],
-    hex[(a >>> 12) & 15], hex[(a >>> 8) & 15], hex[(a >>> 4) & 15], hex[a & 15], HYPHEN, hex[b >>> 28],
-    hex[(b >>> 24) & 15], hex[(b >>> 20) & 15], hex[(b >>> 16) & 15], HYPHEN, hex[(b >>> 12) & 15], hex[(b >>> 8) & 15],
-    hex[(b >>> 4) & 15], hex[b & 15], HYPHEN, hex[c >>> 28], hex[(c >>> 24) & 15], hex[(c >>> 20) & 15],
-    hex[(c >>> 16) & 15], HYPHEN, hex[(c >>> 12) & 15], hex[(c >>> 8) & 15], hex[(c >>> 4) & 15], hex[c & 15],
-    hex[d >>> 28], hex[(d >>> 24) & 15], hex[(d >>> 20) & 15], hex[(d >>> 16) & 15], hex[(d >>> 12) & 15],
-    hex[(d >>> 8) & 15], hex[(d >>> 4) & 15], hex[d & 15]);
+  return String.fromCharCode(HEX[a >>> 28], HEX[(a >>> 24) & 15], HEX[(a >>> 20) & 15], HEX[(a >>> 16) & 15],
+    HEX[(a >>> 12) & 15], HEX[(a >>> 8) & 15], HEX[(a >>> 4) & 15], HEX[a & 15], HYPHEN, HEX[b >>> 28],
+    HEX[(b >>> 24) & 15], HEX[(b >>> 20) & 15], HEX[(b >>> 16) & 15], HYPHEN, HEX[(b >>> 12) & 15], HEX[(b >>> 8) & 15],
+    HEX[(b >>> 4) & 15], HEX[b & 15], HYPHEN, HEX[c >>> 28], HEX[(c >>> 24) & 15], HEX[(c >>> 20) & 15],
+    HEX[(c >>> 16) & 15], HYPHEN, HEX[(c >>> 12) & 15], HEX[(c >>> 8) & 15], HEX[(c >>> 4) & 15], HEX[c & 15],
+    HEX[d >>> 28], HEX[(d >>> 24) & 15], HEX[(d >>> 20) & 15], HEX[(d >>> 16) & 15], HEX[(d >>> 12) & 15],
+    HEX[(d >>> 8) & 15], HEX[(d >>> 4) & 15], HEX[d & 15]);
 }

@@ -17,14 +17,18 @@ const FORMS = {
   ConditionalExpression: '($.holds({at}, {test}) ? {consequent} : {alternate})',
   MemberExpression: "$.member({at}, {object}, '{property}')",
   'MemberExpression []': '$.read({at}, {object}, {property})',
+  ThisExpression: 'undefined',
   ArrayExpression: '[{elements}]',
+  ObjectExpression: '({ {properties} })',
+  Property: '{value}',
+  NewExpression: "$.create({at}, '{callee.name}', [{arguments}])",
   SpreadElement: '...{argument}',
   CallExpression: '$.call({at}, {callee}, undefined, [{arguments}])',
   'CallExpression .': "$.method({at}, {callee.object}, '{callee.property}', [{arguments}])",
   'AssignmentExpression =': '({left} = {right})',
   'AssignmentExpression []=': '$.store({at}, {left.object}, {left.property}, {right})',
-  'UpdateExpression ++': "[{argument}, {argument} = $.binary({at}, '-', {argument}, -1)][0]",
-  'UpdateExpression --': "[{argument}, {argument} = $.binary({at}, '-', {argument}, 1)][0]",
+  'UpdateExpression ++': "[$.number({at}, {argument}), {argument} = $.binary({at}, '-', {argument}, -1)][0]",
+  'UpdateExpression --': "[$.number({at}, {argument}), {argument} = $.binary({at}, '-', {argument}, 1)][0]",
   VariableDeclaration: '{kind} {declarations};',
   VariableDeclarator: '{id} = {init}',
   ArrayPattern: '[{elements}]',
@@ -32,17 +36,22 @@ const FORMS = {
   ExpressionStatement: '{expression};',
   BlockStatement: '{ {body} }',
   ReturnStatement: 'return {argument};',
+  ThrowStatement: 'throw $.thrown;',
   IfStatement: 'if ($.holds({at}, {test})) {consequent} else {alternate}',
   WhileStatement: 'while ($.holds({at}, {test})) {body}',
   ForStatement: 'for ({init} $.holds({at}, {test}); {update}) {body}'
 };
 
 // What tells forms of one type apart.
-function variantOf({ type, operator, prefix, computed, callee, left }) {
+function variantOf({ type, operator, prefix, computed, callee, left, argument, properties, shorthand, init }) {
+  if (type === 'ForStatement') return init && init.type !== 'VariableDeclaration' ? ' expression' : '';
+  if (type === 'Property') return shorthand ? '' : ' long';
+  if (properties) return properties.every((property) => property.shorthand) ? '' : ' long';
   if (type === 'CallExpression') return callee.type === 'MemberExpression' && !callee.computed ? ' .' : '';
   if (type === 'AssignmentExpression')
     return ` ${left.type === 'Identifier' ? '' : left.computed ? '[]' : left.type}${operator}`;
-  if (type === 'UpdateExpression') return ` ${prefix ? 'prefix' : ''}${operator}`;
+  if (type === 'UpdateExpression')
+    return ` ${prefix ? 'prefix' : ''}${argument.type === 'Identifier' ? '' : argument.type}${operator}`;
   return type === 'LogicalExpression' ? ` ${operator}` : computed ? ' []' : '';
 }
 
@@ -54,94 +63,155 @@ const ABSENT = {
   'IfStatement alternate': ';'
 };
 
-// The names that functions may use: four of the language, and all that the modules declare.
+// The names that functions may use: some of the language, and all that the modules declare.
 let names;
+
+function refuse({ loc: { source, start } }) { throw new Error(`${source}:${start.line}: no rule for this`); }
 
 // A form without a line above is an error where it runs.
 function formOf(node) {
-  const at = `'${node.loc.source}:${node.loc.start.line}'`;
-  const form = FORMS[node.type + variantOf(node)];
-  if (form === undefined || (node.type === 'Identifier' && !node.isProperty && !names.has(node.name)))
-    return `$.fail(${at})${node.type.endsWith('Statement') ? ';' : ''}`;
+  const { type, loc: { source, start }, text } = node;
+  const at = JSON.stringify([`${source}:${start.line}`, text]);
+  const form = FORMS[type + variantOf(node)];
+  const isForeign = (v) => v?.type === 'Identifier' && !v.isProperty && !names.has(v.name);
+  if (form === undefined || [node, node.left, node.argument].some(isForeign))
+    return `$.fail(${at})${type.endsWith('Statement') ? ';' : ''}`;
   return form.replace(/\{(\w+)(?:\.(\w+))?\}/g, (all, name, part) => {
     const value = name === 'at' ? at : part ? node[name][part] : node[name];
     if (Array.isArray(value)) return value.map(formOf).join(name === 'body' ? ' ' : ', ');
-    return typeof value === 'string' ? value : value ? formOf(value) : ABSENT[`${node.type} ${name}`] ?? 'undefined';
+    return typeof value === 'string' ? value : value ? formOf(value) : ABSENT[`${type} ${name}`] ?? 'undefined';
   });
 }
-
-function refuse({ loc: { source, start } }) { throw new Error(`${source}:${start.line}: no rule for this`); }
 
 // Whether a part of a form is written to.
 const isTarget = (key, { type, operator }) => operator === 'delete' ||
   /^Update|Rest|ArrayPattern|Property/.test(type) || (key === 'left' && !/^(Binary|Logical)/.test(type));
 const isDeclared = (key, { type }) => /^(id|params)$/.test(key) || (/Pattern$|^Rest/.test(type) && key !== 'right');
 
-// Notes the names that modules declare, those that stand for others, and those with which they do more than read an
-// element, or write one outside of functions. Refuses a binding that is hoisted, which a form without a line above would lose.
+// Notes the names that modules declare, and those with which they do more than read an element, or outside of functions
+// write or push one. Refuses what would be lost or a SyntaxError in the functions that are written.
 function examine(node, notes, isInFunction, key = '', parent = {}) {
   if (Array.isArray(node)) node.forEach((v) => examine(v, notes, isInFunction, key, parent));
   if (!node?.type) return;
-  const { type, kind, name } = node;
+  const { type, kind, name, operator } = node;
+  node.text = notes.text.slice(node.start, node.end).split('\n')[0].slice(0, 80);
   const isInner = isInFunction && /^(Function|Class)Declaration$/.test(type);
-  if (kind === 'var' || /^(arguments|eval)$/.test(name) || node.async || node.generator || isInner) refuse(node);
-  node.isRead = type === 'MemberExpression' && node.computed && !/^(callee|object|tag)$/.test(key) &&
-    !(isInFunction && isTarget(key, parent));
+  const isLost = isInFunction && isDeclared(key, parent) && !/^(Identifier|ArrayPattern|AssignmentPattern)$/.test(type);
+  const isHoisted = kind === 'var' || /^(arguments|eval)$/.test(name) || node.async || node.generator || isInner;
+  if (isHoisted || isLost || (operator === 'typeof' && !isInFunction)) refuse(node);
+  node.isRead = type === 'MemberExpression' && node.computed && typeof node.property.value !== 'string' &&
+    !/^(callee|object|tag)$/.test(key) && !(isInFunction && isTarget(key, parent));
+  node.isRead ||= !isInFunction && key === 'callee' && node.property?.name === 'push';
   node.isProperty = key === 'property' && !parent.computed;
   if (node.isProperty) return;
   if (name && isDeclared(key, parent)) {
     if (name in globalThis) refuse(node);
     names.add(name);
-  } else if (name && key === 'init') notes.aliases.push([parent.id.name, name]);
-  else if (name && (key !== 'object' || !parent.isRead)) notes.written.add(name);
+  } else if (name && (key !== 'object' || !parent.isRead)) notes.others.add(name);
   for (const [key, v] of Object.entries(node))
     examine(v, notes, isInFunction || /Function|Class/.test(type), key, node);
 }
 
-function functionOf([name, { type, params, body }]) {
+// What may stand outside of functions in what computes a value that is known: forms, names, and properties.
+const COMPUTING = new Set(`ArrayExpression ArrowFunctionExpression AssignmentExpression BinaryExpression BlockStatement
+  CallExpression ConditionalExpression ExpressionStatement ForStatement Identifier Literal MemberExpression NewExpression
+  UnaryExpression UpdateExpression VariableDeclaration VariableDeclarator`.split(/\s+/));
+const CREATING = /^(ArrayBuffer|Infinity|(Big)?(Uint|Int)\d+Array|Float64Array)$/;
+const COMPUTED = /^(buffer|charCodeAt|fill|from|of|push)$/;
+
+// Whether this form computes its values of numbers, BigInts and strings alone, in the same way on each platform.
+function isComputed(node, known) {
+  if (Array.isArray(node)) return node.every((v) => isComputed(v, known));
+  if (!node?.type) return true;
+  if (!COMPUTING.has(node.type) || node.regex || (node.type === 'UnaryExpression' && node.operator !== '-'))
+    return false;
+  if (node.isProperty) return COMPUTED.test(node.name);
+  if (node.type === 'Identifier') return known.has(node.name) || CREATING.test(node.name);
+  for (const { name } of [node.id, ...node.params ?? []].filter(Boolean)) known.add(name);
+  return Object.values(node).every((v) => isComputed(v, known));
+}
+
+const namesIn = (node) => Object(node) !== node || node.isProperty ? [] :
+  node.type === 'Identifier'                                       ? [node.name] :
+                                                                     Object.values(node).flatMap(namesIn);
+
+// The values that functions may know: numbers, BigInts, strings and arrays that are computed. A table is an array of such that
+// functions only read, and whose buffer has no other view and no name.
+function knownValues(variables, values, { known, others }) {
+  const tables = new Set(), found = {};
+  const isPlain = (v) => /^(number|bigint|string)$/.test(typeof v);
+  for (const [name, init] of variables) {
+    const v = values[name];
+    const isOwn = namesIn(init).every((used) => !variables.has(used) || tables.has(used) || isPlain(values[used]));
+    const isArray = ArrayBuffer.isView(v) || Array.isArray(v);
+    if (isArray && known.has(name) && isOwn && !others.has(name) && [...v].every(isPlain)) tables.add(name);
+    const isKnown = known.has(name) && (isPlain(v) || ArrayBuffer.isView(v) || tables.has(name));
+    found[name] = isKnown || v === charCodeAt ? v : undefined;
+  }
+  return { values: {...found, Math, Number, String }, tables };
+}
+
+function functionOf([name, init]) {
+  const { type, params, body } = init;
   const text = body.type === 'BlockStatement' ? formOf(body) : `{ return ${formOf(body)}; }`;
   const code = `function ${name}(${params.map(formOf)}) ${text}`;
-  return type === 'FunctionDeclaration' ? `${code}\n` : `const ${name} = ${code};\n`;
+  try {
+    new Function(`'use strict'; ${code}`);
+  } catch { refuse(init); }
+  return type === 'ArrowFunctionExpression' ? `const ${name} = ${code};\n` : `${code}\n`;
 }
 
 const CHAR_CODE_AT = "''.charCodeAt.call.bind(''.charCodeAt)";
 
-// Of modules, by file and text: the functions, the values that Node computes for their variables, and the names of those that
-// functions may write. The modules have one scope, as in commonjs.mjs.
+function parseFile([sourceFile, text]) {
+  try {
+    return parse(text, { ecmaVersion: 2022, sourceType: 'module', locations: true, sourceFile }).body;
+  } catch ({ message, loc }) { throw new Error(`${sourceFile}:${loc.line}: ${message}`); }
+}
+
+// What a statement declares. A class stands for its constructor.
+function declarationsOf(node) {
+  const { type, id, declarations = [], body } = node;
+  if (!/^(Function|Class)Declaration$/.test(type)) return declarations;
+  return [{ id, init: body.body.find(({ kind }) => kind === 'constructor')?.value ?? node }];
+}
+
+// Of modules, by file and text: the functions, the values of their variables that are known, the tables among them, and what
+// Node has for each name. The modules have one scope, as in commonjs.mjs.
 export function read(files) {
-  const functions = new Map(), variables = [], notes = { aliases: [], written: new Set() };
+  const functions = new Map(), variables = new Map(), notes = { known: new Set(), others: new Set() };
   let modules = '', hasCharCodeAt = false;
-  names = new Set(['Infinity', 'undefined', 'Math', 'String']);
-  for (const [sourceFile, text] of files) {
-    for (const node of parse(text, { ecmaVersion: 2022, sourceType: 'module', locations: true, sourceFile }).body) {
-      if (node.type === 'ImportDeclaration') {
-        const isPlain = ({ imported, local }) => imported?.name === local.name;
-        if (!files.some(([name]) => `./${name}` === node.source.value) || !node.specifiers.every(isPlain)) refuse(node);
-        continue;
-      }
+  names = new Set(['Infinity', 'undefined', 'Math', 'Number', 'String', 'Float64Array', 'Uint16Array']);
+  for (const file of files) {
+    notes.text = file[1];
+    for (const node of parseFile(file)) {
+      const isPlain = ({ imported, local }) => imported?.name === local.name;
+      const isOwn = ({ value }) => files.some(([name]) => `./${name}` === value);
+      if (node.source && (!isOwn(node.source) || !(node.specifiers ?? []).every(isPlain))) refuse(node);
+      if (node.source) continue;
       const declaration = node.declaration ?? node;
-      const { start, end, type, kind = 'const', declarations = [] } = declaration;
-      if (kind !== 'const') refuse(node);
       examine(declaration, notes, false);
-      modules += `${text.slice(start, end)};\n`;
-      const found =
-        /^(Function|Class)Declaration$/.test(type) ? [{ id: declaration.id, init: declaration }] : declarations;
-      for (const { id: { name }, init } of found) {
-        if (!name || functions.has(name) || variables.includes(name)) refuse(node);
-        hasCharCodeAt ||= name === 'charCodeAt' && text.slice(init.start, init.end) === CHAR_CODE_AT;
-        if (!/^(FunctionDeclaration|ArrowFunctionExpression)$/.test(init.type)) variables.push(name);
-        else functions.set(name, init);
-      }
+      if (declaration.specifiers) continue;
+      modules += `${notes.text.slice(declaration.start, declaration.end)};\n`;
+      const declared = declarationsOf(declaration);
+      if (declared.length === 0 && !isComputed(declaration, notes.known))
+        namesIn(declaration).forEach((name) => notes.known.delete(name));
+      for (const { id, init } of declared)
+        for (const name of new Set(namesIn(id))) {
+          if (functions.has(name) || variables.has(name)) refuse(node);
+          hasCharCodeAt ||= name === 'charCodeAt' && init.text === CHAR_CODE_AT;
+          names[declaration.kind === 'let' ? 'delete' : 'add'](name);
+          if (declaration.kind === 'let') continue;
+          if (/Function/.test(init.type)) functions.set(name, init);
+          else if (variables.set(name, init) && id.name && isComputed(init, notes.known)) notes.known.add(name);
+        }
     }
   }
-  for (const _ of notes.aliases)
-    for (const [alias, name] of notes.aliases)
-      if (notes.written.has(alias)) notes.written.add(name);
-  const values = runInNewContext(`'use strict';
-[Math, String, Object, Array, String.prototype, Array.prototype, Object.prototype].forEach(Object.freeze);
-${modules}({ ${[...variables, 'Math', 'String']} })`,
-    { Math, String });
-  if (hasCharCodeAt) values.charCodeAt = charCodeAt;
+  const natives = runInNewContext(`'use strict';
+[Math, Number, String, Object, Array, String.prototype, Array.prototype, Object.prototype].forEach(Object.freeze);
+${modules}({ ${[...variables.keys(), ...functions.keys()]} })`,
+    { Math, Number, String });
+  if (hasCharCodeAt) natives.charCodeAt = charCodeAt;
   const code = [...functions].map(functionOf).join('');
-  return { code, names: [...functions.keys()], values: {...values }, written: notes.written };
+  return { code, names: [...functions.keys()], natives, ...knownValues(variables, natives, notes) };
 }

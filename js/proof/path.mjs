@@ -1,7 +1,7 @@
 // A path through functions: what is known on it, and what has to be proved, as a script for z3. Terms are SMT-LIB.
-import {execFile} from 'node:child_process';
+import {spawn} from 'node:child_process';
 import {cpus} from 'node:os';
-import {promisify} from 'node:util';
+import {createInterface} from 'node:readline';
 
 export const power = (k) => 2n ** BigInt(k);
 export const literal = (n) => (n < 0n ? `(- ${- n})` : `${n}`);
@@ -31,11 +31,10 @@ export class Path {
 
   assume(term) { this.lines.push(`(assert ${term})`); }
 
-  // What comes later may rest on a goal: if it is open, the proof fails.
+  // What comes later may rest on a goal: a path ends at its first open one.
   prove(goal, term) {
     this.goals.push(goal);
-    this.lines.push('(push)', `(assert (not ${term}))`, CHECK, '(pop)');
-    this.assume(term);
+    this.lines.push({ goal, term });
   }
 
   unknown(low, high, type) {
@@ -43,6 +42,13 @@ export class Path {
     this.lines.push(`(declare-const ${v.term} Int)`);
     if (low !== undefined) this.assume(range(v.term, low, high));
     return v;
+  }
+
+  // An unknown value that is given to functions.
+  input(...bounds) {
+    const input = this.unknown(...bounds);
+    this.lines.push({ input });
+    return input;
   }
 
   define(definition) {
@@ -87,18 +93,90 @@ export function explore(run) {
   return paths;
 }
 
-const CHECK = '(check-sat-using (then simplify solve-eqs smt))';
+const check = (ms) => `(set-option :timeout ${ms})\n(check-sat-using (then simplify propagate-values solve-eqs smt))`;
 
-// Asks z3, for each processor about one path at a time: which goals are open, and whether the path is possible.
-export async function solve(paths) {
-  const queue = paths.values();
+// A value to try where z3 finds none: the least, the greatest, or one of any size. They are the same in each run.
+let state = 62n;
+function draw({ term, low = -power(130), high = power(130), typical }) {
+  state = (state * 6364136223846793005n + 1442695040888963407n) % power(64);
+  const any = low + ((state ** 3n >> 60n) % power(3n * (state >> 58n))) % (high - low + 1n);
+  return `(assert (= ${term} ${literal(typical ?? [low, high, any, any][(state >> 40n) % 4n])}))`;
+}
+
+class Solver {
+  z3 = spawn('z3', ['-in']);
+  answers = createInterface({ input: this.z3.stdout })[Symbol.asyncIterator]();
+
+  // A z3 that was stopped is written to in vain.
+  constructor() { this.z3.stdin.on('error', () => {}); }
+  stop() { this.z3.kill('SIGKILL'); }
+  tell(...lines) { this.z3.stdin.write(`${lines.join('\n')}\n`); }
+
+  async ask(line) {
+    this.tell(line);
+    const { value = 'stopped' } = await this.answers.next();
+    if (value === '(error "tactic failed: canceled")') return 'unknown';
+    if (value.startsWith('(error')) throw new Error(value);
+    return value;
+  }
+
+  // Whether a term is false for some values of the inputs. If z3 does not know it soon, some are tried before it goes on.
+  async refute(term, inputs, soon, late) {
+    this.tell('(push)', `(assert (not ${term}))`);
+    const answer = await this.ask(check(soon));
+    for (let i = 0; i < 20 && answer === 'unknown'; i++) {
+      this.tell('(push)', ...inputs.map(draw));
+      if (await this.ask(check(300)) === 'sat') return 'sat';
+      this.tell('(pop)');
+    }
+    return answer === 'unknown' && late ? this.ask(check(late)) : answer;
+  }
+
+  async valueOf(term) {
+    const value = await this.ask(`(get-value (${term}))`);
+    return BigInt(value.slice(term.length + 3, -2).replace(/[( )]/g, ''));
+  }
+
+  // Finds the first open goal, with a call as an example if z3 knows values, or whether the path is possible.
+  async solve(path) {
+    const inputs = [];
+    for (const line of path.lines) {
+      if (line.input) inputs.push(line.input);
+      else if (!line.goal) this.tell(line);
+      else {
+        const answer = await this.refute(line.term, inputs, 2000, 60000);
+        if (answer === 'unsat') this.tell('(pop)', `(assert ${line.term})`);
+        else return this.note(path, line.goal, answer === 'sat' && inputs);
+      }
+    }
+    path.isPossible = await this.refute('false', inputs, 200) === 'sat';
+  }
+
+  async note(path, goal, inputs) {
+    path.open = goal;
+    if (!inputs) return;
+    const values = new Map();
+    for (const { term } of inputs) values.set(term, await this.valueOf(term));
+    path.example = path.show?.(({ term, low = 0n }) => values.get(term) ?? low);
+  }
+}
+
+// Asks z3, for each processor about one path at a time, until there is enough.
+export async function solve(paths, isEnough = () => false) {
+  const queue = paths.values(), solvers = new Set();
+  let isOver = false;
   const work = async () => {
     for (const path of queue) {
-      const z3 = promisify(execFile)('z3', ['-in', '-t:60000']);
-      z3.child.stdin.end([...path.lines, '(set-option :timeout 200)', CHECK, ''].join('\n'));
-      const said = (await z3).stdout.trim().split('\n');
-      path.open = path.goals.filter((goal, i) => said[i] !== 'unsat');
-      path.isPossible = said[path.goals.length] !== 'unsat';
+      if (isOver) return;
+      const solver = new Solver();
+      solvers.add(solver);
+      await solver.solve(path);
+      solvers.delete(solver);
+      solver.stop();
+      if (!isOver && isEnough(path)) {
+        isOver = true;
+        solvers.forEach((solver) => solver.stop());
+      }
     }
   };
   await Promise.all(cpus().map(work));

@@ -25,9 +25,11 @@ function arithmetic(m, operator, a, b) {
   const define = () => m.path.define(`(${operator} ${a.term} ${b.term})`);
   if (isBig(a)) return integer(define(), undefined, undefined, 'bigint');
   const results = [a.low, a.high].flatMap((x) => [b.low, b.high].map((y) => native(operator)(x, y)));
-  const [low, high] = [greatest(least(...results), -EXACT), least(greatest(...results), EXACT)];
-  const v = integer(define(), low, high, 'number', isFinite(a, b) ? 'false' : `(or ${a.infinite} ${b.infinite})`);
-  m.goal(`${operator} is exact`, range(v.term, low, high));
+  const [low, high] = [least(...results), greatest(...results)];
+  const infinite = isFinite(a, b) ? 'false' : `(or ${a.infinite} ${b.infinite})`;
+  const v = integer(define(), greatest(low, -EXACT), least(high, EXACT), 'number', infinite);
+  if (low < -EXACT || high > EXACT) m.goal(`${operator} is exact`, range(v.term, v.low, v.high));
+  else m.path.assume(range(v.term, low, high));
   return v;
 }
 
@@ -44,7 +46,7 @@ function multiply(m, operator, a, b) {
 // By a constant. README.md shows that the integer part is exact if the dividend is from 0 to 2**53.
 function divide(m, operator, a, b) {
   if (isBig(a) || !isConstant(b) || b.low < 1n) m.fail();
-  m.goal('a quotient of a number from 0 to 2**53', range(a.term, 0n, EXACT));
+  m.inRange('a quotient of a number from 0 to 2**53', a, EXACT);
   const [{ term, low, high }] = m.path.divide(a, b.low);
   return integer(term, low, high, 'quotient', a.infinite);
 }
@@ -67,13 +69,18 @@ function bitwiseAnd(m, operator, a, b) {
 function bitwiseOr(m, operator, a, b) {
   const [x, y] = isBig(a) ? [a, b] : [modulo(m, a, 32, true), modulo(m, b, 32, true)];
   if (isConstant(y) && y.low === 0n) return x;
+  const [k, l] = [a, b].map(({ zeros = 0 }) => zeros);
+  const sum = `(+ ${x.term} ${y.term})`;
+  if (y.low >= 0n && y.high < power(k)) {
+    const ends = isBig(a) ? [undefined, undefined] : [x.low + y.low, x.high + y.high];
+    return Object.assign(integer(sum, ...ends, a.type), { zeros: least(k, l) });
+  }
   const bounds = x.low >= 0n && y.low >= 0n ? [0n, x.high + y.high] : [-power(31), power(31) - 1n];
   const v = isBig(a) ? m.path.unknown(undefined, undefined, 'bigint') : m.path.unknown(...bounds);
   m.path.assume(`(= (= ${v.term} 0) (and (= ${x.term} 0) (= ${y.term} 0)))`);
   m.path.assume(`(= (< ${v.term} 0) (or (< ${x.term} 0) (< ${y.term} 0)))`);
-  const [k, l] = [a, b].map(({ zeros = 0 }) => zeros);
-  m.path.assume(`(=> ${range(x.term, 0n, power(l) - 1n)} (= ${v.term} (+ ${x.term} ${y.term})))`);
-  m.path.assume(`(=> ${range(y.term, 0n, power(k) - 1n)} (= ${v.term} (+ ${x.term} ${y.term})))`);
+  m.path.assume(`(=> ${range(x.term, 0n, power(l) - 1n)} (= ${v.term} ${sum}))`);
+  m.path.assume(`(=> ${range(y.term, 0n, power(k) - 1n)} (= ${v.term} ${sum}))`);
   return Object.assign(v, { zeros: least(k, l) });
 }
 
@@ -84,7 +91,8 @@ const shiftCount = (m, a, b) =>
 function shiftLeft(m, operator, a, b) {
   const zeros = shiftCount(m, a, b);
   const kept = isBig(a) ? a : modulo(m, a, 32 - zeros, true);
-  return Object.assign(arithmetic(m, '*', kept, constant(power(zeros), a.type)), { zeros });
+  const [low, high] = [kept.low, kept.high].map((n) => n === undefined ? n : n << BigInt(zeros));
+  return Object.assign(integer(`(* ${power(zeros)} ${kept.term})`, low, high, a.type), { zeros });
 }
 
 // The floor of the quotient by 2**k: of a BigInt, of a signed integer of 32 bits, or with >>> of an unsigned one.
@@ -118,26 +126,77 @@ const OPERATORS = new Map([
 // ---- Functions of the language, of unknown values
 
 function minimum(m, a, b, ...others) {
-  if (others.length > 0 || a.type !== 'number' || !isFinite(a) || !Number.isSafeInteger(b)) m.fail();
-  const term = m.path.define(`(ite (<= ${a.term} ${b}) ${a.term} ${b})`);
-  return integer(term, least(a.low, BigInt(b)), least(a.high, BigInt(b)));
+  const most = m.known(b);
+  if (others.length > 0 || a.type !== 'number' || !isFinite(a) || most.type !== 'number' || !isConstant(most)) m.fail();
+  const term = m.path.define(`(ite (<= ${a.term} ${most.term}) ${a.term} ${most.term})`);
+  return integer(term, least(a.low, most.low), least(a.high, most.low));
+}
+
+// Of a Number that is no such integer, a double, nothing else is known.
+function isSafeInteger(m, v) {
+  if (v.type === 'quotient') m.fail();
+  if (v.type !== 'number') return false;
+  const isSafe = `(and (not ${v.infinite}) ${range(v.term, 1n - EXACT, EXACT - 1n)})`;
+  return isFinite(v) && v.low > -EXACT && v.high < EXACT ? true : boolean(isSafe);
 }
 
 const isNumeric = ({ type }) => /^(number|quotient)$/.test(type);
 const floor = (m, v) => (isNumeric(v) ? integer(v.term, v.low, v.high, 'number', v.infinite) : m.fail());
 const fromCharCode = (m, ...units) =>
   textOf(units.map(m.known, m).map((unit) => (isNumeric(unit) ? modulo(m, unit, 16) : m.fail())));
-const unitAt = (m, { type, units }, i) => (type === 'text' && Number.isInteger(i) ? units[i] : undefined) ?? m.fail();
-const slice = (m, { type, units, length }, ...ends) =>
-  type === 'text' && units.length === length && ends.every(Number.isInteger) ? textOf(units.slice(...ends)) : m.fail();
+
+// ---- Strings
+
+const unitsOf = (m, { type, units, length }) => (type === 'text' && units.length === length ? units : m.fail());
+const slice = (m, text, ...ends) => ends.every(Number.isInteger) ? textOf(unitsOf(m, text).slice(...ends)) : m.fail();
+const unitAt = (m, { type, units }, i) =>
+  (type === 'text' && typeof i === 'number' ? units[Math.trunc(i)] : undefined) ?? m.fail();
+
+// Whether the units are those of a string, or one of several for each character.
+function areUnits(m, units, string, codesOf = (character) => [character.charCodeAt(0)]) {
+  if (units.length !== string.length) return false;
+  const isOne = ({ term }, codes) => `(or false ${codes.map((code) => `(= ${term} ${code})`).join(' ')})`;
+  return boolean(`(and true ${units.map((unit, i) => isOne(m.known(unit), codesOf(string[i]))).join(' ')})`);
+}
+
+const startsWith = (m, text, string) => areUnits(m, unitsOf(m, text).slice(0, string.length), string);
+const endsWith = (m, text, string) =>
+  areUnits(m, unitsOf(m, text).slice(Math.max(0, text.length - string.length)), string);
+
+// What others are depends on their neighbors only for letters that are not ASCII in any case.
+const LOWERCASE = new Map();
+for (let code = 0; code < 65536; code++) {
+  const lowercase = String.fromCharCode(code).toLowerCase();
+  LOWERCASE.set(lowercase, [...LOWERCASE.get(lowercase) ?? [], code]);
+}
+const toLowerCase = (m, text) => new Unknown({ type: 'lowercase', units: unitsOf(m, text) });
+const isLowercase = (m, { units }, string) =>
+  (/^[\0-\x7f]*$/.test(string) ? areUnits(m, units, string, (character) => LOWERCASE.get(character) ?? []) : m.fail());
+
+const hasOthers = (m, { source, flags }, text) =>
+  source === '[^\\0-\\x7f]' && flags === '' && unitsOf(m, text).every((unit) => m.known(unit).high < 128n) ? false :
+                                                                                                             m.fail();
+
+function fill(m, array, v) {
+  if (array.writes?.length !== 0) m.fail();
+  array.cells.fill(v);
+  return array;
+}
 
 export const charCodeAt = (string, i) => string.charCodeAt(i);
-const CALLS =
-  new Map([[Math.floor, floor], [Math.min, minimum], [String.fromCharCode, fromCharCode], [charCodeAt, unitAt]]);
+const CALLS = new Map([
+  [Math.floor, floor], [Math.min, minimum], [Number.isSafeInteger, isSafeInteger], [String.fromCharCode, fromCharCode],
+  [charCodeAt, unitAt]
+]);
 const METHODS = {
   __proto__: null,
   charCodeAt: unitAt,
-  slice
+  endsWith,
+  fill,
+  set: (m, { set }, ...values) => set?.(...values) ?? m.fail(),
+  slice,
+  startsWith,
+  toLowerCase
 };
 
 // ---- Typed arrays. Those of a buffer share its cells, which are as wide as the elements of the narrowest of them.
@@ -148,12 +207,13 @@ const isIndex = (index, { length }) => Number.isInteger(index) && index >= 0 && 
 
 // An index that is not known is for a table: an array of constants, or one with a `lookup`.
 function readElement(m, array, index) {
-  const { cells, bits, kind, length, lookup } = array;
+  const { cells, bits, kind, length, lookup, writes } = array;
+  if (writes) return lastWritten(m, array, m.known(index));
   if (isUnknown(index) || lookup) {
     const i = m.known(index);
     const isTable = lookup || (bits === cells.bits && cells.every(Number.isInteger));
     if (!isTable || i.type !== 'number' || !isFinite(i)) m.fail();
-    m.goal('an index in the array', range(i.term, 0n, BigInt(length) - 1n));
+    m.inRange('an index in the array', i, BigInt(length) - 1n);
     return lookup ? lookup(i) : fromTable(m, cells.map(BigInt), i);
   }
   if (!isIndex(index, array)) m.fail();
@@ -177,9 +237,35 @@ function fromTable(m, values, index) {
   return integer(m.path.define(term), least(0n, ...values), greatest(0n, ...values));
 }
 
+// An array that a function creates. A Float64Array keeps what is written, in this order, over elements that are equal.
+function create(m, name, length) {
+  const bits = { Float64Array: 64, Uint16Array: 16 }[name];
+  if (!bits || !Number.isSafeInteger(length)) m.fail();
+  const array = arrayOf(Object.assign(Array(length).fill(0), { bits, areOpen: true }), bits);
+  return bits === 64 ? Object.assign(array, { kind: 'Float', writes: [] }) : array;
+}
+
+function lastWritten(m, { cells, length, writes }, index) {
+  if (index.type !== 'number' || !isFinite(index)) m.fail();
+  m.inRange('an index in the array', index, BigInt(length) - 1n);
+  const either = (place, x, y) => `(ite (= ${index.term} ${place.term}) ${x} ${y})`;
+  return writes.reduce((v, [place, last]) => integer(either(place, last.term, v.term), least(v.low, last.low),
+                         greatest(v.high, last.high), 'number', either(place, last.infinite, v.infinite)),
+    m.known(cells[0]));
+}
+
+// Each element of a list is a path of its own.
+function readList(m, list, index) {
+  if (index.type !== 'number' || !isFinite(index)) m.fail();
+  m.inRange('an index in the list', index, BigInt(list.length) - 1n);
+  const isLast = (i) => i === Math.min(Number(index.high), list.length - 1);
+  return list.find((v, i) => i >= index.low && (isLast(i) || m.path.decide(`(= ${index.term} ${i})`)));
+}
+
 // An element keeps a value modulo 2**bits.
 function storeElement(m, array, index, v) {
-  const { cells, bits, kind } = array;
+  const { cells, bits, kind, writes } = array;
+  if (writes && v.type === 'number' && lastWritten(m, array, m.known(index))) return writes.push([m.known(index), v]);
   const holds = { Int: isNumeric, Uint: isNumeric, BigUint: isBig }[kind];
   if (!cells.areOpen || !isIndex(index, array) || !holds?.(v)) m.fail();
   const width = bits / cells.bits;
@@ -193,17 +279,29 @@ function storeElement(m, array, index, v) {
 
 // ---- The machine runs functions on a path.
 
+const TYPES = {
+  __proto__: null,
+  text: 'string',
+  array: 'object',
+  number: 'number',
+  quotient: 'number',
+  double: 'number',
+  bigint: 'bigint'
+};
+export const THROWN = Symbol('an error');
+
 export class Machine {
+  thrown = THROWN;
   steps = 0;
   stubs = { __proto__: null };
   buffers = new Map();
 
-  constructor({ code, values, names, written }, path) {
+  constructor({ code, values, names, tables }, path) {
     this.path = path;
-    const widths = ([, x], [, y]) => (x.BYTES_PER_ELEMENT ?? 0) - (y.BYTES_PER_ELEMENT ?? 0);
+    const widths = ([, x], [, y]) => (x?.BYTES_PER_ELEMENT ?? 0) - (y?.BYTES_PER_ELEMENT ?? 0);
     this.values = Object.fromEntries(Object.entries(values).sort(widths).map(([name, v]) => [name, this.copy(v)]));
-    // What functions write is not known before, unless a proof opens it.
-    for (const name of written) this.values[name]?.cells?.fill(undefined);
+    // What is no table is not known, unless a proof opens it.
+    for (const [name, { cells }] of Object.entries(this.values)) !tables.has(name) && cells?.fill(undefined);
     const create = new Function(
       '$', 'values', `'use strict';\nconst { ${Object.keys(this.values)} } = values;\n${code}return { ${names} };`);
     this.functions = create(this, this.values);
@@ -211,9 +309,7 @@ export class Machine {
 
   // The elements of a typed array. The narrowest one of a buffer comes first.
   copy(value) {
-    // Any use of other objects is an error, since they may have a state.
-    if (!ArrayBuffer.isView(value))
-      return Object(value) === value && ![charCodeAt, Math, String].includes(value) ? new Unknown({}) : value;
+    if (!ArrayBuffer.isView(value)) return value === undefined ? new Unknown({}) : value;
     const bits = value.BYTES_PER_ELEMENT * 8;
     const kind = value.constructor.name.replace(/\d+Array$/, '');
     const found = this.buffers.get(value.buffer);
@@ -228,7 +324,7 @@ export class Machine {
   fill(name) {
     const { cells, bits, kind } = this.values[name];
     const low = kind === 'Int' ? -power(bits - 1) : 0n;
-    cells.forEach((cell, i) => cells[i] = this.path.unknown(low, low + power(bits) - 1n));
+    cells.forEach((cell, i) => cells[i] = this.path.input(low, low + power(bits) - 1n));
     return cells;
   }
 
@@ -238,8 +334,11 @@ export class Machine {
     return this.fill(name);
   }
 
-  fail(at = this.at) { throw new Error(`${at}: no rule for this`); }
-  goal(goal, term) { this.path.prove(`${this.at}: ${goal}`, term); }
+  fail([place, text] = this.at) { throw new Error(`${place}: no rule for \`${text}\``); }
+  goal(goal, term) { this.path.prove(`${this.at[0]}: ${goal}: \`${this.at[1]}\``, term); }
+  inRange(goal, { term, low, high }, most) {
+    if (low < 0n || high > most) this.goal(goal, range(term, 0n, most));
+  }
 
   // A known Number or BigInt as an unknown one. -0 is an error, since a result can be told from 0.
   known(v) {
@@ -253,6 +352,7 @@ export class Machine {
     this.at = at;
     if (!isUnknown(x) && !isUnknown(y)) return native(operator)(x, y);
     if (x === '' && operator === '+' && y.type === 'text') return y;
+    if (x?.type === 'lowercase' && operator === '===' && typeof y === 'string') return isLowercase(this, x, y);
     const [a, b] = [this.known(x), this.known(y)];
     const types =
       [a, b].map(({ type }) => (type === 'quotient' && /^([&|]|<<|>>>?)$/.test(operator) ? 'number' : type));
@@ -262,8 +362,7 @@ export class Machine {
 
   unary(at, operator, v) {
     this.at = at;
-    if (operator === 'typeof')
-      return isUnknown(v) ? { text: 'string', array: 'object' }[v.type] ?? this.fail() : typeof v;
+    if (operator === 'typeof') return isUnknown(v) ? TYPES[v.type] ?? this.fail() : typeof v;
     if (operator === '-' && !isUnknown(v)) return -v;
     if (operator !== '!' || (isUnknown(v) && v.type !== 'boolean')) this.fail();
     return isUnknown(v) ? boolean(`(not ${v.term})`) : !v;
@@ -272,17 +371,18 @@ export class Machine {
   // Whether a condition holds on this path.
   holds(at, v) {
     this.at = at;
-    if (++this.steps > 10_000) throw new Error(`${at}: more than 10000 conditions`);
+    if (++this.steps > 10_000) throw new Error(`${at[0]}: more than 10000 conditions`);
     if (!isUnknown(v)) return Boolean(v);
     return v.type === 'boolean' ? this.path.decide(v.term) : this.fail();
   }
 
-  and(at, left, right) { return this.holds(at, left) ? right() : left; }
-  or(at, left, right) { return this.holds(at, left) ? left : right(); }
+  and(at, left, right) { return this.holds(at, left) ? right() : isUnknown(left) ? false : left; }
+  or(at, left, right) { return !this.holds(at, left) ? right() : isUnknown(left) ? true : left; }
 
   read(at, object, index) {
     this.at = at;
     if (isUnknown(object) && object.type === 'array') return readElement(this, object, index);
+    if (Array.isArray(object) && isUnknown(index)) return readList(this, object, index);
     return isUnknown(object) || isUnknown(index) ? this.fail() : object[index] ?? this.fail();
   }
 
@@ -296,15 +396,18 @@ export class Machine {
   member(at, object, name) {
     this.at = at;
     if (isUnknown(object)) return (name === 'length' ? object.length : undefined) ?? this.fail();
-    return [Math, String].includes(object) || (Array.isArray(object) && name === 'length') ? object[name] : this.fail();
+    return [Math, Number, String].includes(object) || (Array.isArray(object) && name === 'length') ? object[name] :
+                                                                                                     this.fail();
   }
 
   // A function of the modules, one with a rule, or one of Node with known values.
   call(at, f, self, values) {
     this.at = at;
     const isOwn = this.functions[f.name] === f;
-    if (isOwn && this.stubs[f.name])
-      return (values.length === f.length ? this.stubs[f.name](...values) : undefined) ?? this.fail();
+    if (isOwn && this.stubs[f.name]) {
+      const result = values.length === f.length ? this.stubs[f.name](...values) : undefined;
+      return result === undefined ? this.fail() : result;
+    }
     if (isOwn || (f === Array.prototype.push && Array.isArray(self))) return f.apply(self, values);
     if (!CALLS.has(f)) this.fail();
     return values.some(isUnknown) ? CALLS.get(f)(this, ...values) : f(...values);
@@ -312,7 +415,18 @@ export class Machine {
 
   method(at, object, name, values) {
     this.at = at;
+    if (object instanceof RegExp && name === 'test') return hasOthers(this, object, ...values);
     if (!isUnknown(object)) return this.call(at, object[name], object, values);
     return METHODS[name] ? METHODS[name](this, object, ...values) : this.fail();
+  }
+
+  create(at, name, values) {
+    this.at = at;
+    return values.length === 1 ? create(this, name, ...values) : this.fail();
+  }
+
+  number(at, v) {
+    this.at = at;
+    return typeof v === 'number' || v?.type === 'number' ? v : this.fail();
   }
 }

@@ -4,12 +4,13 @@ import assert from 'node:assert/strict';
 import {test} from 'node:test';
 
 import {read} from './forms.mjs';
-import {explore, integer, literal, power, solve} from './path.mjs';
+import {explore, integer, literal, power, range, solve} from './path.mjs';
 import {Machine, textOf} from './rules.mjs';
 
 const ARRAYS =
   `const halves = new BigUint64Array(2), words = new Uint32Array(halves.buffer), groups = new Int32Array(2);
-const table = Int8Array.from({ length: 129 }, (_, i) => (i < 48 ? -1 : i < 58 ? i - 48 : i < 90 ? i - 61 : 7));
+const table = new Int8Array(129);
+for (let i = 0; i < 129; i++) table[i] = i < 48 ? -1 : i < 58 ? i - 48 : i < 90 ? i - 61 : 7;
 table[100] = 5;`;
 // The same ones in each run, so that a failure comes again.
 let state = 62n;
@@ -36,10 +37,10 @@ const OF_NUMBERS = [
   [isDividend, 'Math.floor(x / 62)', '(x / 4096) | 0', '(x / 3844) & 0xffff', 'words[0] = x / 65536; return words[0]'],
   [(x) => x >= 0 && x < 129, 'table[x]'], [(x) => isFinite(x) && x >= 0, 'table[Math.min(x, 128)]'],
   [
-    () => true, 'Math.floor(x)', '(x & 1) === 1', 'x & 255', 'x & 0x7fffffff', 'x | 0', '(x << 8) | (y & 255)',
-    '(y & 0xffff) | (x << 16)', '(x << 24) | ((y & 255) << 16) | 515', '(x | y) === 0', '(x | y) < 0',
-    '((x & 255) | (y & 255)) <= 510', 'x << 0', 'x << 12', 'x << 31', 'x >> 5', 'x >>> 0', 'x >>> 21', 'x < y',
-    'x <= y', 'x > y', 'x >= y', '!(x < 61)', 'x < 61 && y < 61', 'x < 61 || y < 61', 'x < 61 ? 5 : 6',
+    () => true, 'Math.floor(x)', 'Number.isSafeInteger(x)', '(x & 1) === 1', 'x & 255', 'x & 0x7fffffff', 'x | 0',
+    '(x << 8) | (y & 255)', '(y & 0xffff) | (x << 16)', '(x << 24) | ((y & 255) << 16) | 515', '(x | y) === 0',
+    '(x | y) < 0', '((x & 255) | (y & 255)) <= 510', 'x << 0', 'x << 12', 'x << 31', 'x >> 5', 'x >>> 0', 'x >>> 21',
+    'x < y', 'x <= y', 'x > y', 'x >= y', '!(x < 61)', 'x < 61 && y < 61', 'x < 61 || y < 61', 'x < 61 ? 5 : 6',
     'String.fromCharCode(x, 45).charCodeAt(0)', 'String.fromCharCode(45, 46, x).slice(1).charCodeAt(1)',
     'String.fromCharCode(x, 65581).charCodeAt(1)', 'const a = x >>> 0; return x | 0', 'const a = x & 1; return x & 255',
     'words[1] = x; return words[1]', 'groups[1] = x; return groups[1]', 'words[1] = x; words[0] = y; return halves[0]'
@@ -75,9 +76,17 @@ const REFUSED = [
   ['const upper = words.subarray(1);', 'return upper[0];'], ['', 'var y = 1; var y; return y;'],
   ['', 'return g(); function g() { return 1; }'], ['', 'return arguments[0];'], ['', 'return x.toString();'],
   ['', "return words.hasOwnProperty('0');"], ['', 'label: return 1;'], ['', 'return (1, x);'],
-  ['const list = [5];', 'return list.length;'], ['', 'return typeof Buffer;'], ['', 'let s = 1; s += 5; return s;'],
-  ['', 'let i = 1; return ++i;'], ['', 'return 0 ?? 5;'], ['', 'return words[4];'],
-  ['function* g() { return 1; }', 'return g();'], ['const g = () => 1; g.state = 5;', 'return g.state;'],
+  ['const list = [5];', 'return list.length;'], ['', 'return typeof Buffer;'],
+  ["const has = typeof Buffer === 'function';", 'return 1;'],
+  ['const has = !!globalThis.Buffer;', 'if (has) return 1; return 2;'], ['const now = Date.now();', 'return now < 5;'],
+  ['const b = new ArrayBuffer(4), t = new Uint8Array(b), s = new Int8Array(b);', 'return t[0];'],
+  ['const t = new Uint8Array(1), g = () => { const [a] = [t]; a[0] = 5; };', 'return t[0];'],
+  ['const list = [[5]], inner = list[0];', 'return inner[0];'], ['', 'return Math.min(x, -0);'],
+  ['const g = ({ a }) => a;', 'return 1;'], ['', "let s = '5'; s++; return s;"],
+  ['', 'let i; for (i = 0; ;) return i;'], ['const t = new Uint8Array(1); t[0] = Date.now();', 'return t[0];'],
+  ['', 'let s = 1; s += 5; return s;'], ['', 'let i = 1; return ++i;'], ['', 'return 0 ?? 5;'],
+  ['', 'return words[4];'], ['function* g() { return 1; }', 'return g();'],
+  ['const g = () => 1; g.state = 5;', 'return g.state;'],
   ['const g = (process) => process;', "return process['argv'].length;"],
   ["const charCodeAt = ''.codePointAt.call.bind(''.codePointAt);", "return charCodeAt('A', 0);"],
   ['const upper = new Uint32Array(halves.buffer, 4);', 'return upper[0];']
@@ -91,10 +100,12 @@ const WRITES = [
 ];
 for (const value of WRITES) REFUSED.push([`const uses = new Uint8Array(1), g = ${value};`, 'return uses[0];']);
 
-// An unknown value that is this one.
-function unknown(path, value) {
+const drawBounds = () => [BigInt(random(9)), BigInt(random(9))];
+
+// An unknown value that is this one, with bounds at these distances.
+function unknown(path, value, [below, above] = drawBounds()) {
   const n = integerOf(value);
-  const bounds = typeof value === 'bigint' ? [undefined, undefined] : [n - BigInt(random(9)), n + BigInt(random(9))];
+  const bounds = typeof value === 'bigint' ? [undefined, undefined] : [n - below, n + above];
   const v = path.unknown(...bounds, typeof value);
   path.assume(`(= ${v.term} ${literal(n)})`);
   return integer(v.term, v.low, v.high, v.type, `${value === Infinity}`);
@@ -103,14 +114,15 @@ function unknown(path, value) {
 // Whether the paths are proved on which the function returns this for these values. Where Node throws an error, none is.
 function isResult(m, result, expected) {
   if (expected === undefined) return 'false';
-  const { type, term, infinite } =
+  const { type, term, infinite, low, high } =
     typeof result === 'boolean' ? { type: 'boolean', term: `${result}` } : m.known(result);
   if (type !== typeof expected) throw new Error(type);
   if (type === 'boolean') return `(= ${term} ${expected})`;
-  if (expected === Infinity) return infinite;
+  const isInBounds = low === undefined ? 'true' : range(term, low, high);
+  if (expected === Infinity) return `(and ${infinite} ${isInBounds})`;
   return type === 'number' && !Number.isInteger(expected) ?
     'false' :
-    `(and (not ${infinite}) (= ${term} ${literal(BigInt(expected))}))`;
+    `(and (not ${infinite}) (= ${term} ${literal(BigInt(expected))}) ${isInBounds})`;
 }
 
 // A rule rejects what it does not cover by an error or an open goal of its own.
@@ -118,6 +130,7 @@ async function compare(body, values, covers) {
   const modules = read([['test.js', `${ARRAYS}\nfunction f(x, y) { ${body} }`]]);
   const inNode = new Function('x', 'y', `${ARRAYS}\n${body}`);
   await Promise.all(values.map(async ([x, y]) => {
+    const bounds = [drawBounds(), drawBounds()];
     let expected, paths = [], found = 'rejected';
     try {
       expected = inNode(x, y);
@@ -126,10 +139,11 @@ async function compare(body, values, covers) {
       paths = explore((path) => {
         const m = new Machine(modules, path);
         ['words', 'groups'].forEach((name) => m.open(name));
-        path.prove('result', isResult(m, m.functions.f(unknown(path, x), unknown(path, y)), expected));
+        path.prove(
+          'result', isResult(m, m.functions.f(unknown(path, x, bounds[0]), unknown(path, y, bounds[1])), expected));
       });
       await solve(paths);
-      const open = paths.flatMap((path) => path.open);
+      const open = paths.flatMap((path) => path.open ?? []);
       if (open.every((goal) => goal === 'result')) found = open.length === 0 ? 'proved' : 'wrong';
       if (found === 'proved' && !paths.some(({ isPossible }) => isPossible)) found = 'wrong';
     } catch { found = 'rejected'; }
@@ -151,36 +165,37 @@ for (const [module, body] of REFUSED)
       ['words', 'groups'].forEach((name) => m.open(name));
       m.functions.f(unknown(path, 5));
     });
-  }, /^Error: test\.js:\d+: no rule for this$/));
+  }, /^Error: test\.js:\d+: no rule for (this$|`.+`$)/));
 const branch = (path) => '0123456789'.replace(/./g, () => path.decide('true'));
 test('too many paths are an error', () => assert.throws(() => explore(branch), /1000 paths/));
 for (const body of BODIES) test(body, () => compare(body, pairs(numbers.filter((n) => isFinite(n))), () => true));
-test('a goal is open if it is false, not known or too hard, and an impossible path is found', async () => {
-  const [path] = explore((path) => {
+test('a path ends at its first open goal, with an example, and an impossible one is found', async () => {
+  const paths = explore((path) => {
+    const x = path.input(0n, 5n);
+    path.show = (value) => `f(${value(x)})`;
     path.prove('known', '(= 5 5)');
-    path.prove('unknown', `(< ${path.unknown(0n, 5n).term} 5)`);
-    const [x, y] = [path.unknown(2n, power(40)), path.unknown(2n, power(40))];
-    path.lines.push('(set-option :timeout 1)');
-    path.prove('hard', `(not (= (* ${x.term} ${y.term}) ${(power(31) - 1n) * (power(19) - 1n)}))`);
+    if (path.decide(`(< ${x.term} 5)`)) path.prove('unknown', `(< ${x.term} 4)`);
     path.prove('false', '(= 5 6)');
   });
-  await solve([path]);
-  assert.deepEqual([path.open, path.isPossible], [['unknown', 'hard', 'false'], false]);
+  const impossible = explore((path) => path.assume('false')), possible = explore((path) => path.input(0n, 5n));
+  await solve([...paths, ...impossible, ...possible]);
+  assert.deepEqual(paths.map(({ open, example }) => [open, example]), [['unknown', 'f(4)'], ['false', 'f(5)']]);
+  assert.deepEqual([impossible, possible].map(([{ isPossible }]) => isPossible), [false, true]);
 });
 test('an open array can have all elements, and | of numbers that share a bit is not their sum', async () => {
-  const [path] = explore((path) => {
-    const functions =
-      'const f = (x, y) => (x << 8) | y, g = (x, y) => (x << 8) | (y << 16) | 256, h = (x, y) => x | y;';
-    const m = new Machine(read([['test.js', ARRAYS + functions]]), path);
-    path.prove('256 | 256', isResult(m, m.functions.f(unknown(path, 1), unknown(path, 256)), 512));
-    path.prove('65792 | 256', isResult(m, m.functions.g(unknown(path, 1), unknown(path, 1)), 66048));
-    path.prove('85 | 170', `(< ${m.functions.h(path.unknown(85n, 85n), path.unknown(170n, 170n)).term} 255)`);
-    for (const [name, low, high] of [['words', 0n, power(32) - 1n], ['groups', -power(31), power(31) - 1n]])
-      m.open(name).forEach(
-        ({ term }) => [low, high].forEach((n) => path.prove(`${n}`, `(not (= ${term} ${literal(n)}))`)));
-  });
-  await solve([path]);
-  assert.deepEqual(path.open, path.goals.filter((goal) => !goal.endsWith('is exact')));
+  const functions = 'const f = (x, y) => (x << 8) | y, g = (x, y) => (x << 8) | (y << 16) | 256, h = (x, y) => x | y;';
+  const modules = read([['test.js', ARRAYS + functions]]);
+  const open = (name, i, n) => (m) => `(not (= ${m.open(name)[i].term} ${literal(n)}))`;
+  const goals = [
+    (m) => isResult(m, m.functions.f(unknown(m.path, 1), unknown(m.path, 256)), 512),
+    (m) => isResult(m, m.functions.g(unknown(m.path, 1), unknown(m.path, 1)), 66048),
+    (m) => `(< ${m.functions.h(m.path.unknown(85n, 85n), m.path.unknown(170n, 170n)).term} 255)`,
+    ...[['words', 0n, power(32) - 1n], ['groups', -power(31), power(31) - 1n]].flatMap(
+      ([name, low, high]) => [0, 1].flatMap((i) => [open(name, i, low), open(name, i, high)]))
+  ];
+  const paths = goals.flatMap((goal) => explore((path) => path.prove('open', goal(new Machine(modules, path)))));
+  await solve(paths);
+  assert.deepEqual(paths.map((path) => path.open), goals.map(() => 'open'));
 });
 test('a factor that may be Infinity, a part of a string of any length, another count of arguments',
   () => explore((path) => {
@@ -193,5 +208,11 @@ test('a factor that may be Infinity, a part of a string of any length, another c
                        () => m.call('', m.functions.f, undefined, [x, x])])
       assert.throws(step, /no rule/);
   }));
+test('errors name the form, and what is no JavaScript has its file and line', () => {
+  const modules = read([['test.js', 'const f = (x) => x % 62;']]);
+  const message = /^Error: test\.js:1: no rule for `x % 62`$/;
+  assert.throws(() => explore((path) => new Machine(modules, path).functions.f(path.unknown(0n, 5n))), message);
+  assert.throws(() => read([['a.js', 'const g = 1;\nconst h = %;']]), /^Error: a\.js:2: /);
+});
 test('a name twice',
      () => assert.throws(() => read([['a.js', 'const g = 1;'], ['b.js', 'const g = 2;']]), /^Error: b\.js:1/));

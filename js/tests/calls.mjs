@@ -210,6 +210,21 @@ function drawText({ encode }, alphabet) {
   return Buffer.from(digits.join(''), pick(['latin1', 'utf8']));
 }
 
+// A string of a UUID in any form with one other character, whose lowercase or width is that of ASCII, in a place of another.
+function drawOtherUuid() {
+  const uuid = uuidOf(drawNumber());
+  const units = [...pick([uuid, uuid.replaceAll('-', ''), `{${uuid}}`, `urn:uuid:${uuid}`])];
+  units.splice(below(units.length), 1, pick('\u0130\u212a\uff10'));
+  return units.join('');
+}
+
+// The UUID of a string, or none.
+function uuidOfString({ encodeUuid, decodeUuid }, string) {
+  try {
+    return decodeUuid(encodeUuid(string));
+  } catch { return 'none'; }
+}
+
 // What a call returns or throws, in the words of the rows.
 function resultOf(call) {
   try {
@@ -226,6 +241,7 @@ function resultOf(call) {
 function drawRowsOver(base62, name, alphabet) {
   const number = drawNumber();
   const text = drawText(base62, alphabet);
+  const string = drawOtherUuid();
   const width = pick([22, text.length, below(60)]);
   const field = fieldOf(text);
   const isNarrow = base62.digitCount(number) > width;
@@ -240,7 +256,8 @@ function drawRowsOver(base62, name, alphabet) {
     isNarrow ? `too_narrow\t${name}\t${number}\t${width}` : `fixed\t${name}\t${number}\t${width}\t${fixed}`,
     isSame ? canonical : `zeros\t${name}\t${field}\t${value}`,
     `decode_fixed\t${name}\t${width}\t${field}\t${resultOf(() => base62.decodeFixed(text, width, alphabet))}`,
-    `range\t${name}\t${width}\t${field}\t${resultOf(() => base62.prefixRange(text, width, alphabet))}`
+    `range\t${name}\t${width}\t${field}\t${resultOf(() => base62.prefixRange(text, width, alphabet))}`,
+    `uuid_string\t${fieldOf(string)}\t${uuidOfString(base62, string)}`
   ];
 }
 

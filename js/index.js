@@ -16,13 +16,8 @@ const tables = new WeakMap();
 class Alphabet {
   constructor(characters) {
     if (typeof characters !== 'string') throw new TypeError('the characters of an alphabet are a string');
-<<<<<<< HEAD
-    const { length } = characters;
-    let wrong = length !== 62 && `has ${quantity(length, 'character')}, not 62`;
-=======
     const length = characters.length;
-    let wrong = length !== 62 && `has ${length} character${length === 1 ? '' : 's'}, not 62`;
->>>>>>> wt-jsproof
+    let wrong = length !== 62 && `has ${quantity(length, 'character')}, not 62`;
     if (/[^\0-\x7f]/.test(characters)) wrong = 'has a non-ASCII character';
     if (wrong) throw new Base62Error(`the alphabet ${wrong}`, 'INVALID_ALPHABET');
     const digits = new Float64Array(129).fill(Infinity);

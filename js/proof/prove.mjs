@@ -285,27 +285,6 @@ prove('uuidOfWords', ({ uuidOfWords }, m, path) => {
 
 // ---- Alphabets, choices and ranges
 
-prove('Alphabet', ({ Alphabet }, m, path) => {
-  const units = list(62, (i) => Object.assign(path.input(0n, 127n), { typical: BigInt(DIGITS.charCodeAt(i)) }));
-  path.show = (value) => `new Alphabet(${stringOf(units, value)})`;
-  let made;
-  m.stubs.defineReadOnly = () => 0;
-  m.values.tables.set = (alphabet, tables) => made = tables;
-  const isThrown = resultOf(() => Alphabet(textOf(units))) === THROWN;
-  const areNew = units.map((x, i) => all(units.slice(0, i).map((y) => `(not ${equal(x.term, y.term)})`)));
-  if (isThrown) return path.prove('an error only if a character is repeated', `(not ${all(areNew)})`);
-  areNew.forEach((isNew) => path.prove('an error if a character is repeated', isNew));
-  const digitOf = (code) => m.read(['Alphabet', ''], made.digits, code);
-  units.map(digitOf).forEach(
-    ({ term, infinite }, i) => path.prove('the digit of a character', all([`(not ${infinite})`, equal(term, i)])));
-  const code = path.input(0n, 128n);
-  const isOther = all(units.map(({ term }) => `(not ${equal(term, code.term)})`));
-  path.prove('Infinity is the digit of others', implies(isOther, digitOf(code).infinite));
-  path.prove('the pairs',
-    all(list(62 ** 2,
-      (i) => equal(made.pairs.cells[i].term, `(+ ${units[Math.floor(i / 62)].term} (* 256 ${units[i % 62].term}))`))));
-});
-
 prove('Alphabet: the built-in ones', (functions, m, path) => {
   const { Alphabet, tables } = modules.natives;
   const lower = DIGITS.replace(/[a-z]/gi, (c) => (c < 'a' ? c.toLowerCase() : c.toUpperCase()));

@@ -396,13 +396,28 @@ DEFINE_CALL(key_range, "O", 1, 1, range_or_raise(state, arguments[0], BASE62_KEY
 
 #define CALL(name) #name, (PyCFunction)(void (*)(void))name, METH_FASTCALL | METH_KEYWORDS, DOC_##name
 
+/* clang-format off */
 static PyMethodDef calls[] = {
-    {CALL(encode)},     {CALL(encode_uuid)},     {CALL(encode_fixed)},     {CALL(encode_uuid_fixed)},
-    {CALL(encode_key)}, {CALL(encode_uuid_key)}, {CALL(digit_count)},      {CALL(prefix_range)},
-    {CALL(decode)},     {CALL(decode_uuid)},     {CALL(decode_fixed)},     {CALL(decode_uuid_fixed)},
-    {CALL(decode_key)}, {CALL(decode_uuid_key)}, {CALL(decode_canonical)}, {CALL(decode_uuid_canonical)},
-    {CALL(key_range)},  {NULL, NULL, 0, NULL},
+    {CALL(encode)},
+    {CALL(encode_uuid)},
+    {CALL(encode_fixed)},
+    {CALL(encode_uuid_fixed)},
+    {CALL(encode_key)},
+    {CALL(encode_uuid_key)},
+    {CALL(digit_count)},
+    {CALL(prefix_range)},
+    {CALL(decode)},
+    {CALL(decode_uuid)},
+    {CALL(decode_fixed)},
+    {CALL(decode_uuid_fixed)},
+    {CALL(decode_key)},
+    {CALL(decode_uuid_key)},
+    {CALL(decode_canonical)},
+    {CALL(decode_uuid_canonical)},
+    {CALL(key_range)},
+    {NULL, NULL, 0, NULL},
 };
+/* clang-format on */
 
 /* The calls name base62 as their module, since callers find them there. */
 static int add_calls(PyObject *module) {

@@ -26,21 +26,21 @@ static SUBCOMMANDS: [Subcommand; 3] = [
 ];
 
 pub(crate) fn find_subcommand(name: &[u8]) -> Result<&'static Subcommand, ArgumentError> {
-    if let Some(subcommand) = SUBCOMMANDS
-        .iter()
-        .find(|(known, ..)| known.as_bytes() == name)
-    {
-        return Ok(subcommand);
-    }
-    let error = format!("There is no subcommand {}", Escaped(name));
-    // A misspelled name mostly begins with the right letter.
-    match SUBCOMMANDS
-        .iter()
-        .find(|(known, ..)| known.as_bytes().first() == name.first())
-    {
-        Some((meant, ..)) => Err(ArgumentError(format!("{error}: try base62 {meant}"))),
-        None => Err(error.into()),
-    }
+    let mut all = SUBCOMMANDS.iter();
+    let named = all.find(|(known, ..)| known.as_bytes() == name);
+    named.ok_or_else(|| {
+        let error = format!("There is no subcommand {}", Escaped(name));
+        // A misspelled name mostly begins with the right letter, and digits are for encode.
+        let first = name.first().map_or(0, |first| match first {
+            b'0'..=b'9' => b'e',
+            letter => letter.to_ascii_lowercase(),
+        });
+        let is_meant = |(known, ..): &&Subcommand| known.as_bytes()[0] == first;
+        match SUBCOMMANDS.iter().find(is_meant) {
+            Some((meant, ..)) => ArgumentError(format!("{error}: try base62 {meant}")),
+            None => error.into(),
+        }
+    })
 }
 
 /// The letter and the name of an option, such as `-w` and `--width`, and whether it needs a value.
@@ -125,6 +125,7 @@ fn parse_alphabet(value: &[u8]) -> Result<Alphabet, String> {
     }
     let characters: &[u8; 62] = value.try_into().map_err(|_| match value {
         b"alternative" => "For this alphabet there is --alternative".into(),
+        b"standard" => "For this alphabet no option is needed".into(),
         [_] => "Alphabet has 1 character, not 62".into(),
         _ => format!("Alphabet has {} characters, not 62", value.len()),
     })?;

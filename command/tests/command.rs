@@ -242,6 +242,7 @@ fn wrong_arguments() {
         encode -w '' 5 -> A width is an integer of 1 or more, not ''
         encode -w $'\xff' -> A width is an integer of 1 or more, not \xff
         encode -A alternative -> For this alphabet there is --alternative
+        encode -A standard -> For this alphabet no option is needed
         encode -A '' -> Alphabet has 0 characters, not 62
         encode -A 5 -> Alphabet has 1 character, not 62
         encode -A ${letters:1} -> Alphabet has 61 characters, not 62
@@ -251,7 +252,12 @@ fn wrong_arguments() {
     for (arguments, error) in sides(table) {
         is_wrong(arguments, error);
     }
-    for (name, meant) in [("enc", "encode"), ("encoed", "encode"), ("dec", "decode")] {
+    for (name, meant) in [
+        ("enc", "encode"),
+        ("Encoed", "encode"),
+        ("dec", "decode"),
+        ("1337", "encode"),
+    ] {
         let error = format!("There is no subcommand {name}: try base62 {meant}");
         has_hint(&format!("{name} 5"), &error);
     }

@@ -25,7 +25,7 @@ generate: ## write the generated files anew, after a change of their sources
 	translate/rust.py --write
 	node js/join_modules.mjs
 
-ROUNDS = 20
+ROUNDS = 10
 bench: ## time the packages beside other code, and write docs/SPEED.md; BASE62_CRATE names the folder of the crate base62
 	bench/run $(ROUNDS)
 

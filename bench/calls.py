@@ -45,9 +45,8 @@ def decode(text):
 
 
 def draw(kind):
-    if kind == "UUID":
-        return encode(UUID(int=random.getrandbits(128), version=4).int).rjust(22, "0")
-    return encode(random.getrandbits(random.randint(1, 128) if kind == "mixed" else int(kind)))
+    bits = {"mixed": random.randint(1, 128), "UUID": 128}.get(kind) or int(kind)
+    return encode(random.getrandbits(bits)).rjust(22 if kind == "UUID" else 1, "0")
 
 
 def codes():
@@ -88,13 +87,15 @@ if sys.argv[1] == "draw":
 package, *client, kind, rounds = sys.argv[1:]
 texts = sys.stdin.read().split()
 values = [UUID(int=decode(text)) if kind == "UUID" else decode(text) for text in texts]
-copies, rounds = (1, int(rounds)) if package in ("Python", "Columns") else (10 * int(rounds), 5)
+copies, rounds = (1, int(rounds)) if package in ("Python", "Columns") else (5 * int(rounds), 5)
 count = copies * len(texts)
 if copies == 1:
-    for name in ("base62", "gmpy2", "shortuuid", "pyarrow"):
+    import base62
+
+    for name in ("gmpy2", "shortuuid", "pyarrow"):
         with suppress(ImportError):
             globals()[name] = import_module(name)
-            print(name, version(name if name != "base62" else "base62-proved"))
+            print(name, version(name))
 if package == "Columns":
     from base62 import columns
 
@@ -108,12 +109,9 @@ elif client:
     shell = subprocess.Popen(["stdbuf", "-oL", *client], stdin=subprocess.PIPE, stdout=subprocess.PIPE, text=True)
     number = next(codes())[2].split("'")[1]
     given = ", ".join(f"('{text}')" for text in texts)
-    shell.stdin.write(
-        f"""{row[1]}
-CREATE TEMP TABLE code AS WITH given(text) AS (VALUES {given}),
-    value AS (SELECT text, {number} AS number, {row[2]} AS bytes FROM given)
-    SELECT text, number, bytes, {row[3]} AS digits FROM value, generate_series(1, {copies});\n"""
-    )
+    shell.stdin.write(f"{row[1]}\nCREATE TEMP TABLE code AS WITH given(text) AS (VALUES {given}), value AS (SELECT text,")
+    shell.stdin.write(f"{number} AS number, {row[2]} AS bytes FROM given) SELECT text, number, bytes, {row[3]} AS digits")
+    shell.stdin.write(f" FROM value, generate_series(1, {copies});\n")
 for _ in range(rounds):
     for code, *calls in codes():
         scope = globals() if code != "shortuuid" else globals() | {"texts": eval(calls[0])}

@@ -1,5 +1,5 @@
 #!/usr/bin/env python3
-"""Writes SPEED.md and speed.svg into a folder, of the least times in the rows that run has: report.py FOLDER"""
+"""Writes SPEED.md and speed.svg into a folder, with the least time of each row on standard input: report.py FOLDER"""
 
 import math
 import re
@@ -14,12 +14,12 @@ PAGE = """# Speed
 
 ![How many times as long other code takes](speed.svg)
 
-Nanoseconds for one value, the least of several rounds over 10,000 random ones: numbers below 2^40, 2^64 and 2^128, numbers of
-1 to 128 bits (mixed), and UUIDs, which are encoded as keys. In parentheses: how many times as long as base62. Below 1, the
-other code is faster.
+Nanoseconds for one value: the least of several rounds over 10,000 random numbers below 2^40, 2^64 and 2^128, numbers of 1 to
+128 bits (mixed), and UUIDs, which are encoded as keys. In parentheses: how many times as long as base62. Below 1, the other
+code is faster.
 
 The loops in C and Rust detect no errors. shortuuid and base64url write other strings; `hex` writes hexadecimal digits of the
-same bytes. A query includes the time to read the table.
+same bytes. Queries include the time to read the table.
 
 | package | call | code | 40 bits | 64 bits | 128 bits | mixed | UUID |
 |---|---|---|---|---|---|---|---|
@@ -49,7 +49,7 @@ def ratio(package, call, code, kind):
 
 
 def short(value):
-    return f"{value:.1f}" if value < 10 else f"{value:,.0f}"
+    return f"{value:.1f}" if value < 9.95 else f"{value:,.0f}"
 
 
 def show(row, kind):
@@ -61,12 +61,9 @@ def show(row, kind):
     return short(time) if row[2].startswith("base62") else f"{short(time)} ({short(ratio(*row, kind))})"
 
 
-def place(factor):
-    """On a logarithmic axis from 1/4 to 256."""
-    return round(360 + 57 * math.log2(min(max(factor, 1 / 4), 256)))
-
-
 def bars(others):
+    """On a logarithmic axis from 1/4 to 256."""
+    place = lambda factor: round(400 + 50 * math.log2(min(max(factor, 1 / 4), 256)))
     for factor in (1 / 4, 1, 4, 16, 64, 256):
         yield f'  <path d="M{place(factor)} 50 V{60 + 17 * len(others)}" stroke="#737b85"/>\n'
         yield f'  <text x="{place(factor)}" y="44" text-anchor="middle">{factor:g}</text>\n'
@@ -76,7 +73,7 @@ def bars(others):
         factor = ratio(package, call, code, kind)
         start, end = sorted([place(1), place(factor)])
         color, top = "#2f6fd0" if call == "encode" else "#b07a10", 56 + 17 * i
-        yield f'  <text x="235" y="{top + 11}" text-anchor="end">{package}: {code}{name}</text>\n'
+        yield f'  <text x="285" y="{top + 11}" text-anchor="end">{package}: {code}{name}</text>\n'
         yield f'  <rect x="{start}" y="{top}" width="{end - start}" height="13" fill="{color}"/>\n'
         yield f'  <text x="{end + 4}" y="{top + 11}">{short(factor)}</text>\n'
 

@@ -54,7 +54,7 @@ in_order() {
 
 # TOOL. Its version.
 version_of() {
-    [[ $("$1" --version) =~ (^|\ )([0-9]+(\.[0-9]+)*) ]] && echo "${BASH_REMATCH[2]}"
+    [[ $("$1" --version) =~ (^|\ )v?([0-9]+(\.[0-9]+)*) ]] && echo "${BASH_REMATCH[2]}"
 }
 
 # NAME TEXT. Says with which version of a tool a check has passed. The text is what the tool prints of it.

@@ -47,14 +47,17 @@ static double now(void) {
 int main(int count, char **given) {
     base62_bad_byte bad;
     double start;
+    for (unsigned char i = 0; i < 62; i++) digits[(unsigned char)BASE62_STANDARD_ALPHABET[i]] = i;
     for (struct value *v = values; v < values + COUNT; v++) {
         if (scanf("%22s", v->text) != 1 || mpz_init_set_str(v->gmp, v->text, 62) != 0) return 1;
         v->length = strlen(v->text);
         if (base62_decode(v->text, v->length, &v->number, &bad) != BASE62_OK) return 1;
         base62_to_uuid(v->number, v->uuid);
+        const base62_u128 number = base62_to_u128(v->number);
+        if (encode_in_loop(number, v->length) != v->length || memcmp(to.text, v->text, v->length) != 0) return 1;
+        if (base62_to_u128(decode_in_loop(v)) != number) return 1;
     }
     mpz_init(to.gmp);
-    for (unsigned char i = 0; i < 62; i++) digits[(unsigned char)BASE62_STANDARD_ALPHABET[i]] = i;
     printf("GMP %s\n", gmp_version);
     for (int round = count == 3 ? 20 * atoi(given[2]) : 0; round > 0; round--)
         if (strcmp(given[1], "UUID") == 0) {

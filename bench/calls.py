@@ -115,6 +115,7 @@ elif client:
 for _ in range(rounds):
     for code, *calls in codes():
         scope = globals() if code != "shortuuid" else globals() | {"texts": eval(calls[0])}
+        assert client or package == "command" or [*map(str, eval(calls[1], scope))] == [*map(str, values)], code
         for call, expression in zip(("encode", "decode"), calls):
             if expression:
                 print(package, kind, call, code, timeit(expression, globals=scope, number=1) * 1e9 / count, sep="\t")

@@ -24,7 +24,7 @@ same bytes. Queries include the time to read the table.
 | package | call | code | 40 bits | 64 bits | 128 bits | mixed | UUID |
 |---|---|---|---|---|---|---|---|
 {rows}"""
-PICTURE = """<svg xmlns="http://www.w3.org/2000/svg" viewBox="0 0 840 {height}" role="img" aria-labelledby="title"
+PICTURE = """<svg xmlns="http://www.w3.org/2000/svg" viewBox="-20 0 860 {height}" role="img" aria-labelledby="title"
     font-family="sans-serif" font-size="13" fill="#737b85" stroke-width="0.5">
   <title id="title">How many times as long as base62 other code takes</title>
   <text x="10" y="20">How many times as long as base62 other code takes, for numbers of 64 bits unless named, to

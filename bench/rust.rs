@@ -38,6 +38,13 @@ fn main() {
     let mut digits = [0; 256];
     (0..62).for_each(|digit| digits[CHARACTERS[digit] as usize] = digit as u128);
     let decode_in_loop = |text: &str| text.bytes().fold(0u128, |n, c| n * 62 + digits[c as usize]);
+    assert!(
+        numbers
+            .iter()
+            .zip(texts)
+            .all(|(n, text)| decode_in_loop(text) == *n
+                && encode_in_loop(*n, text.len()).starts_with(text.as_bytes()))
+    );
     let mut buffer = [0; 22];
     for _ in 0..20 * given[2].parse::<u32>().unwrap() {
         if kind == "UUID" {

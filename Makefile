@@ -25,6 +25,10 @@ generate: ## write the generated files anew, after a change of their sources
 	translate/rust.py --write
 	node js/join_modules.mjs
 
+ROUNDS = 10
+bench: ## time the packages beside other code, and write docs/SPEED.md; BASE62_CRATE names the folder of the crate base62
+	bench/run $(ROUNDS)
+
 version: ## set the version everywhere: make version V=X.Y.Z
 	scripts/version.py '$(V)'
 
@@ -53,5 +57,5 @@ setup-full: ## install also browsers, Wine, cross compilers, emulators and prove
 check-debian: ## try README's lines in a bare Debian, as root: make check-debian SUITE=trixie
 	scripts/check-debian '$(SUITE)'
 
-.PHONY: help check $(parts:%=check-%) prove prove-c generate version install-command uninstall-command dist setup setup-full \
+.PHONY: help check $(parts:%=check-%) prove prove-c generate bench version install-command uninstall-command dist setup setup-full \
     check-debian

@@ -20,13 +20,13 @@ required=(black build cargo cargo-clippy clang clang-format clang-tidy cmake ens
     sqlite3ext.h tsc uuidgen wheel)
 # and `make setup-full` these too.
 optional=(aarch64-linux-gnu-gcc acorn arm-linux-gnueabihf-gcc babeljs chromium cvc4 cvc5 debootstrap distributed django duckdb esbuild
-    express firefox-esr fish frama-c gawk go help2man i686-linux-gnu-gcc jsc librust mlr mmdebstrap node-base62 ocamlfind pandas
+    express firefox-esr fish frama-c gawk gmp.h go help2man i686-linux-gnu-gcc jsc librust mlr mmdebstrap node-base62 ocamlfind pandas
     pyarrow pydantic qemu-aarch64 qemu-arm qemu-i386 qemu-riscv64 qemu-s390x riscv64-linux-gnu-gcc rollup ruby-base62
     s390x-linux-gnu-gcc shortuuid sqlalchemy why3 wine x86_64-w64-mingw32-gcc z3 zsh)
 # The packages of Debian that have them, where their names are others.
 declare -A packages=(
     [acorn]=node-acorn [build]=python3-build [distributed]=python3-distributed [django]=python3-django [ensurepip]=python3-venv
-    [express]=node-express [gmpy2]=python3-gmpy2 [pandas]=python3-pandas [pip]=python3-pip [pyarrow]=python3-pyarrow
+    [express]=node-express [gmp.h]=libgmp-dev [gmpy2]=python3-gmpy2 [pandas]=python3-pandas [pip]=python3-pip [pyarrow]=python3-pyarrow
     [pydantic]=python3-pydantic [Python.h]=python3-dev ['/usr/bin/python3']=python3 [shortuuid]=python3-shortuuid
     [sqlalchemy]=python3-sqlalchemy [wheel]=python3-wheel-whl ['cargo-clippy']=rust-clippy
     [clang]='clang libclang-rt-dev' [gcc]='gcc libc6-dev' [go]=golang-go [duckdb]='duckdb libduckdb-dev' [mlr]=miller
@@ -54,7 +54,7 @@ in_order() {
 
 # TOOL. Its version.
 version_of() {
-    [[ $("$1" --version) =~ (^|\ )([0-9]+(\.[0-9]+)*) ]] && echo "${BASH_REMATCH[2]}"
+    [[ $("$1" --version) =~ (^|\ )v?([0-9]+(\.[0-9]+)*) ]] && echo "${BASH_REMATCH[2]}"
 }
 
 # NAME TEXT. Says with which version of a tool a check has passed. The text is what the tool prints of it.
@@ -77,6 +77,7 @@ is_installed() {
         librust) compgen -G '/usr/share/cargo/registry/uuid-*' ;;
         acorn | express) [[ -e /usr/share/nodejs/$1 ]] ;;
         node-base62) is_installed node && [[ -e /usr/share/nodejs/base62 ]] ;;
+        gmp.h) gcc -fsyntax-only -xc - <<<'#include <gmp.h>' ;;
         ruby-base62) ruby -r base62 -e '' ;;
         Python.h) python3 -c 'import os, sysconfig; os.stat(sysconfig.get_path("include") + "/Python.h")' ;;
         postgres) compgen -G '/usr/lib/postgresql/*/bin/postgres' ;;
@@ -104,6 +105,20 @@ in_testing() {
         exec chroot "$0" env -i --chdir=/srv PATH=/usr/sbin:/usr/bin:/sbin:/bin HOME=/mnt LC_ALL=C.UTF-8 \
             PYTHONDONTWRITEBYTECODE=1 "${@:2}"' \
         "$testing" "$work" "$@"
+}
+
+# COMMAND.. Runs a command beside a server of its own, which takes extensions from $work/server.
+with_postgresql() {
+    local release folder=$work/server options
+    release=$(cd /usr/lib/postgresql && printf '%s\n' * | sort -V | tail -1)
+    # PostgreSQL itself takes extensions from another folder since version 18, and that of Debian before.
+    options=(-o "extension_destdir=$folder")
+    ((release < 18)) || options=(-o "extension_control_path=$folder/usr/share/postgresql/$release:\$system"
+        -o "dynamic_library_path=$folder/usr/lib/postgresql/$release/lib:\$libdir")
+    chmod 755 "$work"
+    export work
+    # Several checks may run at a time: each takes another port, and none that a client is given.
+    pg_virtualenv -t -c "--port=$((10000 + $$ % 20000))" "${options[@]}" "$@"
 }
 
 # THING. What is wrong with it, if it is here and too old.

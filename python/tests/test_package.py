@@ -92,8 +92,9 @@ class Package(unittest.TestCase):
         self.assertRegex(package.read_text("WHEEL") or "", "(?m)^Tag: cp311-abi3-")
 
     def test_wheel_commands(self) -> None:
-        """cibuildwheel's commands run tests, of which one is enough here."""
+        """cibuildwheel builds one wheel. Its commands run tests, of which one is enough here."""
         wheels = tomllib.loads((PACKAGE / "pyproject.toml").read_text())["tool"]["cibuildwheel"]
+        self.assertEqual(wheels["build"], "cp311-*")
         for command in (wheels["test-command"], wheels["windows"]["test-command"]):
             python, *arguments = shlex.split(command.format(package=PACKAGE))
             self.assertEqual(python, "python")

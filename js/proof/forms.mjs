@@ -17,11 +17,7 @@ const FORMS = {
   ConditionalExpression: '($.holds({at}, {test}) ? {consequent} : {alternate})',
   MemberExpression: "$.member({at}, {object}, '{property}')",
   'MemberExpression []': '$.read({at}, {object}, {property})',
-  ThisExpression: 'undefined',
   ArrayExpression: '[{elements}]',
-  ObjectExpression: '({ {properties} })',
-  Property: '{value}',
-  NewExpression: "$.create({at}, '{callee.name}', [{arguments}])",
   SpreadElement: '...{argument}',
   CallExpression: '$.call({at}, {callee}, undefined, [{arguments}])',
   'CallExpression .': "$.method({at}, {callee.object}, '{callee.property}', [{arguments}])",
@@ -43,10 +39,8 @@ const FORMS = {
 };
 
 // What tells forms of one type apart.
-function variantOf({ type, operator, prefix, computed, callee, left, argument, properties, shorthand, init }) {
+function variantOf({ type, operator, prefix, computed, callee, left, argument, init }) {
   if (type === 'ForStatement') return init && init.type !== 'VariableDeclaration' ? ' expression' : '';
-  if (type === 'Property') return shorthand ? '' : ' long';
-  if (properties) return properties.every((property) => property.shorthand) ? '' : ' long';
   if (type === 'CallExpression') return callee.type === 'MemberExpression' && !callee.computed ? ' .' : '';
   if (type === 'AssignmentExpression')
     return ` ${left.type === 'Identifier' ? '' : left.computed ? '[]' : left.type}${operator}`;
@@ -181,7 +175,7 @@ function declarationsOf(node) {
 export function read(files) {
   const functions = new Map(), variables = new Map(), notes = { known: new Set(), others: new Set() };
   let modules = '', hasCharCodeAt = false;
-  names = new Set(['Infinity', 'undefined', 'Math', 'Number', 'String', 'Float64Array', 'Uint16Array']);
+  names = new Set(['Infinity', 'undefined', 'Math', 'Number', 'String']);
   for (const file of files) {
     notes.text = file[1];
     for (const node of parseFile(file)) {

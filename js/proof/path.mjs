@@ -105,7 +105,7 @@ function draw({ term, low = -power(130), high = power(130) }) {
 
 class Solver {
   z3 = spawn('z3', ['-in']);
-  answers = createInterface({ input: this.z3.stdout })[Symbol.asyncIterator]();
+  results = createInterface({ input: this.z3.stdout })[Symbol.asyncIterator]();
 
   // A z3 that was stopped is written to in vain.
   constructor() { this.z3.stdin.on('error', () => {}); }
@@ -114,7 +114,7 @@ class Solver {
 
   async ask(line) {
     this.tell(line);
-    const { value = 'stopped' } = await this.answers.next();
+    const { value = 'stopped' } = await this.results.next();
     if (value === '(error "tactic failed: canceled")') return 'unknown';
     if (value.startsWith('(error')) throw new Error(value);
     return value;
@@ -123,16 +123,16 @@ class Solver {
   // Whether a term is false for some values of the inputs. If z3 does not know it soon, some are tried before it goes on.
   async refute(term, inputs, soon, late) {
     this.tell('(push)', `(assert (not ${term}))`);
-    const answer = await this.ask(check(soon));
-    for (let i = 0; i < 20 && answer === 'unknown'; i++) {
+    const result = await this.ask(check(soon));
+    for (let i = 0; i < 20 && result === 'unknown'; i++) {
       this.tell('(push)', ...inputs.map(draw));
       if (await this.ask(check(300)) === 'sat') return 'sat';
       this.tell('(pop)');
     }
-    return answer === 'unknown' && late ? this.ask(check(late)) : answer;
+    return result === 'unknown' && late ? this.ask(check(late)) : result;
   }
 
-  async valueOf(term) {
+  async valueOf({ term }) {
     const value = await this.ask(`(get-value (${term}))`);
     return BigInt(value.slice(term.length + 3, -2).replace(/[( )]/g, ''));
   }
@@ -140,44 +140,38 @@ class Solver {
   // Finds the first open goal, with a call as an example if z3 knows values, or whether the path is possible.
   async solve(path) {
     const inputs = [];
+    this.tell('(reset)');
     for (const line of path.lines) {
       if (line.input) inputs.push(line.input);
       else if (!line.goal) this.tell(line);
       else {
-        const answer = await this.refute(line.term, inputs, 2000, 60000);
-        if (answer === 'unsat') this.tell('(pop)', `(assert ${line.term})`);
-        else return this.note(path, line.goal, answer === 'sat' && inputs);
+        const result = await this.refute(line.term, inputs, 2000, 60000);
+        if (result !== 'unsat') return this.note(path, line.goal, result === 'sat' ? inputs : []);
+        this.tell('(pop)', `(assert ${line.term})`);
       }
     }
     path.isPossible = await this.refute('false', inputs, 200) === 'sat';
   }
 
   async note(path, goal, inputs) {
-    path.open = goal;
-    if (!inputs) return;
     const values = new Map();
-    for (const { term } of inputs) values.set(term, await this.valueOf(term));
-    path.example = path.show?.(({ term, low = 0n }) => values.get(term) ?? low);
+    for (const input of inputs) values.set(input.term, await this.valueOf(input));
+    path.open = goal;
+    if (inputs.length > 0) path.example = path.show?.(({ term, low = 0n }) => values.get(term) ?? low);
   }
 }
 
 // Asks z3, for each processor about one path at a time, until there is enough.
 export async function solve(paths, isEnough = () => false) {
-  const queue = paths.values(), solvers = new Set();
+  const queue = paths.values(), solvers = cpus().map(() => new Solver());
+  const stop = () => solvers.forEach((solver) => solver.stop());
   let isOver = false;
-  const work = async () => {
+  await Promise.all(solvers.map(async (solver) => {
     for (const path of queue) {
-      if (isOver) return;
-      const solver = new Solver();
-      solvers.add(solver);
       await solver.solve(path);
-      solvers.delete(solver);
-      solver.stop();
-      if (!isOver && isEnough(path)) {
-        isOver = true;
-        solvers.forEach((solver) => solver.stop());
-      }
+      isOver ||= isEnough(path);
+      if (isOver) return stop();
     }
-  };
-  await Promise.all(cpus().map(work));
+  }));
+  stop();
 }

@@ -392,6 +392,8 @@ const namesOf = (names) => [...new Set(names)].sort().join(', ');
 const [named, proved] =
   [statements.match(/(?<=`)\w+(?=`)/g), paths.map(({ name }) => name.match(/\w+/)[0])].map(namesOf);
 if (named !== proved) report(`README.md names ${named}; proved are ${proved}`);
+// Most mistakes are seen on a short path.
+paths.sort((x, y) => x.lines.length - y.lines.length);
 await solve(paths, ({ name, goals, open, example }) => {
   if (++done % 100 === 0) console.error(`${done} of ${paths.length} paths`);
   passed += open ? goals.indexOf(open) : goals.length;

@@ -242,15 +242,8 @@ function storeElement(m, array, index, v) {
 
 // ---- The machine runs functions on a path.
 
-const TYPES = {
-  __proto__: null,
-  text: 'string',
-  array: 'object',
-  number: 'number',
-  quotient: 'number',
-  double: 'number',
-  bigint: 'bigint'
-};
+const TYPES = new Map(Object.entries({ text: 'string', array: 'object', bigint: 'bigint' }));
+for (const type of ['number', 'quotient', 'double']) TYPES.set(type, 'number');
 export const THROWN = Symbol('an error');
 
 export class Machine {
@@ -322,7 +315,7 @@ export class Machine {
 
   unary(at, operator, v) {
     this.at = at;
-    if (operator === 'typeof') return isUnknown(v) ? TYPES[v.type] ?? this.fail() : typeof v;
+    if (operator === 'typeof') return isUnknown(v) ? TYPES.get(v.type) ?? this.fail() : typeof v;
     if (operator === '-' && !isUnknown(v)) return -v;
     if (operator !== '!' || (isUnknown(v) && v.type !== 'boolean')) this.fail();
     return isUnknown(v) ? boolean(`(not ${v.term})`) : !v;

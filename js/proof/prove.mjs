@@ -153,13 +153,6 @@ prove('digitOf', ({ digitOf }, m, path) => {
   path.prove('it is the digit', implies(not(infinite), equal(term, `(digit ${unit.term})`)));
 });
 
-prove('lengthOfText', ({ lengthOfText }, m, path) => {
-  const length = path.input(0n, power(30));
-  path.show = (value) => `decode('0'.repeat(${value(length)}))`;
-  const text = Object.assign(textOf([]), { length });
-  path.prove('the length of a string', equal(termOf(m, lengthOfText(text)), length.term));
-});
-
 for (let count = 1; count <= 22; count++)
   prove(`stringOfGroups: ${count} characters`, ({ stringOfGroups }, m, path) => {
     path.lines.push('(declare-fun code (Int) Int)');
@@ -171,7 +164,10 @@ for (let count = 1; count <= 22; count++)
     m.open('codes');
     const groups = m.fill('groups');
     groups.forEach((group, i) => groups[i] = path.input(0n, GROUP - 1n));
-    path.show = (value) => `encodeFixed(${total(groups, GROUP, value) % 62n ** BigInt(count)}n, ${count})`;
+    path.show = (value) => {
+      const number = total(groups, GROUP, value);
+      return `[encodeFixed(${number % 62n ** BigInt(count)}n, ${count}), encodeKey(${number % 62n ** 21n}n)]`;
+    };
     const digits = groups.flatMap((group) => split(group, 62n ** 2n)).flatMap((pair) => split(pair, 62n));
     const pairs = Object.assign(arrayOf(Object.assign([], { bits: 16 }), 16), { length: 62 ** 2 });
     pairs.lookup = (index) => {
@@ -321,7 +317,6 @@ function stubPrefix(m, path, prefix) {
   const checkGiven = (text, start, end) =>
     (text === prefix && start === 0 && end === length && used === m.values.standard) || m.fail();
   m.stubs.use = (alphabet) => used = alphabet;
-  m.stubs.lengthOfText = ({ length }) => length;
   m.stubs.readDigits = (...given) =>
     checkGiven(...given) && new Unknown({ type: 'boolean', term: all([areDigits, `(<= ${digits.term} ${MOST})`]) });
   m.stubs.indexOfInvalid = (...given) => {

@@ -153,9 +153,15 @@ function areUnits(m, units, string, codesOf = (character) => [character.charCode
   return boolean(`(and true ${units.map((unit, i) => isOne(m.known(unit), codesOf(string[i]))).join(' ')})`);
 }
 
-const startsWith = (m, text, string) => areUnits(m, unitsOf(m, text).slice(0, string.length), string);
-const endsWith = (m, text, string) =>
-  areUnits(m, unitsOf(m, text).slice(Math.max(0, text.length - string.length)), string);
+const oneString = (m, values) => values.length === 1 && typeof values[0] === 'string' ? values[0] : m.fail();
+function startsWith(m, text, ...values) {
+  const string = oneString(m, values);
+  return areUnits(m, unitsOf(m, text).slice(0, string.length), string);
+}
+function endsWith(m, text, ...values) {
+  const string = oneString(m, values);
+  return areUnits(m, unitsOf(m, text).slice(Math.max(0, text.length - string.length)), string);
+}
 
 // What others are depends on their neighbors only for letters that are not ASCII in any case.
 const LOWERCASE = new Map();

@@ -112,12 +112,15 @@ class Solver {
   stop() { this.z3.kill('SIGKILL'); }
   tell(...lines) { this.z3.stdin.write(`${lines.join('\n')}\n`); }
 
-  async ask(line) {
-    this.tell(line);
-    const { value = 'stopped' } = await this.results.next();
-    if (value === '(error "tactic failed: canceled")') return 'unknown';
-    if (value.startsWith('(error')) throw new Error(value);
-    return value;
+  // All that z3 prints for a command.
+  async ask(command) {
+    this.tell(command, '(echo "end")');
+    let result = '';
+    for (let line = await this.results.next(); !line.done && line.value !== 'end'; line = await this.results.next())
+      result += line.value;
+    if (result.startsWith('(error "tactic failed: ')) return 'unknown';
+    if (result.includes('error')) throw new Error(result);
+    return result;
   }
 
   // Whether a term is false for some values of the inputs. If z3 does not know it soon, some are tried before it goes on.
@@ -137,8 +140,18 @@ class Solver {
     return BigInt(value.slice(term.length + 3, -2).replace(/[( )]/g, ''));
   }
 
-  // Finds the first open goal, with a call as an example if z3 knows values, or whether the path is possible.
+  // When a command takes too long, z3 4.8 may cancel the next one instead. Then the path starts again.
   async solve(path) {
+    try {
+      await this.examine(path);
+    } catch (error) {
+      if (!error.message.includes('canceled')) throw error;
+      await this.solve(path);
+    }
+  }
+
+  // Finds the first open goal, with a call as an example if z3 knows values, or whether the path is possible.
+  async examine(path) {
     const inputs = [];
     this.tell('(reset)');
     for (const line of path.lines) {

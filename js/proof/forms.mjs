@@ -17,11 +17,7 @@ const FORMS = {
   ConditionalExpression: '($.holds({at}, {test}) ? {consequent} : {alternate})',
   MemberExpression: "$.member({at}, {object}, '{property}')",
   'MemberExpression []': '$.read({at}, {object}, {property})',
-  ThisExpression: 'undefined',
   ArrayExpression: '[{elements}]',
-  ObjectExpression: '({ {properties} })',
-  Property: '{value}',
-  NewExpression: "$.create({at}, '{callee.name}', [{arguments}])",
   SpreadElement: '...{argument}',
   CallExpression: '$.call({at}, {callee}, undefined, [{arguments}])',
   'CallExpression .': "$.method({at}, {callee.object}, '{callee.property}', [{arguments}])",
@@ -43,10 +39,7 @@ const FORMS = {
 };
 
 // What tells forms of one type apart.
-function variantOf({ type, operator, prefix, computed, callee, left, argument, properties, shorthand, init }) {
-  if (type === 'ForStatement') return init && init.type !== 'VariableDeclaration' ? ' expression' : '';
-  if (type === 'Property') return shorthand ? '' : ' long';
-  if (properties) return properties.every((property) => property.shorthand) ? '' : ' long';
+function variantOf({ type, operator, prefix, computed, callee, left, argument }) {
   if (type === 'CallExpression') return callee.type === 'MemberExpression' && !callee.computed ? ' .' : '';
   if (type === 'AssignmentExpression')
     return ` ${left.type === 'Identifier' ? '' : left.computed ? '[]' : left.type}${operator}`;
@@ -169,19 +162,28 @@ function parseFile([sourceFile, text]) {
   } catch ({ message, loc }) { throw new Error(`${sourceFile}:${loc.line}: ${message}`); }
 }
 
-// What a statement declares. A class stands for its constructor.
-function declarationsOf(node) {
-  const { type, id, declarations = [], body } = node;
-  if (!/^(Function|Class)Declaration$/.test(type)) return declarations;
-  return [{ id, init: body.body.find(({ kind }) => kind === 'constructor')?.value ?? node }];
+// Notes what a statement of a module declares.
+function declare(node, { functions, variables, known }) {
+  const { type, kind, id, declarations = [] } = node;
+  const isClass = /^(Function|Class)Declaration$/.test(type);
+  if (!isClass && declarations.length === 0 && !isComputed(node, known))
+    namesIn(node).forEach((name) => known.delete(name));
+  for (const { id: { name: own }, id: pattern, init } of isClass ? [{ id, init: node }] : declarations)
+    for (const name of new Set(namesIn(pattern))) {
+      if (functions.has(name) || variables.has(name)) refuse(node);
+      names[kind === 'let' ? 'delete' : 'add'](name);
+      if (kind === 'let') continue;
+      if (/Function/.test(init.type)) functions.set(name, init);
+      else if (variables.set(name, init) && own && isComputed(init, known)) known.add(name);
+    }
 }
 
 // Of modules, by file and text: the functions, the values of their variables that are known, the tables among them, and what
-// Node has for each name. The modules have one scope, as in commonjs.mjs.
+// Node has for each name. The modules have one scope, as in join_modules.mjs.
 export function read(files) {
-  const functions = new Map(), variables = new Map(), notes = { known: new Set(), others: new Set() };
-  let modules = '', hasCharCodeAt = false;
-  names = new Set(['Infinity', 'undefined', 'Math', 'Number', 'String', 'Float64Array', 'Uint16Array']);
+  const notes = { functions: new Map(), variables: new Map(), known: new Set(), others: new Set() };
+  let modules = '';
+  names = new Set(['Infinity', 'undefined', 'Math', 'Number', 'String']);
   for (const file of files) {
     notes.text = file[1];
     for (const node of parseFile(file)) {
@@ -193,25 +195,15 @@ export function read(files) {
       examine(declaration, notes, false);
       if (declaration.specifiers) continue;
       modules += `${notes.text.slice(declaration.start, declaration.end)};\n`;
-      const declared = declarationsOf(declaration);
-      if (declared.length === 0 && !isComputed(declaration, notes.known))
-        namesIn(declaration).forEach((name) => notes.known.delete(name));
-      for (const { id, init } of declared)
-        for (const name of new Set(namesIn(id))) {
-          if (functions.has(name) || variables.has(name)) refuse(node);
-          hasCharCodeAt ||= name === 'charCodeAt' && init.text === CHAR_CODE_AT;
-          names[declaration.kind === 'let' ? 'delete' : 'add'](name);
-          if (declaration.kind === 'let') continue;
-          if (/Function/.test(init.type)) functions.set(name, init);
-          else if (variables.set(name, init) && id.name && isComputed(init, notes.known)) notes.known.add(name);
-        }
+      declare(declaration, notes);
     }
   }
+  const { functions, variables } = notes;
   const natives = runInNewContext(`'use strict';
 [Math, Number, String, Object, Array, String.prototype, Array.prototype, Object.prototype].forEach(Object.freeze);
-${modules}({ ${[...variables.keys(), ...functions.keys()]} })`,
+${modules}({ ${[...variables.keys()]} })`,
     { Math, Number, String });
-  if (hasCharCodeAt) natives.charCodeAt = charCodeAt;
+  if (variables.get('charCodeAt')?.text === CHAR_CODE_AT) natives.charCodeAt = charCodeAt;
   const code = [...functions].map(functionOf).join('');
   return { code, names: [...functions.keys()], natives, ...knownValues(variables, natives, notes) };
 }

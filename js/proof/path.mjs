@@ -97,87 +97,94 @@ const check = (ms) => `(set-option :timeout ${ms})\n(check-sat-using (then simpl
 
 // A value to try where z3 finds none: the least, the greatest, or one of any size. They are the same in each run.
 let state = 62n;
-function draw({ term, low = -power(130), high = power(130), typical }) {
+function draw({ term, low = -power(130), high = power(130) }) {
   state = (state * 6364136223846793005n + 1442695040888963407n) % power(64);
   const any = low + ((state ** 3n >> 60n) % power(3n * (state >> 58n))) % (high - low + 1n);
-  return `(assert (= ${term} ${literal(typical ?? [low, high, any, any][(state >> 40n) % 4n])}))`;
+  return `(assert (= ${term} ${literal([low, high, any, any][(state >> 40n) % 4n])}))`;
 }
 
 class Solver {
   z3 = spawn('z3', ['-in']);
-  answers = createInterface({ input: this.z3.stdout })[Symbol.asyncIterator]();
+  results = createInterface({ input: this.z3.stdout })[Symbol.asyncIterator]();
 
   // A z3 that was stopped is written to in vain.
   constructor() { this.z3.stdin.on('error', () => {}); }
   stop() { this.z3.kill('SIGKILL'); }
   tell(...lines) { this.z3.stdin.write(`${lines.join('\n')}\n`); }
 
-  async ask(line) {
-    this.tell(line);
-    const { value = 'stopped' } = await this.answers.next();
-    if (value === '(error "tactic failed: canceled")') return 'unknown';
-    if (value.startsWith('(error')) throw new Error(value);
-    return value;
+  // All that z3 prints for a command.
+  async ask(command) {
+    this.tell(command, '(echo "end")');
+    let result = '';
+    for (let line = await this.results.next(); !line.done && line.value !== 'end'; line = await this.results.next())
+      result += line.value;
+    if (result.startsWith('(error "tactic failed: ')) return 'unknown';
+    if (result.includes('error')) throw new Error(result);
+    return result;
   }
 
   // Whether a term is false for some values of the inputs. If z3 does not know it soon, some are tried before it goes on.
   async refute(term, inputs, soon, late) {
     this.tell('(push)', `(assert (not ${term}))`);
-    const answer = await this.ask(check(soon));
-    for (let i = 0; i < 20 && answer === 'unknown'; i++) {
+    const result = await this.ask(check(soon));
+    for (let i = 0; i < 20 && result === 'unknown'; i++) {
       this.tell('(push)', ...inputs.map(draw));
       if (await this.ask(check(300)) === 'sat') return 'sat';
       this.tell('(pop)');
     }
-    return answer === 'unknown' && late ? this.ask(check(late)) : answer;
+    return result === 'unknown' && late ? this.ask(check(late)) : result;
   }
 
-  async valueOf(term) {
+  async valueOf({ term }) {
     const value = await this.ask(`(get-value (${term}))`);
     return BigInt(value.slice(term.length + 3, -2).replace(/[( )]/g, ''));
   }
 
-  // Finds the first open goal, with a call as an example if z3 knows values, or whether the path is possible.
+  // When a command takes too long, z3 4.8 may cancel the next one instead. Then the path starts again.
   async solve(path) {
+    try {
+      await this.examine(path);
+    } catch (error) {
+      if (!error.message.includes('canceled')) throw error;
+      await this.solve(path);
+    }
+  }
+
+  // Finds the first open goal, with a call as an example if z3 knows values, or whether the path is possible.
+  async examine(path) {
     const inputs = [];
+    this.tell('(reset)');
     for (const line of path.lines) {
       if (line.input) inputs.push(line.input);
       else if (!line.goal) this.tell(line);
       else {
-        const answer = await this.refute(line.term, inputs, 2000, 60000);
-        if (answer === 'unsat') this.tell('(pop)', `(assert ${line.term})`);
-        else return this.note(path, line.goal, answer === 'sat' && inputs);
+        const result = await this.refute(line.term, inputs, 2000, 60000);
+        if (result !== 'unsat') return this.note(path, line.goal, result === 'sat' ? inputs : []);
+        this.tell('(pop)', `(assert ${line.term})`);
       }
     }
     path.isPossible = await this.refute('false', inputs, 200) === 'sat';
   }
 
   async note(path, goal, inputs) {
-    path.open = goal;
-    if (!inputs) return;
     const values = new Map();
-    for (const { term } of inputs) values.set(term, await this.valueOf(term));
-    path.example = path.show?.(({ term, low = 0n }) => values.get(term) ?? low);
+    for (const input of inputs) values.set(input.term, await this.valueOf(input));
+    path.open = goal;
+    if (inputs.length > 0) path.example = path.show?.(({ term, low = 0n }) => values.get(term) ?? low);
   }
 }
 
 // Asks z3, for each processor about one path at a time, until there is enough.
 export async function solve(paths, isEnough = () => false) {
-  const queue = paths.values(), solvers = new Set();
+  const queue = paths.values(), solvers = cpus().map(() => new Solver());
+  const stop = () => solvers.forEach((solver) => solver.stop());
   let isOver = false;
-  const work = async () => {
+  await Promise.all(solvers.map(async (solver) => {
     for (const path of queue) {
-      if (isOver) return;
-      const solver = new Solver();
-      solvers.add(solver);
       await solver.solve(path);
-      solvers.delete(solver);
-      solver.stop();
-      if (!isOver && isEnough(path)) {
-        isOver = true;
-        solvers.forEach((solver) => solver.stop());
-      }
+      isOver ||= isEnough(path);
+      if (isOver) return stop();
     }
-  };
-  await Promise.all(cpus().map(work));
+  }));
+  stop();
 }

@@ -25,11 +25,9 @@ function arithmetic(m, operator, a, b) {
   const define = () => m.path.define(`(${operator} ${a.term} ${b.term})`);
   if (isBig(a)) return integer(define(), undefined, undefined, 'bigint');
   const results = [a.low, a.high].flatMap((x) => [b.low, b.high].map((y) => native(operator)(x, y)));
-  const [low, high] = [least(...results), greatest(...results)];
-  const infinite = isFinite(a, b) ? 'false' : `(or ${a.infinite} ${b.infinite})`;
-  const v = integer(define(), greatest(low, -EXACT), least(high, EXACT), 'number', infinite);
-  if (low < -EXACT || high > EXACT) m.goal(`${operator} is exact`, range(v.term, v.low, v.high));
-  else m.path.assume(range(v.term, low, high));
+  const [low, high] = [greatest(least(...results), -EXACT), least(greatest(...results), EXACT)];
+  const v = integer(define(), low, high, 'number', isFinite(a, b) ? 'false' : `(or ${a.infinite} ${b.infinite})`);
+  m.goal(`${operator} is exact`, range(v.term, low, high));
   return v;
 }
 
@@ -46,7 +44,7 @@ function multiply(m, operator, a, b) {
 // By a constant. README.md shows that the integer part is exact if the dividend is from 0 to 2**53.
 function divide(m, operator, a, b) {
   if (isBig(a) || !isConstant(b) || b.low < 1n) m.fail();
-  m.inRange('a quotient of a number from 0 to 2**53', a, EXACT);
+  m.goal('a quotient of a number from 0 to 2**53', range(a.term, 0n, EXACT));
   const [{ term, low, high }] = m.path.divide(a, b.low);
   return integer(term, low, high, 'quotient', a.infinite);
 }
@@ -70,11 +68,8 @@ function bitwiseOr(m, operator, a, b) {
   const [x, y] = isBig(a) ? [a, b] : [modulo(m, a, 32, true), modulo(m, b, 32, true)];
   if (isConstant(y) && y.low === 0n) return x;
   const [k, l] = [a, b].map(({ zeros = 0 }) => zeros);
+  if (y.low >= 0n && y.high < power(k)) return Object.assign(arithmetic(m, '+', x, y), { zeros: least(k, l) });
   const sum = `(+ ${x.term} ${y.term})`;
-  if (y.low >= 0n && y.high < power(k)) {
-    const ends = isBig(a) ? [undefined, undefined] : [x.low + y.low, x.high + y.high];
-    return Object.assign(integer(sum, ...ends, a.type), { zeros: least(k, l) });
-  }
   const bounds = x.low >= 0n && y.low >= 0n ? [0n, x.high + y.high] : [-power(31), power(31) - 1n];
   const v = isBig(a) ? m.path.unknown(undefined, undefined, 'bigint') : m.path.unknown(...bounds);
   m.path.assume(`(= (= ${v.term} 0) (and (= ${x.term} 0) (= ${y.term} 0)))`);
@@ -91,8 +86,7 @@ const shiftCount = (m, a, b) =>
 function shiftLeft(m, operator, a, b) {
   const zeros = shiftCount(m, a, b);
   const kept = isBig(a) ? a : modulo(m, a, 32 - zeros, true);
-  const [low, high] = [kept.low, kept.high].map((n) => n === undefined ? n : n << BigInt(zeros));
-  return Object.assign(integer(`(* ${power(zeros)} ${kept.term})`, low, high, a.type), { zeros });
+  return Object.assign(arithmetic(m, '*', kept, constant(power(zeros), a.type)), { zeros });
 }
 
 // The floor of the quotient by 2**k: of a BigInt, of a signed integer of 32 bits, or with >>> of an unsigned one.
@@ -159,9 +153,15 @@ function areUnits(m, units, string, codesOf = (character) => [character.charCode
   return boolean(`(and true ${units.map((unit, i) => isOne(m.known(unit), codesOf(string[i]))).join(' ')})`);
 }
 
-const startsWith = (m, text, string) => areUnits(m, unitsOf(m, text).slice(0, string.length), string);
-const endsWith = (m, text, string) =>
-  areUnits(m, unitsOf(m, text).slice(Math.max(0, text.length - string.length)), string);
+const oneString = (m, values) => values.length === 1 && typeof values[0] === 'string' ? values[0] : m.fail();
+function startsWith(m, text, ...values) {
+  const string = oneString(m, values);
+  return areUnits(m, unitsOf(m, text).slice(0, string.length), string);
+}
+function endsWith(m, text, ...values) {
+  const string = oneString(m, values);
+  return areUnits(m, unitsOf(m, text).slice(Math.max(0, text.length - string.length)), string);
+}
 
 // What others are depends on their neighbors only for letters that are not ASCII in any case.
 const LOWERCASE = new Map();
@@ -173,16 +173,6 @@ const toLowerCase = (m, text) => new Unknown({ type: 'lowercase', units: unitsOf
 const isLowercase = (m, { units }, string) =>
   (/^[\0-\x7f]*$/.test(string) ? areUnits(m, units, string, (character) => LOWERCASE.get(character) ?? []) : m.fail());
 
-const hasOthers = (m, { source, flags }, text) =>
-  source === '[^\\0-\\x7f]' && flags === '' && unitsOf(m, text).every((unit) => m.known(unit).high < 128n) ? false :
-                                                                                                             m.fail();
-
-function fill(m, array, v) {
-  if (array.writes?.length !== 0) m.fail();
-  array.cells.fill(v);
-  return array;
-}
-
 export const charCodeAt = (string, i) => string.charCodeAt(i);
 const CALLS = new Map([
   [Math.floor, floor], [Math.min, minimum], [Number.isSafeInteger, isSafeInteger], [String.fromCharCode, fromCharCode],
@@ -192,8 +182,6 @@ const METHODS = {
   __proto__: null,
   charCodeAt: unitAt,
   endsWith,
-  fill,
-  set: (m, { set }, ...values) => set?.(...values) ?? m.fail(),
   slice,
   startsWith,
   toLowerCase
@@ -207,13 +195,12 @@ const isIndex = (index, { length }) => Number.isInteger(index) && index >= 0 && 
 
 // An index that is not known is for a table: an array of constants, or one with a `lookup`.
 function readElement(m, array, index) {
-  const { cells, bits, kind, length, lookup, writes } = array;
-  if (writes) return lastWritten(m, array, m.known(index));
+  const { cells, bits, kind, length, lookup } = array;
   if (isUnknown(index) || lookup) {
     const i = m.known(index);
     const isTable = lookup || (bits === cells.bits && cells.every(Number.isInteger));
     if (!isTable || i.type !== 'number' || !isFinite(i)) m.fail();
-    m.inRange('an index in the array', i, BigInt(length) - 1n);
+    m.goal('an index in the array', range(i.term, 0n, BigInt(length) - 1n));
     return lookup ? lookup(i) : fromTable(m, cells.map(BigInt), i);
   }
   if (!isIndex(index, array)) m.fail();
@@ -237,35 +224,17 @@ function fromTable(m, values, index) {
   return integer(m.path.define(term), least(0n, ...values), greatest(0n, ...values));
 }
 
-// An array that a function creates. A Float64Array keeps what is written, in this order, over elements that are equal.
-function create(m, name, length) {
-  const bits = { Float64Array: 64, Uint16Array: 16 }[name];
-  if (!bits || !Number.isSafeInteger(length)) m.fail();
-  const array = arrayOf(Object.assign(Array(length).fill(0), { bits, areOpen: true }), bits);
-  return bits === 64 ? Object.assign(array, { kind: 'Float', writes: [] }) : array;
-}
-
-function lastWritten(m, { cells, length, writes }, index) {
-  if (index.type !== 'number' || !isFinite(index)) m.fail();
-  m.inRange('an index in the array', index, BigInt(length) - 1n);
-  const either = (place, x, y) => `(ite (= ${index.term} ${place.term}) ${x} ${y})`;
-  return writes.reduce((v, [place, last]) => integer(either(place, last.term, v.term), least(v.low, last.low),
-                         greatest(v.high, last.high), 'number', either(place, last.infinite, v.infinite)),
-    m.known(cells[0]));
-}
-
 // Each element of a list is a path of its own.
 function readList(m, list, index) {
   if (index.type !== 'number' || !isFinite(index)) m.fail();
-  m.inRange('an index in the list', index, BigInt(list.length) - 1n);
+  m.goal('an index in the list', range(index.term, 0n, BigInt(list.length) - 1n));
   const isLast = (i) => i === Math.min(Number(index.high), list.length - 1);
   return list.find((v, i) => i >= index.low && (isLast(i) || m.path.decide(`(= ${index.term} ${i})`)));
 }
 
 // An element keeps a value modulo 2**bits.
 function storeElement(m, array, index, v) {
-  const { cells, bits, kind, writes } = array;
-  if (writes && v.type === 'number' && lastWritten(m, array, m.known(index))) return writes.push([m.known(index), v]);
+  const { cells, bits, kind } = array;
   const holds = { Int: isNumeric, Uint: isNumeric, BigUint: isBig }[kind];
   if (!cells.areOpen || !isIndex(index, array) || !holds?.(v)) m.fail();
   const width = bits / cells.bits;
@@ -279,15 +248,8 @@ function storeElement(m, array, index, v) {
 
 // ---- The machine runs functions on a path.
 
-const TYPES = {
-  __proto__: null,
-  text: 'string',
-  array: 'object',
-  number: 'number',
-  quotient: 'number',
-  double: 'number',
-  bigint: 'bigint'
-};
+const TYPES = new Map(Object.entries({ text: 'string', array: 'object', bigint: 'bigint' }));
+for (const type of ['number', 'quotient', 'double']) TYPES.set(type, 'number');
 export const THROWN = Symbol('an error');
 
 export class Machine {
@@ -336,9 +298,6 @@ export class Machine {
 
   fail([place, text] = this.at) { throw new Error(`${place}: no rule for \`${text}\``); }
   goal(goal, term) { this.path.prove(`${this.at[0]}: ${goal}: \`${this.at[1]}\``, term); }
-  inRange(goal, { term, low, high }, most) {
-    if (low < 0n || high > most) this.goal(goal, range(term, 0n, most));
-  }
 
   // A known Number or BigInt as an unknown one. -0 is an error, since a result can be told from 0.
   known(v) {
@@ -362,7 +321,7 @@ export class Machine {
 
   unary(at, operator, v) {
     this.at = at;
-    if (operator === 'typeof') return isUnknown(v) ? TYPES[v.type] ?? this.fail() : typeof v;
+    if (operator === 'typeof') return isUnknown(v) ? TYPES.get(v.type) ?? this.fail() : typeof v;
     if (operator === '-' && !isUnknown(v)) return -v;
     if (operator !== '!' || (isUnknown(v) && v.type !== 'boolean')) this.fail();
     return isUnknown(v) ? boolean(`(not ${v.term})`) : !v;
@@ -415,14 +374,8 @@ export class Machine {
 
   method(at, object, name, values) {
     this.at = at;
-    if (object instanceof RegExp && name === 'test') return hasOthers(this, object, ...values);
     if (!isUnknown(object)) return this.call(at, object[name], object, values);
     return METHODS[name] ? METHODS[name](this, object, ...values) : this.fail();
-  }
-
-  create(at, name, values) {
-    this.at = at;
-    return values.length === 1 ? create(this, name, ...values) : this.fail();
   }
 
   number(at, v) {

@@ -35,7 +35,8 @@ const OF_NUMBERS = [
   [(x, y) => isFinite(y) && isExact(integerOf(x) - integerOf(y)), 'x - y'],
   [(x) => isFinite(x), 'Math.min(x, 128)', 'x !== 61'], [(x, y) => isFinite(x, y), 'x === y'],
   [isDividend, 'Math.floor(x / 62)', '(x / 4096) | 0', '(x / 3844) & 0xffff', 'words[0] = x / 65536; return words[0]'],
-  [(x) => x >= 0 && x < 129, 'table[x]'], [(x) => isFinite(x) && x >= 0, 'table[Math.min(x, 128)]'],
+  [(x) => x >= 0 && x < 3, '[5, y, 62][x]'], [(x) => x >= 0 && x < 129, 'table[x]'],
+  [(x) => isFinite(x) && x >= 0, 'table[Math.min(x, 128)]'],
   [
     () => true, 'Math.floor(x)', 'Number.isSafeInteger(x)', '(x & 1) === 1', 'x & 255', 'x & 0x7fffffff', 'x | 0',
     '(x << 8) | (y & 255)', '(y & 0xffff) | (x << 16)', '(x << 24) | ((y & 255) << 16) | 515', '(x | y) === 0',
@@ -47,8 +48,8 @@ const OF_NUMBERS = [
   ],
   [
     () => false, 'x * y', 'x * -3', 'x * 0', 'Math.min(x, 128, 60)', 'x / 62', 'Math.floor(x / 0)',
-    'Math.floor(62 / x)', 'Math.floor(x / 1.5)', 'x & 5', 'x & -1', 'x & 0xffffffff', 'x << 32', 'x + 1n',
-    'x + undefined', 'x + 0.5', 'x % 62', '`${x}`', 'String.fromCharCode(x).charCodeAt(1)',
+    'Math.floor(62 / x)', 'Math.floor(x / -62)', 'Math.floor(x / 1.5)', 'x & 5', 'x & -1', 'x & 0xffffffff', 'x << 32',
+    'x + 1n', 'x + undefined', 'x + 0.5', 'x % 62', '`${x}`', 'String.fromCharCode(x).charCodeAt(1)',
     "String.fromCharCode('45', x).charCodeAt(0)", 'String.fromCharCode(45n, x).charCodeAt(1)', 'x < 61 ? -0 : -0',
     'words[x]', 'words[4] = x', 'table[0] = x', 'halves[0] = x', 'words[0] = 5n', 'x == y', 'Math.abs(x)',
     '[x].includes(y)', 'x ?? y', 'x ** 2'
@@ -57,9 +58,28 @@ const OF_NUMBERS = [
 const OF_BIGINTS = [
   [
     () => true, 'x + y', 'x - y', 'x * 5n', 'x >> 64n', 'x << 64n', 'x < y', 'x <= y', 'x > y', 'x >= y', 'x === y',
-    'halves[1] = x; return halves[1]', 'halves[1] = x; return words[3]', 'halves[0] = x; return (y << 64n) | halves[0]'
+    'halves[1] = x; return halves[1]', 'Number.isSafeInteger(x)', 'halves[1] = x; return words[3]',
+    'halves[0] = x; return (y << 64n) | halves[0]'
   ],
   [() => false, 'x * y', 'x / 5n', 'x >>> 1n', 'x & 1n', 'x + 1', 'words[0] = x', 'halves[2] = x']
+];
+// Two that are not ASCII have a lowercase form that is, or that begins with such.
+const strings = ['', '{', '}', '{}', 'ab', 'xab', 'aB', '}{', 'ik', 'IK', 'i\u212a', '\u0130k', '\u0130', 'i', 'ikk'];
+const OF_STRINGS = [
+  [
+    () => true, "x.startsWith('{')", "x.startsWith('ab')", "x.startsWith('')", "x.endsWith('}')", "x.endsWith('ab')",
+    "x.endsWith('')", "x.toLowerCase() === 'ik'", "x.toLowerCase() === ''", "x.slice(0, 2).toLowerCase() === 'ab'",
+    "x.slice(1, -1).startsWith('a')", 'x.length', 'Number.isSafeInteger(x)', "typeof x === 'string'"
+  ],
+  [
+    () => false, "x.startsWith('a', 1)", "x.endsWith('a', 1)", 'x.startsWith(5)', 'x.startsWith()', 'x.startsWith(y)',
+    'x.toLowerCase()', "x.toLowerCase() === '\u212a'", "x.toLowerCase().startsWith('i')", "x === 'ik'", 'x + y',
+    'x.toUpperCase()', 'x.charCodeAt(62)'
+  ]
+];
+const OF_DOUBLES = [
+  [() => true, 'Number.isSafeInteger(x)', "typeof x === 'number'"],
+  [() => false, 'x + 1', 'x < 5', 'Math.floor(x)', 'Math.min(x, 5)', 'x & 1', 'words[0] = x', 'table[x]']
 ];
 const BODIES = [
   'let sum = 0; for (let i = 0; i < 3; i++) { if (x > i) sum = sum + 2; else sum--; } return sum;',
@@ -104,6 +124,9 @@ const drawBounds = () => [BigInt(random(9)), BigInt(random(9))];
 
 // An unknown value that is this one, with bounds at these distances.
 function unknown(path, value, [below, above] = drawBounds()) {
+  if (typeof value === 'string') return textOf([...value].map((unit) => unknown(path, unit.charCodeAt(0))));
+  if (typeof value === 'number' && value % 1 !== 0 && value !== Infinity)
+    return Object.assign(path.unknown(0n, 0n), { type: 'double' });
   const n = integerOf(value);
   const bounds = typeof value === 'bigint' ? [undefined, undefined] : [n - below, n + above];
   const v = path.unknown(...bounds, typeof value);
@@ -152,7 +175,8 @@ async function compare(body, values, covers) {
 }
 
 const pairs = (values) => values.map((x, i) => [x, values[i < 4 ? 0 : random(8) % values.length]]);
-for (const [groups, values] of [[OF_NUMBERS, numbers], [OF_BIGINTS, bigInts]])
+for (const [groups, values] of [
+       [OF_NUMBERS, numbers], [OF_BIGINTS, bigInts], [OF_STRINGS, strings], [OF_DOUBLES, [0.5, NaN, -1.5]]])
   for (const [covers, ...expressions] of groups)
     for (const expression of expressions)
       test(`${expression} of ${typeof values[0]}s`,

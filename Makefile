@@ -43,7 +43,7 @@ install-command: ## install the command, its manual page and completions: make i
 
 uninstall-command: ## remove what install-command has installed: make uninstall-command PREFIX=..
 	rm -f '$(prefix)/bin/base62' '$(prefix)/bin/base62_cli'
-	cd command && find share -type f | while read -r file; do rm -f '$(abspath $(prefix))'/"$$file"; done
+	(cd command && find share -type f) | while read -r file; do rm -f '$(prefix)'/"$$file"; done
 
 dist: ## pack all packages into a folder: make dist FOLDER=..
 	scripts/dist '$(FOLDER)'

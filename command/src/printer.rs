@@ -98,8 +98,9 @@ impl Printer<'_> {
     fn print_lines(&mut self) -> Result<(), ToolFault> {
         if io::stdin().is_terminal() {
             let (name, _, _, example, _) = self.task.subcommand;
-            let start = format_args!("It reads lines such as `{example}`");
-            report(format_args!("{start}: try base62 {name} --help"));
+            report(format_args!(
+                "It reads lines such as `{example}`: try base62 {name} --help"
+            ));
         }
         let (mut chunk, mut start, mut number) = ([0; CHUNK_LEN], Bytes::new(), 0);
         loop {
